@@ -1,0 +1,4 @@
+pub mod CodeText
+pub mod FileNames
+pub mod Position
+pub mod Word

@@ -1,0 +1,26 @@
+//! Names, positions, codes, limits and the counter of steps: the words that every other crate speaks.
+#![tactic(auto)]
+
+mod bytes;
+mod code;
+mod file_name;
+pub mod limits;
+mod memory;
+mod name;
+mod position;
+mod sequence;
+mod steps;
+mod word;
+
+pub use bytes::Bytes;
+pub use code::Code;
+pub use file_name::{FileName, NameRefusal};
+pub use memory::Memory;
+pub use name::Name;
+pub use position::Pos;
+pub use sequence::Sequence;
+pub use steps::Steps;
+pub use word::is_word;
+
+#[cfg(test)]
+mod tests;

@@ -1,0 +1,37 @@
+ghost use Rattle.std.specs.Prelude.{◌≡◌, ◌+◌, ◌^◌, ◌<◌};
+ghost use Rattle.larch_base.specs.Position.{start_of_text, advance};
+
+/// A place in a text: a line and a column, both from 1, counted in bytes. A line ends with byte 10.
+#[derive(Clone, Copy, Debug, PartialEq, Eq)]
+pub struct Pos {
+    pub line: u32,
+    pub column: u32,
+}
+
+impl Pos {
+    /// Where a text begins.
+    pub fn start() -> Pos
+        ensures { result ≡ start_of_text }
+    {
+        Pos { line: 1, column: 1 }
+    }
+
+    /// The place behind a byte that stands here. Neither number may be at the top of `u32`.
+    pub fn advance(self, byte: u8) -> Pos
+        requires line { self.line + 1 < 2 ^ 32 }
+        requires column { self.column + 1 < 2 ^ 32 }
+        ensures { result ≡ advance self byte }
+    {
+        if byte == b'\n' {
+            Pos {
+                line: self.line + 1,
+                column: 1,
+            }
+        } else {
+            Pos {
+                line: self.line,
+                column: self.column + 1,
+            }
+        }
+    }
+}
