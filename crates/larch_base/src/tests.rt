@@ -1,4 +1,5 @@
 use super::*;
+use std::test::Fail;
 
 #[test]
 fn tells_words(rt: HostRuntime) {
@@ -8,4 +9,34 @@ fn tells_words(rt: HostRuntime) {
     for other in ["", "'", "_a", "a_", "a__b", "a-b"] {
         assert!(rt; !is_word(other.as_bytes()), "{other}");
     }
+}
+
+#[test]
+fn tells_file_names(rt: HostRuntime) -> Result<(), Fail> {
+    let file = FileName::new(rt.alloc(), b"a_1.lsl")?;
+    assert_eq!(rt; file.stem(), b"a_1".as_slice());
+    assert!(rt; file.is_trait());
+    for other in ["a.b.lsl", ".lsl", "a.LSL", "a-b.lp", "a.lsl "] {
+        let refusal = FileName::new(rt.alloc(), other.as_bytes()).err();
+        assert_eq!(rt; refusal, Some(NameRefusal::NotAName), "{other}");
+    }
+    Ok(())
+}
+
+#[test]
+fn copies_names(rt: HostRuntime) -> Result<(), Fail> {
+    let name = Name::new(rt.alloc(), b"one")?;
+    let copy = name.copy()?;
+    assert_eq!(rt; copy.bytes(), b"one".as_slice());
+    Ok(())
+}
+
+#[test]
+fn gathers(rt: HostRuntime) -> Result<(), Fail> {
+    let mut text = Bytes::new(rt.alloc());
+    text.append(b"one")?;
+    let mut texts = Sequence::new(rt.alloc());
+    texts.push(text)?;
+    assert_eq!(rt; texts.as_slice().len(), 1);
+    Ok(())
 }

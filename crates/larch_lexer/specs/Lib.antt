@@ -1,1 +1,4 @@
+pub mod Lexing
+pub mod Order
 pub mod TokenList
+pub mod TokenTable

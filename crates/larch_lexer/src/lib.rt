@@ -1,8 +1,18 @@
 //! Tokens of trait files.
 #![tactic(auto)]
 
+mod laws;
+mod lex;
+mod piece;
+mod refusal;
 mod token;
 mod tokens;
 
+pub use laws::{one_lexing, tokens_in_order};
+pub use lex::lex_lsl;
+pub use refusal::LexRefusal;
 pub use token::{Kind, Token};
 pub use tokens::Tokens;
+
+#[cfg(test)]
+mod tests;

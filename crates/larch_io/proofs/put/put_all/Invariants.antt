@@ -1,0 +1,13 @@
+use Rattle.std.proofs.Common.{◌≡◌, ◌≤◌, ◌-◌, length, take}
+use Rattle.std.specs.Io.KnownBytes.{Appends}
+use Rattle.larch_io.proofs.put.put_all.Given as goal
+
+abbrev pub invariant-loop-put : goal.invariant-loop-put
+invariant-loop-put g l = record {
+  within : l.put ≤ length l.bytes;
+  appended : Appends (g.K.Sink.held l.initial.sink) (g.K.Sink.held l.sink) (take l.put l.bytes);
+  fine : g.K.Sink.faults l.sink ≡ g.K.Sink.faults l.initial.sink;
+}
+
+abbrev pub decreases-loop-put : goal.decreases-loop-put
+decreases-loop-put g l = length l.bytes - l.put

@@ -1,0 +1,33 @@
+ghost use Rattle.std.specs.Prelude.{◌≡◌};
+
+use std::marker::Model;
+
+/// A line without its byte 10. Contracts see it as its bytes.
+#[derive(Debug, Drop)]
+pub struct Line {
+    bytes: Vec<u8>,
+}
+
+impl Model for Line {
+    ghost use Rattle.std.specs.Prelude.{List, ℕ};
+
+    ghost Value = { List ℕ };
+
+    ghost view = { λ line. line.bytes.items };
+}
+
+impl Line {
+    /// These bytes as a line. It takes no memory.
+    pub(crate) fn from_vec(bytes: Vec<u8>) -> Line
+        ensures { result ≡ bytes.items }
+    {
+        Line { bytes }
+    }
+
+    /// The bytes.
+    pub fn bytes(&self) -> &[u8]
+        ensures { result.now ≡ self.now }
+    {
+        self.bytes.as_slice()
+    }
+}

@@ -1,0 +1,10 @@
+pub mod Bytes
+pub mod Comments
+pub mod LongestToken
+pub mod OneAnswer
+pub mod Places
+pub mod Rises
+pub mod Slices
+pub mod Steps
+pub mod Stretches
+pub mod Table

@@ -1,0 +1,6 @@
+Queue: trait
+  introduces
+    empty: -> Q
+    enqueue: Item, Q -> Q
+    first, last: Q -> Item
+    isEmpty: Q -> Bool

@@ -1,0 +1,127 @@
+#!/usr/bin/env python3
+"""Compares two programs with larch's command line on random sessions: what they write, and their status.
+
+    compare_session.py PROGRAM OTHER [--count N] [--seed N] [--jobs N]
+
+PROGRAM and OTHER are commands, in quotes where they have words of their own; each is run with the word `session`
+behind them and one random input. The inputs are sessions with whole and mutated traits, cut and spliced streams,
+wrong lengths, odd names, long lines and bytes above 126. The seed is printed first. An input on which the two
+differ is written to a file that the output names. Ends with 'N passed, N failed', and status 1 where one failed.
+"""
+import argparse
+import concurrent.futures
+import random
+import shlex
+import subprocess
+import sys
+import tempfile
+
+WORDS = ['trait', 'introduces', 'a', 'b', 'S', 'Set', "x'", 'f_1', '0', 'includes', 'asserts', 'of', 'One', 'Two']
+SIGNS = [':', ',', '->', '-', '=', '==', '(', ')', '__', '.', ';', '/\\', '\\/', '\\in', '_', '%', '~', '!', '+/\\-']
+BLANKS = [' ', '\n', '\t', '\r', '  ', '\n  ', ' % note\n', '']
+
+
+def declaration(pick):
+    forms = ', '.join(pick.choice(['a', 'b', 'empty', 'f_1', "g'", '0']) for _ in range(pick.randint(1, 3)))
+    domain = ', '.join(pick.choice(['S', 'T', 'Set']) for _ in range(pick.randint(0, 3)))
+    return f'{forms}: {domain} -> {pick.choice(["S", "Bool", "T"])}'
+
+
+def trait(pick, name):
+    parts = ''
+    for _ in range(pick.choice([0, 1, 1, 1, 2])):
+        parts += '  introduces' + ''.join('\n    ' + declaration(pick) for _ in range(pick.randint(0, 4))) + '\n'
+    return f'{name}: trait\n{parts}'.encode()
+
+
+def soup(pick):
+    return ''.join(pick.choice(WORDS + SIGNS) + pick.choice(BLANKS) for _ in range(pick.randint(0, 20))).encode()
+
+
+def mutated(pick, text):
+    text = bytearray(text)
+    for _ in range(pick.choice([0, 1, 1, 2, 5])):
+        place = pick.randint(0, len(text))
+        change = pick.randint(0, 4)
+        if change == 0:
+            del text[place:place + pick.randint(1, 3)]
+        elif change == 1:
+            text[place:place] = bytes([pick.randint(0, 255)])
+        elif change == 2:
+            text[place:place] = pick.choice(WORDS + SIGNS + BLANKS).encode()
+        elif change == 3 and place < len(text):
+            text[place] = pick.randint(0, 255)
+        elif change == 4:
+            text[place:place] = text[pick.randint(0, len(text)):][:pick.randint(0, 9)]
+    return bytes(text)
+
+
+def file_name(pick):
+    stem = pick.choice(['One', 'Two', 'Set', 'a_b', '_', 'a__b', 'Z9', 'trait', 'n' * 64])
+    return pick.choice([stem] * 9 + ['', 'n' * 65, 'a-b', 'One.lsl', "x'"]) + pick.choice(['.lsl'] * 12 + ['.lp', '', '.LSL', '.lsl '])
+
+
+def put(pick):
+    name = file_name(pick)
+    stem = name.split('.')[0]
+    text = pick.choice([trait, trait, trait, None])
+    text = mutated(pick, text(pick, pick.choice([stem, stem, stem, 'Other'])) if text else soup(pick))
+    length = pick.choice([str(len(text))] * 12 + [str(len(text) + 1), str(max(0, len(text) - 1)), '0' + str(len(text)), '', '1048577', '1048576', '999999999', '1x'])
+    blank = lambda: pick.choice([' '] * 8 + ['\t', '  '])
+    return f'put{blank()}{name}{blank()}{length}\n'.encode() + text
+
+
+def line(pick):
+    return pick.choice([b'report\n'] * 6 + [b'\n', b'quit\n', b'quit', b'report', b'report \n', b' report\n', b'drop One.lsl\n', b'put\n', b'REPORT\n', b'x' * pick.choice([199, 200, 201, 300]) + b'\n', bytes([pick.randint(0, 255)]) + b'\n', b'report\r\n'])
+
+
+def session(pick):
+    stream = b''.join(put(pick) if pick.random() < 0.5 else line(pick) for _ in range(pick.randint(0, 8)))
+    if pick.random() < 0.6:
+        stream += b'report\n'
+    if pick.random() < 0.3:
+        stream = stream[:pick.randint(0, len(stream))]
+    if pick.random() < 0.1:
+        cut = pick.randint(0, len(stream))
+        stream = stream[cut:] + stream[:cut]
+    if pick.random() < 0.1:
+        stream = mutated(pick, stream)
+    if pick.random() < 0.01:
+        stream = b''.join(b'put F%d.lsl 0\n' % i for i in range(pick.randint(254, 258))) + stream
+    return stream
+
+
+def answer(command, stream):
+    done = subprocess.run(shlex.split(command) + ['session'], input=stream, stdout=subprocess.PIPE, stderr=subprocess.PIPE, timeout=60)
+    return done.stdout, done.returncode
+
+
+def main():
+    words = argparse.ArgumentParser()
+    words.add_argument('program')
+    words.add_argument('other')
+    words.add_argument('--count', type=int, default=5000)
+    words.add_argument('--seed', type=int, default=random.randrange(2 ** 31))
+    words.add_argument('--jobs', type=int, default=4)
+    words = words.parse_args()
+    print(f'seed {words.seed}', flush=True)
+    streams = [session(random.Random(f'{words.seed} {i}')) for i in range(words.count)]
+    failed = 0
+    statuses = {}
+    with concurrent.futures.ThreadPoolExecutor(words.jobs) as pool:
+        pairs = pool.map(lambda s: (s, answer(words.program, s), answer(words.other, s)), streams)
+        for stream, one, other in pairs:
+            statuses[one[1]] = statuses.get(one[1], 0) + 1
+            if one != other:
+                failed += 1
+                with tempfile.NamedTemporaryFile(delete=False, prefix='session-') as file:
+                    file.write(stream)
+                if failed <= 5:
+                    print(f'{file.name}: {one} and {other}')
+    print('statuses', dict(sorted(statuses.items())))
+    print(f'{words.count - failed} passed, {failed} failed')
+    sys.exit(1 if failed else 0)
+
+
+if __name__ == '__main__':
+    main()
