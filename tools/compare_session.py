@@ -58,7 +58,7 @@ def mutated(pick, text):
 
 def file_name(pick):
     stem = pick.choice(['One', 'Two', 'Set', 'a_b', '_', 'a__b', 'Z9', 'trait', 'n' * 64])
-    return pick.choice([stem] * 9 + ['', 'n' * 65, 'a-b', 'One.lsl', "x'"]) + pick.choice(['.lsl'] * 12 + ['.lp', '', '.LSL', '.lsl '])
+    return pick.choice([stem] * 95 + ['', 'n' * 65, 'a-b', 'One.lsl', "x'"]) + pick.choice(['.lsl'] * 96 + ['.lp', '', '.LSL', '.lsl '])
 
 
 def put(pick):
@@ -66,20 +66,20 @@ def put(pick):
     stem = name.split('.')[0]
     text = pick.choice([trait, trait, trait, None])
     text = mutated(pick, text(pick, pick.choice([stem, stem, stem, 'Other'])) if text else soup(pick))
-    length = pick.choice([str(len(text))] * 12 + [str(len(text) + 1), str(max(0, len(text) - 1)), '0' + str(len(text)), '', '1048577', '1048576', '999999999', '1x'])
-    blank = lambda: pick.choice([' '] * 8 + ['\t', '  '])
+    length = pick.choice([str(len(text))] * 100 + [str(len(text) + 1), str(max(0, len(text) - 1)), '0' + str(len(text)), '', '1048577', '1048576', '999999999', '1x'])
+    blank = lambda: pick.choice([' '] * 40 + ['\t'] * 9 + ['  '])
     return f'put{blank()}{name}{blank()}{length}\n'.encode() + text
 
 
 def line(pick):
-    return pick.choice([b'report\n'] * 6 + [b'\n', b'quit\n', b'quit', b'report', b'report \n', b' report\n', b'drop One.lsl\n', b'put\n', b'REPORT\n', b'x' * pick.choice([199, 200, 201, 300]) + b'\n', bytes([pick.randint(0, 255)]) + b'\n', b'report\r\n'])
+    return pick.choice([b'report\n'] * 40 + [b'\n'] * 9 + [b'quit\n'] * 3 + [ b'quit', b'report', b'report \n', b' report\n', b'drop One.lsl\n', b'put\n', b'REPORT\n', b'x' * pick.choice([199, 200, 201, 300]) + b'\n', bytes([pick.randint(0, 255)]) + b'\n', b'report\r\n'])
 
 
 def session(pick):
     stream = b''.join(put(pick) if pick.random() < 0.5 else line(pick) for _ in range(pick.randint(0, 8)))
     if pick.random() < 0.6:
         stream += b'report\n'
-    if pick.random() < 0.3:
+    if pick.random() < 0.2:
         stream = stream[:pick.randint(0, len(stream))]
     if pick.random() < 0.1:
         cut = pick.randint(0, len(stream))
@@ -92,7 +92,7 @@ def session(pick):
 
 
 def answer(command, stream):
-    done = subprocess.run(shlex.split(command) + ['session'], input=stream, stdout=subprocess.PIPE, stderr=subprocess.PIPE, timeout=60)
+    done = subprocess.run(shlex.split(command) + ['session'], input=stream, stdout=subprocess.PIPE, stderr=subprocess.PIPE)
     return done.stdout, done.returncode
 
 

@@ -1,0 +1,6 @@
+pub mod Digits
+pub mod Endings
+pub mod Found
+pub mod Shapes
+pub mod Steps
+pub mod Usage

@@ -1,0 +1,24 @@
+-- The line's command, and what is done at it.
+use Rattle.std.proofs.Common.{◌≡◌, Some, sym, ap, ◌∙◌, arith}
+use Rattle.larch_main.specs.declared.command.Command.TheVariants.{Put, Report}
+use Rattle.larch_main.specs.CommandLine.{command_of}
+use Rattle.larch_main.proofs.Steps.{report_moves, put_too_large, put_passes}
+use Rattle.larch_main.proofs.progress.carry_out.Goals as goal
+
+pub returns-in-Some-Report-clause-moves : goal.returns-in-Some-Report-clause-moves
+returns-in-Some-Report-clause-moves g c =
+    let is : command_of c.args.line.now ≡ Some Report = sym c.in_ok-command_of.ensures ∙ c.in-Some-Report.is ∙ ap Some c.in-Some-Report.field-0-is in
+    let ensured = c.answer_report.ensures in
+    rw is (report_moves c.args.progress.now c.answer_report.new.progress _ c.args.before c.answer_report.result ensured.reply ensured.good ensured.memory)
+
+pub returns-then-count-gt-MAX_FILE_BYTES-clause-moves :
+    goal.returns-then-count-gt-MAX_FILE_BYTES-clause-moves
+returns-then-count-gt-MAX_FILE_BYTES-clause-moves g c =
+    let is : command_of c.args.line.now ≡ Some (Put c.in-Some-Put.name c.in-Some-Put.count) = sym c.in_ok-command_of.ensures ∙ c.in-Some-Put.is ∙ ap Some c.in-Some-Put.field-0-is in
+    rw is (put_too_large c.args.progress.now _ c.args.before c.in-Some-Put.name c.in-Some-Put.count c.too_large.result (omega arith) c.too_large.ensures.ok c.too_large.ensures.err)
+
+pub returns-else-count-gt-MAX_FILE_BYTES-clause-moves :
+    goal.returns-else-count-gt-MAX_FILE_BYTES-clause-moves
+returns-else-count-gt-MAX_FILE_BYTES-clause-moves g c =
+    let is : command_of c.args.line.now ≡ Some (Put c.in-Some-Put.name c.in-Some-Put.count) = sym c.in_ok-command_of.ensures ∙ c.in-Some-Put.is ∙ ap Some c.in-Some-Put.field-0-is in
+    rw is (put_passes c.args.progress.now c.put.new.progress _ _ c.args.before c.in-Some-Put.name c.in-Some-Put.count c.put.result (omega arith) c.put.ensures.moves)

@@ -1,0 +1,10 @@
+pub mod CommandLine
+pub mod FileTable
+pub mod Lines
+pub mod Moves
+pub mod Output
+pub mod Reports
+pub mod Sessions
+pub mod Says
+pub mod SoFar
+pub mod StatusNumber

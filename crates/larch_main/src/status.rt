@@ -1,0 +1,45 @@
+ghost use Rattle.std.specs.Prelude.{◌≡◌};
+
+/// How a call of the program ended.
+#[derive(Clone, Copy, Debug, PartialEq, Eq)]
+pub enum Status {
+    /// Nothing is wrong in the last report.
+    Good,
+    /// The last report counts an error.
+    Remains,
+    /// The words of the command line mean no command.
+    Words,
+    /// The source failed.
+    ReadFault,
+    /// The sink failed.
+    WriteFault,
+    /// Want of memory.
+    Memory,
+    /// The input isn't in the session's grammar.
+    Malformed,
+    /// Something passes a limit.
+    Size,
+    /// A file that was named isn't there.
+    NoFile,
+}
+
+impl Status {
+    ghost use Rattle.larch_main.specs.StatusNumber.{number_of};
+
+    /// The number that the process ends with.
+    pub fn number(&self) -> u8
+        ensures { result ≡ number_of self.now }
+    {
+        match self {
+            Status::Good => 0,
+            Status::Remains => 1,
+            Status::Words => 2,
+            Status::ReadFault => 3,
+            Status::WriteFault => 4,
+            Status::Memory => 5,
+            Status::Malformed => 6,
+            Status::Size => 7,
+            Status::NoFile => 8,
+        }
+    }
+}

@@ -1,0 +1,63 @@
+-- What a language says of tokens: which of them begin a text of it, and what is counted at them. A language holds
+-- tokens beside their marks, and their tree. It has two readings: with `false` it is the grammar, and with `true`
+-- symbols are let in at which MIXED stands in any case.
+use Rattle.std.specs.Prelude.{◌≡◌, Bool, true, false, IsTrue, Result, Ok, Err, List, [], ◌∷◌, ◌++◌, map}
+use Rattle.larch_places.specs.Counts.{counts, heads_of}
+use Rattle.larch_places.specs.declared.mark.Fault.{Fault}
+use Rattle.larch_places.specs.declared.mark.Fault.TheVariants.{Mixed, Syntax, Deep, Large}
+use Rattle.larch_places.specs.declared.mark.Mark.{Mark}
+
+-- tokens without their marks
+abbrev pub tokens_of : {Token : Type 0} → List (Token × Mark) → List Token
+tokens_of marked = map (λ m. m.0) marked
+
+-- where the first of these tokens stands, or the end of the text where there is none
+abbrev pub place_or : {Token Place : Type 0} → (Token → Place) → Place → List Token → Place
+place_or place end [] = end
+place_or place end (token ∷ tokens) = place token
+
+module _ {Token Tree : Type 0} (L : Bool → List (Token × Mark) → Tree → Type 0) where
+  -- these tokens are a text with this tree
+  abbrev pub Spells : List Token → Tree → Type 0
+  Spells tokens tree = (marked : List (Token × Mark)) × L false marked tree × (tokens_of marked ≡ tokens)
+
+  -- these tokens begin a text
+  abbrev pub Begins : List Token → Type 0
+  Begins tokens = (rest : List Token) × (tree : Tree) × Spells (tokens ++ rest) tree
+
+  -- some text begins with these tokens and this one, and counts this one so
+  abbrev pub Counted : Fault → List Token → Token → Type 0
+  Counted fault before token = (marked : List (Token × Mark)) × (mark : Mark) × (rest : List (Token × Mark)) × (tree : Tree) × L true (marked ++ (token, mark) ∷ rest) tree × (tokens_of marked ≡ before) × IsTrue (counts fault (heads_of 0 marked) mark)
+
+  -- behind these tokens, nothing stands at this one
+  abbrev pub Free : List Token → Token → Type 0
+  Free before token = (¬ Counted Mixed before token) × Begins (before ++ token ∷ []) × (¬ Counted Deep before token) × (¬ Counted Large before token)
+
+  -- behind these tokens, nothing stands at these
+  abbrev pub AllFree : List Token → List Token → Type 0
+  AllFree before [] = Unit {0}
+  AllFree before (token ∷ tokens) = Free before token × AllFree (before ++ token ∷ []) tokens
+
+  -- behind these tokens, this stands at this one
+  abbrev pub StandsAt : Fault → List Token → Token → Type 0
+  StandsAt Mixed before token = Counted Mixed before token
+  StandsAt Syntax before token = (¬ Counted Mixed before token) × Begins before × (¬ Begins (before ++ token ∷ []))
+  StandsAt Deep before token = (¬ Counted Mixed before token) × Begins (before ++ token ∷ []) × Counted Deep before token
+  StandsAt Large before token = (¬ Counted Mixed before token) × Begins (before ++ token ∷ []) × (¬ Counted Deep before token) × Counted Large before token
+
+  -- behind these tokens, this stands at the end of the text
+  abbrev pub StandsAtEnd : Fault → List Token → Type 0
+  StandsAtEnd Mixed before = ⊥
+  StandsAtEnd Syntax before = Begins before × ((tree : Tree) → ¬ Spells before tree)
+  StandsAtEnd Deep before = ⊥
+  StandsAtEnd Large before = ⊥
+
+  -- behind these tokens, this stands at the first of those
+  abbrev pub Stands : Fault → List Token → List Token → Type 0
+  Stands fault before [] = StandsAtEnd fault before
+  Stands fault before (token ∷ tokens) = StandsAt fault before token
+
+  -- the tree of these tokens, at which nothing stands; or the first fault and its place
+  abbrev pub Means : {Place : Type 0} → (Token → Place) → Place → List Token → Result Tree (Fault × Place) → Type 0
+  Means place end tokens (Ok tree) = AllFree [] tokens × Spells tokens tree
+  Means place end tokens (Err fault) = (before rest : List Token) × (tokens ≡ before ++ rest) × AllFree [] before × Stands fault.0 before rest × (fault.1 ≡ place_or place end rest)

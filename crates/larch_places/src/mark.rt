@@ -1,0 +1,82 @@
+ghost use Rattle.std.specs.Prelude.{◌≡◌};
+ghost use Rattle.larch_places.specs.Counts.{is_deep, is_head, is_mixed, judged};
+
+use larch_base::limits::{MAX_HEAD_TOKENS, MAX_NESTING};
+
+/// What is counted at a token.
+#[derive(Clone, Copy, Debug, PartialEq, Eq)]
+pub enum Mark {
+    /// Nothing.
+    Plain,
+    /// A head token.
+    Head,
+    /// A construct opens, and so many are open then.
+    Opens(u32),
+    /// The same at a head token.
+    OpensHead(u32),
+    /// A head token that continues a chain of symbols, and whether its symbol is another than the chain's.
+    Chained(bool),
+}
+
+/// Why a text is refused at a place.
+#[derive(Clone, Copy, Debug, PartialEq, Eq)]
+pub enum Fault {
+    /// Different symbols of one chain without parentheses.
+    Mixed,
+    /// No text of the grammar goes on so.
+    Syntax,
+    /// Too many constructs are open.
+    Deep,
+    /// Too many head tokens.
+    Large,
+}
+
+impl Mark {
+    /// Whether the token continues a chain with another symbol.
+    pub fn is_mixed(self) -> bool
+        ensures { result ≡ is_mixed self }
+    {
+        match self {
+            Mark::Chained(mixed) => mixed,
+            _ => false,
+        }
+    }
+
+    /// Whether it opens a construct too many.
+    pub fn is_deep(self) -> bool
+        ensures { result ≡ is_deep self }
+    {
+        match self {
+            Mark::Opens(nesting) | Mark::OpensHead(nesting) => nesting > MAX_NESTING,
+            _ => false,
+        }
+    }
+
+    /// Whether it is a head token.
+    pub fn is_head(self) -> bool
+        ensures { result ≡ is_head self }
+    {
+        match self {
+            Mark::Plain | Mark::Opens(_) => false,
+            Mark::Head | Mark::OpensHead(_) | Mark::Chained(_) => true,
+        }
+    }
+}
+
+/// How many head tokens there are behind a token, of which there are so many before it, or the fault that its
+/// mark makes.
+pub fn judge(heads: u32, mark: Mark) -> Result<u32, Fault>
+    ensures { result ≡ judged heads mark }
+{
+    if mark.is_mixed() {
+        Err(Fault::Mixed)
+    } else if mark.is_deep() {
+        Err(Fault::Deep)
+    } else if !mark.is_head() {
+        Ok(heads)
+    } else if heads < MAX_HEAD_TOKENS {
+        Ok(heads + 1)
+    } else {
+        Err(Fault::Large)
+    }
+}

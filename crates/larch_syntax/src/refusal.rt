@@ -1,0 +1,47 @@
+ghost use Rattle.std.specs.Prelude.{◌≡◌};
+ghost use Rattle.larch_syntax.specs.Refusals.{refusal_of};
+ghost use Rattle.larch_syntax.specs.declared.refusal.SyntaxRefusal.TheVariants.{Memory as wants_memory};
+
+use larch_base::{Memory, Pos};
+use larch_places::Fault;
+use thiserror::Error;
+
+/// Why tokens are no trait, and where.
+#[derive(Clone, Copy, Debug, PartialEq, Eq, Error)]
+pub enum SyntaxRefusal {
+    /// No text of the grammar goes on so.
+    #[error("no text of the grammar goes on so")]
+    Syntax(Pos),
+    /// Different symbols of one chain without parentheses.
+    #[error("different symbols of one chain without parentheses")]
+    Mixed(Pos),
+    /// Too many constructs are open.
+    #[error("too many constructs are open")]
+    Deep(Pos),
+    /// Too many head tokens in one equation.
+    #[error("too many head tokens in one equation")]
+    Large(Pos),
+    /// Want of memory.
+    #[error("out of memory")]
+    Memory,
+}
+
+impl From<Memory> for SyntaxRefusal {
+    ghost from_gives = { λ _ refusal. refusal ≡ wants_memory };
+
+    fn from(_memory: Memory) -> SyntaxRefusal {
+        SyntaxRefusal::Memory
+    }
+}
+
+// The refusal by this fault at this place.
+pub(crate) fn refusal_of(fault: Fault, pos: Pos) -> SyntaxRefusal
+    ensures { result ≡ refusal_of fault pos }
+{
+    match fault {
+        Fault::Mixed => SyntaxRefusal::Mixed(pos),
+        Fault::Syntax => SyntaxRefusal::Syntax(pos),
+        Fault::Deep => SyntaxRefusal::Deep(pos),
+        Fault::Large => SyntaxRefusal::Large(pos),
+    }
+}

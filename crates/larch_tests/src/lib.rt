@@ -1,0 +1,5 @@
+//! Tests that cross crates: whole calls of the program over streams in memory.
+#![tactic(auto)]
+
+#[cfg(test)]
+mod streams;
