@@ -1,0 +1,15 @@
+-- Lemmas.
+pub mod DerivedRules
+pub mod Extension
+pub mod Formulas
+pub mod Identities
+pub mod Lists
+pub mod Names
+pub mod Numbers
+pub mod Observed
+pub mod Renamed
+pub mod RenamedHypotheses
+pub mod RenamedTheories
+pub mod Sorted
+pub mod Translation
+pub mod WellSorted

@@ -1,0 +1,10 @@
+use Rattle.std.specs.Prelude.{◌++◌}
+use Rattle.std.proofs.lemmas.List.{append-nil}
+use Rattle.larch_calculus.proofs.laws.extensions.Goals as goal
+
+pub returns : goal.returns
+returns c =
+    record {
+      statements = λ t ss i. record { operators = append-nil t.operators i; statements = t.statements ++ ss };
+      nothing = λ t i. record { operators = append-nil t.operators i; statements = append-nil t.statements i };
+    }

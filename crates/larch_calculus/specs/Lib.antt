@@ -1,0 +1,10 @@
+pub mod Derivable
+pub mod Example
+pub mod Formula
+pub mod Freed
+pub mod Generation
+pub mod Identity
+pub mod Induction
+pub mod Observation
+pub mod Renaming
+pub mod Theories

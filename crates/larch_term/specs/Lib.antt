@@ -1,0 +1,15 @@
+pub mod BuiltIn
+pub mod Occurrence
+pub mod Operator
+pub mod OperatorView
+pub mod Place
+pub mod Print
+pub mod Sorts
+pub mod Statement
+pub mod Substitution
+pub mod TermFalls
+pub mod TermView
+pub mod Tree
+pub mod TreeCode
+pub mod TreeFalls
+pub mod Truth
