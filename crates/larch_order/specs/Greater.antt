@@ -1,0 +1,84 @@
+-- The recursive path ordering with status.
+use Rattle.std.specs.Prelude.{ℕ, Bool, true, false, cond, not, nat_lt, ◌&&◌, ◌||◌, List, [], ◌∷◌, sum_by}
+use Rattle.std.specs.List.{list_any, list_all}
+use Rattle.std.specs.Cmp.Lexicographic.{pointwise}
+use Rattle.larch_term.specs.Operator.{PlainOperator}
+use Rattle.larch_term.specs.Tree.{Tree, Forest, var, app, none, more, list_of}
+use Rattle.larch_order.specs.Same.{same_operator, same_tree}
+use Rattle.larch_order.specs.Precedence.{above, status_of}
+use Rattle.larch_order.specs.declared.precedence.Way.{Way}
+use Rattle.larch_order.specs.declared.precedence.Way.TheVariants.{LeftToRight, RightToLeft, Multiset}
+use Rattle.larch_order.specs.declared.precedence.Ranked.{Ranked}
+
+-- the answer of the way in which a status compares lists
+abbrev pub by_status : Way → Bool → Bool → Bool → Bool
+by_status LeftToRight first last multiset = first
+by_status RightToLeft first last multiset = last
+by_status Multiset first last multiset = multiset
+
+-- how often a term occurs in a list
+abbrev pub count_of : Tree → List Tree → ℕ
+count_of t us = sum_by (λ u. cond (same_tree u t) 1 0) us
+
+-- whether a term of the first list remains where the common terms of two lists are taken away in pairs
+abbrev pub remains : List Tree → List Tree → Tree → Bool
+remains us ts u = nat_lt (count_of u ts) (count_of u us)
+
+-- whether a first list is greater than a second as a multiset: some term of it remains, and each term that remains
+-- of the second is below such a term
+abbrev pub multiset_greater : (Tree → Bool) → List Tree → List Tree → Bool
+multiset_greater is_below us ts = list_any (remains us ts) us && list_all (λ t. not (remains ts us t) || is_below t) ts
+
+-- whether a head lets an application be greater: by the precedence, or by the status where both have one operator
+abbrev pub head_beats : List Ranked → PlainOperator → PlainOperator → Bool → Bool → Bool → Bool
+head_beats ranks f g first last multiset =
+    cond (same_operator f g) (by_status (status_of ranks f) first last multiset) (above ranks f g)
+
+-- what an application is greater than, by the answers on its arguments (some argument is the term or greater) and
+-- on its head (that of an application with this operator and these arguments gives way to it)
+abbrev mutual
+  pub by_rule : (Tree → Bool) → (PlainOperator → List Tree → Bool) → Tree → Bool
+  by_rule reaches beats (var n s) = reaches (var n s)
+  by_rule reaches beats (app g ts) = reaches (app g ts) || (beats g (list_of ts) && all_by_rule reaches beats ts)
+
+  pub all_by_rule : (Tree → Bool) → (PlainOperator → List Tree → Bool) → Forest → Bool
+  all_by_rule reaches beats none = true
+  all_by_rule reaches beats (more t ts) = by_rule reaches beats t && all_by_rule reaches beats ts
+
+abbrev mutual
+  -- whether a term is greater than another: a variable isn't; an application is where one of its arguments is the
+  -- other term or greater, or where its head beats the other's and it is greater than each argument of the other
+  pub greater : List Ranked → Tree → Tree → Bool
+  greater ranks (var n s) t = false
+  greater ranks (app f ss) t = by_rule (λ u. some_reaches ranks ss u)
+      (λ g us. head_beats ranks f g (first_greater ranks ss us) (last_greater ranks ss us)
+      (multiset_greater (λ u. some_beats ranks ss (list_of ss) us u) (list_of ss) us)) t
+
+  -- whether some term is another one or greater
+  pub some_reaches : List Ranked → Forest → Tree → Bool
+  some_reaches ranks none t = false
+  some_reaches ranks (more s ss) t = (same_tree s t || greater ranks s t) || some_reaches ranks ss t
+
+  -- whether the terms are greater at the first place at which two lists differ
+  pub first_greater : List Ranked → Forest → List Tree → Bool
+  first_greater ranks none ts = false
+  first_greater ranks (more s ss) [] = false
+  first_greater ranks (more s ss) (t ∷ ts) = cond (same_tree s t) (first_greater ranks ss ts) (greater ranks s t)
+
+  -- whether the terms are greater at the last place at which two lists differ
+  pub last_greater : List Ranked → Forest → List Tree → Bool
+  last_greater ranks none ts = false
+  last_greater ranks (more s ss) [] = false
+  last_greater ranks (more s ss) (t ∷ ts) =
+      cond (pointwise same_tree (list_of ss) ts) (not (same_tree s t) && greater ranks s t) (last_greater ranks ss ts)
+
+  -- whether some term that remains of a first list beside a second is greater
+  pub some_beats : List Ranked → Forest → List Tree → List Tree → Tree → Bool
+  some_beats ranks none us ts t = false
+  some_beats ranks (more s ss) us ts t = (remains us ts s && greater ranks s t) || some_beats ranks ss us ts t
+
+-- whether the head of an application beats that of another one with its operator and arguments
+abbrev pub heads_beat : List Ranked → PlainOperator → Forest → PlainOperator → List Tree → Bool
+heads_beat ranks f ss g us =
+    head_beats ranks f g (first_greater ranks ss us) (last_greater ranks ss us)
+    (multiset_greater (λ u. some_beats ranks ss (list_of ss) us u) (list_of ss) us)

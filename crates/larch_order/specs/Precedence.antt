@@ -1,0 +1,106 @@
+-- The precedence: the operators from low to high, each with its status.
+use Rattle.std.specs.Prelude.{ℕ, ◌+◌, ◌-◌, Bool, false, cond, nat_lt, List, [], ◌∷◌, ◌++◌, map, fold, length, get_or, set, Option, Some, None, is_some, bytes_eq}
+use Rattle.std.specs.List.{list_any, position, flat_map, insert, remove}
+use Rattle.larch_term.specs.Operator.{PlainOperator}
+use Rattle.larch_term.specs.BuiltIn.{built_in}
+use Rattle.larch_term.specs.Truth.{bool_sort}
+use Rattle.larch_term.specs.declared.built_in.BuiltIn.{BuiltIn}
+use Rattle.larch_term.specs.declared.built_in.BuiltIn.TheVariants.{True, False, Not, And, Or, Implies, Iff, Equal, Unequal, If}
+use Rattle.larch_order.specs.Same.{same_operator}
+use Rattle.larch_order.specs.declared.precedence.Way.{Way}
+use Rattle.larch_order.specs.declared.precedence.Way.TheVariants.{LeftToRight}
+use Rattle.larch_order.specs.declared.precedence.Ranked.{Ranked}
+
+-- whether an entry of the list is that of an operator
+abbrev pub is_of : PlainOperator → Ranked → Bool
+is_of f r = same_operator r.operator f
+
+-- the place of an operator in the list, 0 being the lowest, if it is there
+abbrev pub place_of : List Ranked → PlainOperator → Option ℕ
+place_of ranks f = position (is_of f) ranks
+
+-- whether an operator is in the list
+abbrev pub has : List Ranked → PlainOperator → Bool
+has ranks f = is_some (place_of ranks f)
+
+-- whether a place is a higher one than another
+abbrev pub is_higher : Option ℕ → Option ℕ → Bool
+is_higher None place = false
+is_higher (Some i) None = false
+is_higher (Some i) (Some j) = nat_lt j i
+
+-- whether an operator is above another; one that isn't in the list is above none and below none
+abbrev pub above : List Ranked → PlainOperator → PlainOperator → Bool
+above ranks f g = is_higher (place_of ranks f) (place_of ranks g)
+
+-- a new operator's entry: its status is left-to-right
+abbrev pub unranked : PlainOperator → Ranked
+unranked f = record { operator = f; status = LeftToRight }
+
+-- the entry at a place, or that of a new operator where there is no place
+abbrev pub entry_at : List Ranked → PlainOperator → Option ℕ → Ranked
+entry_at ranks f None = unranked f
+entry_at ranks f (Some i) = get_or ranks i (unranked f)
+
+-- the status of an operator: left-to-right where it isn't in the list
+abbrev pub status_of : List Ranked → PlainOperator → Way
+status_of ranks f = (entry_at ranks f (place_of ranks f)).status
+
+-- the sorts with one more behind them, unless it is there
+abbrev pub with_sort : List (List ℕ) → List ℕ → List (List ℕ)
+with_sort sorts s = cond (list_any (bytes_eq s) sorts) sorts (sorts ++ s ∷ [])
+
+-- Bool, and the other sorts of operators in the order in which each occurs first in their domains and ranges
+abbrev pub sorts_of_operators : List PlainOperator → List (List ℕ)
+sorts_of_operators fs = fold with_sort (bool_sort ∷ []) (flat_map (λ f. f.domain ++ f.range ∷ []) fs)
+
+-- the built-in operators that aren't there for each sort, from low to high
+abbrev pub propositional : List BuiltIn
+propositional = True ∷ False ∷ Not ∷ And ∷ Or ∷ Implies ∷ Iff ∷ []
+
+-- the built-in operators at sorts, from low to high
+abbrev pub built_ins_at : List (List ℕ) → List PlainOperator
+built_ins_at sorts =
+    map (λ b. built_in b bool_sort) propositional
+    ++ (map (built_in Equal) sorts ++ (map (built_in Unequal) sorts ++ map (built_in If) sorts))
+
+-- the precedence of a theory with these operators: the built-in operators, and above them the theory's in order
+abbrev pub precedence_of : List PlainOperator → List Ranked
+precedence_of fs = map unranked (built_ins_at (sorts_of_operators fs) ++ fs)
+
+-- whether an operator is this built-in one; its sort could only be the last of its domain
+abbrev pub is_built_in_as : PlainOperator → BuiltIn → Bool
+is_built_in_as f b = same_operator f (built_in b (get_or f.domain (length f.domain - 1) []))
+
+-- whether an operator is a built-in one
+unfoldable pub is_built_in : PlainOperator → Bool
+is_built_in f = list_any (is_built_in_as f) (propositional ++ Equal ∷ Unequal ∷ If ∷ [])
+
+-- the place directly above the last built-in operator, the lowest where there is none
+abbrev pub above_built_ins : List Ranked → ℕ
+above_built_ins [] = 0
+above_built_ins (r ∷ ranks) = cond (list_any (λ q. is_built_in q.operator) (r ∷ ranks)) (1 + above_built_ins ranks) 0
+
+-- the list with a new operator there
+abbrev pub with_constant : List Ranked → PlainOperator → List Ranked
+with_constant ranks f = insert ranks (above_built_ins ranks) (unranked f)
+
+-- the list with the entry at a first place moved directly above the one at a second, unless that is below it
+abbrev pub moved_above : List Ranked → PlainOperator → Option ℕ → Option ℕ → List Ranked
+moved_above ranks f None place = ranks
+moved_above ranks f (Some i) None = ranks
+moved_above ranks f (Some i) (Some j) = cond (nat_lt i j) (insert (remove ranks i) j (get_or ranks i (unranked f))) ranks
+
+-- the list after a first operator was registered as higher than a second: where it was the lower one it stands
+-- directly above it, else nothing changes
+abbrev pub raised : List Ranked → PlainOperator → PlainOperator → List Ranked
+raised ranks f g = moved_above ranks f (place_of ranks f) (place_of ranks g)
+
+-- the list with another status at a place
+abbrev pub with_status_at : List Ranked → PlainOperator → Way → Option ℕ → List Ranked
+with_status_at ranks f way None = ranks
+with_status_at ranks f way (Some i) = set ranks i (record { operator = f; status = way })
+
+-- the list with another status for an operator
+abbrev pub with_status : List Ranked → PlainOperator → Way → List Ranked
+with_status ranks f way = with_status_at ranks f way (place_of ranks f)

@@ -1,0 +1,194 @@
+ghost use Rattle.std.specs.Prelude.{◌≡◌, ◌↔◌, ◌⊎◌, ◌≤◌, ◌<◌, false, IsTrue, IfOk, OnOk, OnErr, IsErrOf, length, get_or};
+ghost use Rattle.std.specs.List.{insert, remove};
+ghost use Rattle.larch_order.specs.declared.precedence.Ranked.{Ranked};
+ghost use Rattle.larch_order.specs.Precedence.{has, is_built_in, place_of, status_of, above, above_built_ins, with_constant, raised, with_status};
+ghost use Rattle.larch_order.specs.Same.{same_operator};
+ghost use Rattle.larch_order.specs.declared.precedence.OrderRefusal.TheVariants.{Memory as wants_memory};
+
+use larch_base::Memory;
+use larch_term::{Operator, is_built_in, same_operator};
+use std::alloc::Global;
+use std::marker::Model;
+use thiserror::Error;
+
+/// How an operator compares the lists of its arguments.
+#[derive(Clone, Copy, Debug, PartialEq, Eq)]
+pub enum Way {
+    LeftToRight,
+    RightToLeft,
+    Multiset,
+}
+
+/// An operator with its status.
+#[derive(Drop)]
+pub struct Ranked {
+    pub operator: Operator,
+    pub status: Way,
+}
+
+/// A precedence. Contracts see it as the list of its operators with their statuses, from low to high.
+#[derive(Drop)]
+pub struct Precedence {
+    ranks: Vec<Ranked>,
+}
+
+impl Model for Precedence {
+    ghost use Rattle.std.specs.Prelude.{List};
+    ghost use Rattle.larch_order.specs.declared.precedence.Ranked.{Ranked};
+
+    ghost Value = { List Ranked };
+
+    ghost view = { λ precedence. precedence.ranks.items };
+}
+
+/// Why nothing is registered.
+#[derive(Clone, Copy, Debug, PartialEq, Eq, Error)]
+pub enum OrderRefusal {
+    /// An operator isn't in the precedence.
+    #[error("unknown operator")]
+    Unknown,
+    /// Want of memory.
+    #[error("out of memory")]
+    Memory,
+}
+
+impl From<Memory> for OrderRefusal {
+    ghost from_gives = { λ _ refusal. refusal ≡ wants_memory };
+
+    fn from(_memory: Memory) -> OrderRefusal {
+        OrderRefusal::Memory
+    }
+}
+
+impl Precedence {
+    // The precedence with these entries.
+    pub(crate) fn from_ranks(ranks: Vec<Ranked>) -> Precedence
+        ensures { result ≡ ranks.items }
+    {
+        Precedence { ranks }
+    }
+
+    /// The same precedence once more.
+    pub fn copy(&self) -> Result<Precedence, Memory>
+        ensures { IfOk result (λ precedence. precedence ≡ self.now) }
+    {
+        let mut ranks = Vec::with_capacity(*self.ranks.allocator(), self.ranks.len())?;
+        for rank in &self.ranks {
+            let operator = rank.operator.copy()?;
+            let status = rank.status;
+            ranks.push(Ranked { operator, status })?;
+        }
+        Ok(Precedence { ranks })
+    }
+
+    /// Puts a new operator directly above the last built-in one. Where memory is wanting nothing changes.
+    pub fn add_constant(&mut self, constant: &Operator) -> Result<(), Memory>
+        ensures ok { OnOk result (self.new ≡ with_constant self.old constant.now) }
+        ensures err { OnErr result (self.new ≡ self.old) }
+    {
+        let operator = constant.copy()?;
+        let place = self.above_built_ins();
+        let status = Way::LeftToRight;
+        self.ranks.insert(place, Ranked { operator, status })?;
+        Ok(())
+    }
+
+    // The place above the last built-in operator.
+    #[tactic(auto, using(crate::proofs::BuiltIns::above_one_more, crate::proofs::BuiltIns::above_other_more, crate::proofs::BuiltIns::above_within))]
+    fn above_built_ins(&self) -> usize
+        ensures place { result ≡ above_built_ins self.now }
+        ensures within { result ≤ length self.now }
+    {
+        let mut place = 0;
+        for i in 0..self.ranks.len() {
+            if is_built_in_rank(&self.ranks[i]) {
+                place = i + 1;
+            }
+        }
+        place
+    }
+
+    /// Puts an operator directly above another one, unless it stands above it already or is that operator.
+    pub fn register_height(
+        &mut self,
+        upper: &Operator,
+        lower: &Operator,
+    ) -> Result<(), OrderRefusal>
+        ensures ok { OnOk result (self.new ≡ raised self.old upper.now lower.now) }
+        ensures err { OnErr result (self.new ≡ self.old) }
+        ensures unknown { IsErrOf result OrderRefusal.Unknown ↔ ((has self.old upper.now ≡ false) ⊎ (has self.old lower.now ≡ false)) }
+    {
+        let (Some(from), Some(to)) = (self.place(upper), self.place(lower)) else {
+            return Err(OrderRefusal::Unknown);
+        };
+        if from < to {
+            move_up(self.ranks.as_mut_slice(), from, to);
+        }
+        Ok(())
+    }
+
+    /// Gives an operator another status.
+    pub fn register_status(&mut self, operator: &Operator, status: Way) -> Result<(), OrderRefusal>
+        ensures ok { OnOk result (self.new ≡ with_status self.old operator.now status) }
+        ensures err { OnErr result (self.new ≡ self.old) }
+        ensures unknown { IsErrOf result OrderRefusal.Unknown ↔ (has self.old operator.now ≡ false) }
+    {
+        let Some(place) = self.place(operator) else {
+            return Err(OrderRefusal::Unknown);
+        };
+        self.ranks[place].status = status;
+        Ok(())
+    }
+
+    // The place of an operator.
+    fn place(&self, operator: &Operator) -> Option<usize>
+        ensures { result ≡ place_of self.now operator.now }
+    {
+        self.ranks
+            .iter()
+            .position(|rank| is_same(&rank.operator, operator))
+    }
+
+    /// Whether an operator is above another one. It takes no memory.
+    pub fn is_above(&self, upper: &Operator, lower: &Operator) -> bool
+        ensures { result ≡ above self.now upper.now lower.now }
+    {
+        match (self.place(upper), self.place(lower)) {
+            (Some(high), Some(low)) => low < high,
+            _ => false,
+        }
+    }
+
+    /// The status of an operator: left-to-right where it isn't in the precedence. It takes no memory.
+    pub fn status(&self, operator: &Operator) -> Way
+        ensures { result ≡ status_of self.now operator.now }
+    {
+        match self.place(operator) {
+            Some(place) => self.ranks[place].status,
+            None => Way::LeftToRight,
+        }
+    }
+}
+
+// Moves the entry at a place up to another place; those between come down by one.
+fn move_up(ranks: &mut [Ranked], from: usize, to: usize)
+    requires { (from < to) × (to < length ranks.old) }
+    ensures { (d : Ranked) → ranks.new ≡ insert (remove ranks.old from) to (get_or ranks.old from d) }
+{
+    ranks[from..=to].rotate_left(1);
+}
+
+// Whether two operators are equal, as the definitions test it.
+#[tactic(auto, using(crate::proofs::Same::operators_told))]
+pub(crate) fn is_same(left: &Operator, right: &Operator) -> bool
+    ensures { result ≡ same_operator left.now right.now }
+{
+    same_operator(left, right)
+}
+
+#[tactic(auto, using(crate::proofs::BuiltIns::built_in_told))]
+fn is_built_in_rank(rank: &Ranked) -> bool
+    ensures { result ≡ is_built_in rank.now.operator }
+{
+    is_built_in(&rank.operator)
+}

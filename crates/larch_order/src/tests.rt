@@ -1,0 +1,138 @@
+use super::*;
+use larch_base::{Memory, Name, Sequence};
+use larch_term::{BuiltIn, Operator, Term, Terms, Theory, bool_sort};
+use std::alloc::Global;
+use std::test::Fail;
+
+// An operator over N with a number of arguments.
+fn operator(alloc: Global, form: &[u8], arguments: usize) -> Result<Operator, Memory> {
+    let mut domain = Sequence::new(alloc);
+    for _ in 0..arguments {
+        let sort = Name::new(alloc, b"N")?;
+        domain.push(sort)?;
+    }
+    let form = Name::new(alloc, form)?;
+    let range = Name::new(alloc, b"N")?;
+    Operator::new(alloc, form, domain, range)
+}
+
+// The theory with f of one argument and g of two.
+fn theory(alloc: Global) -> Result<Theory, Memory> {
+    let f = operator(alloc, b"f", 1)?;
+    let g = operator(alloc, b"g", 2)?;
+    let mut operators = Sequence::new(alloc);
+    operators.push(f)?;
+    operators.push(g)?;
+    let statements = Sequence::new(alloc);
+    Ok(Theory {
+        operators,
+        statements,
+    })
+}
+
+fn precedence(alloc: Global) -> Result<Precedence, Memory> {
+    let theory = theory(alloc)?;
+    Precedence::of_theory(alloc, &theory)
+}
+
+fn variable(alloc: Global, name: &[u8]) -> Result<Term, Memory> {
+    let name = Name::new(alloc, name)?;
+    let sort = Name::new(alloc, b"N")?;
+    Ok(Term::var(name, sort))
+}
+
+fn one(alloc: Global, argument: Term) -> Result<Term, Memory> {
+    let operator = operator(alloc, b"f", 1)?;
+    let mut arguments = Vec::with_capacity(alloc, 1)?;
+    arguments.push(argument)?;
+    Ok(Term::app(operator, Terms::from_vec(arguments)))
+}
+
+fn two(alloc: Global, first: Term, second: Term) -> Result<Term, Memory> {
+    let operator = operator(alloc, b"g", 2)?;
+    let mut arguments = Vec::with_capacity(alloc, 2)?;
+    arguments.push(first)?;
+    arguments.push(second)?;
+    Ok(Term::app(operator, Terms::from_vec(arguments)))
+}
+
+// g(f(x), y)
+fn left_heavy(alloc: Global) -> Result<Term, Memory> {
+    let x = variable(alloc, b"x")?;
+    let y = variable(alloc, b"y")?;
+    let inner = one(alloc, x)?;
+    two(alloc, inner, y)
+}
+
+// g(x, f(y))
+fn right_heavy(alloc: Global) -> Result<Term, Memory> {
+    let x = variable(alloc, b"x")?;
+    let y = variable(alloc, b"y")?;
+    let inner = one(alloc, y)?;
+    two(alloc, x, inner)
+}
+
+#[test]
+fn adds_constants(rt: HostRuntime) -> Result<(), Fail> {
+    let mut order = precedence(rt.alloc())?;
+    let constant = operator(rt.alloc(), b"c", 0)?;
+    order.add_constant(&constant)?;
+    let fits = constant_fits(rt.alloc(), &order, &constant)?;
+    assert!(rt; fits);
+    Ok(())
+}
+
+// The constant stands above the built-in operators and below the theory's.
+fn constant_fits(alloc: Global, order: &Precedence, constant: &Operator) -> Result<bool, Memory> {
+    let truth = bool_sort(alloc)?;
+    let choice = BuiltIn::If.operator(alloc, &truth)?;
+    let f = operator(alloc, b"f", 1)?;
+    let copied = order.copy()?;
+    Ok(copied.is_above(constant, &choice) && copied.is_above(&f, constant))
+}
+
+#[test]
+fn registers(rt: HostRuntime) -> Result<(), Fail> {
+    let mut order = precedence(rt.alloc())?;
+    let f = operator(rt.alloc(), b"f", 1)?;
+    let g = operator(rt.alloc(), b"g", 2)?;
+    assert!(rt; order.is_above(&g, &f));
+    let answer = order.register_height(&f, &g);
+    assert!(rt; answer.is_ok() && order.is_above(&f, &g));
+    Ok(())
+}
+
+#[test]
+fn refuses_unknown_operators(rt: HostRuntime) -> Result<(), Fail> {
+    let mut order = precedence(rt.alloc())?;
+    let h = operator(rt.alloc(), b"h", 1)?;
+    let answer = order.register_status(&h, Way::Multiset);
+    assert_eq!(rt; answer.err(), Some(OrderRefusal::Unknown));
+    Ok(())
+}
+
+#[test]
+fn compares_by_status(rt: HostRuntime) -> Result<(), Fail> {
+    let mut order = precedence(rt.alloc())?;
+    let left = left_heavy(rt.alloc())?;
+    let right = right_heavy(rt.alloc())?;
+    assert!(rt; order.greater(&left, &right) && !order.greater(&right, &left));
+    let fits = compares_from_the_right(rt.alloc(), &mut order, &left, &right)?;
+    assert!(rt; fits);
+    Ok(())
+}
+
+// From the right it is the other way round, and as multisets the two can't be compared.
+fn compares_from_the_right(
+    alloc: Global,
+    order: &mut Precedence,
+    left: &Term,
+    right: &Term,
+) -> Result<bool, Memory> {
+    let g = operator(alloc, b"g", 2)?;
+    let answer = order.register_status(&g, Way::RightToLeft);
+    let from_right = order.greater(right, left) && !order.greater(left, right);
+    let again = order.register_status(&g, Way::Multiset);
+    let apart = !order.greater(right, left) && !order.greater(left, right);
+    Ok(answer.is_ok() && again.is_ok() && from_right && apart)
+}
