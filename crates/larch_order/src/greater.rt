@@ -8,7 +8,10 @@ use crate::precedence::{Precedence, Way, is_same};
 use larch_term::{Node, Operator, Term, same_term};
 
 impl Precedence {
-    /// Whether a term is greater than another one. It takes no memory.
+    /// Whether a term is greater than another one in the recursive path ordering with status (Dershowitz 1982, Kamin
+    /// and Lévy 1980). It takes no memory, and goes down by one level of calls for each level of the terms. The cases
+    /// are tried as they are defined, so its time can be exponential in the depth where both terms have the same
+    /// operators all the way down.
     #[cycle(greater)]
     pub fn greater(&self, left: &Term, right: &Term) -> bool
         ensures { result ≡ greater self.now left.now right.now }

@@ -188,3 +188,42 @@ fn replaced_prints(alloc: Global, term: &Term) -> Result<bool, Memory> {
         Err(_refusal) => Ok(false),
     }
 }
+
+// An operator, by which its sort is generated and partitioned.
+fn theory(alloc: Global) -> Result<Theory, Memory> {
+    let mut statements = Sequence::new(alloc);
+    let axiom = formula(alloc)?;
+    statements.push(axiom)?;
+    add_clauses(alloc, &mut statements)?;
+    let operators = successor(alloc)?;
+    Ok(Theory {
+        operators,
+        statements,
+    })
+}
+
+fn add_clauses(alloc: Global, statements: &mut Statements) -> Result<(), Memory> {
+    let sort = Name::new(alloc, b"N")?;
+    let operators = successor(alloc)?;
+    let observed = sort.copy()?;
+    let observers = copy_operators(alloc, operators.as_slice())?;
+    statements.push(Statement::Generated(sort, operators))?;
+    statements.push(Statement::Partitioned(observed, observers))?;
+    Ok(())
+}
+
+fn successor(alloc: Global) -> Result<Operators, Memory> {
+    let operator = operator(alloc, b"s", &[b"N"], b"N")?;
+    let mut operators = Sequence::new(alloc);
+    operators.push(operator)?;
+    Ok(operators)
+}
+
+#[test]
+fn copies_theories(rt: HostRuntime) -> Result<(), Memory> {
+    let theory = theory(rt.alloc())?;
+    let copied = copy_theory(rt.alloc(), &theory)?;
+    assert!(rt; same_theory(&theory, &copied));
+    assert!(rt; copied.statements.as_slice().len() == 3);
+    Ok(())
+}
