@@ -1,3 +1,5 @@
+pub mod Embedded
+pub mod Fronts
 pub mod Meanings
 pub mod Verdict
 pub mod Walking

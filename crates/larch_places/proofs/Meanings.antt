@@ -47,7 +47,7 @@ module _ {Token Tree Place : Type 0} (L : Bool → List (Token × Mark) → Tree
   to_said ts us (Err f) m = subst (λ x. Said us x (Err f)) (sym m.2) (fault_said m.0 m.1 us f m.3 m.4 m.5)
 
   -- at the end stands SYNTAX or nothing
-  end_fault : (f : Fault) (us : List Token) → StandsAtEnd L f us → f ≡ Syntax
+  pub end_fault : (f : Fault) (us : List Token) → StandsAtEnd L f us → f ≡ Syntax
   end_fault Mixed us s = absurd s
   end_fault Syntax us s = refl
   end_fault Deep us s = absurd s
@@ -60,14 +60,14 @@ module _ {Token Tree Place : Type 0} (L : Bool → List (Token × Mark) → Tree
   end_untrue Large us z s c = s
 
   -- where something stands, the token isn't free
-  free_untrue : (f : Fault) (us : List Token) (t : Token) → StandsAt L f us t → Free L us t → ⊥
+  pub free_untrue : (f : Fault) (us : List Token) (t : Token) → StandsAt L f us t → Free L us t → ⊥
   free_untrue Mixed us t s c = c.0 s
   free_untrue Syntax us t s c = s.2 c.1
   free_untrue Deep us t s c = c.2 s.2
   free_untrue Large us t s c = c.3 s.3
 
   -- at one token stands one fault
-  one_fault : (f g : Fault) (us : List Token) (t : Token) → StandsAt L f us t → StandsAt L g us t → f ≡ g
+  pub one_fault : (f g : Fault) (us : List Token) (t : Token) → StandsAt L f us t → StandsAt L g us t → f ≡ g
   one_fault Mixed Mixed us t s c = refl
   one_fault Mixed Syntax us t s c = absurd (c.0 s)
   one_fault Mixed Deep us t s c = absurd (c.0 s)

@@ -1,20 +1,25 @@
 -- The answer of a machine means what the language says, for any machine that takes one token at a time, whose
 -- steps can be taken back, and whose every state can be completed.
-use Rattle.std.proofs.Common.{◌≡◌, ℕ, Bool, true, false, IsTrue, Option, Some, None, Result, Ok, Err, inl, inr, List, [], ◌∷◌, ◌++◌, cond, refl, sym, ap, subst, ◌∙◌, ◌↔◌, append_assoc}
+use Rattle.std.proofs.Common.{◌≡◌, ℕ, suc, length, Bool, true, false, IsTrue, Option, Some, None, Result, Ok, Err, inl, inr, List, [], ◌∷◌, ◌++◌, cond, refl, sym, ap, subst, ◌∙◌, ◌↔◌, append_assoc}
 use Rattle.std.proofs.Math.Path.{ap₂}
 use Rattle.std.proofs.lemmas.List.{append-nil, map-append}
-use Rattle.larch_places.specs.Claims.{Begins, Counted, Means, Spells, tokens_of}
+use Rattle.larch_places.specs.Claims.{Begins, Counted, Means, MeansFront, Spells, tokens_of}
 use Rattle.larch_places.specs.Counts.{counts, heads_behind, heads_of, is_deep, is_large, is_mixed}
-use Rattle.larch_places.specs.Look.{at_end, at_mark, at_step, go_on, look}
+use Rattle.larch_places.specs.Look.{at_end, at_front, at_mark, at_step, front, front_at, front_on, go_on, look}
 use Rattle.larch_places.specs.Walks.{Reads, Taken, Walk}
 use Rattle.larch_places.specs.declared.mark.Fault.{Fault}
 use Rattle.larch_places.specs.declared.mark.Fault.TheVariants.{Mixed, Syntax, Deep, Large}
 use Rattle.larch_places.specs.declared.mark.Mark.{Mark}
+use Rattle.larch_places.proofs.Fronts.{Ends, SaidFront, from_front, one_front, to_front}
 use Rattle.larch_places.proofs.Meanings.{Said, from_said, one_answer, to_said}
 use Rattle.larch_places.proofs.Walking.{cut, cut_tokens, head_equal, heads_of-append, nil_cons, none_some, same_walk, some_equal, taken, walk_of, walk_on}
 
 true_false : (b : Bool) → b ≡ true → b ≡ false → ⊥
 true_false b e f = let q : true ≡ false = sym e ∙ f in cc
+
+length_more : {A : Type 0} (xs : List A) (x : A) → length (xs ++ x ∷ []) ≡ suc (length xs)
+length_more [] x = refl
+length_more (y ∷ xs) x = ap suc (length_more xs x)
 
 module _ {Token State Tree Place : Type 0}
     (L : Bool → List (Token × Mark) → Tree → Type 0)
@@ -149,3 +154,58 @@ module _ {Token State Tree Place : Type 0}
       λ e. from_said L place end ts [] a (subst (λ x. Said L place end [] ts x) e (said_all ts)),
       λ m. one_answer L place end one_tree ts [] (look (step true) final place end 0 start ts) a (said_all ts) (to_said L place end ts [] a m),
     )
+
+    -- the same for the longest front
+
+    abbrev front_from : List Token → ℕ → ℕ → State → Result (Tree × ℕ) (Fault × Place)
+    front_from ts c g k = front (step true) final place end g c k ts
+
+    module _ (us : List Token) (h : ℕ) (n k : State) (t : Token) (m : Mark) (ts : List Token) (c : ℕ) (r : Reached us h n) (e : step true n t ≡ Some (m, k))
+        (go : (g : ℕ) (l : State) → Reached (us ++ t ∷ []) g l → SaidFront L place end (us ++ t ∷ []) ts (front_from ts c g l)) where
+      front_large : is_mixed m ≡ false → is_deep m ≡ false → (large : Bool) → is_large h m ≡ large → SaidFront L place end us (t ∷ ts) (front_on (at_mark (place t) k (cond large (Err Large) (Ok (heads_behind h m)))) (front_from ts c))
+      front_large p q true l = inr (inl (Large, (uncounted Mixed us h n k t m r e p, begun (us ++ t ∷ []) (heads_behind h m) k (stepped us h n k t m r (agree n t m k e p)), uncounted Deep us h n k t m r e q, step_counted Large us h n k t m r e l), refl))
+      front_large p q false l =
+          let s = stepped us h n k t m r (agree n t m k e p) in
+          inl ((uncounted Mixed us h n k t m r e p, begun (us ++ t ∷ []) (heads_behind h m) k s, uncounted Deep us h n k t m r e q, uncounted Large us h n k t m r e l), go (heads_behind h m) k s)
+
+      front_deep : is_mixed m ≡ false → (deep : Bool) → is_deep m ≡ deep → SaidFront L place end us (t ∷ ts) (front_on (at_mark (place t) k (cond deep (Err Deep) (cond (is_large h m) (Err Large) (Ok (heads_behind h m))))) (front_from ts c))
+      front_deep p true q = inr (inl (Deep, (uncounted Mixed us h n k t m r e p, begun (us ++ t ∷ []) (heads_behind h m) k (stepped us h n k t m r (agree n t m k e p)), step_counted Deep us h n k t m r e q), refl))
+      front_deep p false q = front_large p q (is_large h m) refl
+
+      front_mark : (mixed : Bool) → is_mixed m ≡ mixed → SaidFront L place end us (t ∷ ts) (front_on (at_mark (place t) k (cond mixed (Err Mixed) (cond (is_deep m) (Err Deep) (cond (is_large h m) (Err Large) (Ok (heads_behind h m)))))) (front_from ts c))
+      front_mark true p = inr (inl (Mixed, step_counted Mixed us h n k t m r e p, refl))
+      front_mark false p = front_deep p (is_deep m) refl
+
+    ends_here : (us : List Token) (h : ℕ) (n : State) (t : Token) → Reached us h n → step true n t ≡ None → Ends L place end us t
+    ends_here us h n t r e =
+        (λ b. let d = goes_on us h n t r b in none_some (sym e ∙ stray n t d.0 d.1 d.2), λ c. none_some (sym e ∙ (counted_step Mixed us h n t r c).2))
+
+    front_stop : (us : List Token) (h : ℕ) (n : State) (t : Token) (ts : List Token) → Reached us h n → step true n t ≡ None → (o : Option Tree) → final n ≡ o
+        → SaidFront L place end us (t ∷ ts) (at_front (place t) (length us) o)
+    front_stop us h n t ts r e None f = inr (inl (Syntax, (begun us h n r, ends_here us h n t r e, λ z s. none_some (sym f ∙ ended us h n z r s)), refl))
+    front_stop us h n t ts r e (Some z) f = inr (inr (z, spelled us h n z r f, ends_here us h n t r e, refl))
+
+    front_step : (us : List Token) (h : ℕ) (n : State) (t : Token) (ts : List Token) → Reached us h n
+        → ((g : ℕ) (l : State) → Reached (us ++ t ∷ []) g l → SaidFront L place end (us ++ t ∷ []) ts (front_from ts (suc (length us)) g l))
+        → (o : Option (Mark × State)) → step true n t ≡ o
+        → SaidFront L place end us (t ∷ ts) (front_at (place t) h (length us) (final n) o (front_from ts (suc (length us))))
+    front_step us h n t ts r go None e = front_stop us h n t ts r e (final n) refl
+    front_step us h n t ts r go (Some p) e = front_mark us h n p.1 t p.0 ts (suc (length us)) r e go (is_mixed p.0) refl
+
+    front_end : (us : List Token) (h : ℕ) (n : State) → Reached us h n → (o : Option Tree) → final n ≡ o → SaidFront L place end us [] (at_front end (length us) o)
+    front_end us h n r None e = ((begun us h n r, tt, λ z s. none_some (sym e ∙ ended us h n z r s)), refl)
+    front_end us h n r (Some z) e = (spelled us h n z r e, refl)
+
+    front_said : (ts us : List Token) (h c : ℕ) (n : State) → c ≡ length us → Reached us h n → SaidFront L place end us ts (front_from ts c h n)
+    front_said [] us h c n q r = subst (λ x. SaidFront L place end us [] (front_from [] x h n)) (sym q) (front_end us h n r (final n) refl)
+    front_said (t ∷ ts) us h c n q r =
+        subst (λ x. SaidFront L place end us (t ∷ ts) (front_from (t ∷ ts) x h n)) (sym q)
+        (front_step us h n t ts r (λ g l s. front_said ts (us ++ t ∷ []) g (suc (length us)) l (sym (length_more us t)) s) (step true n t) refl)
+
+    -- the answer for the longest front is exactly what the language says
+    pub front_verdict : (ts : List Token) (a : Result (Tree × ℕ) (Fault × Place)) → (front (step true) final place end 0 0 start ts ≡ a) ↔ MeansFront L place end ts a
+    front_verdict ts a =
+        let s = front_said ts [] 0 0 start refl ([], refl, refl, refl) in (
+          λ e. from_front L place end ts [] a (subst (λ x. SaidFront L place end [] ts x) e s),
+          λ m. one_front L place end one_tree ts [] (front (step true) final place end 0 0 start ts) a s (to_front L place end ts [] a m),
+        )

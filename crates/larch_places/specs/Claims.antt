@@ -1,7 +1,7 @@
 -- What a language says of tokens: which of them begin a text of it, and what is counted at them. A language holds
 -- tokens beside their marks, and their tree. It has two readings: with `false` it is the grammar, and with `true`
 -- symbols are let in at which MIXED stands in any case.
-use Rattle.std.specs.Prelude.{◌≡◌, Bool, true, false, IsTrue, Result, Ok, Err, List, [], ◌∷◌, ◌++◌, map}
+use Rattle.std.specs.Prelude.{◌≡◌, ℕ, length, Bool, true, false, IsTrue, Result, Ok, Err, List, [], ◌∷◌, ◌++◌, map}
 use Rattle.larch_places.specs.Counts.{counts, heads_of}
 use Rattle.larch_places.specs.declared.mark.Fault.{Fault}
 use Rattle.larch_places.specs.declared.mark.Fault.TheVariants.{Mixed, Syntax, Deep, Large}
@@ -61,3 +61,19 @@ module _ {Token Tree : Type 0} (L : Bool → List (Token × Mark) → Tree → T
   abbrev pub Means : {Place : Type 0} → (Token → Place) → Place → List Token → Result Tree (Fault × Place) → Type 0
   Means place end tokens (Ok tree) = AllFree [] tokens × Spells tokens tree
   Means place end tokens (Err fault) = (before rest : List Token) × (tokens ≡ before ++ rest) × AllFree [] before × Stands fault.0 before rest × (fault.1 ≡ place_or place end rest)
+
+  -- a text ends here for good: with the next token these tokens begin none, and MIXED doesn't stand there
+  abbrev pub EndsBefore : List Token → List Token → Type 0
+  EndsBefore before [] = Unit {0}
+  EndsBefore before (token ∷ tokens) = (¬ Begins (before ++ token ∷ [])) × (¬ Counted Mixed before token)
+
+  -- behind these tokens, this stands at the first of those, where a text may end before it
+  abbrev pub StandsBehind : Fault → List Token → List Token → Type 0
+  StandsBehind Syntax before tokens = Begins before × EndsBefore before tokens × ((tree : Tree) → ¬ Spells before tree)
+  StandsBehind fault before tokens = Stands fault before tokens
+
+  -- the tree of the longest front of these tokens that begins a text, and its number of tokens: it is a text, nothing
+  -- stands in it, and MIXED doesn't stand directly behind it; or the first fault and its place
+  abbrev pub MeansFront : {Place : Type 0} → (Token → Place) → Place → List Token → Result (Tree × ℕ) (Fault × Place) → Type 0
+  MeansFront place end tokens (Ok read) = (before rest : List Token) × (tokens ≡ before ++ rest) × AllFree [] before × Spells before read.0 × EndsBefore before rest × (read.1 ≡ length before)
+  MeansFront place end tokens (Err fault) = (before rest : List Token) × (tokens ≡ before ++ rest) × AllFree [] before × StandsBehind fault.0 before rest × (fault.1 ≡ place_or place end rest)

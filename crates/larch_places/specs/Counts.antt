@@ -1,34 +1,42 @@
 -- What is counted at tokens.
-use Rattle.std.specs.Prelude.{ℕ, ◌+◌, nat_le, nat_lt, cond, Bool, true, false, ◌&&◌, Result, Ok, Err, List, [], ◌∷◌}
-use Rattle.larch_base.specs.declared.limits.TheConstants.{MAX_HEAD_TOKENS, MAX_NESTING}
+use Rattle.std.specs.Prelude.{ℕ, ◌+◌, nat_le, cond, Bool, true, false, ◌&&◌, Result, Ok, Err, List, [], ◌∷◌}
+use Rattle.larch_base.specs.declared.limits.TheConstants.{MAX_HEAD_TOKENS}
 use Rattle.larch_places.specs.declared.mark.Fault.{Fault}
 use Rattle.larch_places.specs.declared.mark.Fault.TheVariants.{Mixed, Syntax, Deep, Large}
 use Rattle.larch_places.specs.declared.mark.Mark.{Mark}
-use Rattle.larch_places.specs.declared.mark.Mark.TheVariants.{Plain, Head, Opens, OpensHead, Chained}
+use Rattle.larch_places.specs.declared.mark.Mark.TheVariants.{Plain, Outside, Head, Opens, OpensHead, Chained}
 
 -- the token continues a chain with another symbol
 abbrev pub is_mixed : Mark → Bool
 is_mixed Plain = false
+is_mixed Outside = false
 is_mixed Head = false
-is_mixed (Opens nesting) = false
-is_mixed (OpensHead nesting) = false
+is_mixed (Opens deep) = false
+is_mixed (OpensHead deep) = false
 is_mixed (Chained mixed) = mixed
 
 -- the token opens a construct too many
 abbrev pub is_deep : Mark → Bool
 is_deep Plain = false
+is_deep Outside = false
 is_deep Head = false
-is_deep (Opens nesting) = nat_lt MAX_NESTING nesting
-is_deep (OpensHead nesting) = nat_lt MAX_NESTING nesting
+is_deep (Opens deep) = deep
+is_deep (OpensHead deep) = deep
 is_deep (Chained mixed) = false
 
 -- it is a head token
 abbrev pub is_head : Mark → Bool
 is_head Plain = false
+is_head Outside = false
 is_head Head = true
-is_head (Opens nesting) = false
-is_head (OpensHead nesting) = true
+is_head (Opens deep) = false
+is_head (OpensHead deep) = true
 is_head (Chained mixed) = true
+
+-- head tokens are counted anew behind it
+abbrev pub is_outside : Mark → Bool
+is_outside Outside = true
+is_outside _ = false
 
 -- it is a head token too many, so many being before it
 abbrev pub is_large : ℕ → Mark → Bool
@@ -43,7 +51,7 @@ counts Large heads mark = is_large heads mark
 
 -- the number of head tokens behind a token
 abbrev pub heads_behind : ℕ → Mark → ℕ
-heads_behind heads mark = cond (is_head mark) (heads + 1) heads
+heads_behind heads mark = cond (is_outside mark) 0 (cond (is_head mark) (heads + 1) heads)
 
 -- the number of head tokens behind all these
 abbrev pub heads_of : {Token : Type 0} → ℕ → List (Token × Mark) → ℕ

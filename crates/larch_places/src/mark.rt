@@ -1,19 +1,21 @@
 ghost use Rattle.std.specs.Prelude.{◌≡◌};
-ghost use Rattle.larch_places.specs.Counts.{is_deep, is_head, is_mixed, judged};
+ghost use Rattle.larch_places.specs.Counts.{is_deep, is_head, is_mixed, is_outside, judged};
 
-use larch_base::limits::{MAX_HEAD_TOKENS, MAX_NESTING};
+use larch_base::limits::MAX_HEAD_TOKENS;
 
 /// What is counted at a token.
 #[derive(Clone, Copy, Debug, PartialEq, Eq)]
 pub enum Mark {
     /// Nothing.
     Plain,
+    /// Nothing, and head tokens are counted anew behind it: the token stands outside all equations.
+    Outside,
     /// A head token.
     Head,
-    /// A construct opens, and so many are open then.
-    Opens(u32),
+    /// A construct opens, and whether it is one too many.
+    Opens(bool),
     /// The same at a head token.
-    OpensHead(u32),
+    OpensHead(bool),
     /// A head token that continues a chain of symbols, and whether its symbol is another than the chain's.
     Chained(bool),
 }
@@ -47,9 +49,16 @@ impl Mark {
         ensures { result ≡ is_deep self }
     {
         match self {
-            Mark::Opens(nesting) | Mark::OpensHead(nesting) => nesting > MAX_NESTING,
+            Mark::Opens(deep) | Mark::OpensHead(deep) => deep,
             _ => false,
         }
+    }
+
+    /// Whether head tokens are counted anew behind it.
+    pub fn is_outside(self) -> bool
+        ensures { result ≡ is_outside self }
+    {
+        matches!(self, Mark::Outside)
     }
 
     /// Whether it is a head token.
@@ -57,7 +66,7 @@ impl Mark {
         ensures { result ≡ is_head self }
     {
         match self {
-            Mark::Plain | Mark::Opens(_) => false,
+            Mark::Plain | Mark::Outside | Mark::Opens(_) => false,
             Mark::Head | Mark::OpensHead(_) | Mark::Chained(_) => true,
         }
     }
@@ -72,6 +81,8 @@ pub fn judge(heads: u32, mark: Mark) -> Result<u32, Fault>
         Err(Fault::Mixed)
     } else if mark.is_deep() {
         Err(Fault::Deep)
+    } else if mark.is_outside() {
+        Ok(0)
     } else if !mark.is_head() {
         Ok(heads)
     } else if heads < MAX_HEAD_TOKENS {
