@@ -1,0 +1,5 @@
+pub mod RawCode
+pub mod RawFalls
+pub mod RawListFalls
+pub mod RawTree
+pub mod RawView

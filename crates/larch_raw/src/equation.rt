@@ -1,0 +1,53 @@
+use crate::declared::{RawDecls, RawOpRefs, RawWord};
+use crate::term::RawTerm;
+use larch_base::{Pos, Sequence};
+
+/// A variable with its sort.
+#[derive(Debug, Drop)]
+pub struct RawVar {
+    pub name: RawWord,
+    pub sort: RawWord,
+}
+
+/// The variables of an item, in order.
+pub type RawVars = Sequence<RawVar>;
+
+/// The right side of an equation, and where the `==` stands.
+#[derive(Drop)]
+pub struct RawRight {
+    pub term: RawTerm,
+    pub pos: Pos,
+}
+
+/// An equation, or a formula where it has no right side, and where its first token stands.
+#[derive(Drop)]
+pub struct RawEquation {
+    pub left: RawTerm,
+    pub right: Option<RawRight>,
+    pub first: Pos,
+}
+
+/// The equations of an item, in order.
+pub type RawEquations = Sequence<RawEquation>;
+
+/// An item of assertions.
+#[derive(Drop)]
+pub enum RawItem {
+    /// A sort, and the operators that generate it.
+    Generated(RawWord, RawOpRefs),
+    /// A sort, and the operators that tell its values apart.
+    Partitioned(RawWord, RawOpRefs),
+    /// Equations over these variables.
+    Equations(RawVars, RawEquations),
+}
+
+/// The items of a trait, in order.
+pub type RawItems = Sequence<RawItem>;
+
+/// A trait as it is written.
+#[derive(Drop)]
+pub struct RawTrait {
+    pub name: RawWord,
+    pub declarations: RawDecls,
+    pub items: RawItems,
+}
