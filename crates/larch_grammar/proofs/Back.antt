@@ -1,0 +1,67 @@
+-- A step of the machine can be taken back.
+use Rattle.std.proofs.Common.{Bool, List, ◌∷◌}
+use Rattle.larch_places.specs.Walks.{Taken}
+use Rattle.larch_grammar.specs.declared.lexeme.Lexeme.{Lexeme}
+use Rattle.larch_grammar.specs.declared.lexeme.Lexeme.TheVariants.{Word, Arrow, Colon, Comma, Marker, Trait, By}
+use Rattle.larch_grammar.specs.declared.machine.Before.TheVariants as before
+use Rattle.larch_grammar.specs.declared.machine.Signing.TheVariants.{Declaration, Reference}
+use Rattle.larch_grammar.specs.declared.machine.State.{State}
+use Rattle.larch_grammar.specs.declared.machine.State.TheVariants.{Start, AfterName, NeedTrait, AfterHead, InPart, NeedForm, AfterSymbolForm, AfterDotForm, AfterMarker, AfterMarkerSymbol, NeedMarks, AfterMark, NeedMark, AfterForm, NeedSig, AfterSort, NeedSort, NeedRange, AfterReference, InItems, FirstWord, AfterSemicolon, WordBehind, ClauseWord, NeedBy, NeedVariable, AfterVariable, NeedFurtherVariable, NeedVariableSort, AfterGroup, NeedEquation, NeedTerm, NeedOperand, NeedPrefixed, NeedPost, NeedField, NeedSortOf, AfterWord, NeedFirst, AfterSymbol, Have}
+use Rattle.larch_grammar.specs.declared.machine.Whole.{Whole}
+use Rattle.larch_grammar.specs.Forms.{Marked, a_word, another_marker, another_word, group, no_word, signature, no_sort, sorts}
+use Rattle.larch_grammar.specs.Machine.{step}
+use Rattle.larch_grammar.specs.Terms.{field, of_sort}
+use Rattle.larch_grammar.specs.Traits.{trait_of_parts}
+use Rattle.larch_grammar.proofs.Fits.{Fits}
+use Rattle.larch_grammar.proofs.BackForms.{form_back, form_read_back, head_back, mark_back, marker_back, marker_symbol_back, marks_back, part_of_decls_back, symbol_form_back}
+use Rattle.larch_grammar.proofs.BackItems.{by_back, clause_back, first_back, group_back, item_back, reference_back, semicolon_back, word_behind_back}
+use Rattle.larch_grammar.proofs.BackTerms.{bracket_back, equation_back, hand_back, oper_back, operand_back, post_back, symbol_back, term_back, word_back}
+
+-- a step can be taken back
+pub step_back : (s : Bool) (n : State) (l : Lexeme) → Taken (step s n l) (λ m k. (i : List Marked) (z : Whole) → Fits s k i z → Fits s n ((l, m) ∷ i) z)
+step_back s Start (Word w) = λ i z f. f
+step_back s (AfterName w) (Colon p) = λ i z f. f p
+step_back s (NeedTrait w) Trait = λ i z f. λ p. (f.0, trait_of_parts a_word f.1, f.2)
+step_back s (AfterHead r) t = head_back s r t
+step_back s (InPart r) t = part_of_decls_back s r t
+step_back s (NeedForm n) t = form_back s n t
+step_back s (AfterSymbolForm n x) t = symbol_form_back s n x t
+step_back s (AfterDotForm n p) (Word w) = λ i z f. (i, w, a_word, f)
+step_back s (AfterMarker n p) t = marker_back s n p t
+step_back s (AfterMarkerSymbol n p x) t = marker_symbol_back s n p x t
+step_back s (NeedMarks n behind b p) t = marks_back s n behind b p t
+step_back s (AfterMark n behind b m p) t = mark_back s n behind b m p t
+step_back s (NeedMark n behind b m p) (Marker q) = λ i z f. (f.0, f.1, another_marker f.2, f.3)
+step_back s (AfterForm n f) t = form_read_back s n f t
+step_back s (NeedSig n) (Word w) = λ i z f. (f.1, _, signature (sorts a_word f.4) f.5, f.6)
+step_back s (NeedSig n) Arrow = λ i z f. (f.0, _, signature no_sort f.2, f.3)
+step_back s (AfterSort n ws) Comma = λ i z f. f
+step_back s (AfterSort n ws) Arrow = λ i z f. (i, f.0, ws, f.1, no_word, f.2, f.3)
+step_back s (NeedSort n ws) (Word w) = λ i z f. (f.0, f.1, f.2, f.3, another_word a_word f.4, f.5, f.6)
+step_back s (NeedRange (Declaration r fs) ws) (Word w) = λ i z f. (i, w, a_word, f)
+step_back s (NeedRange (Reference c rs g) ws) (Word w) = λ i z f. (i, w, a_word, f)
+step_back s (AfterReference c rs) t = reference_back s c rs t
+step_back s (InItems r) t = item_back s r t
+step_back s (FirstWord r w) t = first_back s r w t
+step_back s (AfterSemicolon r vs es) t = semicolon_back s r vs es t
+step_back s (WordBehind r vs es w) t = word_behind_back s r vs es w t
+step_back s (ClauseWord r w) t = clause_back s before.Equations r w t
+step_back s (NeedBy c) By = by_back s c
+step_back s (NeedVariable r vs) (Word w) = λ i z f. (f.1, _, group a_word f.5 f.6, f.7)
+step_back s (AfterVariable r vs ws) Comma = λ i z f. f
+step_back s (AfterVariable r vs ws) (Colon p) = λ i z f. (i, f.0, p, ws, f.1, no_word, f.2, f.3)
+step_back s (NeedFurtherVariable r vs ws) (Word w) = λ i z f. (f.0, f.1, f.2, f.3, f.4, another_word a_word f.5, f.6, f.7)
+step_back s (NeedVariableSort r vs ws) (Word sort) = λ i z f. (i, sort, a_word, f)
+step_back s (AfterGroup r vs) t = group_back s r vs t
+step_back s (NeedEquation w) t = equation_back s w t
+step_back s (NeedTerm k) t = term_back s k t
+step_back s (NeedOperand k) t = oper_back s k t
+step_back s (NeedPrefixed k) t = operand_back s k t
+step_back s (NeedPost k) t = post_back s k t
+step_back s (NeedField r p k) (Word w) = λ i z f. (f.0, f.1, field f.2, f.3)
+step_back s (NeedSortOf r p k) (Word w) = λ i z f. (i, _, of_sort, f)
+step_back s (AfterWord w k) t = word_back s w k t
+step_back s (NeedFirst b l p k) t = bracket_back s b l p k t
+step_back s (AfterSymbol x r k) t = symbol_back s x r k t
+step_back s (Have r k) t = hand_back s r k t
+step_back s _ _ = tt

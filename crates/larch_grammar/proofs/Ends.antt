@@ -1,0 +1,302 @@
+-- Where the tokens may end, nothing need follow; and every state can be completed.
+use Rattle.std.proofs.Common.{◌≡◌, ℕ, Bool, true, inl, Option, Some, None, List, [], ◌∷◌, ◌++◌, codes, map, refl}
+use Rattle.larch_base.specs.Position.{start_of_text}
+use Rattle.larch_base.specs.declared.position.Pos.{Pos}
+use Rattle.larch_lexer.specs.declared.token.Kind.{Kind}
+use Rattle.larch_lexer.specs.declared.token.Kind.TheVariants as kind
+use Rattle.larch_lexer.specs.declared.token.Token.{Token}
+use Rattle.larch_places.specs.Walks.{Taken}
+use Rattle.larch_places.specs.declared.mark.Mark.{Mark}
+use Rattle.larch_places.specs.declared.mark.Mark.TheVariants.{Head}
+use Rattle.larch_places.proofs.Walking.{none_some, some_equal}
+use Rattle.larch_raw.specs.RawTree.{RawTree, qualified}
+use Rattle.larch_raw.specs.declared.declared.RawForm.{RawForm}
+use Rattle.larch_raw.specs.declared.declared.RawOpRef.{RawOpRef}
+use Rattle.larch_raw.specs.declared.declared.RawWord.{RawWord}
+use Rattle.larch_raw.specs.declared.equation.RawEquation.{RawEquation}
+use Rattle.larch_raw.specs.declared.equation.RawTrait.{RawTrait}
+use Rattle.larch_raw.specs.declared.equation.RawVar.{RawVar}
+use Rattle.larch_grammar.specs.declared.lexeme.Bracket.{Bracket}
+use Rattle.larch_grammar.specs.declared.lexeme.Bracket.TheVariants.{Square, Curly}
+use Rattle.larch_grammar.specs.declared.lexeme.Lexeme.TheVariants.{Word}
+use Rattle.larch_grammar.specs.declared.machine.Before.{Before}
+use Rattle.larch_grammar.specs.declared.machine.Before.TheVariants as before
+use Rattle.larch_grammar.specs.declared.machine.Clause.{Clause}
+use Rattle.larch_grammar.specs.declared.machine.Frame.{Frame}
+use Rattle.larch_grammar.specs.declared.machine.Frame.TheVariants.{InFields, InStrays, Prefixed, InPostfixes, InInfixes, InEqualities, InConnectives, InParentheses, InList, InIf, InThen, InElse, InLeft, InRight}
+use Rattle.larch_grammar.specs.declared.machine.Listing.TheVariants.{Call, Bracketed}
+use Rattle.larch_grammar.specs.declared.machine.Naming.{Naming}
+use Rattle.larch_grammar.specs.declared.machine.Naming.TheVariants.{Declared, Referred}
+use Rattle.larch_grammar.specs.declared.machine.Signing.{Signing}
+use Rattle.larch_grammar.specs.declared.machine.Signing.TheVariants.{Declaration, Reference}
+use Rattle.larch_grammar.specs.declared.machine.State.{State}
+use Rattle.larch_grammar.specs.declared.machine.State.TheVariants.{Start, AfterName, NeedTrait, AfterHead, InPart, NeedForm, AfterSymbolForm, AfterDotForm, AfterMarker, AfterMarkerSymbol, NeedMarks, AfterMark, NeedMark, AfterForm, NeedSig, AfterSort, NeedSort, NeedRange, AfterReference, InItems, FirstWord, AfterSemicolon, WordBehind, ClauseWord, NeedBy, NeedVariable, AfterVariable, NeedFurtherVariable, NeedVariableSort, AfterGroup, NeedEquation, NeedTerm, NeedOperand, NeedPrefixed, NeedPost, NeedField, NeedSortOf, AfterWord, NeedFirst, AfterSymbol, Have}
+use Rattle.larch_grammar.specs.declared.machine.Waiting.{Waiting}
+use Rattle.larch_grammar.specs.declared.machine.Waiting.TheVariants.{Alone, Item}
+use Rattle.larch_grammar.specs.declared.machine.Whole.{Whole}
+use Rattle.larch_grammar.specs.declared.machine.Whole.TheVariants as whole
+use Rattle.larch_grammar.specs.Forms.{bare_symbol, by_form, no_reference, postfix_form}
+use Rattle.larch_grammar.specs.Lexemes.{lexeme_of}
+use Rattle.larch_grammar.specs.Machine.{Taking, end_equation, end_form, final, finish, step, with_clause, word_frames}
+use Rattle.larch_grammar.specs.Terms.{behind, formula_of, equation_of, no_connective, no_equality, no_field, no_infix, no_postfix, no_stray, no_symbol, word_alone}
+use Rattle.larch_grammar.specs.Traits.{assertions, no_assertion, no_declaration, no_end, no_equation, no_item, seen, with_equations}
+use Rattle.larch_grammar.specs.Trees.{bracket_tree, call_tree, field_tree, if_tree, joined, listing_tree, postfix_tree, prefix_tree}
+use Rattle.larch_grammar.proofs.Fits.{Fits, FitsBehind, FitsForm, FitsIn, FitsItems, FitsPost, FitsReferences}
+use Rattle.larch_grammar.proofs.Back.{step_back}
+use Rattle.larch_grammar.proofs.BackItems.{ended_by_equation, ended_by_item, equation_of_post, item_of_equation}
+use Rattle.larch_grammar.proofs.BackTerms.{Back}
+
+-- no further items
+items_end : (s : Bool) (b : Before) (r : RawTrait) (z : Whole) → Some (whole.Trait r) ≡ Some z → FitsItems s b r [] z
+items_end s b r z e = ([], r, r, no_item, no_assertion, some_equal e)
+
+-- no further references
+references_end : (s : Bool) (c : Clause) (rs : List RawOpRef) (z : Whole) → Some (whole.Trait (with_clause c rs)) ≡ Some z → FitsReferences s c rs [] z
+references_end s c rs z e = ([], [], rs, no_reference, no_end, items_end s before.Anything (with_clause c rs) z e)
+
+-- the tokens may end behind a form
+form_fits : (s : Bool) (n : Naming) (f : RawForm) (z : Whole) → end_form n f ≡ Some z → FitsForm s n f [] z
+form_fits s (Declared r fs) f z e = absurd (none_some e)
+form_fits s (Referred c rs) f z e = λ h form. ([], _, by_form form, references_end s c _ z e)
+
+-- the tokens may end behind an equation
+behind_fits : (s : Bool) (e : RawEquation) (w : Waiting) (z : Whole) → end_equation e w ≡ Some z → FitsBehind s e w [] z
+behind_fits s e Alone z q = (refl, some_equal q)
+behind_fits s e (Item r vs es) z q = ([], es ++ e ∷ [], before.Equations, no_equation, items_end s before.Equations (with_equations r vs (es ++ e ∷ [])) z q)
+
+-- the tokens may end behind a tree in these frames
+finish_fits : (s : Bool) (r : RawTree) (k : List Frame) (z : Whole) → finish r k ≡ Some z → FitsIn s r k [] z
+finish_fits s r [] z e = tt
+finish_fits s r (InFields ∷ k) z e = ([], r, no_field, finish_fits s r k z e)
+finish_fits s r (InStrays ∷ k) z e = ([], r, no_stray, finish_fits s r k z e)
+finish_fits s r (Prefixed x ∷ k) z e = finish_fits s (prefix_tree x r) k z e
+finish_fits s r (InPostfixes ∷ k) z e = ([], r, no_postfix, finish_fits s r k z e)
+finish_fits s r (InInfixes None ∷ k) z e = ([], r, no_symbol, finish_fits s r k z e)
+finish_fits s r (InInfixes (Some l) ∷ k) z e = ([], joined (Some l) r, no_infix, finish_fits s (joined (Some l) r) k z e)
+finish_fits s r (InEqualities l ∷ k) z e = ([], joined l r, no_equality, finish_fits s (joined l r) k z e)
+finish_fits s r (InConnectives l ∷ k) z e = ([], joined l r, no_connective, finish_fits s (joined l r) k z e)
+finish_fits s r (InParentheses ∷ k) z e = absurd (none_some e)
+finish_fits s r (InList h ts ∷ k) z e = absurd (none_some e)
+finish_fits s r (InIf p ∷ k) z e = absurd (none_some e)
+finish_fits s r (InThen p a ∷ k) z e = absurd (none_some e)
+finish_fits s r (InElse p a b ∷ k) z e = finish_fits s (if_tree p a b r) k z e
+finish_fits s r (InLeft p w ∷ k) z e = inl (behind_fits s (formula_of r p) w z e)
+finish_fits s r (InRight p l q w ∷ k) z e = behind_fits s (equation_of l q r p) w z e
+
+-- the tokens may end behind a word of a term
+word_fits : (s : Bool) (w : RawWord) (k : List Frame) (z : Whole) → finish (call_tree w []) k ≡ Some z → FitsPost s k ((Word w, Head) ∷ []) z
+word_fits s w k z e = ([], call_tree w [], word_alone no_field, finish_fits s (call_tree w []) k z e)
+
+-- where the tokens may end, nothing need follow
+pub final_fits : (s : Bool) (n : State) (z : Whole) → final n ≡ Some z → Fits s n [] z
+final_fits s (AfterHead r) z e = (r, assertions no_assertion, some_equal e)
+final_fits s (InPart r) z e = ([], r, r, no_declaration, assertions no_assertion, some_equal e)
+final_fits s (AfterSymbolForm n x) z e = ([], _, bare_symbol, form_fits s n _ z e)
+final_fits s (AfterMarkerSymbol n p x) z e = ([], _, postfix_form, form_fits s n _ z e)
+final_fits s (AfterForm n f) z e = form_fits s n f z e
+final_fits s (AfterReference c rs) z e = references_end s c rs z e
+final_fits s (InItems r) z e = items_end s before.Anything r z e
+final_fits s (FirstWord r w) z e = item_of_equation s r ((Word w, Head) ∷ []) z (equation_of_post s w (Item r [] []) [] z (word_fits s w (word_frames w (Item r [] [])) z e))
+final_fits s (AfterSemicolon r vs es) z e = ended_by_item s r vs es [] z (items_end s before.Semicolon (with_equations r vs es) z e)
+final_fits s (WordBehind r vs es w) z e = ended_by_equation s r vs es ((Word w, Head) ∷ []) z (equation_of_post s w (Item r vs es) [] z (word_fits s w (word_frames w (Item r vs es)) z e))
+final_fits s (AfterWord w k) z e = word_fits s w k z e
+final_fits s (AfterSymbol x r k) z e = ([], postfix_tree x r, behind tt no_postfix, finish_fits s (postfix_tree x r) k z e)
+final_fits s (Have r k) z e = finish_fits s r k z e
+final_fits s _ z e = absurd (none_some e)
+
+-- tokens that complete
+abbrev some_token : Kind → List ℕ → Token
+some_token kind text = record { kind = kind; text = text; pos = start_of_text }
+
+abbrev word : Token
+word = some_token kind.Word (codes "x")
+
+abbrev symbol : Token
+symbol = some_token kind.Run (codes "+")
+
+abbrev marker : Token
+marker = some_token kind.Marker (codes "__")
+
+abbrev arrow : Token
+arrow = some_token kind.Run (codes "->")
+
+abbrev colon : Token
+colon = some_token kind.Punctuation (codes ":")
+
+abbrev close : Token
+close = some_token kind.Punctuation (codes ")")
+
+abbrev close_square : Token
+close_square = some_token kind.Punctuation (codes "]")
+
+abbrev close_curly : Token
+close_curly = some_token kind.Punctuation (codes "}")
+
+abbrev the_trait : Token
+the_trait = some_token kind.Word (codes "trait")
+
+abbrev by : Token
+by = some_token kind.Word (codes "by")
+
+abbrev generated : Token
+generated = some_token kind.Word (codes "generated")
+
+abbrev then : Token
+then = some_token kind.Word (codes "then")
+
+abbrev else : Token
+else = some_token kind.Word (codes "else")
+
+-- some tokens of a text complete a state
+abbrev pub Completes : Bool → State → Type 0
+Completes s n = (i : List (Token × Mark)) × (z : Whole) × Fits s n (map seen i) z
+
+-- what completes the state behind a step completes the one before it
+before_step : (s : Bool) (n : State) (t : Token) (o : Taking) → Back s o (lexeme_of t) (Fits s n) → Taken o (λ m k. Completes s k → Completes s n)
+before_step s n t None h = tt
+before_step s n t (Some p) h = λ c. ((t, p.0) ∷ c.0, c.1, h (map seen c.0) c.1 c.2)
+
+-- this token, and then what completes the state behind it
+onward : (s : Bool) (n : State) (t : Token) → Taken (step s n (lexeme_of t)) (λ m k. Completes s k → Completes s n)
+onward s n t = before_step s n t (step s n (lexeme_of t)) (step_back s n (lexeme_of t))
+
+-- no tokens, where they may end
+ended_in : (s : Bool) (n : State) (z : Whole) → final n ≡ Some z → Completes s n
+ended_in s n z e = ([], z, final_fits s n z e)
+
+-- declarations and references
+range_some : (s : Bool) (n : Signing) (ws : List RawWord) → Completes s (NeedRange n ws)
+range_some s (Declaration r fs) ws = onward s (NeedRange (Declaration r fs) ws) word (ended_in s (InPart _) _ refl)
+range_some s (Reference c rs f) ws = onward s (NeedRange (Reference c rs f) ws) word (ended_in s (AfterReference c _) _ refl)
+
+sorts_some : (s : Bool) (n : Signing) (ws : List RawWord) → Completes s (AfterSort n ws)
+sorts_some s n ws = onward s (AfterSort n ws) arrow (range_some s n ws)
+
+sig_some : (s : Bool) (n : Signing) → Completes s (NeedSig n)
+sig_some s n = onward s (NeedSig n) arrow (range_some s n [])
+
+form_some : (s : Bool) (n : Naming) (f : RawForm) → Completes s (AfterForm n f)
+form_some s (Declared r fs) f = onward s (AfterForm (Declared r fs) f) colon (sig_some s (Declaration r (fs ++ f ∷ [])))
+form_some s (Referred c rs) f = ended_in s (AfterForm (Referred c rs) f) _ refl
+
+naming_some : (s : Bool) (n : Naming) → Completes s (NeedForm n)
+naming_some s n = onward s (NeedForm n) word (form_some s n _)
+
+marks_some : (s : Bool) (n : Naming) (front : Bool) (b : Bracket) (m : ℕ) (p : Pos) → Completes s (AfterMark n front b m p)
+marks_some s n front Square m p = onward s (AfterMark n front Square m p) close_square (form_some s n _)
+marks_some s n front Curly m p = onward s (AfterMark n front Curly m p) close_curly (form_some s n _)
+
+by_some : (s : Bool) (c : Clause) → Completes s (NeedBy c)
+by_some s c = onward s (NeedBy c) by (naming_some s (Referred c []))
+
+-- an equation is read
+behind_some : (s : Bool) (e : RawEquation) (w : Waiting) → (z : Whole) × FitsBehind s e w [] z
+behind_some s e Alone = (_, behind_fits s e Alone _ refl)
+behind_some s e (Item r vs es) = (_, behind_fits s e (Item r vs es) _ refl)
+
+-- a word in the frames of a term
+word_done : (s : Bool) (w : RawWord) (k : List Frame) → Completes s (Have (call_tree w []) k) → Completes s (AfterWord w (InInfixes None ∷ InEqualities None ∷ InConnectives None ∷ k))
+word_done s w k c = (c.0, c.1, (_, _, word_alone no_field, (_, _, no_symbol, (_, _, no_equality, (_, _, no_connective, c.2)))))
+
+-- the word of the token, and as a term
+abbrev the_word : RawWord
+the_word = record { name = codes "x"; pos = start_of_text }
+
+abbrev word_tree : RawTree
+word_tree = call_tree the_word []
+
+-- `else` and a word
+else_some : (s : Bool) (p : Pos) (a b : RawTree) (k : List Frame) → Completes s (Have (if_tree p a b word_tree) k) → Completes s (Have b (InThen p a ∷ k))
+else_some s p a b k c = onward s (Have b (InThen p a ∷ k)) else (onward s (NeedTerm (InElse p a b ∷ k)) word (word_done s _ (InElse p a b ∷ k) c))
+
+-- `then` and a word, `else` and a word
+then_some : (s : Bool) (p : Pos) (a : RawTree) (k : List Frame) → Completes s (Have (if_tree p a word_tree word_tree) k) → Completes s (Have a (InIf p ∷ k))
+then_some s p a k c = onward s (Have a (InIf p ∷ k)) then (onward s (NeedTerm (InThen p a ∷ k)) word (word_done s _ (InThen p a ∷ k) (else_some s p a word_tree k c)))
+
+-- a term is read
+have_some : (s : Bool) (r : RawTree) (k : List Frame) → Completes s (Have r k)
+have_some s r [] = ([], whole.Equation (formula_of r start_of_text), tt)
+have_some s r (InFields ∷ k) = let c = have_some s r k in (c.0, c.1, (_, _, no_field, c.2))
+have_some s r (InStrays ∷ k) = let c = have_some s r k in (c.0, c.1, (_, _, no_stray, c.2))
+have_some s r (Prefixed x ∷ k) = have_some s (prefix_tree x r) k
+have_some s r (InPostfixes ∷ k) = let c = have_some s r k in (c.0, c.1, (_, _, no_postfix, c.2))
+have_some s r (InInfixes None ∷ k) = let c = have_some s r k in (c.0, c.1, (_, _, no_symbol, c.2))
+have_some s r (InInfixes (Some l) ∷ k) = let c = have_some s (joined (Some l) r) k in (c.0, c.1, (_, _, no_infix, c.2))
+have_some s r (InEqualities l ∷ k) = let c = have_some s (joined l r) k in (c.0, c.1, (_, _, no_equality, c.2))
+have_some s r (InConnectives l ∷ k) = let c = have_some s (joined l r) k in (c.0, c.1, (_, _, no_connective, c.2))
+have_some s r (InParentheses ∷ k) = onward s (Have r (InParentheses ∷ k)) close (have_some s r k)
+have_some s r (InList (Call w) ts ∷ k) = onward s (Have r (InList (Call w) ts ∷ k)) close (have_some s (listing_tree (Call w) (ts ++ r ∷ [])) k)
+have_some s r (InList (Bracketed Square l p) ts ∷ k) = onward s (Have r (InList (Bracketed Square l p) ts ∷ k)) close_square (have_some s (listing_tree (Bracketed Square l p) (ts ++ r ∷ [])) k)
+have_some s r (InList (Bracketed Curly l p) ts ∷ k) = onward s (Have r (InList (Bracketed Curly l p) ts ∷ k)) close_curly (have_some s (listing_tree (Bracketed Curly l p) (ts ++ r ∷ [])) k)
+have_some s r (InIf p ∷ k) = then_some s p r k (have_some s (if_tree p r word_tree word_tree) k)
+have_some s r (InThen p a ∷ k) = else_some s p a r k (have_some s (if_tree p a r word_tree) k)
+have_some s r (InElse p a b ∷ k) = have_some s (if_tree p a b r) k
+have_some s r (InLeft p w ∷ k) = let c = behind_some s (formula_of r p) w in ([], c.0, inl c.1)
+have_some s r (InRight p l q w ∷ k) = let c = behind_some s (equation_of l q r p) w in ([], c.0, c.1)
+
+-- a word of a term is read
+word_some : (s : Bool) (w : RawWord) (k : List Frame) → Completes s (AfterWord w k)
+word_some s w k = let c = have_some s (call_tree w []) (InFields ∷ k) in (c.0, c.1, (c.2.0, c.2.1, word_alone c.2.2, c.2.3))
+
+group_some : (s : Bool) (r : RawTrait) (vs : List RawVar) → Completes s (AfterGroup r vs)
+group_some s r vs = onward s (AfterGroup r vs) word (word_some s the_word (word_frames the_word (Item r vs [])))
+
+names_some : (s : Bool) (r : RawTrait) (vs : List RawVar) (ws : List RawWord) → Completes s (AfterVariable r vs ws)
+names_some s r vs ws = onward s (AfterVariable r vs ws) colon (onward s (NeedVariableSort r vs ws) word (group_some s r _))
+
+first_some : (s : Bool) (b : Bracket) (l : Option RawTree) (p : Pos) (k : List Frame) → Completes s (NeedFirst b l p k)
+first_some s Square l p k = onward s (NeedFirst Square l p k) close_square (have_some s (bracket_tree Square l p []) (InFields ∷ k))
+first_some s Curly l p k = onward s (NeedFirst Curly l p k) close_curly (have_some s (bracket_tree Curly l p []) (InFields ∷ k))
+
+brackets_some : (s : Bool) (n : Naming) (front : Bool) (b : Bracket) (p : Pos) → Completes s (NeedMarks n front b p)
+brackets_some s n front b p = onward s (NeedMarks n front b p) marker (marks_some s n front b 1 p)
+
+head_some : (s : Bool) (w : RawWord) → Completes s (NeedTrait w)
+head_some s w = onward s (NeedTrait w) the_trait (ended_in s (AfterHead _) _ refl)
+
+name_some : (s : Bool) (w : RawWord) → Completes s (AfterName w)
+name_some s w = onward s (AfterName w) colon (head_some s w)
+
+-- every state can be completed
+pub some_fit : (s : Bool) (n : State) → (i : List (Token × Mark)) × (z : Whole) × Fits s n (map seen i) z
+some_fit s Start = onward s Start word (name_some s _)
+some_fit s (AfterName w) = name_some s w
+some_fit s (NeedTrait w) = head_some s w
+some_fit s (AfterHead r) = ended_in s (AfterHead r) _ refl
+some_fit s (InPart r) = ended_in s (InPart r) _ refl
+some_fit s (NeedForm n) = naming_some s n
+some_fit s (AfterSymbolForm n x) = onward s (AfterSymbolForm n x) marker (form_some s n _)
+some_fit s (AfterDotForm n p) = onward s (AfterDotForm n p) word (form_some s n _)
+some_fit s (AfterMarker n p) = onward s (AfterMarker n p) symbol (onward s (AfterMarkerSymbol n p _) marker (form_some s n _))
+some_fit s (AfterMarkerSymbol n p x) = onward s (AfterMarkerSymbol n p x) marker (form_some s n _)
+some_fit s (NeedMarks n front b p) = brackets_some s n front b p
+some_fit s (AfterMark n front b m p) = marks_some s n front b m p
+some_fit s (NeedMark n front b m p) = onward s (NeedMark n front b m p) marker (marks_some s n front b _ p)
+some_fit s (AfterForm n f) = form_some s n f
+some_fit s (NeedSig n) = sig_some s n
+some_fit s (AfterSort n ws) = sorts_some s n ws
+some_fit s (NeedSort n ws) = onward s (NeedSort n ws) word (sorts_some s n _)
+some_fit s (NeedRange n ws) = range_some s n ws
+some_fit s (AfterReference c rs) = ended_in s (AfterReference c rs) _ refl
+some_fit s (InItems r) = ended_in s (InItems r) _ refl
+some_fit s (FirstWord r w) = ended_in s (FirstWord r w) _ refl
+some_fit s (AfterSemicolon r vs es) = ended_in s (AfterSemicolon r vs es) _ refl
+some_fit s (WordBehind r vs es w) = ended_in s (WordBehind r vs es w) _ refl
+some_fit s (ClauseWord r w) = onward s (ClauseWord r w) generated (by_some s (record { raw = r; generated = true; sort = w }))
+some_fit s (NeedBy c) = by_some s c
+some_fit s (NeedVariable r vs) = onward s (NeedVariable r vs) word (names_some s r vs _)
+some_fit s (AfterVariable r vs ws) = names_some s r vs ws
+some_fit s (NeedFurtherVariable r vs ws) = onward s (NeedFurtherVariable r vs ws) word (names_some s r vs _)
+some_fit s (NeedVariableSort r vs ws) = onward s (NeedVariableSort r vs ws) word (group_some s r _)
+some_fit s (AfterGroup r vs) = group_some s r vs
+some_fit s (NeedEquation w) = onward s (NeedEquation w) word (word_some s the_word (word_frames the_word w))
+some_fit s (NeedTerm k) = onward s (NeedTerm k) word (word_some s the_word (InInfixes None ∷ InEqualities None ∷ InConnectives None ∷ k))
+some_fit s (NeedOperand k) = onward s (NeedOperand k) word (word_some s the_word (InInfixes None ∷ k))
+some_fit s (NeedPrefixed k) = onward s (NeedPrefixed k) word (word_some s the_word (InStrays ∷ k))
+some_fit s (NeedPost k) = onward s (NeedPost k) word (word_some s the_word k)
+some_fit s (NeedField r p k) = onward s (NeedField r p k) word (have_some s (field_tree p the_word r) (InFields ∷ k))
+some_fit s (NeedSortOf r p k) = onward s (NeedSortOf r p k) word (have_some s (qualified r the_word p) k)
+some_fit s (AfterWord w k) = word_some s w k
+some_fit s (NeedFirst b l p k) = first_some s b l p k
+some_fit s (AfterSymbol x r k) = onward s (AfterSymbol x r k) word (word_some s the_word (InInfixes (Some (record { symbol = x; left = r })) ∷ k))
+some_fit s (Have r k) = have_some s r k

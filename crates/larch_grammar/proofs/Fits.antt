@@ -1,0 +1,218 @@
+-- What may follow in each state of the machine, so that the whole is this trait or this equation.
+use Rattle.std.proofs.Common.{◌≡◌, ℕ, suc, Bool, true, false, ◌⊎◌, Option, Some, None, List, [], ◌∷◌, ◌++◌, subst}
+use Rattle.larch_base.specs.declared.position.Pos.{Pos}
+use Rattle.larch_places.specs.declared.mark.Mark.{Mark}
+use Rattle.larch_places.specs.declared.mark.Mark.TheVariants.{Outside, Plain, Head}
+use Rattle.larch_raw.specs.RawTree.{RawTree}
+use Rattle.larch_raw.specs.declared.declared.RawForm.{RawForm}
+use Rattle.larch_raw.specs.declared.declared.RawOpRef.{RawOpRef}
+use Rattle.larch_raw.specs.declared.declared.RawSig.{RawSig}
+use Rattle.larch_raw.specs.declared.declared.RawWord.{RawWord}
+use Rattle.larch_raw.specs.declared.equation.RawEquation.{RawEquation}
+use Rattle.larch_raw.specs.declared.equation.RawItem.{RawItem}
+use Rattle.larch_raw.specs.declared.equation.RawTrait.{RawTrait}
+use Rattle.larch_raw.specs.declared.equation.RawVar.{RawVar}
+use Rattle.larch_grammar.specs.declared.lexeme.Bracket.{Bracket}
+use Rattle.larch_grammar.specs.declared.lexeme.Lexeme.{Lexeme}
+use Rattle.larch_grammar.specs.declared.lexeme.Lexeme.TheVariants.{Word, Symbol, Equates, Arrow, Colon, Comma, Semicolon, Dot, Marker, Close, OpenBracket, CloseBracket, Generated, Partitioned, Then, Else}
+use Rattle.larch_grammar.specs.declared.machine.Before.{Before}
+use Rattle.larch_grammar.specs.declared.machine.Before.TheVariants as before
+use Rattle.larch_grammar.specs.declared.machine.Clause.{Clause}
+use Rattle.larch_grammar.specs.declared.machine.Frame.{Frame}
+use Rattle.larch_grammar.specs.declared.machine.Frame.TheVariants.{InFields, InStrays, Prefixed, InPostfixes, InInfixes, InEqualities, InConnectives, InParentheses, InList, InIf, InThen, InElse, InLeft, InRight}
+use Rattle.larch_grammar.specs.declared.machine.Listing.{Listing}
+use Rattle.larch_grammar.specs.declared.machine.Listing.TheVariants.{Call, Bracketed}
+use Rattle.larch_grammar.specs.declared.machine.Naming.{Naming}
+use Rattle.larch_grammar.specs.declared.machine.Naming.TheVariants.{Declared, Referred}
+use Rattle.larch_grammar.specs.declared.machine.Signing.{Signing}
+use Rattle.larch_grammar.specs.declared.machine.Signing.TheVariants.{Declaration, Reference}
+use Rattle.larch_grammar.specs.declared.machine.State.{State}
+use Rattle.larch_grammar.specs.declared.machine.State.TheVariants.{Start, AfterName, NeedTrait, AfterHead, InPart, NeedForm, AfterSymbolForm, AfterDotForm, AfterMarker, AfterMarkerSymbol, NeedMarks, AfterMark, NeedMark, AfterForm, NeedSig, AfterSort, NeedSort, NeedRange, AfterReference, InItems, FirstWord, AfterSemicolon, WordBehind, ClauseWord, NeedBy, NeedVariable, AfterVariable, NeedFurtherVariable, NeedVariableSort, AfterGroup, NeedEquation, NeedTerm, NeedOperand, NeedPrefixed, NeedPost, NeedField, NeedSortOf, AfterWord, NeedFirst, AfterSymbol, Have}
+use Rattle.larch_grammar.specs.declared.machine.Waiting.{Waiting}
+use Rattle.larch_grammar.specs.declared.machine.Waiting.TheVariants.{Alone, Item}
+use Rattle.larch_grammar.specs.declared.machine.Whole.{Whole}
+use Rattle.larch_grammar.specs.declared.machine.Whole.TheVariants as whole
+use Rattle.larch_grammar.specs.Depth.{depth_of}
+use Rattle.larch_grammar.specs.Forms.{Marked, AreForms, AreGroups, AreMarkers, AreOpRefs, AreWords, IsForm, IsGroup, IsOpRef, IsSig, IsWord, Markers, variables_at}
+use Rattle.larch_grammar.specs.Machine.{symbol_of, with_clause}
+use Rattle.larch_grammar.specs.Terms.{Cond, Connectives, Equalities, Fields, InBracket, Infixes, IsEquation, Oper, Operand, Others, Post, Postfixes, Strays, Symbols, equation_of, formula_of, opens_head}
+use Rattle.larch_grammar.specs.Traits.{AreAssertions, AreDecls, AreEquations, AreItems, AreParts, IsClause, IsMarkedTrait, MayEnd, with_declaration, with_equations, with_item}
+use Rattle.larch_grammar.specs.Trees.{bracket_form, field_name, if_tree, joined, listing_tree, mixfix, prefix_tree}
+
+-- parts and items
+
+-- what may follow the head of a trait
+abbrev pub FitsParts : Bool → RawTrait → List Marked → Whole → Type 0
+FitsParts s r i z = (y : RawTrait) × AreParts s r i [] y × (whole.Trait y ≡ z)
+
+-- what may follow inside a part of declarations
+abbrev pub FitsDecls : Bool → RawTrait → List Marked → Whole → Type 0
+FitsDecls s r i z = (j : List Marked) × (t y : RawTrait) × AreDecls r i j t × AreParts s t j [] y × (whole.Trait y ≡ z)
+
+-- what may follow inside a part of items, behind what stands before
+abbrev pub FitsItems : Bool → Before → RawTrait → List Marked → Whole → Type 0
+FitsItems s b r i z = (j : List Marked) × (t y : RawTrait) × AreItems s b r i j t × AreAssertions s t j [] y × (whole.Trait y ≡ z)
+
+-- what may follow these equations of an item
+abbrev pub FitsEquations : Bool → RawTrait → List RawVar → List RawEquation → List Marked → Whole → Type 0
+FitsEquations s r vs es i z = (j : List Marked) × (fs : List RawEquation) × (b : Before) × AreEquations s es i j fs b × FitsItems s b (with_equations r vs fs) j z
+
+-- what may follow an equation that waiting takes
+abbrev pub FitsBehind : Bool → RawEquation → Waiting → List Marked → Whole → Type 0
+FitsBehind s e Alone i z = (i ≡ []) × (whole.Equation e ≡ z)
+FitsBehind s e (Item r vs es) i z = FitsEquations s r vs (es ++ e ∷ []) i z
+
+-- what may follow where an equation is needed
+abbrev pub FitsEquation : Bool → Waiting → List Marked → Whole → Type 0
+FitsEquation s w i z = (j : List Marked) × (e : RawEquation) × IsEquation s i j e × FitsBehind s e w j z
+
+-- what may follow these variables
+abbrev pub FitsGroups : Bool → RawTrait → List RawVar → List Marked → Whole → Type 0
+FitsGroups s r vs i z = (j : List Marked) × (us : List RawVar) × AreGroups vs i j us × FitsEquation s (Item r us []) j z
+
+-- what may follow these variables, and these names that are to be variables too
+abbrev pub FitsNames : Bool → RawTrait → List RawVar → List RawWord → List Marked → Whole → Type 0
+FitsNames s r vs ws i z = (j k : List Marked) × (p : Pos) × (us : List RawWord) × (sort : RawWord) × AreWords ws i ((Colon p, Outside) ∷ j) us × IsWord j k sort × FitsGroups s r (vs ++ variables_at us sort) k z
+
+-- references, forms and signatures
+
+-- what may follow these references of a clause
+abbrev pub FitsReferences : Bool → Clause → List RawOpRef → List Marked → Whole → Type 0
+FitsReferences s c rs i z = (j k : List Marked) × (qs : List RawOpRef) × AreOpRefs rs i j qs × MayEnd j k × FitsItems s before.Anything (with_clause c qs) k z
+
+-- the word behind the sort of a clause
+abbrev pub clause_lexeme : Bool → Lexeme
+clause_lexeme true = Generated
+clause_lexeme false = Partitioned
+
+-- what may follow that word, whatever is counted at the sort
+abbrev pub FitsBy : Bool → Clause → List Marked → Whole → Type 0
+FitsBy s c i z = (m : Mark) → (j : List Marked) × (y : RawItem) × IsClause m ((Word c.sort, m) ∷ (clause_lexeme c.generated, Outside) ∷ i) j y × FitsItems s before.Anything (with_item c.raw y) j z
+
+-- what may follow a signature
+abbrev pub FitsSigned : Bool → Signing → RawSig → List Marked → Whole → Type 0
+FitsSigned s (Declaration r fs) sig i z = FitsDecls s (with_declaration r (record { forms = fs; sig = sig })) i z
+FitsSigned s (Reference c rs f) sig i z = FitsReferences s c (rs ++ record { form = f; sig = Some sig } ∷ []) i z
+
+-- what may follow where a signature is needed
+abbrev pub FitsSig : Bool → Signing → List Marked → Whole → Type 0
+FitsSig s n i z = (j : List Marked) × (sig : RawSig) × IsSig i j sig × FitsSigned s n sig j z
+
+-- what may follow these sorts of a domain
+abbrev pub FitsSorts : Bool → Signing → List RawWord → List Marked → Whole → Type 0
+FitsSorts s n ws i z = (j k : List Marked) × (us : List RawWord) × (w : RawWord) × AreWords ws i ((Arrow, Outside) ∷ j) us × IsWord j k w × FitsSigned s n (record { domain = us; range = w }) k z
+
+-- what may follow the arrow behind these sorts
+abbrev pub FitsRange : Bool → Signing → List RawWord → List Marked → Whole → Type 0
+FitsRange s n ws i z = (j : List Marked) × (w : RawWord) × IsWord i j w × FitsSigned s n (record { domain = ws; range = w }) j z
+
+-- what may follow a form: of a reference, wherever the form begins
+abbrev pub FitsForm : Bool → Naming → RawForm → List Marked → Whole → Type 0
+FitsForm s (Declared r fs) f i z = (j : List Marked) × (p : Pos) × (gs : List RawForm) × AreForms (fs ++ f ∷ []) i ((Colon p, Outside) ∷ j) gs × FitsSig s (Declaration r gs) j z
+FitsForm s (Referred c rs) f i z = (h : List Marked) → IsForm h i f → (j : List Marked) × (r : RawOpRef) × IsOpRef h j r × FitsReferences s c (rs ++ r ∷ []) j z
+
+-- what may follow where a form is needed
+abbrev pub FitsNaming : Bool → Naming → List Marked → Whole → Type 0
+FitsNaming s n i z = (j : List Marked) × (f : RawForm) × IsForm i j f × FitsForm s n f j z
+
+-- what may follow so many markers of a bracket
+abbrev pub FitsMarks : Bool → Naming → Bool → Bracket → ℕ → Pos → List Marked → Whole → Type 0
+FitsMarks s n behind b m p i z = (j : List Marked) × (l : ℕ) × AreMarkers b m i j l × FitsForm s n (bracket_form behind b l p) j z
+
+-- terms
+
+-- what ends a list of terms
+abbrev pub closing : Listing → Lexeme
+closing (Call w) = Close
+closing (Bracketed b l p) = CloseBracket b
+
+-- what may follow a tree in these frames; where nothing waits for it, nothing is said
+abbrev pub FitsIn : Bool → RawTree → List Frame → List Marked → Whole → Type 0
+FitsIn s q [] i z = Unit {0}
+FitsIn s q (InFields ∷ k) i z = (o : List Marked) × (p : RawTree) × Fields s (depth_of k) q i o p × FitsIn s p k o z
+FitsIn s q (InStrays ∷ k) i z = (o : List Marked) × (p : RawTree) × Strays s q i o p × FitsIn s p k o z
+FitsIn s q (Prefixed x ∷ k) i z = FitsIn s (prefix_tree x q) k i z
+FitsIn s q (InPostfixes ∷ k) i z = (o : List Marked) × (p : RawTree) × Postfixes q i o p × FitsIn s p k o z
+FitsIn s q (InInfixes None ∷ k) i z = (o : List Marked) × (p : RawTree) × Symbols s (depth_of k) q i o p × FitsIn s p k o z
+FitsIn s q (InInfixes (Some l) ∷ k) i z = (o : List Marked) × (p : RawTree) × Infixes s (depth_of k) l.symbol (joined (Some l) q) i o p × FitsIn s p k o z
+FitsIn s q (InEqualities l ∷ k) i z = (o : List Marked) × (p : RawTree) × Equalities s (depth_of k) (symbol_of l) (joined l q) i o p × FitsIn s p k o z
+FitsIn s q (InConnectives l ∷ k) i z = (o : List Marked) × (p : RawTree) × Connectives s (depth_of k) (symbol_of l) (joined l q) i o p × FitsIn s p k o z
+FitsIn s q (InParentheses ∷ k) i z = (o : List Marked) × (i ≡ (Close, Plain) ∷ o) × FitsIn s q k o z
+FitsIn s q (InList h ts ∷ k) i z = (o : List Marked) × (us : List RawTree) × Others s (suc (depth_of k)) (closing h) (ts ++ q ∷ []) i o us × FitsIn s (listing_tree h us) k o z
+FitsIn s q (InIf p ∷ k) i z = (j l m o : List Marked) × (b c : RawTree) × (i ≡ (Then, Plain) ∷ j) × Cond s (suc (depth_of k)) j l b × (l ≡ (Else, Plain) ∷ m) × Cond s (suc (depth_of k)) m o c × FitsIn s (if_tree p q b c) k o z
+FitsIn s q (InThen p a ∷ k) i z = (m o : List Marked) × (c : RawTree) × (i ≡ (Else, Plain) ∷ m) × Cond s (suc (depth_of k)) m o c × FitsIn s (if_tree p a q c) k o z
+FitsIn s q (InElse p a b ∷ k) i z = FitsIn s (if_tree p a b q) k i z
+FitsIn s q (InLeft p w ∷ k) i z = FitsBehind s (formula_of q p) w i z ⊎ ((j o : List Marked) × (e : Pos) × (r : RawTree) × (i ≡ (Equates e, Head) ∷ j) × Cond s (depth_of k) j o r × FitsBehind s (equation_of q e r p) w o z)
+FitsIn s q (InRight p l e w ∷ k) i z = FitsBehind s (equation_of l e q p) w i z
+
+-- what may follow where a term is needed
+abbrev pub FitsTerm : Bool → List Frame → List Marked → Whole → Type 0
+FitsTerm s k i z = (o : List Marked) × (q : RawTree) × Cond s (depth_of k) i o q × FitsIn s q k o z
+
+-- what may follow where a term without connectives and equalities is needed
+abbrev pub FitsOper : Bool → List Frame → List Marked → Whole → Type 0
+FitsOper s k i z = (o : List Marked) × (q : RawTree) × Oper s (depth_of k) i o q × FitsIn s q k o z
+
+-- what may follow a prefix symbol
+abbrev pub FitsOperand : Bool → List Frame → List Marked → Whole → Type 0
+FitsOperand s k i z = (o : List Marked) × (q : RawTree) × Operand s (depth_of k) i o q × FitsIn s q k o z
+
+-- what may follow an infix symbol
+abbrev pub FitsPost : Bool → List Frame → List Marked → Whole → Type 0
+FitsPost s k i z = (o : List Marked) × (q : RawTree) × Post s (depth_of k) i o q × FitsIn s q k o z
+
+-- what may follow where a bracket is needed, behind this operand if there is one
+abbrev pub FitsBracket : Bool → Option RawTree → List Frame → List Marked → Whole → Type 0
+FitsBracket s l k i z = (o : List Marked) × (q : RawTree) × InBracket s (depth_of k) l i o q × FitsIn s q (InFields ∷ k) o z
+
+-- what may follow in a state; a token that is read but not yet decided on stands in front
+abbrev pub Fits : Bool → State → List Marked → Whole → Type 0
+Fits s Start i z = (r : RawTrait) × IsMarkedTrait s i r × (whole.Trait r ≡ z)
+Fits s (AfterName w) i z = (r : RawTrait) × IsMarkedTrait s ((Word w, Outside) ∷ i) r × (whole.Trait r ≡ z)
+Fits s (NeedTrait w) i z = (p : Pos) → (r : RawTrait) × IsMarkedTrait s ((Word w, Outside) ∷ (Colon p, Outside) ∷ i) r × (whole.Trait r ≡ z)
+Fits s (AfterHead r) i z = FitsParts s r i z
+Fits s (InPart r) i z = FitsDecls s r i z
+Fits s (NeedForm n) i z = FitsNaming s n i z
+Fits s (AfterSymbolForm n x) i z = FitsNaming s n ((Symbol x, Outside) ∷ i) z
+Fits s (AfterDotForm n p) i z = (j : List Marked) × (w : RawWord) × IsWord i j w × FitsForm s n (mixfix (field_name w.name) 1 p) j z
+Fits s (AfterMarker n p) i z = FitsNaming s n ((Marker p, Outside) ∷ i) z
+Fits s (AfterMarkerSymbol n p x) i z = FitsNaming s n ((Marker p, Outside) ∷ (Symbol x, Outside) ∷ i) z
+Fits s (NeedMarks n behind b p) i z = (j : List Marked) × (m : ℕ) × Markers b i j m × FitsForm s n (bracket_form behind b m p) j z
+Fits s (AfterMark n behind b m p) i z = FitsMarks s n behind b m p i z
+Fits s (NeedMark n behind b m p) i z = FitsMarks s n behind b m p ((Comma, Outside) ∷ i) z
+Fits s (AfterForm n f) i z = FitsForm s n f i z
+Fits s (NeedSig n) i z = FitsSig s n i z
+Fits s (AfterSort n ws) i z = FitsSorts s n ws i z
+Fits s (NeedSort n ws) i z = FitsSorts s n ws ((Comma, Outside) ∷ i) z
+Fits s (NeedRange n ws) i z = FitsRange s n ws i z
+Fits s (AfterReference c rs) i z = FitsReferences s c rs i z
+Fits s (InItems r) i z = FitsItems s before.Anything r i z
+Fits s (FirstWord r w) i z = FitsItems s before.Anything r ((Word w, Head) ∷ i) z
+Fits s (AfterSemicolon r vs es) i z = FitsEquations s r vs es ((Semicolon, Outside) ∷ i) z
+Fits s (WordBehind r vs es w) i z = FitsEquations s r vs es ((Semicolon, Outside) ∷ (Word w, Head) ∷ i) z
+Fits s (ClauseWord r w) i z = FitsItems s before.Equations r ((Word w, Outside) ∷ i) z
+Fits s (NeedBy c) i z = FitsBy s c i z
+Fits s (NeedVariable r vs) i z = (j : List Marked) × (gs : List RawVar) × IsGroup i j gs × FitsGroups s r (vs ++ gs) j z
+Fits s (AfterVariable r vs ws) i z = FitsNames s r vs ws i z
+Fits s (NeedFurtherVariable r vs ws) i z = FitsNames s r vs ws ((Comma, Outside) ∷ i) z
+Fits s (NeedVariableSort r vs ws) i z = (j : List Marked) × (sort : RawWord) × IsWord i j sort × FitsGroups s r (vs ++ variables_at ws sort) j z
+Fits s (AfterGroup r vs) i z = FitsGroups s r vs i z
+Fits s (NeedEquation w) i z = FitsEquation s w i z
+Fits s (NeedTerm k) i z = FitsTerm s k i z
+Fits s (NeedOperand k) i z = FitsOper s k i z
+Fits s (NeedPrefixed k) i z = FitsOperand s k i z
+Fits s (NeedPost k) i z = FitsPost s k i z
+Fits s (NeedField r p k) i z = FitsIn s r (InFields ∷ k) ((Dot p, Head) ∷ i) z
+Fits s (NeedSortOf r p k) i z = FitsIn s r (InFields ∷ k) ((Colon p, Head) ∷ i) z
+Fits s (AfterWord w k) i z = FitsPost s k ((Word w, Head) ∷ i) z
+Fits s (NeedFirst b l p k) i z = FitsBracket s l k ((OpenBracket b p, opens_head (suc (depth_of k))) ∷ i) z
+Fits s (AfterSymbol x r k) i z = FitsIn s r (InInfixes None ∷ k) ((Symbol x, Head) ∷ i) z
+Fits s (Have r k) i z = FitsIn s r k i z
+
+-- what fits from the start on is a trait
+pub over_trait : (s : Bool) (i : List Marked) (z : Whole) → Fits s Start i z → (raw : RawTrait) × IsMarkedTrait s i raw × (whole.Trait raw ≡ z)
+over_trait s i z f = f
+
+-- what fits where an equation by itself is needed is an equation
+pub over_equation : (s : Bool) (i : List Marked) (z : Whole) → Fits s (NeedEquation Alone) i z → (raw : RawEquation) × IsEquation s i [] raw × (whole.Equation raw ≡ z)
+over_equation s i z f = (f.1, subst (λ o. IsEquation s i o f.1) f.3.0 f.2, f.3.1)

@@ -1,0 +1,11 @@
+pub mod Agree
+pub mod Back
+pub mod BackForms
+pub mod BackItems
+pub mod BackTerms
+pub mod CompleteForms
+pub mod CompleteTerms
+pub mod CompleteTraits
+pub mod Ends
+pub mod Fits
+pub mod Law

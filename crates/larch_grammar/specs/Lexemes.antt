@@ -1,0 +1,87 @@
+-- Tokens as the grammar knows them.
+use Rattle.std.specs.Prelude.{ℕ, List, Bool, cond, codes, ◌||◌}
+use Rattle.std.specs.Str.{bytes_eq}
+use Rattle.larch_base.specs.Position.{start_of_text}
+use Rattle.larch_base.specs.declared.position.Pos.{Pos}
+use Rattle.larch_lexer.specs.declared.token.Kind.{Kind}
+use Rattle.larch_lexer.specs.declared.token.Kind.TheVariants as kind
+use Rattle.larch_lexer.specs.declared.token.Token.{Token}
+use Rattle.larch_grammar.specs.declared.lexeme.Bracket.TheVariants.{Square, Curly}
+use Rattle.larch_grammar.specs.declared.lexeme.Lexeme.{Lexeme}
+use Rattle.larch_grammar.specs.declared.lexeme.Lexeme.TheVariants.{Word, Symbol, Not, Connective, Equality, Equates, Arrow, Colon, Comma, Semicolon, Dot, Marker, Open, Close, OpenBracket, CloseBracket, ForAll, Trait, Introduces, Asserts, Generated, Partitioned, By, If, Then, Else, Other}
+
+-- a text is this word
+abbrev pub is_word : List ℕ → List ℕ → Bool
+is_word text word = bytes_eq text word
+
+-- words of what the grammar doesn't have: composition, shorthands and claims
+abbrev pub stands_nowhere : List ℕ → Bool
+stands_nowhere text = is_word text (codes "includes") || is_word text (codes "assumes") || is_word text (codes "implies") || is_word text (codes "converts") || is_word text (codes "exempting") || is_word text (codes "for") || is_word text (codes "enumeration") || is_word text (codes "tuple") || is_word text (codes "union") || is_word text (codes "of")
+
+-- a word of terms, or one that isn't reserved
+abbrev pub term_word : List ℕ → Pos → Lexeme
+term_word text pos =
+    cond (is_word text (codes "if")) (If pos)
+    (cond (is_word text (codes "then")) Then
+    (cond (is_word text (codes "else")) Else
+    (cond (stands_nowhere text) Other (Word (record { name = text; pos = pos })))))
+
+-- a token of kind word with this text, which stands there
+abbrev pub word_lexeme : List ℕ → Pos → Lexeme
+word_lexeme text pos =
+    cond (is_word text (codes "trait")) Trait
+    (cond (is_word text (codes "introduces")) Introduces
+    (cond (is_word text (codes "asserts")) Asserts
+    (cond (is_word text (codes "generated")) Generated
+    (cond (is_word text (codes "partitioned")) Partitioned
+    (cond (is_word text (codes "by")) By (term_word text pos))))))
+
+-- a run: one with a meaning of its own, or a symbol
+abbrev pub run_lexeme : List ℕ → Pos → Lexeme
+run_lexeme text pos =
+    cond (is_word text (codes "->")) Arrow
+    (cond (is_word text (codes "==")) (Equates pos)
+    (cond (is_word text (codes "=") || is_word text (codes "~=")) (Equality (record { name = text; pos = pos }))
+    (cond (is_word text (codes "~")) (Not (record { name = text; pos = pos }))
+    (cond (is_word text (codes "=>") || is_word text (codes "<=>")) (Connective (record { name = text; pos = pos })) (Symbol (record { name = text; pos = pos }))))))
+
+-- a bracket
+abbrev pub bracket_lexeme : List ℕ → Pos → Lexeme
+bracket_lexeme text pos =
+    cond (is_word text (codes "(")) (Open pos)
+    (cond (is_word text (codes ")")) Close
+    (cond (is_word text (codes "[")) (OpenBracket Square pos)
+    (cond (is_word text (codes "]")) (CloseBracket Square)
+    (cond (is_word text (codes "{")) (OpenBracket Curly pos)
+    (cond (is_word text (codes "}")) (CloseBracket Curly) Other)))))
+
+-- punctuation
+abbrev pub punctuation_lexeme : List ℕ → Pos → Lexeme
+punctuation_lexeme text pos =
+    cond (is_word text (codes ":")) (Colon pos)
+    (cond (is_word text (codes ",")) Comma
+    (cond (is_word text (codes ";")) Semicolon
+    (cond (is_word text (codes ".")) (Dot pos) (bracket_lexeme text pos))))
+
+-- a token of this kind with this text, which stands there
+abbrev pub lexeme_by : Kind → List ℕ → Pos → Lexeme
+lexeme_by kind.Word text pos = word_lexeme text pos
+lexeme_by kind.Marker text pos = Marker pos
+lexeme_by kind.Backslash text pos = cond (is_word text (codes "\\forall")) ForAll (Symbol (record { name = text; pos = pos }))
+lexeme_by kind.Connective text pos = Connective (record { name = text; pos = pos })
+lexeme_by kind.Run text pos = run_lexeme text pos
+lexeme_by kind.Punctuation text pos = punctuation_lexeme text pos
+
+-- a token
+abbrev pub lexeme_of : Token → Lexeme
+lexeme_of token = lexeme_by token.kind token.text token.pos
+
+-- where a token stands that can begin an equation
+abbrev pub place_of : Lexeme → Pos
+place_of (Word w) = w.pos
+place_of (Symbol x) = x.pos
+place_of (Not x) = x.pos
+place_of (Open p) = p
+place_of (OpenBracket b p) = p
+place_of (If p) = p
+place_of _ = start_of_text

@@ -1,0 +1,9 @@
+pub mod Answers
+pub mod Depth
+pub mod Forms
+pub mod Lexemes
+pub mod Machine
+pub mod Opening
+pub mod Terms
+pub mod Traits
+pub mod Trees

@@ -1,0 +1,407 @@
+-- The machine that takes one token at a time. It answers the mark of the token and the state behind it, or nothing
+-- where no text of the grammar goes on so.
+use Rattle.std.specs.Prelude.{ℕ, suc, Bool, true, false, cond, Option, Some, None, List, [], ◌∷◌, ◌++◌}
+use Rattle.larch_base.specs.declared.position.Pos.{Pos}
+use Rattle.larch_lexer.specs.declared.token.Token.{Token}
+use Rattle.larch_places.specs.declared.mark.Mark.{Mark}
+use Rattle.larch_places.specs.declared.mark.Mark.TheVariants as mark
+use Rattle.larch_raw.specs.declared.declared.RawForm.{RawForm}
+use Rattle.larch_raw.specs.declared.declared.RawOpRef.{RawOpRef}
+use Rattle.larch_raw.specs.declared.declared.RawSig.{RawSig}
+use Rattle.larch_raw.specs.declared.declared.RawWord.{RawWord}
+use Rattle.larch_raw.specs.declared.equation.RawEquation.{RawEquation}
+use Rattle.larch_raw.specs.declared.equation.RawItem.{RawItem}
+use Rattle.larch_raw.specs.declared.equation.RawItem.TheVariants as item
+use Rattle.larch_raw.specs.declared.equation.RawTrait.{RawTrait}
+use Rattle.larch_raw.specs.declared.equation.RawVar.{RawVar}
+use Rattle.larch_raw.specs.RawTree.{RawTree, qualified}
+use Rattle.larch_grammar.specs.declared.lexeme.Bracket.{Bracket}
+use Rattle.larch_grammar.specs.declared.lexeme.Bracket.TheVariants.{Square, Curly}
+use Rattle.larch_grammar.specs.declared.lexeme.Lexeme.{Lexeme}
+use Rattle.larch_grammar.specs.declared.lexeme.Lexeme.TheVariants.{Word, Symbol, Not, Connective, Equality, Equates, Arrow, Colon, Comma, Semicolon, Dot, Marker, Open, Close, OpenBracket, CloseBracket, ForAll, Trait, Introduces, Asserts, Generated, Partitioned, By, If, Then, Else}
+use Rattle.larch_grammar.specs.declared.machine.Clause.{Clause}
+use Rattle.larch_grammar.specs.declared.machine.Frame.{Frame}
+use Rattle.larch_grammar.specs.declared.machine.Frame.TheVariants.{InFields, InStrays, Prefixed, InPostfixes, InInfixes, InEqualities, InConnectives, InParentheses, InList, InIf, InThen, InElse, InLeft, InRight}
+use Rattle.larch_grammar.specs.declared.machine.Link.{Link}
+use Rattle.larch_grammar.specs.declared.machine.Listing.{Listing}
+use Rattle.larch_grammar.specs.declared.machine.Listing.TheVariants.{Call, Bracketed}
+use Rattle.larch_grammar.specs.declared.machine.Naming.{Naming}
+use Rattle.larch_grammar.specs.declared.machine.Naming.TheVariants.{Declared, Referred}
+use Rattle.larch_grammar.specs.declared.machine.Signing.{Signing}
+use Rattle.larch_grammar.specs.declared.machine.Signing.TheVariants.{Declaration, Reference}
+use Rattle.larch_grammar.specs.declared.machine.State.{State}
+use Rattle.larch_grammar.specs.declared.machine.State.TheVariants.{Start, AfterName, NeedTrait, AfterHead, InPart, NeedForm, AfterSymbolForm, AfterDotForm, AfterMarker, AfterMarkerSymbol, NeedMarks, AfterMark, NeedMark, AfterForm, NeedSig, AfterSort, NeedSort, NeedRange, AfterReference, InItems, FirstWord, AfterSemicolon, WordBehind, ClauseWord, NeedBy, NeedVariable, AfterVariable, NeedFurtherVariable, NeedVariableSort, AfterGroup, NeedEquation, NeedTerm, NeedOperand, NeedPrefixed, NeedPost, NeedField, NeedSortOf, AfterWord, NeedFirst, AfterSymbol, Have}
+use Rattle.larch_grammar.specs.declared.machine.Waiting.{Waiting}
+use Rattle.larch_grammar.specs.declared.machine.Waiting.TheVariants.{Alone, Item}
+use Rattle.larch_grammar.specs.declared.machine.Whole.{Whole}
+use Rattle.larch_grammar.specs.declared.machine.Whole.TheVariants as whole
+use Rattle.larch_grammar.specs.Depth.{depth_of}
+use Rattle.larch_grammar.specs.Forms.{variables_at}
+use Rattle.larch_grammar.specs.Lexemes.{lexeme_of, place_of}
+use Rattle.larch_grammar.specs.Terms.{opens, opens_head, chained, formula_of, equation_of}
+use Rattle.larch_grammar.specs.Traits.{named, with_declaration, with_item, with_equations}
+use Rattle.larch_grammar.specs.Trees.{infix_name, prefix_name, postfix_name, field_name, prefix_tree, postfix_tree, field_tree, call_tree, bracket_tree, listing_tree, if_tree, joined, mixfix, plain_form, bracket_form}
+
+-- the mark and the state of a step, if there is one
+abbrev pub Taking : Type 0
+Taking = Option (Mark × State)
+
+-- a token outside all equations
+abbrev pub outside : State → Taking
+outside after = Some (mark.Outside, after)
+
+-- a token of an equation at which nothing is counted
+abbrev pub plainly : State → Taking
+plainly after = Some (mark.Plain, after)
+
+-- a head token
+abbrev pub at_head : State → Taking
+at_head after = Some (mark.Head, after)
+
+-- terms: what begins a Post
+
+-- a bracket opens, behind this operand if there is one
+abbrev pub open_bracket : Bracket → Pos → Option RawTree → List Frame → Taking
+open_bracket b p l k = Some (opens_head (suc (depth_of k)), NeedFirst b l p k)
+
+-- the first token of a Post
+abbrev pub begin_post : Lexeme → List Frame → Taking
+begin_post (Word w) k = at_head (AfterWord w k)
+begin_post (Open p) k = Some (opens (suc (depth_of k)), NeedTerm (InParentheses ∷ InFields ∷ k))
+begin_post (OpenBracket b p) k = open_bracket b p None k
+begin_post _ k = None
+
+-- the first token behind a prefix symbol
+abbrev pub begin_prefixed : Lexeme → List Frame → Taking
+begin_prefixed (Symbol x) k = at_head (NeedPrefixed (Prefixed x ∷ k))
+begin_prefixed (Not x) k = at_head (NeedPrefixed (Prefixed x ∷ k))
+begin_prefixed t k = begin_post t (InStrays ∷ k)
+
+-- the first token of an Oper
+abbrev pub begin_operand : Lexeme → List Frame → Taking
+begin_operand (Symbol x) k = at_head (NeedPrefixed (Prefixed x ∷ k))
+begin_operand (Not x) k = at_head (NeedPrefixed (Prefixed x ∷ k))
+begin_operand t k = begin_post t (InInfixes None ∷ k)
+
+-- the first token of a term
+abbrev pub begin_term : Lexeme → List Frame → Taking
+begin_term (If p) k = Some (opens_head (suc (depth_of k)), NeedTerm (InIf p ∷ k))
+begin_term t k = begin_operand t (InEqualities None ∷ InConnectives None ∷ k)
+
+-- the first token of an equation
+abbrev pub begin_equation : Lexeme → Waiting → Taking
+begin_equation t w = begin_term t (InLeft (place_of t) w ∷ [])
+
+-- items: what may stand where an item may begin
+
+-- a part, or an item that needs no `;` before it
+abbrev pub begin_part : RawTrait → Lexeme → Taking
+begin_part raw ForAll = outside (NeedVariable raw [])
+begin_part raw Asserts = outside (InItems raw)
+begin_part raw _ = None
+
+-- the first token of any item, or a part
+abbrev pub begin_item : RawTrait → Lexeme → Taking
+begin_item raw (Word w) = at_head (FirstWord raw w)
+begin_item raw ForAll = begin_part raw ForAll
+begin_item raw Asserts = begin_part raw Asserts
+begin_item raw t = begin_equation t (Item raw [] [])
+
+-- an equation is read, and a token stands behind it
+abbrev pub hand_equation : RawEquation → Waiting → Lexeme → Taking
+hand_equation e Alone t = None
+hand_equation e (Item raw vs es) Semicolon = outside (AfterSemicolon raw vs (es ++ e ∷ []))
+hand_equation e (Item raw vs es) (Word w) = outside (ClauseWord (with_equations raw vs (es ++ e ∷ [])) w)
+hand_equation e (Item raw vs es) t = begin_part (with_equations raw vs (es ++ e ∷ [])) t
+
+-- the symbol of a chain
+abbrev pub symbol_of : Option Link → Option RawWord
+symbol_of None = None
+symbol_of (Some link) = Some link.symbol
+
+-- a term of a list is read: another one follows, or the list ends
+abbrev pub hand_list : RawTree → Listing → List RawTree → List Frame → Lexeme → Taking
+hand_list r h ts k Comma = plainly (NeedTerm (InList h (ts ++ r ∷ []) ∷ k))
+hand_list r (Call w) ts k Close = plainly (Have (listing_tree (Call w) (ts ++ r ∷ [])) k)
+hand_list r (Bracketed Square l p) ts k (CloseBracket Square) = plainly (Have (listing_tree (Bracketed Square l p) (ts ++ r ∷ [])) k)
+hand_list r (Bracketed Curly l p) ts k (CloseBracket Curly) = plainly (Have (listing_tree (Bracketed Curly l p) (ts ++ r ∷ [])) k)
+hand_list r h ts k _ = None
+
+-- a term is read, and a token stands behind it: the innermost frame takes the token, or hands on what it makes of the term
+abbrev pub hand : Bool → RawTree → List Frame → Lexeme → Taking
+hand s r [] t = None
+hand s r (InFields ∷ k) (Dot p) = at_head (NeedField r p k)
+hand s r (InFields ∷ k) (Colon p) = at_head (NeedSortOf r p k)
+hand s r (InFields ∷ k) (OpenBracket b p) = open_bracket b p (Some r) k
+hand s r (InFields ∷ k) t = hand s r k t
+hand s r (InStrays ∷ k) (Symbol x) = cond s (Some (mark.Chained true, Have (postfix_tree x r) (InStrays ∷ k))) None
+hand s r (InStrays ∷ k) t = hand s r k t
+hand s r (Prefixed x ∷ k) t = hand s (prefix_tree x r) k t
+hand s r (InPostfixes ∷ k) (Symbol x) = at_head (Have (postfix_tree x r) (InPostfixes ∷ k))
+hand s r (InPostfixes ∷ k) t = hand s r k t
+hand s r (InInfixes None ∷ k) (Symbol x) = at_head (AfterSymbol x r k)
+hand s r (InInfixes None ∷ k) t = hand s r k t
+hand s r (InInfixes (Some l) ∷ k) (Symbol x) = Some (chained (Some l.symbol) x, NeedPost (InInfixes (Some (record { symbol = x; left = joined (Some l) r })) ∷ k))
+hand s r (InInfixes (Some l) ∷ k) t = hand s (joined (Some l) r) k t
+hand s r (InEqualities l ∷ k) (Equality x) = Some (chained (symbol_of l) x, NeedOperand (InEqualities (Some (record { symbol = x; left = joined l r })) ∷ k))
+hand s r (InEqualities l ∷ k) t = hand s (joined l r) k t
+hand s r (InConnectives l ∷ k) (Connective x) = Some (chained (symbol_of l) x, NeedOperand (InEqualities None ∷ InConnectives (Some (record { symbol = x; left = joined l r })) ∷ k))
+hand s r (InConnectives l ∷ k) t = hand s (joined l r) k t
+hand s r (InParentheses ∷ k) Close = plainly (Have r k)
+hand s r (InParentheses ∷ k) t = None
+hand s r (InList h ts ∷ k) t = hand_list r h ts k t
+hand s r (InIf p ∷ k) Then = plainly (NeedTerm (InThen p r ∷ k))
+hand s r (InIf p ∷ k) t = None
+hand s r (InThen p a ∷ k) Else = plainly (NeedTerm (InElse p a r ∷ k))
+hand s r (InThen p a ∷ k) t = None
+hand s r (InElse p a b ∷ k) t = hand s (if_tree p a b r) k t
+hand s r (InLeft p w ∷ k) (Equates q) = at_head (NeedTerm (InRight p r q w ∷ k))
+hand s r (InLeft p w ∷ k) t = hand_equation (formula_of r p) w t
+hand s r (InRight p l q w ∷ k) t = hand_equation (equation_of l q r p) w t
+
+-- the whole, where the tokens may end behind an equation
+abbrev pub end_equation : RawEquation → Waiting → Option Whole
+end_equation e Alone = Some (whole.Equation e)
+end_equation e (Item raw vs es) = Some (whole.Trait (with_equations raw vs (es ++ e ∷ [])))
+
+-- the whole, where the tokens may end behind a term
+abbrev pub finish : RawTree → List Frame → Option Whole
+finish r [] = None
+finish r (InFields ∷ k) = finish r k
+finish r (InStrays ∷ k) = finish r k
+finish r (Prefixed x ∷ k) = finish (prefix_tree x r) k
+finish r (InPostfixes ∷ k) = finish r k
+finish r (InInfixes l ∷ k) = finish (joined l r) k
+finish r (InEqualities l ∷ k) = finish (joined l r) k
+finish r (InConnectives l ∷ k) = finish (joined l r) k
+finish r (InParentheses ∷ k) = None
+finish r (InList h ts ∷ k) = None
+finish r (InIf p ∷ k) = None
+finish r (InThen p a ∷ k) = None
+finish r (InElse p a b ∷ k) = finish (if_tree p a b r) k
+finish r (InLeft p w ∷ k) = end_equation (formula_of r p) w
+finish r (InRight p l q w ∷ k) = end_equation (equation_of l q r p) w
+
+-- a word is read: its arguments begin, or it stands alone
+abbrev pub after_word : Bool → RawWord → List Frame → Lexeme → Taking
+after_word s w k (Open p) = Some (opens (suc (depth_of k)), NeedTerm (InList (Call w) [] ∷ InFields ∷ k))
+after_word s w k t = hand s (call_tree w []) (InFields ∷ k) t
+
+-- a bracket is open: it ends, or its first term begins
+abbrev pub begin_bracket : Bracket → Option RawTree → Pos → List Frame → Lexeme → Taking
+begin_bracket Square l p k (CloseBracket Square) = plainly (Have (bracket_tree Square l p []) (InFields ∷ k))
+begin_bracket Curly l p k (CloseBracket Curly) = plainly (Have (bracket_tree Curly l p []) (InFields ∷ k))
+begin_bracket b l p k t = begin_term t (InList (Bracketed b l p) [] ∷ InFields ∷ k)
+
+-- a term and a symbol are read: the symbol is infix where a Post begins, and postfix elsewhere
+abbrev pub after_symbol : Bool → RawWord → RawTree → List Frame → Lexeme → Taking
+after_symbol s x r k (Word w) = begin_post (Word w) (InInfixes (Some (record { symbol = x; left = r })) ∷ k)
+after_symbol s x r k (Open p) = begin_post (Open p) (InInfixes (Some (record { symbol = x; left = r })) ∷ k)
+after_symbol s x r k (OpenBracket b p) = begin_post (OpenBracket b p) (InInfixes (Some (record { symbol = x; left = r })) ∷ k)
+after_symbol s x r k t = hand s (postfix_tree x r) (InPostfixes ∷ k) t
+
+-- the frames of an equation that begins with a word
+abbrev pub word_frames : RawWord → Waiting → List Frame
+word_frames w e = InInfixes None ∷ InEqualities None ∷ InConnectives None ∷ InLeft w.pos e ∷ []
+
+-- forms, signatures and clauses
+
+-- the first token of a form
+abbrev pub begin_form : Naming → Lexeme → Taking
+begin_form n (Word w) = outside (AfterForm n (plain_form w))
+begin_form n (Symbol x) = outside (AfterSymbolForm n x)
+begin_form n (Dot p) = outside (AfterDotForm n p)
+begin_form n (Marker p) = outside (AfterMarker n p)
+begin_form n (OpenBracket b p) = outside (NeedMarks n false b p)
+begin_form n _ = None
+
+-- the clause with these references
+abbrev pub clause_item : Bool → RawWord → List RawOpRef → RawItem
+clause_item true sort rs = item.Generated sort rs
+clause_item false sort rs = item.Partitioned sort rs
+
+-- the trait with a clause of these references
+abbrev pub with_clause : Clause → List RawOpRef → RawTrait
+with_clause c rs = with_item c.raw (clause_item c.generated c.sort rs)
+
+-- a reference is read, the last of these, and a token stands behind it
+abbrev pub after_reference : Clause → List RawOpRef → Lexeme → Taking
+after_reference c rs Comma = outside (NeedForm (Referred c rs))
+after_reference c rs Semicolon = outside (InItems (with_clause c rs))
+after_reference c rs t = begin_item (with_clause c rs) t
+
+-- the references with one more, which is a form alone
+abbrev pub with_reference : List RawOpRef → RawForm → List RawOpRef
+with_reference rs f = rs ++ record { form = f; sig = None } ∷ []
+
+-- a form is read, and a token stands behind it
+abbrev pub after_form : Naming → RawForm → Lexeme → Taking
+after_form (Declared raw fs) f Comma = outside (NeedForm (Declared raw (fs ++ f ∷ [])))
+after_form (Declared raw fs) f (Colon p) = outside (NeedSig (Declaration raw (fs ++ f ∷ [])))
+after_form (Declared raw fs) f _ = None
+after_form (Referred c rs) f (Colon p) = outside (NeedSig (Reference c rs f))
+after_form (Referred c rs) f t = after_reference c (with_reference rs f) t
+
+-- a signature is read: what waits for it takes it
+abbrev pub hand_sig : Signing → RawSig → State
+hand_sig (Declaration raw fs) sig = InPart (with_declaration raw (record { forms = fs; sig = sig }))
+hand_sig (Reference c rs f) sig = AfterReference c (rs ++ record { form = f; sig = Some sig } ∷ [])
+
+-- a symbol that begins a form is read
+abbrev pub after_symbol_form : Naming → RawWord → Lexeme → Taking
+after_symbol_form n x (Marker p) = outside (AfterForm n (mixfix (prefix_name x.name) 1 x.pos))
+after_symbol_form n x t = after_form n (mixfix (infix_name x.name) 2 x.pos) t
+
+-- a `__` that begins a form is read
+abbrev pub after_marker : Naming → Pos → Lexeme → Taking
+after_marker n p (Dot q) = outside (AfterDotForm n p)
+after_marker n p (Symbol x) = outside (AfterMarkerSymbol n p x)
+after_marker n p (OpenBracket b q) = outside (NeedMarks n true b p)
+after_marker n p _ = None
+
+-- a `__` and a symbol are read
+abbrev pub after_marker_symbol : Naming → Pos → RawWord → Lexeme → Taking
+after_marker_symbol n p x (Marker q) = outside (AfterForm n (mixfix (infix_name x.name) 2 p))
+after_marker_symbol n p x t = after_form n (mixfix (postfix_name x.name) 1 p) t
+
+-- the bracket of a form ends
+abbrev pub end_marks : Naming → Bool → Bracket → ℕ → Pos → Lexeme → Taking
+end_marks n behind Square m p (CloseBracket Square) = outside (AfterForm n (bracket_form behind Square m p))
+end_marks n behind Curly m p (CloseBracket Curly) = outside (AfterForm n (bracket_form behind Curly m p))
+end_marks n behind b m p _ = None
+
+-- a bracket of a form is open
+abbrev pub need_marks : Naming → Bool → Bracket → Pos → Lexeme → Taking
+need_marks n behind b p (Marker q) = outside (AfterMark n behind b 1 p)
+need_marks n behind b p t = end_marks n behind b 0 p t
+
+-- so many markers stand in it
+abbrev pub after_mark : Naming → Bool → Bracket → ℕ → Pos → Lexeme → Taking
+after_mark n behind b m p Comma = outside (NeedMark n behind b m p)
+after_mark n behind b m p t = end_marks n behind b m p t
+
+-- the word that begins a clause is read
+abbrev pub clause_word : RawTrait → RawWord → Lexeme → Taking
+clause_word raw w Generated = outside (NeedBy (record { raw = raw; generated = true; sort = w }))
+clause_word raw w Partitioned = outside (NeedBy (record { raw = raw; generated = false; sort = w }))
+clause_word raw w _ = None
+
+-- a word that begins an item is read, where the equation would be the first of its item
+abbrev pub first_word : Bool → RawTrait → RawWord → Lexeme → Taking
+first_word s raw w Generated = clause_word raw w Generated
+first_word s raw w Partitioned = clause_word raw w Partitioned
+first_word s raw w t = after_word s w (word_frames w (Item raw [] [])) t
+
+-- a word behind the `;` of these equations is read
+abbrev pub word_behind : Bool → RawTrait → List RawVar → List RawEquation → RawWord → Lexeme → Taking
+word_behind s raw vs es w Generated = clause_word (with_equations raw vs es) w Generated
+word_behind s raw vs es w Partitioned = clause_word (with_equations raw vs es) w Partitioned
+word_behind s raw vs es w t = after_word s w (word_frames w (Item raw vs es)) t
+
+-- the `;` of these equations is read
+abbrev pub after_semicolon : RawTrait → List RawVar → List RawEquation → Lexeme → Taking
+after_semicolon raw vs es (Word w) = at_head (WordBehind raw vs es w)
+after_semicolon raw vs es ForAll = begin_part (with_equations raw vs es) ForAll
+after_semicolon raw vs es Asserts = begin_part (with_equations raw vs es) Asserts
+after_semicolon raw vs es t = begin_equation t (Item raw vs es)
+
+-- variables with their sorts are read
+abbrev pub after_group : RawTrait → List RawVar → Lexeme → Taking
+after_group raw vs Comma = outside (NeedVariable raw vs)
+after_group raw vs t = begin_equation t (Item raw vs [])
+
+-- `introduces` or a declaration is read
+abbrev pub in_part : RawTrait → Lexeme → Taking
+in_part raw Introduces = outside (InPart raw)
+in_part raw Asserts = outside (InItems raw)
+in_part raw t = begin_form (Declared raw []) t
+
+-- the head of a trait is read
+abbrev pub after_head : RawTrait → Lexeme → Taking
+after_head raw Introduces = outside (InPart raw)
+after_head raw Asserts = outside (InItems raw)
+after_head raw _ = None
+
+-- the mark of a token and the state behind it
+abbrev pub step : Bool → State → Lexeme → Taking
+step s Start (Word name) = outside (AfterName name)
+step s (AfterName name) (Colon p) = outside (NeedTrait name)
+step s (NeedTrait name) Trait = outside (AfterHead (named name))
+step s (AfterHead raw) t = after_head raw t
+step s (InPart raw) t = in_part raw t
+step s (NeedForm n) t = begin_form n t
+step s (AfterSymbolForm n x) t = after_symbol_form n x t
+step s (AfterDotForm n p) (Word w) = outside (AfterForm n (mixfix (field_name w.name) 1 p))
+step s (AfterMarker n p) t = after_marker n p t
+step s (AfterMarkerSymbol n p x) t = after_marker_symbol n p x t
+step s (NeedMarks n behind b p) t = need_marks n behind b p t
+step s (AfterMark n behind b m p) t = after_mark n behind b m p t
+step s (NeedMark n behind b m p) (Marker q) = outside (AfterMark n behind b (suc m) p)
+step s (AfterForm n f) t = after_form n f t
+step s (NeedSig n) (Word w) = outside (AfterSort n (w ∷ []))
+step s (NeedSig n) Arrow = outside (NeedRange n [])
+step s (AfterSort n ws) Comma = outside (NeedSort n ws)
+step s (AfterSort n ws) Arrow = outside (NeedRange n ws)
+step s (NeedSort n ws) (Word w) = outside (AfterSort n (ws ++ w ∷ []))
+step s (NeedRange n ws) (Word w) = outside (hand_sig n (record { domain = ws; range = w }))
+step s (AfterReference c rs) t = after_reference c rs t
+step s (InItems raw) t = begin_item raw t
+step s (FirstWord raw w) t = first_word s raw w t
+step s (AfterSemicolon raw vs es) t = after_semicolon raw vs es t
+step s (WordBehind raw vs es w) t = word_behind s raw vs es w t
+step s (ClauseWord raw w) t = clause_word raw w t
+step s (NeedBy c) By = outside (NeedForm (Referred c []))
+step s (NeedVariable raw vs) (Word w) = outside (AfterVariable raw vs (w ∷ []))
+step s (AfterVariable raw vs ws) Comma = outside (NeedFurtherVariable raw vs ws)
+step s (AfterVariable raw vs ws) (Colon p) = outside (NeedVariableSort raw vs ws)
+step s (NeedFurtherVariable raw vs ws) (Word w) = outside (AfterVariable raw vs (ws ++ w ∷ []))
+step s (NeedVariableSort raw vs ws) (Word sort) = outside (AfterGroup raw (vs ++ variables_at ws sort))
+step s (AfterGroup raw vs) t = after_group raw vs t
+step s (NeedEquation w) t = begin_equation t w
+step s (NeedTerm k) t = begin_term t k
+step s (NeedOperand k) t = begin_operand t k
+step s (NeedPrefixed k) t = begin_prefixed t k
+step s (NeedPost k) t = begin_post t k
+step s (NeedField r p k) (Word w) = plainly (Have (field_tree p w r) (InFields ∷ k))
+step s (NeedSortOf r p k) (Word w) = plainly (Have (qualified r w p) k)
+step s (AfterWord w k) t = after_word s w k t
+step s (NeedFirst b l p k) t = begin_bracket b l p k t
+step s (AfterSymbol x r k) t = after_symbol s x r k t
+step s (Have r k) t = hand s r k t
+step s _ _ = None
+
+-- the whole, where the tokens may end behind a form
+abbrev pub end_form : Naming → RawForm → Option Whole
+end_form (Declared raw fs) f = None
+end_form (Referred c rs) f = Some (whole.Trait (with_clause c (with_reference rs f)))
+
+-- the whole, where the tokens may end in this state
+abbrev pub final : State → Option Whole
+final (AfterHead raw) = Some (whole.Trait raw)
+final (InPart raw) = Some (whole.Trait raw)
+final (AfterSymbolForm n x) = end_form n (mixfix (infix_name x.name) 2 x.pos)
+final (AfterMarkerSymbol n p x) = end_form n (mixfix (postfix_name x.name) 1 p)
+final (AfterForm n f) = end_form n f
+final (AfterReference c rs) = Some (whole.Trait (with_clause c rs))
+final (InItems raw) = Some (whole.Trait raw)
+final (FirstWord raw w) = finish (call_tree w []) (word_frames w (Item raw [] []))
+final (AfterSemicolon raw vs es) = Some (whole.Trait (with_equations raw vs es))
+final (WordBehind raw vs es w) = finish (call_tree w []) (word_frames w (Item raw vs es))
+final (AfterWord w k) = finish (call_tree w []) k
+final (AfterSymbol x r k) = finish (postfix_tree x r) k
+final (Have r k) = finish r k
+final _ = None
+
+-- the same at a token of a text
+abbrev pub step_at : Bool → State → Token → Taking
+step_at s n t = step s n (lexeme_of t)
+
+-- the whole as a trait
+abbrev pub as_trait : Option Whole → Option RawTrait
+as_trait (Some (whole.Trait raw)) = Some raw
+as_trait _ = None
+
+-- the whole as an equation
+abbrev pub as_equation : Option Whole → Option RawEquation
+as_equation (Some (whole.Equation raw)) = Some raw
+as_equation _ = None

@@ -1,0 +1,217 @@
+ghost use Rattle.std.specs.Prelude.{◌≡◌};
+ghost use Rattle.larch_grammar.specs.Opening.{is_opening};
+
+use crate::lexeme::Bracket;
+use crate::stack::Stack;
+use larch_base::Pos;
+use larch_raw::{
+    RawEquation, RawEquations, RawForm, RawForms, RawOpRefs, RawSig, RawTerm, RawTerms, RawTrait,
+    RawVars, RawWord, RawWords,
+};
+
+/// What tokens are read as.
+#[derive(Drop)]
+pub enum Whole {
+    /// A trait.
+    Trait(RawTrait),
+    /// An equation by itself.
+    Equation(RawEquation),
+}
+
+/// A clause of which so much is read: the trait before it, whether it is a clause of generators, and its sort.
+#[derive(Drop)]
+pub struct Clause {
+    pub raw: RawTrait,
+    pub generated: bool,
+    pub sort: RawWord,
+}
+
+/// What waits for a form.
+#[derive(Drop)]
+pub enum Naming {
+    /// A declaration with these forms, in a trait.
+    Declared(RawTrait, RawForms),
+    /// A clause with these references.
+    Referred(Clause, RawOpRefs),
+}
+
+/// What waits for a signature.
+#[derive(Drop)]
+pub enum Signing {
+    /// A declaration with these forms, in a trait.
+    Declaration(RawTrait, RawForms),
+    /// The last reference of a clause, whose form it is, behind these.
+    Reference(Clause, RawOpRefs, RawForm),
+}
+
+/// What waits for an equation.
+#[derive(Drop)]
+pub enum Waiting {
+    /// Nothing: it stands by itself.
+    Alone,
+    /// An item of a trait, with these variables and equations.
+    Item(RawTrait, RawVars, RawEquations),
+}
+
+/// What stands before an item in its part.
+#[derive(Clone, Copy, Debug, PartialEq, Eq)]
+pub enum Before {
+    /// Nothing, or a clause.
+    Anything,
+    /// An item of equations.
+    Equations,
+    /// An item of equations with its `;`.
+    Semicolon,
+}
+
+/// A symbol of a chain with what stands to its left.
+#[derive(Drop)]
+pub struct Link {
+    pub symbol: RawWord,
+    pub left: RawTerm,
+}
+
+/// What a list of terms belongs to.
+#[derive(Drop)]
+pub enum Listing {
+    /// The arguments of a word.
+    Call(RawWord),
+    /// A bracket with the operand in front of it, and where it opens.
+    Bracketed(Bracket, Option<RawTerm>, Pos),
+}
+
+/// What waits for a term.
+#[derive(Drop)]
+pub enum Frame {
+    /// Fields, brackets and a sort may follow what begins a Post.
+    InFields,
+    /// Symbols that are let in behind a term with prefix symbols.
+    InStrays,
+    /// A prefix symbol.
+    Prefixed(RawWord),
+    /// Postfix symbols may follow.
+    InPostfixes,
+    /// A chain of infix symbols.
+    InInfixes(Option<Link>),
+    /// A chain of `=` and `~=`.
+    InEqualities(Option<Link>),
+    /// A chain of connectives.
+    InConnectives(Option<Link>),
+    /// `(`.
+    InParentheses,
+    /// A list of terms, these before.
+    InList(Listing, RawTerms),
+    /// `if`, and where it stands.
+    InIf(Pos),
+    /// The same with its condition, behind `then`.
+    InThen(Pos, RawTerm),
+    /// The same with its second part too, behind `else`.
+    InElse(Pos, RawTerm, RawTerm),
+    /// The left side of an equation that begins there.
+    InLeft(Pos, Waiting),
+    /// The right side: where the equation begins, its left side, and where `==` stands.
+    InRight(Pos, RawTerm, Pos, Waiting),
+}
+
+/// What is read so far, and what is needed next.
+#[derive(Drop)]
+pub enum State {
+    /// Nothing is read: a name.
+    Start,
+    /// A name: `:`.
+    AfterName(RawWord),
+    /// A name and `:`: `trait`.
+    NeedTrait(RawWord),
+    /// The head of a trait: a part, or the end.
+    AfterHead(RawTrait),
+    /// `introduces`, or a declaration of its part: a declaration, a part, or the end.
+    InPart(RawTrait),
+    /// A form.
+    NeedForm(Naming),
+    /// A symbol that begins a form: perhaps `__`.
+    AfterSymbolForm(Naming, RawWord),
+    /// A `.` of a form that begins there: a word.
+    AfterDotForm(Naming, Pos),
+    /// A `__` that begins a form: the rest of it.
+    AfterMarker(Naming, Pos),
+    /// A `__` and a symbol: perhaps `__`.
+    AfterMarkerSymbol(Naming, Pos, RawWord),
+    /// The bracket of a form, whether a `__` stands in front, and where the form begins: `__` or its end.
+    NeedMarks(Naming, bool, Bracket, Pos),
+    /// So many `__` in it: `,` or its end.
+    AfterMark(Naming, bool, Bracket, u32, Pos),
+    /// A `,` behind them: `__`.
+    NeedMark(Naming, bool, Bracket, u32, Pos),
+    /// A form is read.
+    AfterForm(Naming, RawForm),
+    /// A signature.
+    NeedSig(Signing),
+    /// A sort of the domain, the last of these: `,` or `->`.
+    AfterSort(Signing, RawWords),
+    /// A `,` behind these sorts: a word.
+    NeedSort(Signing, RawWords),
+    /// The `->` behind these sorts: a word.
+    NeedRange(Signing, RawWords),
+    /// A reference with its signature, the last of these.
+    AfterReference(Clause, RawOpRefs),
+    /// `asserts`, or a clause of its part: an item, a part, or the end.
+    InItems(RawTrait),
+    /// A word that begins an item of either kind.
+    FirstWord(RawTrait, RawWord),
+    /// A `;` behind these equations of an item: an equation, an item, a part, or the end.
+    AfterSemicolon(RawTrait, RawVars, RawEquations),
+    /// The same and a word, which begins an equation or a clause.
+    WordBehind(RawTrait, RawVars, RawEquations, RawWord),
+    /// A word directly behind an item of equations: it begins a clause.
+    ClauseWord(RawTrait, RawWord),
+    /// `generated` or `partitioned`: `by`.
+    NeedBy(Clause),
+    /// `\forall`, or a `,` behind these variables: a word.
+    NeedVariable(RawTrait, RawVars),
+    /// These variables, and names of which the sort is to come: `,` or `:`.
+    AfterVariable(RawTrait, RawVars, RawWords),
+    /// A `,` behind the names: a word.
+    NeedFurtherVariable(RawTrait, RawVars, RawWords),
+    /// The `:` behind the names: a word.
+    NeedVariableSort(RawTrait, RawVars, RawWords),
+    /// These variables with their sorts: `,` or an equation.
+    AfterGroup(RawTrait, RawVars),
+    /// An equation.
+    NeedEquation(Waiting),
+    /// A term.
+    NeedTerm(Stack),
+    /// A term without connectives and equalities.
+    NeedOperand(Stack),
+    /// What a prefix symbol stands before.
+    NeedPrefixed(Stack),
+    /// What an infix symbol stands before.
+    NeedPost(Stack),
+    /// A `.` behind a term: a word.
+    NeedField(RawTerm, Pos, Stack),
+    /// A `:` behind a term: a word.
+    NeedSortOf(RawTerm, Pos, Stack),
+    /// A word of a term: perhaps its arguments.
+    AfterWord(RawWord, Stack),
+    /// A bracket with the operand in front of it, and where it opens: a term, or its end.
+    NeedFirst(Bracket, Option<RawTerm>, Pos, Stack),
+    /// A term and a symbol behind it, which is infix or postfix by the next token.
+    AfterSymbol(RawWord, RawTerm, Stack),
+    /// A term.
+    Have(RawTerm, Stack),
+}
+
+impl Frame {
+    /// Whether it waits inside a construct that nests.
+    pub fn opens(&self) -> bool
+        ensures { result ≡ is_opening self.now }
+    {
+        matches!(
+            self,
+            Frame::InParentheses
+                | Frame::InList(_, _)
+                | Frame::InIf(_)
+                | Frame::InThen(_, _)
+                | Frame::InElse(_, _, _)
+        )
+    }
+}
