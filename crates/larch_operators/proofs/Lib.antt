@@ -1,0 +1,3 @@
+pub mod BuiltIns
+pub mod InTurn
+pub mod Same

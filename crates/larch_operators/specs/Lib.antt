@@ -1,0 +1,3 @@
+pub mod BuiltIns
+pub mod ExistingSorts
+pub mod Same

@@ -1,0 +1,10 @@
+//! What definitions ask of operators: whether two of them, or two terms or statements, are equal; which sorts exist
+//! beside operators; and the built-in operators at those sorts.
+#![tactic(auto)]
+
+mod built_ins;
+pub mod laws;
+mod sorts;
+
+pub use built_ins::push_built_ins;
+pub use sorts::{SortSet, existing_sorts};
