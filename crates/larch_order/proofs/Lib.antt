@@ -1,6 +1,17 @@
 -- Lemmas.
+pub mod Above
+pub mod AsMultisets
+pub mod Below
+pub mod Bools
 pub mod BuiltIns
+pub mod Comparing
+pub mod Context
+pub mod FromLeft
+pub mod FromRight
+pub mod Irreflexive
+pub mod Multisets
 pub mod Ordering
 pub mod OrderingLaws
 pub mod Places
-pub mod Same
+pub mod Stable
+pub mod Transitive

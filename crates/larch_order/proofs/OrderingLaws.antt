@@ -5,9 +5,9 @@ use Rattle.larch_term.specs.Operator.{PlainOperator}
 use Rattle.larch_term.specs.Tree.{Tree, Forest, var, app, none, more, list_of}
 use Rattle.larch_term.specs.Place.{at, argument}
 use Rattle.larch_order.specs.declared.precedence.Ranked.{Ranked}
-use Rattle.larch_order.specs.Same.{same_tree}
+use Rattle.larch_operators.specs.Same.{same_tree}
 use Rattle.larch_order.specs.Greater.{greater, some_reaches, heads_beat}
-use Rattle.larch_order.proofs.Same.{same_tree_Decides}
+use Rattle.larch_operators.proofs.Same.{tree_Decides}
 use Rattle.larch_order.proofs.Ordering.{reached_by, above_each}
 
 -- an application is greater than a term by one of three cases
@@ -56,7 +56,7 @@ mutual
   argument_reaches ranks none u k p e = absurd (none_below e)
   argument_reaches ranks (more t ts) u zero p e = absurd (none_below e)
   argument_reaches ranks (more t ts) u (suc zero) [] e =
-      either_left (same_tree t u) (greater ranks t u) (some_reaches ranks ts u) ((same_tree_Decides t u).1 (found e))
+      either_left (same_tree t u) (greater ranks t u) (some_reaches ranks ts u) ((tree_Decides t u).1 (found e))
   argument_reaches ranks (more t ts) u (suc zero) (j ∷ q) e =
       either_middle (same_tree t u) (greater ranks t u) (some_reaches ranks ts u) (subterm_below ranks t u j q e)
   argument_reaches ranks (more t ts) u (suc (suc k)) p e =

@@ -9,13 +9,13 @@ use Rattle.larch_term.specs.Operator.{PlainOperator}
 use Rattle.larch_order.specs.declared.precedence.Ranked.{Ranked}
 use Rattle.larch_order.specs.declared.precedence.Way.{Way}
 use Rattle.larch_order.specs.Precedence.{is_of, place_of, with_status, with_status_at}
-use Rattle.larch_order.proofs.Same.{same_operator_Decides}
+use Rattle.larch_operators.proofs.Same.{operator_Decides}
 
 -- the operator at its place
 pub operator_at : (ranks : List Ranked) (f : PlainOperator) (i : ℕ) (r : Ranked) → Some i ≡ place_of ranks f → r ≡ get_or ranks i r → r.operator ≡ f
 operator_at ranks f i r e at =
     let p = position-Some (is_of f) ranks i r (sym e) in
-    (same_operator_Decides r.operator f).0 (ap (is_of f) at ∙ p.1)
+    (operator_Decides r.operator f).0 (ap (is_of f) at ∙ p.1)
 
 pub moved_up : (xs : List Ranked) (i j k : ℕ) (ys : List Ranked) (d : Ranked) → i < j → j < length xs → k ≡ j + 1 - i
     → ys ≡ drop 1 (mid_of i k xs) ++ take 1 (mid_of i k xs) → put_mid i k xs ys ≡ insert (remove xs i) j (get_or xs i d)

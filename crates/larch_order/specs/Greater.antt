@@ -1,14 +1,16 @@
 -- The recursive path ordering with status.
-use Rattle.std.specs.Prelude.{ℕ, Bool, true, false, cond, not, nat_lt, ◌&&◌, ◌||◌, List, [], ◌∷◌, sum_by}
+use Rattle.std.specs.Prelude.{◌≡◌, ℕ, Bool, true, false, cond, not, nat_lt, ◌&&◌, ◌||◌, List, [], ◌∷◌, sum_by}
 use Rattle.std.specs.List.{list_any, list_all}
 use Rattle.std.specs.Cmp.Lexicographic.{pointwise}
 use Rattle.larch_term.specs.Operator.{PlainOperator}
-use Rattle.larch_term.specs.Tree.{Tree, Forest, var, app, none, more, list_of}
-use Rattle.larch_order.specs.Same.{same_operator, same_tree}
+use Rattle.larch_term.specs.Tree.{Tree, Forest, var, app, none, more, forest_of, list_of}
+use Rattle.larch_operators.specs.Same.{same_operator, same_tree}
 use Rattle.larch_order.specs.Precedence.{above, status_of}
 use Rattle.larch_order.specs.declared.precedence.Way.{Way}
 use Rattle.larch_order.specs.declared.precedence.Way.TheVariants.{LeftToRight, RightToLeft, Multiset}
 use Rattle.larch_order.specs.declared.precedence.Ranked.{Ranked}
+use Rattle.larch_order.specs.declared.greater.Comparison.{Comparison}
+use Rattle.larch_order.specs.declared.greater.Comparison.TheVariants.{Same, Above, Neither}
 
 -- the answer of the way in which a status compares lists
 abbrev pub by_status : Way → Bool → Bool → Bool → Bool
@@ -82,3 +84,23 @@ abbrev pub heads_beat : List Ranked → PlainOperator → Forest → PlainOperat
 heads_beat ranks f ss g us =
     head_beats ranks f g (first_greater ranks ss us) (last_greater ranks ss us)
     (multiset_greater (λ u. some_beats ranks ss (list_of ss) us u) (list_of ss) us)
+
+-- how a term stands to another one: the same, above it, or neither
+abbrev pub comparison : List Ranked → Tree → Tree → Comparison
+comparison ranks s t = cond (same_tree s t) Same (cond (greater ranks s t) Above Neither)
+
+-- whether the term stands above
+abbrev pub is_above : Comparison → Bool
+is_above Same = false
+is_above Above = true
+is_above Neither = false
+
+-- whether it is the same or stands above
+abbrev pub reaches : Comparison → Bool
+reaches Same = true
+reaches Above = true
+reaches Neither = false
+
+-- two terms are applications, to these arguments, of one operator with this status
+abbrev pub OneHead : List Ranked → Tree → List Tree → Tree → List Tree → Way → Type 0
+OneHead ranks s ss t ts way = (f : PlainOperator) × ((s ≡ app f (forest_of ss)) × ((t ≡ app f (forest_of ts)) × (status_of ranks f ≡ way)))

@@ -1,3 +1,2 @@
 pub mod Greater
 pub mod Precedence
-pub mod Same

@@ -1,12 +1,10 @@
 -- The precedence: the operators from low to high, each with its status.
-use Rattle.std.specs.Prelude.{ℕ, ◌+◌, ◌-◌, Bool, false, cond, nat_lt, List, [], ◌∷◌, ◌++◌, map, fold, length, get_or, set, Option, Some, None, is_some, bytes_eq}
-use Rattle.std.specs.List.{list_any, position, flat_map, insert, remove}
+use Rattle.std.specs.Prelude.{ℕ, ◌+◌, Bool, false, cond, nat_lt, List, [], ◌∷◌, ◌++◌, map, get_or, set, Option, Some, None, is_some}
+use Rattle.std.specs.List.{list_any, position, insert, remove}
 use Rattle.larch_term.specs.Operator.{PlainOperator}
-use Rattle.larch_term.specs.BuiltIn.{built_in}
-use Rattle.larch_term.specs.Truth.{bool_sort}
-use Rattle.larch_term.specs.declared.built_in.BuiltIn.{BuiltIn}
-use Rattle.larch_term.specs.declared.built_in.BuiltIn.TheVariants.{True, False, Not, And, Or, Implies, Iff, Equal, Unequal, If}
-use Rattle.larch_order.specs.Same.{same_operator}
+use Rattle.larch_operators.specs.BuiltIns.{built_ins_at, is_built_in}
+use Rattle.larch_operators.specs.ExistingSorts.{existing_sorts}
+use Rattle.larch_operators.specs.Same.{same_operator}
 use Rattle.larch_order.specs.declared.precedence.Way.{Way}
 use Rattle.larch_order.specs.declared.precedence.Way.TheVariants.{LeftToRight}
 use Rattle.larch_order.specs.declared.precedence.Ranked.{Ranked}
@@ -46,35 +44,9 @@ entry_at ranks f (Some i) = get_or ranks i (unranked f)
 abbrev pub status_of : List Ranked → PlainOperator → Way
 status_of ranks f = (entry_at ranks f (place_of ranks f)).status
 
--- the sorts with one more behind them, unless it is there
-abbrev pub with_sort : List (List ℕ) → List ℕ → List (List ℕ)
-with_sort sorts s = cond (list_any (bytes_eq s) sorts) sorts (sorts ++ s ∷ [])
-
--- Bool, and the other sorts of operators in the order in which each occurs first in their domains and ranges
-abbrev pub sorts_of_operators : List PlainOperator → List (List ℕ)
-sorts_of_operators fs = fold with_sort (bool_sort ∷ []) (flat_map (λ f. f.domain ++ f.range ∷ []) fs)
-
--- the built-in operators that aren't there for each sort, from low to high
-abbrev pub propositional : List BuiltIn
-propositional = True ∷ False ∷ Not ∷ And ∷ Or ∷ Implies ∷ Iff ∷ []
-
--- the built-in operators at sorts, from low to high
-abbrev pub built_ins_at : List (List ℕ) → List PlainOperator
-built_ins_at sorts =
-    map (λ b. built_in b bool_sort) propositional
-    ++ (map (built_in Equal) sorts ++ (map (built_in Unequal) sorts ++ map (built_in If) sorts))
-
 -- the precedence of a theory with these operators: the built-in operators, and above them the theory's in order
 abbrev pub precedence_of : List PlainOperator → List Ranked
-precedence_of fs = map unranked (built_ins_at (sorts_of_operators fs) ++ fs)
-
--- whether an operator is this built-in one; its sort could only be the last of its domain
-abbrev pub is_built_in_as : PlainOperator → BuiltIn → Bool
-is_built_in_as f b = same_operator f (built_in b (get_or f.domain (length f.domain - 1) []))
-
--- whether an operator is a built-in one
-unfoldable pub is_built_in : PlainOperator → Bool
-is_built_in f = list_any (is_built_in_as f) (propositional ++ Equal ∷ Unequal ∷ If ∷ [])
+precedence_of fs = map unranked (built_ins_at (existing_sorts fs) ++ fs)
 
 -- the place directly above the last built-in operator, the lowest where there is none
 abbrev pub above_built_ins : List Ranked → ℕ

@@ -1,14 +1,13 @@
 //! What holds of the ordering, for crates above to cite. No function here does anything.
 ghost use Rattle.std.specs.Prelude.{◌≡◌, ℕ, Bool, true, false, ◌&&◌, ◌||◌, List, ◌∷◌, Some};
-ghost use Rattle.std.specs.Bool.{Decides};
 ghost use Rattle.std.specs.List.{list_any, list_all};
-ghost use Rattle.larch_term.specs.BuiltIn.{IsBuiltIn};
 ghost use Rattle.larch_term.specs.Operator.{PlainOperator};
-ghost use Rattle.larch_term.specs.Place.{at};
+ghost use Rattle.larch_term.specs.Place.{at, put};
+ghost use Rattle.larch_term.specs.Substitution.{substituted};
 ghost use Rattle.larch_term.specs.Tree.{Tree, Forest, var, app, list_of};
+ghost use Rattle.larch_term.specs.declared.substitution.Entry.{Entry};
 ghost use Rattle.larch_order.specs.Greater.{greater, heads_beat};
-ghost use Rattle.larch_order.specs.Precedence.{is_built_in};
-ghost use Rattle.larch_order.specs.Same.{same_tree, same_operator};
+ghost use Rattle.larch_operators.specs.Same.{same_tree};
 ghost use Rattle.larch_order.specs.declared.precedence.Ranked.{Ranked};
 
 /// The cases of the ordering: a variable is greater than nothing. An application is greater than a term where one
@@ -25,13 +24,22 @@ pub fn greater_than_subterms()
     ensures { (ranks : List Ranked) (t u : Tree) (k : ℕ) (p : List ℕ) → at t (k ∷ p) ≡ Some u → greater ranks t u ≡ true }
 {}
 
-/// What the tests of equality tell.
-pub fn same_is_equal()
-    ensures tree { (t u : Tree) → Decides (same_tree t u) (t ≡ u) }
-    ensures operator { (f g : PlainOperator) → Decides (same_operator f g) (f ≡ g) }
+/// What is greater than a term that is greater than a third is greater than the third.
+pub fn greater_is_transitive()
+    ensures { (ranks : List Ranked) (a b c : Tree) → greater ranks a b ≡ true → greater ranks b c ≡ true → greater ranks a c ≡ true }
 {}
 
-/// What the test for built-in operators tells.
-pub fn built_in_is_told()
-    ensures { (f : PlainOperator) → Decides (is_built_in f) (IsBuiltIn f) }
+/// No term is greater than itself.
+pub fn greater_is_irreflexive()
+    ensures { (ranks : List Ranked) (t : Tree) → greater ranks t t ≡ false }
+{}
+
+/// A term stays greater than another one where both have their variables replaced.
+pub fn greater_is_stable()
+    ensures { (ranks : List Ranked) (es : List Entry) (t u : Tree) → greater ranks t u ≡ true → greater ranks (substituted es t) (substituted es u) ≡ true }
+{}
+
+/// A term grows where a greater one is put in the stead of a subterm.
+pub fn greater_in_context()
+    ensures { (ranks : List Ranked) (t : Tree) (p : List ℕ) (u v : Tree) → at t p ≡ Some u → greater ranks v u ≡ true → greater ranks (put t p v) t ≡ true }
 {}

@@ -1,8 +1,9 @@
 ghost use Rattle.std.specs.Prelude.{◌≡◌, ◌↔◌, ◌⊎◌, ◌≤◌, ◌<◌, false, IsTrue, IfOk, OnOk, OnErr, IsErrOf, length, get_or};
 ghost use Rattle.std.specs.List.{insert, remove};
 ghost use Rattle.larch_order.specs.declared.precedence.Ranked.{Ranked};
-ghost use Rattle.larch_order.specs.Precedence.{has, is_built_in, place_of, status_of, above, above_built_ins, with_constant, raised, with_status};
-ghost use Rattle.larch_order.specs.Same.{same_operator};
+ghost use Rattle.larch_order.specs.Precedence.{has, place_of, status_of, above, above_built_ins, with_constant, raised, with_status};
+ghost use Rattle.larch_operators.specs.BuiltIns.{is_built_in};
+ghost use Rattle.larch_operators.specs.Same.{same_operator};
 ghost use Rattle.larch_order.specs.declared.precedence.OrderRefusal.TheVariants.{Memory as wants_memory};
 
 use larch_base::Memory;
@@ -179,7 +180,7 @@ fn move_up(ranks: &mut [Ranked], from: usize, to: usize)
 }
 
 // Whether two operators are equal, as the definitions test it.
-#[tactic(auto, using(crate::proofs::Same::operators_told))]
+#[tactic(auto, using(larch_operators::proofs::Same::operators_told))]
 pub(crate) fn is_same(left: &Operator, right: &Operator) -> bool
     ensures { result ≡ same_operator left.now right.now }
 {

@@ -136,3 +136,42 @@ fn compares_from_the_right(
     let apart = !order.greater(right, left) && !order.greater(left, right);
     Ok(answer.is_ok() && again.is_ok() && from_right && apart)
 }
+
+// f(f(.. f(x)))
+fn chain(alloc: Global, name: &[u8], levels: u64) -> Result<Term, Memory> {
+    let mut term = variable(alloc, name)?;
+    for _ in 0..levels {
+        term = one(alloc, term)?;
+    }
+    Ok(term)
+}
+
+// g(z, g(z, .. g(z, x)))
+fn comb(alloc: Global, name: &[u8], levels: u64) -> Result<Term, Memory> {
+    let mut term = variable(alloc, name)?;
+    for _ in 0..levels {
+        let first = variable(alloc, b"z")?;
+        term = two(alloc, first, term)?;
+    }
+    Ok(term)
+}
+
+#[test]
+fn chains_two_thousand_deep(rt: HostRuntime) -> Result<(), Fail> {
+    let order = precedence(rt.alloc())?;
+    let left = chain(rt.alloc(), b"x", 2000)?;
+    let other = chain(rt.alloc(), b"y", 2000)?;
+    let below = chain(rt.alloc(), b"x", 1999)?;
+    assert!(rt; !order.greater(&left, &other) && order.greater(&left, &below));
+    Ok(())
+}
+
+// The right term is gone through first, and then the left one: 4,000 levels in all.
+#[test]
+fn goes_down_both_terms(rt: HostRuntime) -> Result<(), Fail> {
+    let order = precedence(rt.alloc())?;
+    let left = comb(rt.alloc(), b"x", 2000)?;
+    let right = chain(rt.alloc(), b"y", 2000)?;
+    assert!(rt; !order.greater(&left, &right));
+    Ok(())
+}

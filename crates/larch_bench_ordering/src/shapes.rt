@@ -1,0 +1,169 @@
+use larch_base::{Memory, Name, Sequence};
+use larch_order::{Precedence, Way};
+use larch_term::{Operator, Term, Terms, Theory};
+use std::alloc::Global;
+
+/// What the compared terms look like.
+#[derive(Clone, Copy)]
+pub enum Shape {
+    /// f(f(.. f(x))) and f(f(.. f(y))).
+    Chains,
+    /// Balanced trees of g that differ in their first leaf.
+    Trees,
+    /// g(z, g(z, .. g(z, x))) and f(f(.. f(y))): first the second is gone through, and then the first.
+    Stairs,
+    /// g(x, g(x, .. g(x, z))) and a balanced tree of h with z at each leaf: each leaf is looked for, and found last.
+    Products,
+}
+
+/// Two terms.
+#[derive(Drop)]
+pub struct Pair {
+    pub left: Term,
+    pub right: Term,
+}
+
+impl Shape {
+    /// The shape with a name.
+    pub fn named(name: &[u8]) -> Option<Shape> {
+        match name {
+            b"chains" => Some(Shape::Chains),
+            b"trees" => Some(Shape::Trees),
+            b"stairs" => Some(Shape::Stairs),
+            b"products" => Some(Shape::Products),
+            _ => None,
+        }
+    }
+
+    /// Its name.
+    pub fn name(self) -> &'static str {
+        match self {
+            Shape::Chains => "chains",
+            Shape::Trees => "trees",
+            Shape::Stairs => "stairs",
+            Shape::Products => "products",
+        }
+    }
+
+    /// Two terms of the shape, of about so many nodes each.
+    pub fn pair(self, alloc: Global, size: u64) -> Result<Pair, Memory> {
+        match self {
+            Shape::Chains => chains(alloc, size),
+            Shape::Trees => trees(alloc, size),
+            Shape::Stairs => stairs(alloc, size),
+            Shape::Products => products(alloc, size),
+        }
+    }
+}
+
+/// The precedence with f, h and g, from low to high, each with a status.
+pub fn precedence(alloc: Global, way: Way) -> Result<Precedence, Memory> {
+    let f = operator(alloc, b"f", 1)?;
+    let h = operator(alloc, b"h", 2)?;
+    let g = operator(alloc, b"g", 2)?;
+    let theory = theory(alloc, f, h, g)?;
+    let mut order = Precedence::of_theory(alloc, &theory)?;
+    for operator in theory.operators.as_slice() {
+        let _ = order.register_status(operator, way);
+    }
+    Ok(order)
+}
+
+fn theory(alloc: Global, f: Operator, h: Operator, g: Operator) -> Result<Theory, Memory> {
+    let mut operators = Sequence::new(alloc);
+    operators.push(f)?;
+    operators.push(h)?;
+    operators.push(g)?;
+    let statements = Sequence::new(alloc);
+    Ok(Theory {
+        operators,
+        statements,
+    })
+}
+
+fn chains(alloc: Global, size: u64) -> Result<Pair, Memory> {
+    let left = chain(alloc, b"x", size)?;
+    let right = chain(alloc, b"y", size)?;
+    Ok(Pair { left, right })
+}
+
+fn trees(alloc: Global, size: u64) -> Result<Pair, Memory> {
+    let left = tree(alloc, b"g", b"x", size)?;
+    let right = tree(alloc, b"g", b"y", size)?;
+    Ok(Pair { left, right })
+}
+
+fn stairs(alloc: Global, size: u64) -> Result<Pair, Memory> {
+    let left = comb(alloc, b"z", b"x", size / 2)?;
+    let right = chain(alloc, b"y", size)?;
+    Ok(Pair { left, right })
+}
+
+fn products(alloc: Global, size: u64) -> Result<Pair, Memory> {
+    let left = comb(alloc, b"x", b"z", size / 2)?;
+    let right = tree(alloc, b"h", b"z", size)?;
+    Ok(Pair { left, right })
+}
+
+// f(f(.. f(NAME))).
+fn chain(alloc: Global, name: &[u8], size: u64) -> Result<Term, Memory> {
+    let mut term = variable(alloc, name)?;
+    for _ in 1..size {
+        term = one(alloc, term)?;
+    }
+    Ok(term)
+}
+
+// g(FIRST, g(FIRST, .. g(FIRST, LAST))).
+fn comb(alloc: Global, first: &[u8], last: &[u8], levels: u64) -> Result<Term, Memory> {
+    let mut term = variable(alloc, last)?;
+    for _ in 0..levels {
+        let first = variable(alloc, first)?;
+        term = two(alloc, b"g", first, term)?;
+    }
+    Ok(term)
+}
+
+// The balanced tree of an operator of two arguments whose first leaf is NAME, and each other one z.
+fn tree(alloc: Global, form: &[u8], name: &[u8], size: u64) -> Result<Term, Memory> {
+    if size < 3 {
+        return variable(alloc, name);
+    }
+    let half = (size - 1) / 2;
+    let first = tree(alloc, form, name, half)?;
+    let second = tree(alloc, form, b"z", half)?;
+    two(alloc, form, first, second)
+}
+
+// An operator over N with a number of arguments.
+fn operator(alloc: Global, form: &[u8], arguments: u64) -> Result<Operator, Memory> {
+    let mut domain = Sequence::new(alloc);
+    for _ in 0..arguments {
+        let sort = Name::new(alloc, b"N")?;
+        domain.push(sort)?;
+    }
+    let form = Name::new(alloc, form)?;
+    let range = Name::new(alloc, b"N")?;
+    Operator::new(alloc, form, domain, range)
+}
+
+fn variable(alloc: Global, name: &[u8]) -> Result<Term, Memory> {
+    let name = Name::new(alloc, name)?;
+    let sort = Name::new(alloc, b"N")?;
+    Ok(Term::var(name, sort))
+}
+
+fn one(alloc: Global, argument: Term) -> Result<Term, Memory> {
+    let operator = operator(alloc, b"f", 1)?;
+    let mut arguments = Vec::with_capacity(alloc, 1)?;
+    arguments.push(argument)?;
+    Ok(Term::app(operator, Terms::from_vec(arguments)))
+}
+
+fn two(alloc: Global, form: &[u8], first: Term, second: Term) -> Result<Term, Memory> {
+    let operator = operator(alloc, form, 2)?;
+    let mut arguments = Vec::with_capacity(alloc, 2)?;
+    arguments.push(first)?;
+    arguments.push(second)?;
+    Ok(Term::app(operator, Terms::from_vec(arguments)))
+}
