@@ -1,0 +1,155 @@
+-- What follows from the equations of the deduction rows.
+use Rattle.std.proofs.Common.{rules, sym, ◌≡◌, ℕ, ◌-◌, Bool, true, false, cond, List, [], ◌∷◌, All, codes, Some, refl, ◌∙◌, ap}
+use Rattle.std.proofs.lemmas.List.Elements.{All-nil, All-cons}
+use Rattle.larch_term.specs.Operator.{PlainOperator}
+use Rattle.larch_term.specs.Tree.{Tree}
+use Rattle.larch_term.specs.Truth.{bool_sort}
+use Rattle.larch_term.specs.BuiltIn.{built_in}
+use Rattle.larch_term.specs.declared.built_in.BuiltIn.TheVariants.{Not, And, Or, Implies, Iff}
+use Rattle.larch_term.specs.Substitution.{image, substituted}
+use Rattle.larch_term.specs.declared.substitution.Entry.{Entry}
+use Rattle.larch_term.specs.declared.statement.Statement.{Statement}
+use Rattle.larch_term.specs.declared.statement.Statement.TheVariants.{Equation}
+use Rattle.larch_term.specs.declared.statement.Theory.{Theory}
+use Rattle.larch_calculus.specs.Formula.{applied, joined, truth, falsity, negation, conjunction, disjunction, implication, equivalence, equality}
+use Rattle.larch_calculus.specs.Identity.{Proposition, always, never, denied, both, either, implied, equivalent, chosen, term_of, agree, value, propositional}
+use Rattle.larch_calculus.specs.Derivable.{Derivable, identity, replace, instance, equal}
+use Rattle.larch_calculus.proofs.DerivedRules.{two, two_fit, two_over, transitive, x_letter, y_letter}
+use Rattle.larch_calculus.proofs.Identities.{IsTermOf}
+use Rattle.larch_calculus.proofs.WellSorted.{well_sorted}
+use Rattle.larch_tables.specs.Rows.{PlainRow, x, y, a, b, deduction_rows, numbered, instance_of}
+use Rattle.larch_tables.proofs.Identities.{assigned, Every, every_at, at_place}
+
+-- the proposition as a term, with terms in the places of x and y
+abbrev under : Tree → Tree → Proposition → Tree
+under a b p = substituted (two bool_sort a b) (term_of p)
+
+identical : {t : Theory} (a b : Tree) → IsTermOf t.operators bool_sort a → IsTermOf t.operators bool_sort b → (p q : Proposition)
+    → ((given : List ℕ → Bool) → value given p ≡ value given q) → Derivable t (Equation (under a b p) (under a b q))
+identical {t} a b wa wb p q h =
+    instance (two bool_sort a b) (two_fit bool_sort a b wa.0.0 wa.1 wb.0.0 wb.1) (two_over t.operators bool_sort a b wa.0.1 wb.0.1)
+    (identity (propositional p q refl refl h)) refl refl
+
+agree_itself : (b : Bool) → agree b b ≡ true
+agree_itself true = refl
+agree_itself false = refl
+
+-- the second proposition where two others agree, and else the first
+abbrev so : Proposition → Proposition → Proposition → Proposition → Proposition
+so g v c w = chosen (equivalent g v) w c
+
+-- the proposition has no letters but x and y
+abbrev IsOfTwo : Proposition → Type 0
+IsOfTwo p = (given : List ℕ → Bool) → value given p ≡ value (assigned (given (codes "x")) (given (codes "y"))) p
+
+-- two propositions have one value, for a value of x and one of y
+abbrev AgreeAt : Bool → Bool → Proposition → Proposition → Type 0
+AgreeAt b c p q = value (assigned b c) p ≡ value (assigned b c) q
+
+agreeing : (p q : Proposition) → AgreeAt true true p q → AgreeAt true false p q → AgreeAt false true p q → AgreeAt false false p q
+    → (b c : Bool) → AgreeAt b c p q
+agreeing p q e f g h true true = e
+agreeing p q e f g h true false = f
+agreeing p q e f g h false true = g
+agreeing p q e f g h false false = h
+
+-- c == w follows from g == v: c equals w where g and v agree, and else itself; and v takes the place of g
+followed : {t : Theory} (a b : Tree) → IsTermOf t.operators bool_sort a → IsTermOf t.operators bool_sort b → (g v c w : Proposition)
+    → IsOfTwo c → IsOfTwo (so g v c w)
+    → AgreeAt true true c (so g v c w) → AgreeAt true false c (so g v c w) → AgreeAt false true c (so g v c w) → AgreeAt false false c (so g v c w)
+    → Derivable t (Equation (under a b g) (under a b v)) → Derivable t (Equation (under a b c) (under a b w))
+followed {t} a b wa wb g v c w l r e f h k d =
+    transitive
+    (replace (1 ∷ 1 ∷ [])
+    (identical a b wa wb c (so g v c w) (λ given. l given ∙ agreeing c (so g v c w) e f h k (given (codes "x")) (given (codes "y")) ∙ sym (r given)))
+    d refl refl)
+    (identical a b wa wb (so v v c w) w (λ given. ap (λ z. cond z (value given w) (value given c)) (agree_itself (value given v))))
+
+sides_of : {r s t u : List ℕ} → r ∷ s ∷ [] ≡ t ∷ u ∷ [] → (r ≡ t) × (s ≡ u)
+sides_of e = (cc, cc)
+
+side_of : {r s : List ℕ} → r ∷ [] ≡ s ∷ [] → r ≡ s
+side_of e = cc
+
+-- what an operator over Bool is applied to is of sort Bool
+argument_sort : {t : Theory} (f : PlainOperator) {a v : Tree} → f.domain ≡ bool_sort ∷ [] → Derivable t (Equation (applied f a) v) → IsTermOf t.operators bool_sort a
+argument_sort f e d = let w = well_sorted d in ((w.0.0.1.0, w.0.1.1.0), side_of (w.0.0.0 ∙ e))
+
+argument_sorts : {t : Theory} (f : PlainOperator) {a b v : Tree} → f.domain ≡ bool_sort ∷ bool_sort ∷ [] → Derivable t (Equation (joined f a b) v)
+    → IsTermOf t.operators bool_sort a × IsTermOf t.operators bool_sort b
+argument_sorts f e d =
+    let w = well_sorted d in
+    let sorts = sides_of (w.0.0.0 ∙ e) in
+    (((w.0.0.1.0, w.0.1.1.0), sorts.0), ((w.0.0.1.1.0, w.0.1.1.1.0), sorts.1))
+
+one : (P : Statement → Type 0) (c : Statement) → P c → All P (c ∷ [])
+one P c p = All-cons P c [] p (All-nil P)
+
+both_of : (P : Statement → Type 0) (c d : Statement) → P c → P d → All P (c ∷ d ∷ [])
+both_of P c d p q = All-cons P c (d ∷ []) p (one P d q)
+
+-- an instance of the statement is derivable
+abbrev instance_is : Theory → List Entry → Statement → Type 0
+instance_is t es c = Derivable t (instance_of es c)
+
+from_conjunction : (t : Theory) (es : List Entry) → instance_is t es (Equation (conjunction x y) truth) → All (instance_is t es) (Equation x truth ∷ Equation y truth ∷ [])
+from_conjunction t es d =
+    let m = image es (codes "x") bool_sort in
+    let n = image es (codes "y") bool_sort in
+    let p = argument_sorts (built_in And bool_sort) refl d in
+    both_of (instance_is t es) (Equation x truth) (Equation y truth)
+    (followed m n p.0 p.1 (both x_letter y_letter) always x_letter always (λ given. refl) (λ given. refl) refl refl refl refl d)
+    (followed m n p.0 p.1 (both x_letter y_letter) always y_letter always (λ given. refl) (λ given. refl) refl refl refl refl d)
+
+from_no_disjunction : (t : Theory) (es : List Entry) → instance_is t es (Equation (disjunction x y) falsity) → All (instance_is t es) (Equation x falsity ∷ Equation y falsity ∷ [])
+from_no_disjunction t es d =
+    let m = image es (codes "x") bool_sort in
+    let n = image es (codes "y") bool_sort in
+    let p = argument_sorts (built_in Or bool_sort) refl d in
+    both_of (instance_is t es) (Equation x falsity) (Equation y falsity)
+    (followed m n p.0 p.1 (either x_letter y_letter) never x_letter never (λ given. refl) (λ given. refl) refl refl refl refl d)
+    (followed m n p.0 p.1 (either x_letter y_letter) never y_letter never (λ given. refl) (λ given. refl) refl refl refl refl d)
+
+from_negation : (t : Theory) (es : List Entry) → instance_is t es (Equation (negation x) truth) → All (instance_is t es) (Equation x falsity ∷ [])
+from_negation t es d =
+    let m = image es (codes "x") bool_sort in
+    let p = argument_sort (built_in Not bool_sort) refl d in
+    one (instance_is t es) (Equation x falsity)
+    (followed m m p p (denied x_letter) always x_letter never (λ given. refl) (λ given. refl) refl refl refl refl d)
+
+from_no_negation : (t : Theory) (es : List Entry) → instance_is t es (Equation (negation x) falsity) → All (instance_is t es) (Equation x truth ∷ [])
+from_no_negation t es d =
+    let m = image es (codes "x") bool_sort in
+    let p = argument_sort (built_in Not bool_sort) refl d in
+    one (instance_is t es) (Equation x truth)
+    (followed m m p p (denied x_letter) never x_letter always (λ given. refl) (λ given. refl) refl refl refl refl d)
+
+from_no_implication : (t : Theory) (es : List Entry) → instance_is t es (Equation (implication x y) falsity) → All (instance_is t es) (Equation x truth ∷ Equation y falsity ∷ [])
+from_no_implication t es d =
+    let m = image es (codes "x") bool_sort in
+    let n = image es (codes "y") bool_sort in
+    let p = argument_sorts (built_in Implies bool_sort) refl d in
+    both_of (instance_is t es) (Equation x truth) (Equation y falsity)
+    (followed m n p.0 p.1 (implied x_letter y_letter) never x_letter always (λ given. refl) (λ given. refl) refl refl refl refl d)
+    (followed m n p.0 p.1 (implied x_letter y_letter) never y_letter never (λ given. refl) (λ given. refl) refl refl refl refl d)
+
+from_equivalence : (t : Theory) (es : List Entry) → instance_is t es (Equation (equivalence x y) truth) → All (instance_is t es) (Equation x y ∷ [])
+from_equivalence t es d =
+    let m = image es (codes "x") bool_sort in
+    let n = image es (codes "y") bool_sort in
+    let p = argument_sorts (built_in Iff bool_sort) refl d in
+    one (instance_is t es) (Equation x y)
+    (followed m n p.0 p.1 (equivalent x_letter y_letter) always x_letter y_letter (λ given. refl) (λ given. refl) refl refl refl refl d)
+
+from_equality : (t : Theory) (s : List ℕ) (es : List Entry) → instance_is t es (Equation (equality s (a s) (b s)) truth) → All (instance_is t es) (Equation (a s) (b s) ∷ [])
+from_equality t s es d = one (instance_is t es) (Equation (a s) (b s)) (equal s d)
+
+-- the claim of a deduction row
+abbrev IsDeduced : Theory → List Entry → PlainRow → Type 0
+IsDeduced t es row = instance_is t es row.given → All (instance_is t es) row.consequences
+
+deduced : (t : Theory) (s : List ℕ) (es : List Entry) → Every (IsDeduced t es) (deduction_rows s)
+deduced t s es = search (rules, from_conjunction, from_no_disjunction, from_negation, from_no_negation, from_no_implication, from_equality, from_equivalence)
+
+pub consequences : (t : Theory) (s : List ℕ) (es : List Entry) (n : ℕ) (row : PlainRow) → numbered (deduction_rows s) n ≡ Some row → IsDeduced t es row
+consequences t s es n row e = every_at (IsDeduced t es) (deduction_rows s) (n - 1) row (deduced t s es) (at_place (deduction_rows s) n row e)

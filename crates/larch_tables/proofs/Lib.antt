@@ -1,0 +1,4 @@
+-- Lemmas.
+pub mod Consequences
+pub mod Identities
+pub mod Offered

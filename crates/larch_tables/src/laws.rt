@@ -1,0 +1,25 @@
+//! What holds of the rows, for crates above to cite. No function here does anything.
+ghost use Rattle.std.specs.Prelude.{◌≡◌, ◌↔◌, ◌≤◌, ℕ, List, All, Some, IsSome};
+ghost use Rattle.larch_term.specs.declared.statement.Statement.{Statement};
+ghost use Rattle.larch_term.specs.declared.statement.Theory.{Theory};
+ghost use Rattle.larch_term.specs.declared.substitution.Entry.{Entry};
+ghost use Rattle.larch_calculus.specs.Derivable.{Derivable};
+ghost use Rattle.larch_tables.specs.Rows.{PlainRow, built_in_rows, deduction_rows, numbered, offered, IsIdentityStatement, instance_of};
+
+/// The built-in rows have the numbers 1 to 40, the deduction rows 1 to 7.
+pub fn numbers_of_rows()
+    ensures built_in { (s : List ℕ) (n : ℕ) → (IsSome (numbered (built_in_rows s) n) ↔ ((1 ≤ n) × (n ≤ 40))) }
+    ensures deductions { (s : List ℕ) (n : ℕ) → (IsSome (numbered (deduction_rows s) n) ↔ ((1 ≤ n) × (n ≤ 7))) }
+{}
+
+/// Each built-in row is an identity at every sort, so whatever is offered is one.
+pub fn rows_are_identities()
+    ensures rows { (s : List ℕ) (n : ℕ) (row : PlainRow) → numbered (built_in_rows s) n ≡ Some row → IsIdentityStatement row.given }
+    ensures offered { (s : List ℕ) (n : ℕ) (statement : Statement) → offered n s ≡ Some statement → IsIdentityStatement statement }
+{}
+
+/// The consequences of a deduction row are derivable wherever its equation is: from each theory, at each sort and with
+/// any terms in the places of the variables.
+pub fn consequences_are_derivable()
+    ensures { (t : Theory) (s : List ℕ) (es : List Entry) (n : ℕ) (row : PlainRow) → numbered (deduction_rows s) n ≡ Some row → Derivable t (instance_of es row.given) → All (λ c. Derivable t (instance_of es c)) row.consequences }
+{}
