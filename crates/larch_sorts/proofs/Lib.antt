@@ -1,0 +1,12 @@
+pub mod Answers
+pub mod Arguments
+pub mod Listed
+pub mod Members
+pub mod ReadAnswers
+pub mod Scopes
+pub mod SidesTold
+pub mod Sorted
+pub mod Tables
+pub mod Telling
+pub mod UnknownSorts
+pub mod Unread

@@ -1,0 +1,192 @@
+-- What tables tell.
+use Rattle.std.proofs.Common.{◌≡◌, ℕ, ◌⊎◌, inl, inr, Bool, true, false, cond, List, [], ◌∷◌, Contains, Option, Some, None, bytes_eq, refl, sym, ◌∙◌, ap, ap₂, subst}
+use Rattle.std.specs.List.{fold}
+use Rattle.std.proofs.lemmas.Slice.Eq.{bytes_eq-Decides}
+use Rattle.larch_base.specs.declared.position.Pos.{Pos}
+use Rattle.larch_raw.specs.RawTree.{RawTree, RawForest, apply, qualified, raw_forest}
+use Rattle.larch_raw.specs.declared.declared.RawWord.{RawWord}
+use Rattle.larch_term.specs.Operator.{PlainOperator, plain}
+use Rattle.larch_term.specs.Sorts.{sort_of, sorts_of}
+use Rattle.larch_term.specs.Tree.{Tree, var, app, forest_of, list_of}
+use Rattle.larch_term.proofs.TreeLists.{forest_of_inj, forest_of-list_of}
+use Rattle.larch_sorts.specs.Operators.{taking_part}
+use Rattle.larch_sorts.specs.Readings.{Variables, variable_sort, Reads, a_variable, an_operator, of_sort, AllRead, all_read, one_read}
+use Rattle.larch_operators.specs.Same.{same_name, same_tree}
+use Rattle.larch_sorts.specs.Tables.{Entries, reading_at, Tells, applied, TableTells, AllTell, with_argument, arguments_at, extended, with_operator, operators_at, named}
+use Rattle.larch_sorts.specs.declared.found.Found.{Found}
+use Rattle.larch_sorts.specs.declared.found.Found.TheVariants.{One, Several}
+use Rattle.larch_sorts.proofs.Members.{contains_here, contains_later, contains_cases, contains_none, contains_filter, contained_in_filter}
+use Rattle.larch_operators.proofs.Same.{name_Decides, tree_Decides}
+use Rattle.larch_sorts.proofs.Telling.{tells_same, tells_joined, tells_applied}
+
+-- a list whose first thing has one property, and the further ones another
+abbrev FirstAndRest : (Tree → Type 0) → (List Tree → Type 0) → List Tree → Type 0
+FirstAndRest P Q us = (t : Tree) × (ts : List Tree) × (us ≡ t ∷ ts) × P t × Q ts
+
+tells_with_argument : (P : Tree → Type 0) (Q : List Tree → Type 0) (first : Option (Found Tree)) (rest : Option (Found (List Tree)))
+    → Tells first P → Tells rest Q → Tells (with_argument first rest) (FirstAndRest P Q)
+tells_with_argument P Q None rest h k = λ us w. h w.0 w.3
+tells_with_argument P Q (Some first) None h k = λ us w. k w.1 w.4
+tells_with_argument P Q (Some Several) (Some (One ts)) h k = (h.0 ∷ ts, h.1 ∷ ts, (h.0, ts, refl, h.2, k.0), (h.1, ts, refl, h.3, k.0), λ e. h.4 cc)
+tells_with_argument P Q (Some Several) (Some Several) h k = (h.0 ∷ k.0, h.1 ∷ k.0, (h.0, k.0, refl, h.2, k.2), (h.1, k.0, refl, h.3, k.2), λ e. h.4 cc)
+tells_with_argument P Q (Some (One t)) (Some Several) h k = (t ∷ k.0, t ∷ k.1, (t, k.0, refl, h.0, k.2), (t, k.1, refl, h.0, k.3), λ e. k.4 cc)
+tells_with_argument P Q (Some (One t)) (Some (One ts)) h k = ((t, ts, refl, h.0, k.0), λ us w. w.2 ∙ ap₂ (λ u us. u ∷ us) (h.1 w.0 w.3) (k.1 w.1 w.4))
+
+-- arguments that are read at sorts
+abbrev pub ReadAt : List PlainOperator → Variables → List RawTree → List (List ℕ) → List Tree → Type 0
+ReadAt fs vs raws ss ts = AllRead fs vs (raw_forest raws) (forest_of ts) × (sorts_of (forest_of ts) ≡ ss)
+
+none_at_sorts : (fs : List PlainOperator) (vs : Variables) (s : List ℕ) (ss : List (List ℕ)) (ts : List Tree) → ReadAt fs vs [] (s ∷ ss) ts → ⊥
+none_at_sorts fs vs s ss [] (all_read, e) = cc
+none_at_sorts fs vs s ss (t ∷ ts) r = elim r.0 [ ]
+
+some_at_none : (fs : List PlainOperator) (vs : Variables) (raw : RawTree) (raws : List RawTree) (ts : List Tree) → ReadAt fs vs (raw ∷ raws) [] ts → ⊥
+some_at_none fs vs raw raws [] r = elim r.0 [ ]
+some_at_none fs vs raw raws (t ∷ ts) (one_read r all, e) = cc
+
+only_empty : (fs : List PlainOperator) (vs : Variables) (ts : List Tree) → ReadAt fs vs [] [] ts → ts ≡ []
+only_empty fs vs [] r = refl
+only_empty fs vs (t ∷ ts) r = elim r.0 [ ]
+
+put_together : (fs : List PlainOperator) (vs : Variables) (raw : RawTree) (raws : List RawTree) (s : List ℕ) (ss : List (List ℕ)) (us : List Tree)
+    → FirstAndRest (λ t. Reads fs vs raw t × (sort_of t ≡ s)) (ReadAt fs vs raws ss) us → ReadAt fs vs (raw ∷ raws) (s ∷ ss) us
+put_together fs vs raw raws s ss us w =
+    subst (ReadAt fs vs (raw ∷ raws) (s ∷ ss)) (sym w.2) (one_read w.3.0 w.4.0, ap₂ (λ z zs. z ∷ zs) w.3.1 w.4.1)
+
+taken_apart : (fs : List PlainOperator) (vs : Variables) (raw : RawTree) (raws : List RawTree) (s : List ℕ) (ss : List (List ℕ)) (us : List Tree)
+    → ReadAt fs vs (raw ∷ raws) (s ∷ ss) us → FirstAndRest (λ t. Reads fs vs raw t × (sort_of t ≡ s)) (ReadAt fs vs raws ss) us
+taken_apart fs vs raw raws s ss [] r = elim r.0 [ ]
+taken_apart fs vs raw raws s ss (t ∷ ts) (one_read r all, e) =
+    let a : sort_of t ≡ s = cc in
+    let b : sorts_of (forest_of ts) ≡ ss = cc in
+    (t, ts, refl, (r, a), (all, b))
+
+-- the arguments in tables are those that are read
+pub arguments_tell : (fs : List PlainOperator) (vs : Variables) (tables : List Entries) (raws : List RawTree) (ss : List (List ℕ))
+    → AllTell fs vs tables raws → Tells (arguments_at tables ss) (ReadAt fs vs raws ss)
+arguments_tell fs vs [] [] [] h = ((all_read, refl), only_empty fs vs)
+arguments_tell fs vs [] [] (s ∷ ss) h = none_at_sorts fs vs s ss
+arguments_tell fs vs [] (raw ∷ raws) ss h = absurd h
+arguments_tell fs vs (es ∷ tables) [] ss h = absurd h
+arguments_tell fs vs (es ∷ tables) (raw ∷ raws) [] h = some_at_none fs vs raw raws
+arguments_tell fs vs (es ∷ tables) (raw ∷ raws) (s ∷ ss) h =
+    tells_same (FirstAndRest (λ t. Reads fs vs raw t × (sort_of t ≡ s)) (ReadAt fs vs raws ss)) (ReadAt fs vs (raw ∷ raws) (s ∷ ss))
+    (put_together fs vs raw raws s ss) (taken_apart fs vs raw raws s ss) (with_argument (reading_at es s) (arguments_at tables ss))
+    (tells_with_argument (λ t. Reads fs vs raw t × (sort_of t ≡ s)) (ReadAt fs vs raws ss) (reading_at es s) (arguments_at tables ss) (h.0 s) (arguments_tell fs vs tables raws ss h.1))
+
+-- a term that an operator makes of arguments that are read at its domain
+abbrev pub ByOperator : List PlainOperator → Variables → List RawTree → PlainOperator → Tree → Type 0
+ByOperator fs vs raws f t = (ts : List Tree) × ReadAt fs vs raws f.domain ts × (t ≡ app f (forest_of ts))
+
+-- a term that one of some operators makes of them
+abbrev pub ByOperators : List PlainOperator → Variables → List RawTree → List PlainOperator → Tree → Type 0
+ByOperators fs vs raws gs t = (f : PlainOperator) × Contains gs f × ByOperator fs vs raws f t
+
+module _ (fs : List PlainOperator) (vs : Variables) (tables : List Entries) (raws : List RawTree) (told : AllTell fs vs tables raws) (s : List ℕ) where
+  extended_tells : (P : Tree → Type 0) (before : Option (Found Tree)) (f : PlainOperator) (arguments : Option (Found (List Tree)))
+      → Tells before P → Tells arguments (ReadAt fs vs raws f.domain) → Tells (extended before f arguments) (λ t. P t ⊎ ByOperator fs vs raws f t)
+  extended_tells P before f None h k =
+      tells_same P (λ t. P t ⊎ ByOperator fs vs raws f t) (λ t p. inl p) (λ t p. elim p [ inl a ↦ a | inr b ↦ absurd (k b.0 b.1) ]) before h
+  extended_tells P before f (Some arguments) h k =
+      tells_joined same_tree tree_Decides P (ByOperator fs vs raws f) before (applied f arguments) h
+      (tells_applied f (ReadAt fs vs raws f.domain) (ByOperator fs vs raws f) arguments (λ ts q. (ts, q, refl)) (λ t r. r)
+      (λ ts us e. forest_of_inj ts us cc) k)
+
+  stepped : (P : Tree → Type 0) (before : Option (Found Tree)) (f : PlainOperator) (b : Bool) → bytes_eq f.range s ≡ b → Tells before P
+      → Tells (cond b (extended before f (arguments_at tables f.domain)) before) (λ t. P t ⊎ (ByOperator fs vs raws f t × (sort_of t ≡ s)))
+  stepped P before f true e h =
+      tells_same (λ t. P t ⊎ ByOperator fs vs raws f t) (λ t. P t ⊎ (ByOperator fs vs raws f t × (sort_of t ≡ s)))
+      (λ t p. elim p [ inl a ↦ inl a | inr b ↦ inr (b, ap sort_of b.2 ∙ (bytes_eq-Decides f.range s).0 e) ])
+      (λ t p. elim p [ inl a ↦ inl a | inr b ↦ inr b.0 ])
+      (extended before f (arguments_at tables f.domain)) (extended_tells P before f (arguments_at tables f.domain) h (arguments_tell fs vs tables raws f.domain told))
+  stepped P before f false e h =
+      tells_same P (λ t. P t ⊎ (ByOperator fs vs raws f t × (sort_of t ≡ s))) (λ t p. inl p)
+      (λ t p. elim p [ inl a ↦ a | inr b ↦ absurd (let w : bytes_eq f.range s ≡ true = (bytes_eq-Decides f.range s).1 (sym (ap sort_of b.0.2) ∙ b.1) in cc) ]) before h
+
+  folded : (P : Tree → Type 0) (before : Option (Found Tree)) (gs : List PlainOperator) → Tells before P
+      → Tells (fold (with_operator tables s) before gs) (λ t. P t ⊎ (ByOperators fs vs raws gs t × (sort_of t ≡ s)))
+  folded P before [] h =
+      tells_same P (λ t. P t ⊎ (ByOperators fs vs raws [] t × (sort_of t ≡ s))) (λ t p. inl p)
+      (λ t p. elim p [ inl a ↦ a | inr b ↦ absurd (contains_none b.0.0 b.0.1) ]) before h
+  folded P before (g ∷ gs) h =
+      tells_same (λ t. (P t ⊎ (ByOperator fs vs raws g t × (sort_of t ≡ s))) ⊎ (ByOperators fs vs raws gs t × (sort_of t ≡ s))) (λ t. P t ⊎ (ByOperators fs vs raws (g ∷ gs) t × (sort_of t ≡ s)))
+      (λ t p. elim p [
+        | inl a ↦ elim a [ inl b ↦ inl b | inr b ↦ inr ((g, contains_here g gs, b.0), b.1) ]
+        | inr b ↦ inr ((b.0.0, contains_later g b.0.0 gs b.0.1, b.0.2), b.1)
+      ])
+      (λ t p. elim p [
+        | inl a ↦ inl (inl a)
+        | inr b ↦ elim (contains_cases g b.0.0 gs b.0.1) [
+          | inl e ↦ inl (inr (subst (λ f. ByOperator fs vs raws f t) (sym e) b.0.2, b.1))
+          | inr c ↦ inr ((b.0.0, c, b.0.2), b.1)
+        ]
+      ])
+      (fold (with_operator tables s) (with_operator tables s before g) gs)
+      (folded (λ t. P t ⊎ (ByOperator fs vs raws g t × (sort_of t ≡ s))) (with_operator tables s before g) gs (stepped P before g (bytes_eq g.range s) refl h))
+
+  -- what operators make of the arguments in tables
+  pub operators_tell : (gs : List PlainOperator) → Tells (operators_at tables gs s) (λ t. ByOperators fs vs raws gs t × (sort_of t ≡ s))
+  operators_tell gs =
+      tells_same (λ t. ⊥ ⊎ (ByOperators fs vs raws gs t × (sort_of t ≡ s))) (λ t. ByOperators fs vs raws gs t × (sort_of t ≡ s))
+      (λ t p. elim p [ inl a ↦ absurd a | inr b ↦ b ]) (λ t p. inr p) (operators_at tables gs s) (folded (λ t. ⊥) None gs (λ t p. p))
+
+from_reads : (fs : List PlainOperator) (vs : Variables) (n : List ℕ) (raws : List RawTree) (rs : RawForest) (p : Pos) (t : Tree) → rs ≡ raw_forest raws → variable_sort vs n rs ≡ None
+    → Reads fs vs (apply n rs p) t → ByOperators fs vs raws (named n (taking_part fs)) t
+from_reads fs vs n raws rs p (var m s) i unbound (a_variable e) = cc
+from_reads fs vs n raws rs p (app f ts) i unbound (an_operator e c d all sorts) =
+    let back = forest_of-list_of ts in (
+      f,
+      contains_filter (λ g. same_name g.name (plain n)) (taking_part fs) f c ((name_Decides f.name (plain n)).1 d),
+      (list_of ts, (subst (λ us. AllRead fs vs (raw_forest raws) us) (sym back) (subst (λ us. AllRead fs vs us ts) i all), ap sorts_of back ∙ sorts), ap (app f) (sym back)),
+    )
+
+to_reads : (fs : List PlainOperator) (vs : Variables) (n : List ℕ) (raws : List RawTree) (p : Pos) (t : Tree) → variable_sort vs n (raw_forest raws) ≡ None
+    → ByOperators fs vs raws (named n (taking_part fs)) t → Reads fs vs (apply n (raw_forest raws) p) t
+to_reads fs vs n raws p t unbound b =
+    let c = contained_in_filter (λ g. same_name g.name (plain n)) (taking_part fs) b.0 b.1 in
+    subst (Reads fs vs (apply n (raw_forest raws) p)) (sym b.2.2) (an_operator unbound c.0 ((name_Decides b.0.name (plain n)).0 c.1) b.2.1.0 b.2.1.1)
+
+-- the table of an application
+pub application_tells : (fs : List PlainOperator) (vs : Variables) (n : List ℕ) (raws : List RawTree) (p : Pos) (es : Entries) (tables : List Entries)
+    → variable_sort vs n (raw_forest raws) ≡ None → AllTell fs vs tables raws
+    → ((s : List ℕ) → reading_at es s ≡ operators_at tables (named n (taking_part fs)) s) → TableTells es (Reads fs vs (apply n (raw_forest raws) p))
+application_tells fs vs n raws p es tables unbound told is = λ s.
+    tells_same (λ t. ByOperators fs vs raws (named n (taking_part fs)) t × (sort_of t ≡ s)) (λ t. Reads fs vs (apply n (raw_forest raws) p) t × (sort_of t ≡ s))
+    (λ t q. (to_reads fs vs n raws p t unbound q.0, q.1)) (λ t q. (from_reads fs vs n raws (raw_forest raws) p t refl unbound q.0, q.1)) (reading_at es s)
+    (subst (λ x. Tells x (λ t. ByOperators fs vs raws (named n (taking_part fs)) t × (sort_of t ≡ s))) (sym (is s)) (operators_tell fs vs tables raws told s (named n (taking_part fs))))
+
+only_variable : (fs : List PlainOperator) (vs : Variables) (n z : List ℕ) (rs : RawForest) (p : Pos) (t : Tree) → variable_sort vs n rs ≡ Some z → Reads fs vs (apply n rs p) t → t ≡ var n z
+only_variable fs vs n z rs p (var m s) some (a_variable e) = ap (var n) (let q : Some s ≡ Some z = sym e ∙ some in cc)
+only_variable fs vs n z rs p (app f ts) some (an_operator e c d all sorts) = absurd (let q : None ≡ Some z = sym e ∙ some in cc)
+
+variable_at : (fs : List PlainOperator) (vs : Variables) (n z : List ℕ) (rs : RawForest) (p : Pos) (s : List ℕ) (b : Bool) → variable_sort vs n rs ≡ Some z → bytes_eq z s ≡ b
+    → Tells (cond b (Some (One (var n z))) None) (λ t. Reads fs vs (apply n rs p) t × (sort_of t ≡ s))
+variable_at fs vs n z rs p s true some e = ((a_variable some, (bytes_eq-Decides z s).0 e), λ t q. only_variable fs vs n z rs p t some q.0)
+variable_at fs vs n z rs p s false some e = λ t q.
+    let zs : z ≡ s = ap sort_of (sym (only_variable fs vs n z rs p t some q.0)) ∙ q.1 in
+    let w : bytes_eq z s ≡ true = (bytes_eq-Decides z s).1 zs in cc
+
+-- the table of a variable
+pub variable_tells : (fs : List PlainOperator) (vs : Variables) (n z : List ℕ) (rs : RawForest) (p : Pos) (es : Entries) → variable_sort vs n rs ≡ Some z
+    → ((s : List ℕ) → reading_at es s ≡ cond (bytes_eq z s) (Some (One (var n z))) None) → TableTells es (Reads fs vs (apply n rs p))
+variable_tells fs vs n z rs p es some is = λ s.
+    subst (λ x. Tells x (λ t. Reads fs vs (apply n rs p) t × (sort_of t ≡ s))) (sym (is s)) (variable_at fs vs n z rs p s (bytes_eq z s) some refl)
+
+inside : (fs : List PlainOperator) (vs : Variables) (raw : RawTree) (w : RawWord) (p : Pos) (t : Tree) → Reads fs vs (qualified raw w p) t → Reads fs vs raw t × (sort_of t ≡ w.name)
+inside fs vs raw w p t (of_sort r e) = (r, e)
+
+narrowed_at : (fs : List PlainOperator) (vs : Variables) (raw : RawTree) (w : RawWord) (p : Pos) (old : Entries) (s : List ℕ) (b : Bool) → bytes_eq w.name s ≡ b → TableTells old (Reads fs vs raw)
+    → Tells (cond b (reading_at old w.name) None) (λ t. Reads fs vs (qualified raw w p) t × (sort_of t ≡ s))
+narrowed_at fs vs raw w p old s true e h =
+    let ws : w.name ≡ s = (bytes_eq-Decides w.name s).0 e in
+    tells_same (λ t. Reads fs vs raw t × (sort_of t ≡ w.name)) (λ t. Reads fs vs (qualified raw w p) t × (sort_of t ≡ s))
+    (λ t q. (of_sort q.0 q.1, q.1 ∙ ws)) (λ t q. inside fs vs raw w p t q.0) (reading_at old w.name) (h w.name)
+narrowed_at fs vs raw w p old s false e h = λ t q.
+    let ws : w.name ≡ s = sym (inside fs vs raw w p t q.0).1 ∙ q.1 in
+    let v : bytes_eq w.name s ≡ true = (bytes_eq-Decides w.name s).1 ws in cc
+
+-- the table of a qualification
+pub narrowed_tells : (fs : List PlainOperator) (vs : Variables) (raw : RawTree) (w : RawWord) (p : Pos) (old es : Entries) → TableTells old (Reads fs vs raw)
+    → ((s : List ℕ) → reading_at es s ≡ cond (bytes_eq w.name s) (reading_at old w.name) None) → TableTells es (Reads fs vs (qualified raw w p))
+narrowed_tells fs vs raw w p old es h is = λ s.
+    subst (λ x. Tells x (λ t. Reads fs vs (qualified raw w p) t × (sort_of t ≡ s))) (sym (is s)) (narrowed_at fs vs raw w p old s (bytes_eq w.name s) refl h)

@@ -1,0 +1,146 @@
+-- The first part that has no reading.
+use Rattle.std.proofs.Common.{◌≡◌, ℕ, zero, suc, ◌+◌, ◌<◌, ◌≤◌, Bool, true, false, cond, List, [], ◌∷◌, ◌++◌, take, drop, get_or, length, map, Contains, Option, Some, None, refl, sym, ◌∙◌, ap, subst, arith}
+use Rattle.std.specs.List.{find}
+use Rattle.std.specs.Option.{option_map, option_or}
+use Rattle.std.proofs.lemmas.List.Folds.{find-append}
+use Rattle.std.proofs.lemmas.List.{drop_more, take_more, map-append}
+use Rattle.std.proofs.lemmas.Slice.Eq.{bytes_eq-Decides}
+use Rattle.larch_base.specs.declared.position.Pos.{Pos}
+use Rattle.larch_raw.specs.RawTree.{RawTree, RawForest, apply, qualified, no_more, one_more, raw_forest}
+use Rattle.larch_term.specs.Operator.{PlainOperator}
+use Rattle.larch_term.specs.Sorts.{sort_of}
+use Rattle.larch_term.specs.Tree.{Tree}
+use Rattle.larch_sorts.specs.Answers.{is_empty, unread_in}
+use Rattle.larch_sorts.specs.Places.{head_of, parts, parts_of}
+use Rattle.larch_sorts.specs.Readings.{Variables, variable_sort, Reads}
+use Rattle.larch_sorts.specs.ReadingLists.{readings}
+use Rattle.larch_sorts.specs.Tables.{Entries, reading_at, Tells, TableTells, AllTell, Unread, inner_parts}
+use Rattle.larch_sorts.specs.declared.found.Found.{Found}
+use Rattle.larch_sorts.specs.declared.found.Found.TheVariants.{One, Several}
+use Rattle.larch_sorts.specs.declared.refusal.ReadRefusal.{ReadRefusal}
+use Rattle.larch_sorts.specs.declared.refusal.ReadRefusal.TheVariants.{UnknownSort, NoReading, Ambiguous, Memory}
+use Rattle.larch_sorts.proofs.Members.{contains_here, contains_none}
+use Rattle.larch_sorts.proofs.Listed.{listed, reads_listed}
+
+map_or : {A B : Type 0} (f : A → B) (a b : Option A) → option_map f (option_or a b) ≡ option_or (option_map f a) (option_map f b)
+map_or f None b = refl
+map_or f (Some x) b = refl
+
+pub unread_append : (fs : List PlainOperator) (vs : Variables) (xs ys : List RawTree) → unread_in fs vs (xs ++ ys) ≡ option_or (unread_in fs vs xs) (unread_in fs vs ys)
+unfolding unread_in
+unread_append fs vs xs ys =
+    ap (option_map head_of) (find-append (λ raw. is_empty (readings fs vs raw)) xs ys)
+    ∙ map_or head_of (find (λ raw. is_empty (readings fs vs raw)) xs) (find (λ raw. is_empty (readings fs vs raw)) ys)
+
+-- what is read first leaves the place to the rest
+pub read_first : (fs : List PlainOperator) (vs : Variables) (xs ys : List RawTree) → unread_in fs vs xs ≡ None → unread_in fs vs (xs ++ ys) ≡ unread_in fs vs ys
+read_first fs vs xs ys e = unread_append fs vs xs ys ∙ ap (λ x. option_or x (unread_in fs vs ys)) e
+
+-- what is unread among the first is unread among all
+pub unread_first : (fs : List PlainOperator) (vs : Variables) (refusal : ReadRefusal) (xs ys : List RawTree) → Unread refusal (unread_in fs vs xs) → Unread refusal (unread_in fs vs (xs ++ ys))
+unread_first fs vs Memory xs ys u = tt
+unread_first fs vs (NoReading pos) xs ys u = unread_append fs vs xs ys ∙ ap (λ x. option_or x (unread_in fs vs ys)) u
+unread_first fs vs (UnknownSort pos) xs ys u = absurd u
+unread_first fs vs (Ambiguous pos) xs ys u = absurd u
+
+parts_is : (raw : RawTree) → parts raw ≡ inner_parts raw ++ raw ∷ []
+parts_is (apply n raws p) = refl
+parts_is (qualified raw w p) = refl
+
+-- what is unread inside a term
+pub unread_inside : (fs : List PlainOperator) (vs : Variables) (refusal : ReadRefusal) (raw : RawTree) → Unread refusal (unread_in fs vs (inner_parts raw)) → Unread refusal (unread_in fs vs (parts raw))
+unread_inside fs vs refusal raw u = rw (parts_is raw) (unread_first fs vs refusal (inner_parts raw) (raw ∷ []) u)
+
+none_read : (fs : List PlainOperator) (vs : Variables) (raw : RawTree) → TableTells [] (Reads fs vs raw) → (ts : List Tree) → readings fs vs raw ≡ ts → is_empty ts ≡ true
+none_read fs vs raw h [] e = refl
+none_read fs vs raw h (t ∷ ts) e =
+    absurd (h (sort_of t) t (reads_listed fs vs raw t (subst (λ us. Contains us t) (sym e) (contains_here t ts)), refl))
+
+of_found : (P Q : Tree → Type 0) (found : Found Tree) → Tells (Some found) (λ t. P t × Q t) → (t : Tree) × P t
+of_found P Q (One t) k = (t, k.0.0)
+of_found P Q Several k = (k.0, k.2.0)
+
+-- a table with an entry has a reading
+has_reading : (fs : List PlainOperator) (vs : Variables) (raw : RawTree) (s : List ℕ) (found : Found Tree) (es : Entries) → TableTells ((s, found) ∷ es) (Reads fs vs raw) → (t : Tree) × Reads fs vs raw t
+has_reading fs vs raw s found es h =
+    let here : reading_at ((s, found) ∷ es) s ≡ Some found = rw ((bytes_eq-Decides s s).1 refl) refl in
+    of_found (Reads fs vs raw) (λ t. sort_of t ≡ s) found (subst (λ x. Tells x (λ t. Reads fs vs raw t × (sort_of t ≡ s))) here (h s))
+
+some_read : (fs : List PlainOperator) (vs : Variables) (raw : RawTree) (t : Tree) → Reads fs vs raw t → (ts : List Tree) → readings fs vs raw ≡ ts → is_empty ts ≡ false
+some_read fs vs raw t r [] e = absurd (contains_none t (subst (λ us. Contains us t) e (listed fs vs raw t r)))
+some_read fs vs raw t r (u ∷ us) e = refl
+
+unread_single : (fs : List PlainOperator) (vs : Variables) (raw : RawTree) (b : Bool) → is_empty (readings fs vs raw) ≡ b → unread_in fs vs (raw ∷ []) ≡ cond b (Some (head_of raw)) None
+unfolding unread_in
+unread_single fs vs raw true e = rw e refl
+unread_single fs vs raw false e = rw e refl
+
+-- a term without a reading, whose parts are read, is the first unread one
+pub unread_here : (fs : List PlainOperator) (vs : Variables) (raw : RawTree) (es : Entries) → length es ≡ 0 → unread_in fs vs (inner_parts raw) ≡ None → TableTells es (Reads fs vs raw)
+    → unread_in fs vs (parts raw) ≡ Some (head_of raw)
+unread_here fs vs raw [] l e h =
+    rw (parts_is raw) (read_first fs vs (inner_parts raw) (raw ∷ []) e ∙ unread_single fs vs raw true (none_read fs vs raw h (readings fs vs raw) refl))
+unread_here fs vs raw (x ∷ es) l e h = cc
+
+-- a term with a reading, whose parts are read, has no unread part
+pub read_here : (fs : List PlainOperator) (vs : Variables) (raw : RawTree) (es : Entries) → (length es ≡ 0 → ⊥) → unread_in fs vs (inner_parts raw) ≡ None → TableTells es (Reads fs vs raw)
+    → unread_in fs vs (parts raw) ≡ None
+read_here fs vs raw [] l e h = absurd (l refl)
+read_here fs vs raw (x ∷ es) l e h =
+    let r = has_reading fs vs raw x.0 x.1 es h in
+    rw (parts_is raw) (read_first fs vs (inner_parts raw) (raw ∷ []) e ∙ unread_single fs vs raw false (some_read fs vs raw r.0 r.1 (readings fs vs raw) refl))
+
+-- a variable has no part that could be unread
+pub variable_read : (fs : List PlainOperator) (vs : Variables) (n s : List ℕ) (raws : RawForest) → variable_sort vs n raws ≡ Some s → unread_in fs vs (parts_of raws) ≡ None
+unfolding unread_in
+variable_read fs vs n s no_more e = refl
+variable_read fs vs n s (one_more raw raws) e = cc
+
+-- the arguments from a place on
+forest_from : (raws : List RawTree) (i : ℕ) (raw : RawTree) → i < length raws → raw ≡ get_or raws i raw → parts_of (raw_forest (drop i raws)) ≡ parts raw ++ parts_of (raw_forest (drop (i + 1) raws))
+forest_from raws i raw lt e = ap (λ x. parts_of (raw_forest x)) (drop_more raws i raw lt ∙ ap (λ x. x ∷ drop (i + 1) raws) (sym e))
+
+-- one argument more is read
+pub argument_read : (fs : List PlainOperator) (vs : Variables) (raws : List RawTree) (i : ℕ) (raw : RawTree) → i < length raws → raw ≡ get_or raws i raw
+    → unread_in fs vs (parts raw) ≡ None → unread_in fs vs (parts_of (raw_forest (drop i raws))) ≡ unread_in fs vs (parts_of (raw_forest (drop (i + 1) raws)))
+argument_read fs vs raws i raw lt e r = ap (unread_in fs vs) (forest_from raws i raw lt e) ∙ read_first fs vs (parts raw) (parts_of (raw_forest (drop (i + 1) raws))) r
+
+-- one argument is unread
+pub argument_unread : (fs : List PlainOperator) (vs : Variables) (refusal : ReadRefusal) (raws : List RawTree) (i : ℕ) (raw : RawTree) → i < length raws → raw ≡ get_or raws i raw
+    → Unread refusal (unread_in fs vs (parts raw)) → Unread refusal (unread_in fs vs (parts_of (raw_forest (drop i raws))))
+argument_unread fs vs refusal raws i raw lt e u = rw (forest_from raws i raw lt e) (unread_first fs vs refusal (parts raw) (parts_of (raw_forest (drop (i + 1) raws))) u)
+
+-- one more table tells what one more argument reads as
+pub all_tell_more : (fs : List PlainOperator) (vs : Variables) (tables : List Entries) (raws : List RawTree) (es : Entries) (raw : RawTree) → AllTell fs vs tables raws → TableTells es (Reads fs vs raw)
+    → AllTell fs vs (tables ++ es ∷ []) (raws ++ raw ∷ [])
+all_tell_more fs vs [] [] es raw h k = (k, tt)
+all_tell_more fs vs [] (x ∷ raws) es raw h k = absurd h
+all_tell_more fs vs (x ∷ tables) [] es raw h k = absurd h
+all_tell_more fs vs (x ∷ tables) (y ∷ raws) es raw h k = (h.0, all_tell_more fs vs tables raws es raw h.1 k)
+
+-- one argument is unread, so all arguments are
+pub arguments_unread : (fs : List PlainOperator) (vs : Variables) (refusal : ReadRefusal) (raws : List RawTree) (i : ℕ) (raw : RawTree) (place : Option Pos) → i < length raws → raw ≡ get_or raws i raw
+    → unread_in fs vs (parts_of (raw_forest (drop i raws))) ≡ place → Unread refusal (unread_in fs vs (parts raw)) → Unread refusal place
+arguments_unread fs vs refusal raws i raw place lt e is u = subst (Unread refusal) is (argument_unread fs vs refusal raws i raw lt e u)
+
+-- arguments stand where there is no variable
+pub no_variable : (vs : Variables) (n : List ℕ) (raws : List RawTree) → (length raws ≡ 0 → ⊥) → None ≡ variable_sort vs n (raw_forest raws)
+no_variable vs n [] h = absurd (h refl)
+no_variable vs n (raw ∷ raws) h = refl
+
+-- behind the last argument nothing is unread
+pub nothing_unread : (fs : List PlainOperator) (vs : Variables) (raws : List RawTree) (i : ℕ) → length raws ≤ i → unread_in fs vs (parts_of (raw_forest (drop i raws))) ≡ None
+unfolding unread_in
+nothing_unread fs vs [] zero l = refl
+nothing_unread fs vs [] (suc i) l = refl
+nothing_unread fs vs (raw ∷ raws) zero l = absurd (omega (arith, l))
+nothing_unread fs vs (raw ∷ raws) (suc i) l = nothing_unread fs vs raws i (omega (arith, l))
+
+-- one more table of the code tells what one more argument reads as
+pub all_tell_next : {X : Type 0} (f : X → Entries) (fs : List PlainOperator) (vs : Variables) (old new : List X) (table : X) (raws : List RawTree) (i : ℕ) (raw : RawTree)
+    → i < length raws → raw ≡ get_or raws i raw → new ≡ old ++ table ∷ [] → AllTell fs vs (map f old) (take i raws) → TableTells (f table) (Reads fs vs raw) → AllTell fs vs (map f new) (take (i + 1) raws)
+all_tell_next f fs vs old new table raws i raw lt e grown told h =
+    let tables : map f new ≡ map f old ++ f table ∷ [] = ap (map f) grown ∙ map-append f old (table ∷ []) in
+    let more : take (i + 1) raws ≡ take i raws ++ raw ∷ [] = take_more raws i raw lt ∙ ap (λ r. take i raws ++ r ∷ []) (sym e) in
+    subst (λ ts. AllTell fs vs ts (take (i + 1) raws)) (sym tables)
+    (subst (AllTell fs vs (map f old ++ f table ∷ [])) (sym more) (all_tell_more fs vs (map f old) (take i raws) (f table) raw told h))

@@ -1,0 +1,9 @@
+use Rattle.std.proofs.Common.{◌≡◌}
+use Rattle.std.specs.List.{fold}
+use Rattle.larch_operators.specs.Same.{same_tree}
+use Rattle.larch_sorts.specs.Tables.{reading_at, with_found, found_anywhere}
+use Rattle.larch_sorts.proofs.sides.anywhere.Given as goal
+
+-- what was found so far, with the sorts that are left, is all
+abbrev pub invariant-loop-sort : goal.invariant-loop-sort
+invariant-loop-sort l = fold (λ before s. with_found same_tree before (reading_at l.table.found.value.entries s)) l.found l.sort-iterator ≡ found_anywhere l.table.found.value.entries

@@ -1,0 +1,10 @@
+use Rattle.std.proofs.Common.{◌≡◌}
+use Rattle.std.specs.List.{fold}
+use Rattle.larch_sorts.specs.Tables.{reading_at, with_found, paired, same_sides, sides_found}
+use Rattle.larch_sorts.proofs.sides.sides.Given as goal
+
+-- what was found so far, with the sorts that are left, is all
+abbrev pub invariant-loop-sort : goal.invariant-loop-sort
+invariant-loop-sort l =
+    fold (λ before s. with_found same_sides before (paired (reading_at l.left.found.value.entries s) (reading_at l.right.found.value.entries s))) l.found l.sort-iterator
+    ≡ sides_found l.left.found.value.entries l.right.found.value.entries

@@ -1,0 +1,8 @@
+use Rattle.std.proofs.Common.{◌≡◌, ◌++◌, ℕ, List, drop}
+use Rattle.larch_sorts.specs.Index.{kept_under}
+use Rattle.larch_sorts.specs.Tables.{named}
+use Rattle.larch_sorts.proofs.signature.index_of.Given as goal
+
+-- the operators of each name that are kept, with those that are left, are all
+abbrev pub invariant-loop-operator : goal.invariant-loop-operator
+invariant-loop-operator l = (n : List ℕ) → kept_under l.index.entries n ++ named n (drop l.operator-index l.operators) ≡ named n l.operators

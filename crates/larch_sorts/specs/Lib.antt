@@ -1,0 +1,10 @@
+pub mod Answers
+pub mod Index
+pub mod Operators
+pub mod Places
+pub mod ReadingLists
+pub mod ReadingFalls
+pub mod ReadingView
+pub mod Readings
+pub mod Scopes
+pub mod Tables

@@ -1,0 +1,25 @@
+//! Readings: from raw terms with overloaded operators to the one well sorted statement, or the refusal.
+#![tactic(auto)]
+
+mod found;
+pub mod laws;
+mod lone;
+mod operators;
+mod read;
+mod reading;
+mod refusal;
+mod scope;
+mod sides;
+mod signature;
+mod table;
+mod tabulate;
+mod unknown;
+
+pub use lone::read_lone;
+pub use read::read_in;
+pub use refusal::ReadRefusal;
+pub use scope::Scope;
+pub use signature::Signature;
+
+#[cfg(test)]
+mod tests;

@@ -1,0 +1,96 @@
+ghost use Rattle.std.specs.Prelude.{◌≡◌, ◌⊎◌, IfErr, IfOk, None, Ok};
+ghost use Rattle.std.specs.Option.{option_copied};
+ghost use Rattle.larch_term.specs.Sorts.{WellSorted, IsOver};
+ghost use Rattle.larch_sorts.specs.Answers.{read_term, first_unread, Refuses, HasVariablesOf};
+ghost use Rattle.larch_sorts.specs.Places.{unknown_sort, Stands};
+ghost use Rattle.larch_sorts.specs.Readings.{ReadsLone, IsOnly};
+ghost use Rattle.larch_sorts.specs.Tables.{Tells, Unread};
+
+use crate::found::Found;
+use crate::reading::{Reading, term_of};
+use crate::refusal::ReadRefusal;
+use crate::scope::Scope;
+use crate::sides::anywhere;
+use crate::signature::Signature;
+use crate::table::{at, copy_found};
+use crate::tabulate::{equation_head, table_of};
+use crate::unknown::unknown_sort;
+use larch_raw::RawEquation;
+use larch_term::{Sort, Term};
+use std::alloc::Global;
+
+/// The term that a lone term reads as, of a sort where one is wanted, or the first refusal.
+pub fn read_lone(
+    alloc: Global,
+    signature: &Signature,
+    scope: &Scope,
+    raw: &RawEquation,
+    sort: Option<&Sort>,
+) -> Result<Term, ReadRefusal>
+    requires { raw.now.right ≡ None }
+    ensures read { IfOk result (λ term. read_term signature.now scope.now (option_copied sort.entry) raw.now ≡ Ok term) }
+    ensures refused { IfErr result (λ refusal. Refuses refusal (read_term signature.now scope.now (option_copied sort.entry) raw.now)) }
+
+    // The same in terms of readings.
+    ensures known { IfOk result (λ _. unknown_sort signature.now raw.now ≡ None) }
+    ensures only { IfOk result (IsOnly (ReadsLone signature.now scope.now (option_copied sort.entry) raw.now)) }
+    ensures stands { IfErr result (λ refusal. (refusal ≡ ReadRefusal.Memory) ⊎ Stands signature.now scope.now raw.now (ReadsLone signature.now scope.now (option_copied sort.entry) raw.now) refusal) }
+
+    // What a term that is read is made of.
+    ensures well_sorted { IfOk result (λ term. WellSorted term × IsOver signature.now term) }
+    ensures in_scope { IfOk result (HasVariablesOf scope.now) }
+{
+    lone(alloc, signature, scope, raw, sort)
+}
+
+// The same, by what was found.
+fn lone(
+    alloc: Global,
+    signature: &Signature,
+    scope: &Scope,
+    raw: &RawEquation,
+    sort: Option<&Sort>,
+) -> Result<Term, ReadRefusal>
+    requires { raw.now.right ≡ None }
+    ensures read { IfOk result (λ term. read_term signature.now scope.now (option_copied sort.entry) raw.now ≡ Ok term) }
+    ensures refused { IfErr result (λ refusal. Refuses refusal (read_term signature.now scope.now (option_copied sort.entry) raw.now)) }
+{
+    if let Some(pos) = unknown_sort(signature, raw) {
+        return Err(ReadRefusal::UnknownSort(pos));
+    }
+    match lone_found(alloc, signature, scope, raw, sort)? {
+        None => Err(ReadRefusal::NoReading(equation_head(raw))),
+        Some(Found::Several) => Err(ReadRefusal::Ambiguous(raw.first)),
+        Some(Found::One(reading)) => {
+            let term = term_of(alloc, &reading)?;
+            Ok(term)
+        }
+    }
+}
+
+// What a lone term reads as, or the head token of the first part in it that has no reading.
+fn lone_found(
+    alloc: Global,
+    signature: &Signature,
+    scope: &Scope,
+    raw: &RawEquation,
+    sort: Option<&Sort>,
+) -> Result<Option<Found<Reading>>, ReadRefusal>
+    requires { raw.now.right ≡ None }
+    ensures tells { IfOk result (λ found. Tells found (ReadsLone signature.now scope.now (option_copied sort.entry) raw.now)) }
+    ensures read { IfOk result (λ _. first_unread signature.now scope.now raw.now ≡ None) }
+    ensures unread { IfErr result (λ refusal. Unread refusal (first_unread signature.now scope.now raw.now)) }
+{
+    let table = table_of(alloc, signature, scope, &raw.left)?;
+    let Some(sort) = sort else {
+        let found = anywhere(&table)?;
+        return Ok(found);
+    };
+    match at(&table, sort) {
+        None => Ok(None),
+        Some(found) => {
+            let found = copy_found(found)?;
+            Ok(Some(found))
+        }
+    }
+}

@@ -1,0 +1,85 @@
+ghost use Rattle.std.specs.Prelude.{◌≡◌, ℕ, List, Option, Some, IfOk, OnOk, map};
+ghost use Rattle.larch_term.specs.Tree.{Tree};
+ghost use Rattle.larch_sorts.specs.declared.found.Found.{Found};
+ghost use Rattle.larch_sorts.specs.Tables.{reading_at, arguments_at, operators_at, with_operator, with_argument, resumed};
+
+use crate::found::{Found, Table};
+use crate::reading::Reading;
+use crate::table::{add, at};
+use larch_base::{Memory, Sequence};
+use larch_term::{Operator, Sort};
+use std::alloc::Global;
+
+// What operators make of the arguments in tables.
+pub(crate) fn by_operators(
+    alloc: Global,
+    tables: &[Table],
+    operators: &[Operator],
+) -> Result<Table, Memory>
+    ensures { IfOk result (λ table. (s : List ℕ) → reading_at table.found.value.entries s ≡ operators_at (map (λ t. t.found.value.entries) tables.now) operators.now s) }
+{
+    let mut table = Table::new(alloc)?;
+    for operator in operators {
+        add_operator(alloc, tables, operator, &mut table)?;
+    }
+    Ok(table)
+}
+
+// Adds what an operator makes of the arguments in tables.
+fn add_operator(
+    alloc: Global,
+    tables: &[Table],
+    operator: &Operator,
+    table: &mut Table,
+) -> Result<(), Memory>
+    ensures { OnOk result ((s : List ℕ) → reading_at table.new.found.value.entries s ≡ with_operator (map (λ t. t.found.value.entries) tables.now) s (reading_at table.old.found.value.entries s) operator.now) }
+{
+    if let Some(arguments) = arguments_at(alloc, tables, operator.domain())? {
+        add(alloc, table, operator, arguments)?;
+    }
+    Ok(())
+}
+
+// The arguments that tables have at sorts, one by one.
+fn arguments_at(
+    alloc: Global,
+    tables: &[Table],
+    sorts: &[Sort],
+) -> Result<Option<Found<Sequence<Reading>>>, Memory>
+    ensures { IfOk result (λ found. found ≡ arguments_at (map (λ t. t.found.value.entries) tables.now) sorts.now) }
+{
+    if tables.len() != sorts.len() {
+        return Ok(None);
+    }
+    let mut several = false;
+    let mut arguments = Sequence::new(alloc);
+    for i in 0..sorts.len() {
+        let Some(found) = at(&tables[i], &sorts[i]) else {
+            return Ok(None);
+        };
+        several = push_found(found, several, &mut arguments)?;
+    }
+    if several {
+        return Ok(Some(Found::Several));
+    }
+    Ok(Some(Found::One(arguments)))
+}
+
+// Puts one more argument behind those so far, which may be several; answers whether they are several now.
+#[tactic(auto, using(crate::proofs::Arguments::resumed_one, crate::proofs::Arguments::resumed_several))]
+fn push_found(
+    found: &Found<Reading>,
+    several: bool,
+    arguments: &mut Sequence<Reading>,
+) -> Result<bool, Memory>
+    ensures { IfOk result (λ now. (rest : Option (Found (List Tree))) → resumed arguments.new now rest ≡ resumed arguments.old several (with_argument (Some found.now) rest)) }
+{
+    match found {
+        Found::Several => Ok(true),
+        Found::One(reading) => {
+            let reading = reading.copy()?;
+            arguments.push(reading)?;
+            Ok(several)
+        }
+    }
+}

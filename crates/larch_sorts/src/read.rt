@@ -1,0 +1,99 @@
+ghost use Rattle.std.specs.Prelude.{◌≡◌, ◌⊎◌, IfErr, IfOk, None, Ok};
+ghost use Rattle.larch_term.specs.Statement.{IsStatementOver};
+ghost use Rattle.larch_term.specs.declared.statement.Statement.TheVariants.{Equation};
+ghost use Rattle.larch_sorts.specs.Answers.{read_equation, first_unread, Refuses, IsInScope};
+ghost use Rattle.larch_sorts.specs.Places.{unknown_sort, Stands};
+ghost use Rattle.larch_sorts.specs.Readings.{ReadsEquation, IsOnly};
+ghost use Rattle.larch_sorts.specs.Tables.{Tells, ReadsSides, Unread};
+
+use crate::found::{Found, Sides};
+use crate::reading::term_of;
+use crate::refusal::ReadRefusal;
+use crate::scope::Scope;
+use crate::sides::{formula, sides};
+use crate::signature::Signature;
+use crate::tabulate::{equation_head, table_of};
+use crate::unknown::unknown_sort;
+use larch_base::Memory;
+use larch_raw::RawEquation;
+use larch_term::Statement;
+use std::alloc::Global;
+
+/// The statement that an equation or formula reads as, or the first refusal.
+pub fn read_in(
+    alloc: Global,
+    signature: &Signature,
+    scope: &Scope,
+    raw: &RawEquation,
+) -> Result<Statement, ReadRefusal>
+    ensures read { IfOk result (λ statement. read_equation signature.now scope.now raw.now ≡ Ok statement) }
+    ensures refused { IfErr result (λ refusal. Refuses refusal (read_equation signature.now scope.now raw.now)) }
+
+    // The same in terms of readings.
+    ensures known { IfOk result (λ _. unknown_sort signature.now raw.now ≡ None) }
+    ensures only { IfOk result (IsOnly (ReadsEquation signature.now scope.now raw.now)) }
+    ensures stands { IfErr result (λ refusal. (refusal ≡ ReadRefusal.Memory) ⊎ Stands signature.now scope.now raw.now (ReadsEquation signature.now scope.now raw.now) refusal) }
+
+    // What a statement that is read is made of.
+    ensures well_sorted { IfOk result (IsStatementOver signature.now) }
+    ensures in_scope { IfOk result (IsInScope scope.now) }
+{
+    statement(alloc, signature, scope, raw)
+}
+
+// The same, by the sides that were found.
+fn statement(
+    alloc: Global,
+    signature: &Signature,
+    scope: &Scope,
+    raw: &RawEquation,
+) -> Result<Statement, ReadRefusal>
+    ensures read { IfOk result (λ statement. read_equation signature.now scope.now raw.now ≡ Ok statement) }
+    ensures refused { IfErr result (λ refusal. Refuses refusal (read_equation signature.now scope.now raw.now)) }
+{
+    if let Some(pos) = unknown_sort(signature, raw) {
+        return Err(ReadRefusal::UnknownSort(pos));
+    }
+    match sides_of(alloc, signature, scope, raw)? {
+        None => Err(ReadRefusal::NoReading(equation_head(raw))),
+        Some(Found::Several) => Err(ReadRefusal::Ambiguous(raw.first)),
+        Some(Found::One(sides)) => {
+            let statement = equation(alloc, &sides)?;
+            Ok(statement)
+        }
+    }
+}
+
+// The sides that an equation reads as, or the head token of the first part in them that has no reading.
+fn sides_of(
+    alloc: Global,
+    signature: &Signature,
+    scope: &Scope,
+    raw: &RawEquation,
+) -> Result<Option<Found<Sides>>, ReadRefusal>
+    ensures tells { IfOk result (λ found. Tells found (ReadsSides signature.now scope.now raw.now)) }
+    ensures read { IfOk result (λ _. first_unread signature.now scope.now raw.now ≡ None) }
+    ensures unread { IfErr result (λ refusal. Unread refusal (first_unread signature.now scope.now raw.now)) }
+{
+    let left = table_of(alloc, signature, scope, &raw.left)?;
+    match &raw.right {
+        None => {
+            let found = formula(alloc, &left)?;
+            Ok(found)
+        }
+        Some(right) => {
+            let right = table_of(alloc, signature, scope, &right.term)?;
+            let found = sides(&left, &right)?;
+            Ok(found)
+        }
+    }
+}
+
+// The equation of two sides.
+fn equation(alloc: Global, sides: &Sides) -> Result<Statement, Memory>
+    ensures { IfOk result (λ statement. statement ≡ Equation sides.now.left sides.now.right) }
+{
+    let left = term_of(alloc, &sides.left)?;
+    let right = term_of(alloc, &sides.right)?;
+    Ok(Statement::Equation(left, right))
+}

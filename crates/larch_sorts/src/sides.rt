@@ -1,0 +1,121 @@
+ghost use Rattle.std.specs.Prelude.{◌≡◌, Some, None, IfOk};
+ghost use Rattle.larch_term.specs.Truth.{bool_sort};
+ghost use Rattle.larch_sorts.specs.Readings.{truth};
+ghost use Rattle.larch_operators.specs.Same.{same_tree};
+ghost use Rattle.larch_sorts.specs.Tables.{reading_at, joined_by, with_found, found_anywhere, paired, same_sides, sides_found, formula_found};
+ghost use Rattle.larch_sorts.specs.declared.found.Found.TheVariants.{One};
+
+use crate::found::{Found, Sides, Table};
+use crate::reading::Reading;
+use crate::table::{at, copy_found, is_same, join};
+use larch_base::Memory;
+use larch_term::{BuiltIn, Sort, bool_sort};
+use std::alloc::Global;
+
+// What was found of all sorts.
+pub(crate) fn anywhere(table: &Table) -> Result<Option<Found<Reading>>, Memory>
+    ensures { IfOk result (λ found. found ≡ found_anywhere table.now.found.value.entries) }
+{
+    let mut found = None;
+    for sort in table.found.keys() {
+        if let Some(now) = at(table, sort) {
+            let now = copy_found(now)?;
+            found = Some(join(found.as_ref(), now));
+        }
+    }
+    Ok(found)
+}
+
+// The sides of one sort.
+pub(crate) fn sides(left: &Table, right: &Table) -> Result<Option<Found<Sides>>, Memory>
+    ensures { IfOk result (λ found. found ≡ sides_found left.now.found.value.entries right.now.found.value.entries) }
+{
+    let mut found = None;
+    for sort in left.found.keys() {
+        let now = sides_at(left, right, sort)?;
+        found = with_sides(found, now);
+    }
+    Ok(found)
+}
+
+// The sides of a sort.
+fn sides_at(left: &Table, right: &Table, sort: &Sort) -> Result<Option<Found<Sides>>, Memory>
+    ensures { IfOk result (λ found. found ≡ paired (reading_at left.now.found.value.entries sort.now) (reading_at right.now.found.value.entries sort.now)) }
+{
+    match (at(left, sort), at(right, sort)) {
+        (Some(Found::One(left)), Some(Found::One(right))) => {
+            let left = left.copy()?;
+            let right = right.copy()?;
+            Ok(Some(Found::One(Sides { left, right })))
+        }
+        (Some(_), Some(_)) => Ok(Some(Found::Several)),
+        _ => Ok(None),
+    }
+}
+
+// The sides found before together with those found now.
+fn with_sides(before: Option<Found<Sides>>, now: Option<Found<Sides>>) -> Option<Found<Sides>>
+    ensures { result ≡ with_found same_sides before now }
+{
+    match now {
+        None => before,
+        Some(now) => Some(join_sides(before, now)),
+    }
+}
+
+fn join_sides(before: Option<Found<Sides>>, now: Found<Sides>) -> Found<Sides>
+    ensures { result ≡ joined_by same_sides before now }
+{
+    match before {
+        None => now,
+        Some(Found::Several) => Found::Several,
+        Some(Found::One(sides)) => join_one(sides, now),
+    }
+}
+
+fn join_one(sides: Sides, now: Found<Sides>) -> Found<Sides>
+    ensures { result ≡ joined_by same_sides (Some (One sides)) now }
+{
+    match now {
+        Found::Several => Found::Several,
+        Found::One(others) => {
+            if are_same(&sides, &others) {
+                Found::One(others)
+            } else {
+                Found::Several
+            }
+        }
+    }
+}
+
+// Whether both sides are equal.
+fn are_same(sides: &Sides, others: &Sides) -> bool
+    ensures { result ≡ same_sides sides.now others.now }
+{
+    is_same(&sides.left, &others.left) && is_same(&sides.right, &others.right)
+}
+
+// A formula, which is said to be true.
+pub(crate) fn formula(alloc: Global, left: &Table) -> Result<Option<Found<Sides>>, Memory>
+    ensures { IfOk result (λ found. found ≡ formula_found (reading_at left.now.found.value.entries bool_sort)) }
+{
+    let sort = bool_sort(alloc)?;
+    match at(left, &sort) {
+        None => Ok(None),
+        Some(Found::Several) => Ok(Some(Found::Several)),
+        Some(Found::One(left)) => {
+            let left = left.copy()?;
+            let right = truth(alloc, &sort)?;
+            Ok(Some(Found::One(Sides { left, right })))
+        }
+    }
+}
+
+// The built-in constant true.
+fn truth(alloc: Global, sort: &Sort) -> Result<Reading, Memory>
+    ensures { IfOk result (λ reading. reading ≡ truth) }
+{
+    let operator = BuiltIn::True.operator(alloc, sort)?;
+    let reading = Reading::app(alloc, operator, Vec::new(alloc))?;
+    Ok(reading)
+}

@@ -1,0 +1,99 @@
+ghost use Rattle.std.specs.Prelude.{◌≡◌, ℕ, List, ◌++◌, ◌∷◌, [], IfOk, OnOk};
+ghost use Rattle.larch_sorts.specs.Index.{kept_under};
+ghost use Rattle.larch_operators.specs.ExistingSorts.{exists_sort};
+ghost use Rattle.larch_sorts.specs.Operators.{taking_part};
+ghost use Rattle.larch_sorts.specs.Tables.{named};
+
+use indexmap::IndexMap;
+use larch_base::{Memory, Name, Sequence};
+use larch_operators::{SortSet, existing_sorts, push_built_ins};
+use larch_term::{Operator, Operators, Sort, copy_operators};
+use std::alloc::Global;
+use std::marker::Model;
+
+/// Operators that terms are read over. Contracts see them as a list; the built-in operators take part by themselves.
+#[derive(Drop)]
+pub struct Signature {
+    operators: Operators,
+    sorts: SortSet,
+    index: IndexMap<Name, Operators>,
+}
+
+impl Model for Signature {
+    ghost use Rattle.std.specs.Prelude.{List, ◌≡◌};
+    ghost use Rattle.larch_term.specs.Operator.{PlainOperator};
+    ghost use Rattle.larch_sorts.specs.Index.{IsIndex};
+    ghost use Rattle.larch_operators.specs.ExistingSorts.{existing_sorts};
+    ghost use Rattle.larch_sorts.specs.Operators.{taking_part};
+
+    ghost Value = { List PlainOperator };
+
+    ghost view = { λ signature. signature.operators };
+
+    ghost invariant = { λ signature. (signature.sorts ≡ existing_sorts signature.operators) × IsIndex signature.index.entries (taking_part signature.operators) };
+}
+
+impl Signature {
+    /// The signature of these operators. Any list does, also one with an operator twice.
+    pub fn from_operators(alloc: Global, operators: &[Operator]) -> Result<Signature, Memory>
+        ensures { IfOk result (λ signature. signature ≡ operators.now) }
+    {
+        let sorts = existing_sorts(alloc, operators)?;
+        let mut all = copy_operators(alloc, operators)?;
+        push_built_ins(alloc, &mut all, sorts.as_slice())?;
+        let index = index_of(alloc, all.as_slice())?;
+        let operators = copy_operators(alloc, operators)?;
+        Ok(Signature {
+            operators,
+            sorts,
+            index,
+        })
+    }
+
+    /// Whether a sort exists: Bool, or one in the domain or range of an operator. It takes no memory.
+    pub fn knows(&self, sort: &Sort) -> bool
+        ensures { result ≡ exists_sort self.now sort.now }
+    {
+        self.sorts.contains(sort)
+    }
+
+    // The operators of a name that take part.
+    pub(crate) fn named(&self, name: &Name) -> &[Operator]
+        ensures { result.now ≡ named name.now (taking_part self.now) }
+    {
+        match self.index.get(name) {
+            Some(operators) => operators.as_slice(),
+            None => &[],
+        }
+    }
+}
+
+// Each operator under its name.
+fn index_of(alloc: Global, operators: &[Operator]) -> Result<IndexMap<Name, Operators>, Memory>
+    ensures { IfOk result (λ index. (n : List ℕ) → kept_under index.entries n ≡ named n operators.now) }
+{
+    let mut index = IndexMap::new(alloc);
+    for operator in operators {
+        keep(alloc, &mut index, operator)?;
+    }
+    Ok(index)
+}
+
+// Puts an operator behind those of its name.
+fn keep(
+    alloc: Global,
+    index: &mut IndexMap<Name, Operators>,
+    operator: &Operator,
+) -> Result<(), Memory>
+    ensures { OnOk result ((n : List ℕ) → kept_under index.new.entries n ≡ kept_under index.old.entries n ++ named n (operator.now ∷ [])) }
+{
+    let mut operators = match index.swap_remove(operator.name()) {
+        Some(operators) => operators,
+        None => Sequence::new(alloc),
+    };
+    let copied = operator.copy()?;
+    operators.push(copied)?;
+    let name = operator.name().copy()?;
+    index.insert(name, operators)?;
+    Ok(())
+}

@@ -1,0 +1,127 @@
+ghost use Rattle.std.specs.Prelude.{◌≡◌, ℕ, List, IfOk, OnOk, cond, bytes_eq, Some, None};
+ghost use Rattle.std.specs.Option.{option_copied};
+ghost use Rattle.larch_operators.specs.Same.{same_tree};
+ghost use Rattle.larch_sorts.specs.declared.found.Found.TheVariants.{One};
+ghost use Rattle.larch_sorts.specs.Tables.{reading_at, joined, applied};
+
+use crate::found::{Found, Table};
+use crate::reading::{Reading, same_reading};
+use larch_base::{Memory, Sequence};
+use larch_term::{Operator, Sort};
+use std::alloc::Global;
+
+// What was found of a sort.
+pub(crate) fn at<'a>(table: &'a Table, sort: &Sort) -> Option<&'a Found<Reading>>
+    ensures { option_copied result ≡ reading_at table.now.found.value.entries sort.now }
+{
+    table.found.get(sort)
+}
+
+// Adds what an operator makes of the arguments that were found for it.
+pub(crate) fn add(
+    alloc: Global,
+    table: &mut Table,
+    operator: &Operator,
+    arguments: Found<Sequence<Reading>>,
+) -> Result<(), Memory>
+    ensures { OnOk result ((s : List ℕ) → reading_at table.new.found.value.entries s ≡ cond (bytes_eq operator.now.range s) (Some (joined (reading_at table.old.found.value.entries s) (applied operator.now arguments))) (reading_at table.old.found.value.entries s)) }
+{
+    let added = apply(alloc, operator, arguments)?;
+    let joined = join(at(table, operator.range()), added);
+    let sort = operator.range().copy()?;
+    table.found.insert(sort, joined)?;
+    Ok(())
+}
+
+// An operator with the arguments that were found.
+fn apply(
+    alloc: Global,
+    operator: &Operator,
+    arguments: Found<Sequence<Reading>>,
+) -> Result<Found<Reading>, Memory>
+    ensures { IfOk result (λ found. found ≡ applied operator.now arguments) }
+{
+    match arguments {
+        Found::One(arguments) => {
+            let operator = operator.copy()?;
+            let reading = Reading::app(alloc, operator, arguments.into_vec())?;
+            Ok(Found::One(reading))
+        }
+        Found::Several => Ok(Found::Several),
+    }
+}
+
+// What was found before together with what was found now.
+pub(crate) fn join(before: Option<&Found<Reading>>, now: Found<Reading>) -> Found<Reading>
+    ensures { result ≡ joined (option_copied before.entry) now }
+{
+    match before {
+        None => now,
+        Some(Found::Several) => Found::Several,
+        Some(Found::One(reading)) => join_one(reading, now),
+    }
+}
+
+// One reading together with what was found now.
+fn join_one(reading: &Reading, now: Found<Reading>) -> Found<Reading>
+    ensures { result ≡ joined (Some (One reading.now)) now }
+{
+    match now {
+        Found::Several => Found::Several,
+        Found::One(other) => {
+            if is_same(reading, &other) {
+                Found::One(other)
+            } else {
+                Found::Several
+            }
+        }
+    }
+}
+
+// Whether two readings are equal, as the definitions test it.
+
+pub(crate) fn is_same(left: &Reading, right: &Reading) -> bool
+    ensures { result ≡ same_tree left.now right.now }
+{
+    same_reading(left, right)
+}
+
+// What was found once more.
+pub(crate) fn copy_found(found: &Found<Reading>) -> Result<Found<Reading>, Memory>
+    ensures { IfOk result (λ copy. copy ≡ found.now) }
+{
+    match found {
+        Found::One(reading) => {
+            let reading = reading.copy()?;
+            Ok(Found::One(reading))
+        }
+        Found::Several => Ok(Found::Several),
+    }
+}
+
+// The table of what was found of one sort.
+pub(crate) fn single(alloc: Global, sort: &Sort, found: Found<Reading>) -> Result<Table, Memory>
+    ensures { IfOk result (λ table. (s : List ℕ) → reading_at table.found.value.entries s ≡ cond (bytes_eq sort.now s) (Some found) None) }
+{
+    let mut table = Table::new(alloc)?;
+    let sort = sort.copy()?;
+    table.found.insert(sort, found)?;
+    Ok(table)
+}
+
+// What a table has of a sort.
+pub(crate) fn narrowed(alloc: Global, table: &Table, sort: &Sort) -> Result<Table, Memory>
+    ensures { IfOk result (λ narrow. (s : List ℕ) → reading_at narrow.found.value.entries s ≡ cond (bytes_eq sort.now s) (reading_at table.now.found.value.entries sort.now) None) }
+{
+    match at(table, sort) {
+        None => {
+            let table = Table::new(alloc)?;
+            Ok(table)
+        }
+        Some(found) => {
+            let found = copy_found(found)?;
+            let table = single(alloc, sort, found)?;
+            Ok(table)
+        }
+    }
+}

@@ -1,0 +1,135 @@
+ghost use Rattle.std.specs.Prelude.{◌≡◌, ℕ, List, IfOk, IfErr, Some, None, map, cond, bytes_eq};
+ghost use Rattle.std.specs.Option.{option_copied};
+ghost use Rattle.larch_base.specs.declared.position.Pos.{Pos};
+ghost use Rattle.larch_raw.specs.RawTree.{raw_forest};
+ghost use Rattle.larch_sorts.specs.Answers.{unread_in};
+ghost use Rattle.larch_sorts.specs.Places.{equation_head, head_of, parts, parts_of};
+ghost use Rattle.larch_sorts.specs.Readings.{Reads, variable_sort};
+ghost use Rattle.larch_sorts.specs.declared.found.Found.TheVariants.{One};
+ghost use Rattle.larch_term.specs.Tree.{var};
+ghost use Rattle.larch_sorts.specs.Tables.{AllTell, TableTells, Unread, inner_parts, reading_at};
+
+use crate::found::{Found, Table};
+use crate::operators::by_operators;
+use crate::reading::Reading;
+use crate::refusal::ReadRefusal;
+use crate::scope::Scope;
+use crate::signature::Signature;
+use crate::table::{narrowed, single};
+use larch_base::{Memory, Name, Pos, Sequence};
+use larch_raw::{RawEquation, RawNode, RawTerm, RawTerms};
+use larch_term::Sort;
+use std::alloc::Global;
+
+// What a term reads as, or the head token of the first part that has no reading.
+#[cycle(tabulate)]
+#[tactic(auto, using(crate::proofs::Unread::unread_inside, crate::proofs::Unread::unread_here, crate::proofs::Unread::read_here))]
+pub(crate) fn table_of(
+    alloc: Global,
+    signature: &Signature,
+    scope: &Scope,
+    raw: &RawTerm,
+) -> Result<Table, ReadRefusal>
+    ensures tells { IfOk result (λ table. TableTells table.found.value.entries (Reads signature.now scope.now raw.now)) }
+    ensures read { IfOk result (λ _. unread_in signature.now scope.now (parts raw.now) ≡ None) }
+    ensures unread { IfErr result (λ refusal. Unread refusal (unread_in signature.now scope.now (parts raw.now))) }
+{
+    let table = table_from_parts(alloc, signature, scope, raw)?;
+    if table.found.is_empty() {
+        return Err(ReadRefusal::NoReading(head_of(raw)));
+    }
+    Ok(table)
+}
+
+// What a term reads as, if anything, or the head token of the first part in it that has no reading.
+#[cycle(tabulate)]
+#[tactic(auto, using(larch_raw::specs::RawTree::raw_nodes_all_is_sum))]
+fn table_from_parts(
+    alloc: Global,
+    signature: &Signature,
+    scope: &Scope,
+    raw: &RawTerm,
+) -> Result<Table, ReadRefusal>
+    ensures tells { IfOk result (λ table. TableTells table.found.value.entries (Reads signature.now scope.now raw.now)) }
+    ensures read { IfOk result (λ _. unread_in signature.now scope.now (inner_parts raw.now) ≡ None) }
+    ensures unread { IfErr result (λ refusal. Unread refusal (unread_in signature.now scope.now (inner_parts raw.now))) }
+{
+    match raw.node() {
+        RawNode::Apply(name, arguments, _) => {
+            if let Some(sort) = variable_sort(scope, name, arguments) {
+                let table = table_of_variable(alloc, name, sort)?;
+                return Ok(table);
+            }
+            let tables = tables_of(alloc, signature, scope, arguments)?;
+            let table = by_operators(alloc, tables.as_slice(), signature.named(name))?;
+            Ok(table)
+        }
+        RawNode::Qualified(term, sort, _) => {
+            let table = table_of(alloc, signature, scope, term)?;
+            let narrow = narrowed(alloc, &table, &sort.name)?;
+            Ok(narrow)
+        }
+    }
+}
+
+// What arguments read as, or the head token of the first part of them that has no reading.
+#[cycle(tabulate)]
+#[tactic(auto, using(larch_raw::specs::RawTree::raw_nodes_all_is_sum))]
+fn tables_of(
+    alloc: Global,
+    signature: &Signature,
+    scope: &Scope,
+    arguments: &RawTerms,
+) -> Result<Sequence<Table>, ReadRefusal>
+    ensures tell { IfOk result (λ tables. AllTell signature.now scope.now (map (λ t. t.found.value.entries) tables) arguments.now) }
+    ensures read { IfOk result (λ _. unread_in signature.now scope.now (parts_of (raw_forest arguments.now)) ≡ None) }
+    ensures unread { IfErr result (λ refusal. Unread refusal (unread_in signature.now scope.now (parts_of (raw_forest arguments.now)))) }
+{
+    let mut tables = Sequence::new(alloc);
+    for argument in arguments.as_slice() {
+        let table = table_of(alloc, signature, scope, argument)?;
+        tables.push(table)?;
+    }
+    Ok(tables)
+}
+
+// The sort of the variable that a name with these arguments means.
+fn variable_sort<'a>(scope: &'a Scope, name: &Name, arguments: &RawTerms) -> Option<&'a Sort>
+    ensures { option_copied result ≡ variable_sort scope.now name.now (raw_forest arguments.now) }
+{
+    if !arguments.as_slice().is_empty() {
+        return None;
+    }
+    scope.get(name)
+}
+
+// What a variable reads as.
+fn table_of_variable(alloc: Global, name: &Name, sort: &Sort) -> Result<Table, Memory>
+    ensures { IfOk result (λ table. (s : List ℕ) → reading_at table.found.value.entries s ≡ cond (bytes_eq sort.now s) (Some (One (var name.now sort.now))) None) }
+{
+    let copied = sort.copy()?;
+    let name = name.copy()?;
+    let reading = Reading::var(alloc, name, copied)?;
+    let table = single(alloc, sort, Found::One(reading))?;
+    Ok(table)
+}
+
+// Where the head token of a term stands.
+pub(crate) fn head_of(raw: &RawTerm) -> Pos
+    ensures { result ≡ head_of raw.now }
+{
+    match raw.node() {
+        RawNode::Apply(_, _, pos) => *pos,
+        RawNode::Qualified(_, _, pos) => *pos,
+    }
+}
+
+// Where the head token of an equation stands.
+pub(crate) fn equation_head(raw: &RawEquation) -> Pos
+    ensures { result ≡ equation_head raw.now raw.now.right }
+{
+    match &raw.right {
+        None => head_of(&raw.left),
+        Some(right) => right.pos,
+    }
+}
