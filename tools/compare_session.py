@@ -1,20 +1,24 @@
 #!/usr/bin/env python3
 """Compares two programs with larch's command line on random sessions: what they write, and their status.
 
-    compare_session.py PROGRAM OTHER [--count N] [--seed N] [--jobs N]
+    compare_session.py PROGRAM OTHER [--count N] [--traits N] [--seed N] [--jobs N]
 
 PROGRAM and OTHER are commands, in quotes where they have words of their own; each is run with the word `session`
 behind them and one random input. The inputs are sessions with whole and mutated traits, cut and spliced streams,
-wrong lengths, odd names, long lines and bytes above 126. The seed is printed first. An input on which the two
+wrong lengths, odd names, long lines and bytes above 126; with --traits, sessions of a hundred random traits each (see
+random_traits.py), with how often each code came. The seed is printed first. An input on which the two
 differ is written to a file that the output names. Ends with 'N passed, N failed', and status 1 where one failed.
 """
 import argparse
+import collections
 import concurrent.futures
 import random
 import shlex
 import subprocess
 import sys
 import tempfile
+
+import random_traits
 
 WORDS = ['trait', 'introduces', 'a', 'b', 'S', 'Set', "x'", 'f_1', '0', 'includes', 'asserts', 'of', 'One', 'Two']
 SIGNS = [':', ',', '->', '-', '=', '==', '(', ')', '__', '.', ';', '/\\', '\\/', '\\in', '_', '%', '~', '!', '+/\\-']
@@ -91,6 +95,14 @@ def session(pick):
     return stream
 
 
+def many_traits(pick):
+    stream = b''
+    for i in range(100):
+        text = random_traits.any_trait(pick, f'T{i}').encode()
+        stream += b'put T%d.lsl %d\n' % (i, len(text)) + text
+    return stream + b'report\n'
+
+
 def answer(command, stream):
     done = subprocess.run(shlex.split(command) + ['session'], input=stream, stdout=subprocess.PIPE, stderr=subprocess.PIPE)
     return done.stdout, done.returncode
@@ -101,17 +113,22 @@ def main():
     words.add_argument('program')
     words.add_argument('other')
     words.add_argument('--count', type=int, default=5000)
+    words.add_argument('--traits', type=int, default=0)
     words.add_argument('--seed', type=int, default=random.randrange(2 ** 31))
     words.add_argument('--jobs', type=int, default=4)
     words = words.parse_args()
     print(f'seed {words.seed}', flush=True)
     streams = [session(random.Random(f'{words.seed} {i}')) for i in range(words.count)]
+    if words.traits:
+        streams = [many_traits(random.Random(f'{words.seed} {i}')) for i in range((words.traits + 99) // 100)]
+    codes = collections.Counter()
     failed = 0
     statuses = {}
     with concurrent.futures.ThreadPoolExecutor(words.jobs) as pool:
         pairs = pool.map(lambda s: (s, answer(words.program, s), answer(words.other, s)), streams)
         for stream, one, other in pairs:
             statuses[one[1]] = statuses.get(one[1], 0) + 1
+            codes.update(line.rsplit(b' ', 1)[-1].decode() if b' error ' in line else 'right' for line in one[0].splitlines() if line.startswith(b'trait '))
             if one != other:
                 failed += 1
                 with tempfile.NamedTemporaryFile(delete=False, prefix='session-') as file:
@@ -119,7 +136,8 @@ def main():
                 if failed <= 5:
                     print(f'{file.name}: {one} and {other}')
     print('statuses', dict(sorted(statuses.items())))
-    print(f'{words.count - failed} passed, {failed} failed')
+    print('traits', dict(codes.most_common()))
+    print(f'{len(streams) - failed} passed, {failed} failed')
     sys.exit(1 if failed else 0)
 
 
