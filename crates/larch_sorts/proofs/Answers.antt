@@ -85,7 +85,7 @@ something_reads : (fs : List PlainOperator) (vs : Variables) (raw : RawTree) (ts
 something_reads fs vs raw [] e h = cc
 something_reads fs vs raw (t ∷ ts) e h = (t, reads_listed fs vs raw t (subst (λ us. Contains us t) (sym e) (contains_here t ts)))
 
-unread_step : (fs : List PlainOperator) (vs : Variables) (raw : RawTree) (raws : List RawTree) (b : Bool) → is_empty (readings fs vs raw) ≡ b
+pub unread_step : (fs : List PlainOperator) (vs : Variables) (raw : RawTree) (raws : List RawTree) (b : Bool) → is_empty (readings fs vs raw) ≡ b
     → unread_in fs vs (raw ∷ raws) ≡ cond b (Some (head_of raw)) (unread_in fs vs raws)
 unfolding unread_in
 unread_step fs vs raw raws true e = rw e refl

@@ -1,7 +1,9 @@
 pub mod Answers
 pub mod Arguments
+pub mod Converse
 pub mod Listed
 pub mod Members
+pub mod Parts
 pub mod ReadAnswers
 pub mod Scopes
 pub mod SidesTold

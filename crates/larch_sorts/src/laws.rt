@@ -19,6 +19,14 @@ pub fn answers_are_readings()
     ensures term_refused { (fs : List PlainOperator) (vs : Variables) (wanted : Option (List ℕ)) (raw : RawEquation) (refusal : ReadRefusal) → read_term fs vs wanted raw ≡ Err refusal → Stands fs vs raw (ReadsLone fs vs wanted raw) refusal }
 {}
 
+/// The only reading is what is answered, and so is each refusal that stands where readings say.
+pub fn readings_are_answers()
+    ensures equation { (fs : List PlainOperator) (vs : Variables) (raw : RawEquation) (s : Statement) → unknown_sort fs raw ≡ None → IsOnly (ReadsEquation fs vs raw) s → read_equation fs vs raw ≡ Ok s }
+    ensures equation_refused { (fs : List PlainOperator) (vs : Variables) (raw : RawEquation) (refusal : ReadRefusal) → Stands fs vs raw (ReadsEquation fs vs raw) refusal → read_equation fs vs raw ≡ Err refusal }
+    ensures term { (fs : List PlainOperator) (vs : Variables) (wanted : Option (List ℕ)) (raw : RawEquation) (t : Tree) → raw.right ≡ None → unknown_sort fs raw ≡ None → IsOnly (ReadsLone fs vs wanted raw) t → read_term fs vs wanted raw ≡ Ok t }
+    ensures term_refused { (fs : List PlainOperator) (vs : Variables) (wanted : Option (List ℕ)) (raw : RawEquation) (refusal : ReadRefusal) → raw.right ≡ None → Stands fs vs raw (ReadsLone fs vs wanted raw) refusal → read_term fs vs wanted raw ≡ Err refusal }
+{}
+
 /// What is read is well sorted over the operators and the built-in ones, and its variables are in scope.
 pub fn readings_are_well_sorted()
     ensures equation { (fs : List PlainOperator) (vs : Variables) (raw : RawEquation) (s : Statement) → ReadsEquation fs vs raw s → IsStatementOver fs s }
