@@ -8,9 +8,12 @@ use Rattle.larch_base.specs.FileNames.{stem_of}
 use Rattle.larch_lexer.specs.TokenList.{TokenList}
 use Rattle.larch_lexer.specs.Lexing.{lexed}
 use Rattle.larch_syntax.specs.Reading.{trait_of}
-use Rattle.larch_syntax.specs.declared.raw.RawTrait.{RawTrait}
+use Rattle.larch_raw.specs.declared.equation.RawTrait.{RawTrait}
 use Rattle.larch_syntax.specs.declared.refusal.SyntaxRefusal.{SyntaxRefusal}
 use Rattle.larch_syntax.specs.declared.refusal.SyntaxRefusal.TheVariants as syntax_
+use Rattle.larch_traits.specs.Declarations.{Fault}
+use Rattle.larch_traits.specs.Presentation.{presentation_of}
+use Rattle.larch_traits.specs.declared.presentation.Presentation.{Presentation}
 use Rattle.larch_main.specs.declared.check.Verdict.{Verdict}
 use Rattle.larch_main.specs.declared.check.Verdict.TheVariants.{Right, Wrong}
 use Rattle.larch_main.specs.FileTable.{Table}
@@ -23,9 +26,14 @@ syntax_verdict (syntax_.Deep pos) = Wrong pos Deep
 syntax_verdict (syntax_.Large pos) = Wrong pos Size
 syntax_verdict syntax_.Memory = Right
 
--- a trait is wrong at its name where that isn't the stem of its file
+-- a trait is wrong where its declarations or items are
+abbrev pub presentation_verdict : Result Presentation Fault → Verdict
+presentation_verdict (Ok presentation) = Right
+presentation_verdict (Err fault) = Wrong fault.0 fault.1
+
+-- a trait is wrong at its name where that isn't the stem of its file, or else where its declarations or items are
 abbrev pub name_verdict : List ℕ → RawTrait → Verdict
-name_verdict stem raw = cond (bytes_eq raw.name.name stem) Right (Wrong raw.name.pos TraitName)
+name_verdict stem raw = cond (bytes_eq raw.name.name stem) (presentation_verdict (presentation_of raw)) (Wrong raw.name.pos TraitName)
 
 abbrev pub trait_verdict : List ℕ → Result RawTrait SyntaxRefusal → Verdict
 trait_verdict stem (Ok raw) = name_verdict stem raw
@@ -35,7 +43,7 @@ abbrev pub text_verdict : List ℕ → Result TokenList Pos → Verdict
 text_verdict stem (Ok tokens) = trait_verdict stem (trait_of tokens)
 text_verdict stem (Err place) = Wrong place Lex
 
--- what is wrong with a trait file: the first refusal of its text, its grammar and its name
+-- what is wrong with a trait file: the first refusal of its text, its grammar, its name, and then its declarations and items
 abbrev pub verdict_of : List ℕ → List ℕ → Verdict
 verdict_of stem text = text_verdict stem (lexed text)
 

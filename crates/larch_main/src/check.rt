@@ -1,10 +1,12 @@
 ghost use Rattle.std.specs.Prelude.{◌≡◌, ◌≤◌, length, IfOk};
 ghost use Rattle.larch_syntax.specs.Reading.{trait_of};
-ghost use Rattle.larch_main.specs.Reports.{verdict_of, name_verdict, trait_verdict};
+ghost use Rattle.larch_main.specs.Reports.{verdict_of, name_verdict, presentation_verdict, trait_verdict};
+ghost use Rattle.larch_traits.specs.Presentation.{presentation_of};
 
 use larch_base::{Code, Memory, Pos};
 use larch_lexer::{LexRefusal, Tokens, lex_lsl};
 use larch_syntax::{RawTrait, SyntaxRefusal, read_trait};
+use larch_traits::{TraitRefusal, present};
 use std::alloc::Global;
 
 /// What is to be said of a trait file.
@@ -32,7 +34,7 @@ fn judge_tokens(alloc: Global, stem: &[u8], tokens: &Tokens) -> Result<Verdict, 
     ensures { IfOk result (λ verdict. verdict ≡ trait_verdict stem.now (trait_of tokens.now)) }
 {
     match read_trait(alloc, tokens) {
-        Ok(raw) => Ok(judge_name(stem, &raw)),
+        Ok(raw) => judge_trait(alloc, stem, &raw),
         Err(SyntaxRefusal::Syntax(pos)) => Ok(Verdict::Wrong(pos, Code::Syntax)),
         Err(SyntaxRefusal::Mixed(pos)) => Ok(Verdict::Wrong(pos, Code::Mixed)),
         Err(SyntaxRefusal::Deep(pos)) => Ok(Verdict::Wrong(pos, Code::Deep)),
@@ -41,12 +43,22 @@ fn judge_tokens(alloc: Global, stem: &[u8], tokens: &Tokens) -> Result<Verdict, 
     }
 }
 
-fn judge_name(stem: &[u8], raw: &RawTrait) -> Verdict
-    ensures { result ≡ name_verdict stem.now raw.now }
+fn judge_trait(alloc: Global, stem: &[u8], raw: &RawTrait) -> Result<Verdict, Memory>
+    ensures { IfOk result (λ verdict. verdict ≡ name_verdict stem.now raw.now) }
 {
     if raw.name.name.bytes() == stem {
-        Verdict::Right
+        judge_presentation(alloc, raw)
     } else {
-        Verdict::Wrong(raw.name.pos, Code::TraitName)
+        Ok(Verdict::Wrong(raw.name.pos, Code::TraitName))
+    }
+}
+
+fn judge_presentation(alloc: Global, raw: &RawTrait) -> Result<Verdict, Memory>
+    ensures { IfOk result (λ verdict. verdict ≡ presentation_verdict (presentation_of raw.now)) }
+{
+    match present(alloc, raw) {
+        Ok(_) => Ok(Verdict::Right),
+        Err(TraitRefusal::Wrong(pos, code)) => Ok(Verdict::Wrong(pos, code)),
+        Err(TraitRefusal::Memory) => Err(Memory),
     }
 }

@@ -1,3 +1,7 @@
-pub mod Complete
-pub mod Fits
-pub mod Law
+pub mod Defaults
+pub mod Endings
+pub mod Forbidden
+pub mod Fronts
+pub mod Markers
+pub mod Stacks
+pub mod Told

@@ -1,6 +1,4 @@
-pub mod Grammar
-pub mod Lexemes
-pub mod Machine
-pub mod Places
 pub mod Reading
 pub mod Refusals
+pub mod Steps
+pub mod Takes

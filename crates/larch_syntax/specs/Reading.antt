@@ -1,15 +1,14 @@
--- What reading tokens as a trait answers.
-use Rattle.std.specs.Prelude.{◌≡◌, ℕ, List, Result, Ok, Err}
+-- What reading tokens as a trait or a term answers.
+use Rattle.std.specs.Prelude.{◌≡◌, ℕ, ◌+◌, Result, Ok, Err, drop}
 use Rattle.larch_base.specs.declared.position.Pos.{Pos}
+use Rattle.larch_grammar.specs.Answers.{Equations, Traits, place_of_token, term_answer, trait_answer}
 use Rattle.larch_lexer.specs.TokenList.{TokenList}
-use Rattle.larch_lexer.specs.declared.token.Token.{Token}
+use Rattle.larch_places.specs.Claims.{Means, MeansFront}
 use Rattle.larch_places.specs.declared.mark.Fault.{Fault}
-use Rattle.larch_places.specs.Look.{look, take}
-use Rattle.larch_syntax.specs.Machine.{final, step_at}
+use Rattle.larch_places.specs.declared.mark.Fault.TheVariants as fault
+use Rattle.larch_raw.specs.declared.equation.RawEquation.{RawEquation}
+use Rattle.larch_raw.specs.declared.equation.RawTrait.{RawTrait}
 use Rattle.larch_syntax.specs.Refusals.{refusal_of}
-use Rattle.larch_syntax.specs.declared.machine.State.{State}
-use Rattle.larch_syntax.specs.declared.machine.State.TheVariants.{Start}
-use Rattle.larch_syntax.specs.declared.raw.RawTrait.{RawTrait}
 use Rattle.larch_syntax.specs.declared.refusal.SyntaxRefusal.{SyntaxRefusal}
 use Rattle.larch_syntax.specs.declared.refusal.SyntaxRefusal.TheVariants.{Syntax, Mixed, Deep, Large, Memory}
 
@@ -18,17 +17,23 @@ abbrev pub refused_or : {Value : Type 0} → Result Value (Fault × Pos) → Res
 refused_or (Ok value) = Ok value
 refused_or (Err fault) = Err (refusal_of fault.0 fault.1)
 
--- the number of head tokens and the state behind a token, or the fault that stands at it
-abbrev pub take_at : ℕ → State → Token → Result (ℕ × State) (Fault × Pos)
-take_at heads state token = take step_at (λ each. each.pos) heads state token
-
--- the raw trait of these tokens from a state on, with so many head tokens before it, or the first fault
-abbrev pub look_at : Pos → ℕ → State → List Token → Result RawTrait (Fault × Pos)
-look_at end heads state tokens = look step_at final (λ each. each.pos) end heads state tokens
+-- the same of what is counted at a token that stands there
+abbrev pub refused_at : {Value : Type 0} → Pos → Result Value Fault → Result Value SyntaxRefusal
+refused_at pos (Ok value) = Ok value
+refused_at pos (Err fault) = Err (refusal_of fault pos)
 
 -- the raw trait of a token list, or the first refusal
 abbrev pub trait_of : TokenList → Result RawTrait SyntaxRefusal
-trait_of tokens = refused_or (look_at tokens.end 0 Start tokens.tokens)
+trait_of tokens = refused_or (trait_answer tokens)
+
+-- an equation with its number of tokens, as the equation with the place behind it
+abbrev pub from_there : ℕ → Result (RawEquation × ℕ) SyntaxRefusal → Result (RawEquation × ℕ) SyntaxRefusal
+from_there from (Ok read) = Ok (read.0, from + read.1)
+from_there from (Err refusal) = Err refusal
+
+-- the raw equation at the front of the tokens from this place on, and the place behind it; or the first refusal
+abbrev pub term_of : TokenList → ℕ → Result (RawEquation × ℕ) SyntaxRefusal
+term_of tokens from = from_there from (refused_or (term_answer tokens from))
 
 -- a refusal that this answer gives; want of memory is free
 abbrev pub Refuses : {Value : Type 0} → SyntaxRefusal → Result Value SyntaxRefusal → Type 0
@@ -37,3 +42,23 @@ Refuses (Syntax pos) answer = answer ≡ Err (Syntax pos)
 Refuses (Mixed pos) answer = answer ≡ Err (Mixed pos)
 Refuses (Deep pos) answer = answer ≡ Err (Deep pos)
 Refuses (Large pos) answer = answer ≡ Err (Large pos)
+
+-- a refusal tells a fault of which this is claimed; want of memory tells nothing
+abbrev pub Tells : SyntaxRefusal → (Fault × Pos → Type 0) → Type 0
+Tells (Syntax pos) claim = claim (fault.Syntax, pos)
+Tells (Mixed pos) claim = claim (fault.Mixed, pos)
+Tells (Deep pos) claim = claim (fault.Deep, pos)
+Tells (Large pos) claim = claim (fault.Large, pos)
+Tells Memory claim = Unit {0}
+
+-- the refusal of a token list stands where the grammar of traits says
+abbrev pub TraitStands : TokenList → SyntaxRefusal → Type 0
+TraitStands tokens refusal = Tells refusal (λ f. Means Traits place_of_token tokens.end tokens.tokens (Err f))
+
+-- the equation is that of the longest front of the tokens from this place on, and this is the place behind it
+abbrev pub IsFront : TokenList → ℕ → RawEquation × ℕ → Type 0
+IsFront tokens from read = (taken : ℕ) × MeansFront Equations place_of_token tokens.end (drop from tokens.tokens) (Ok (read.0, taken)) × (read.1 ≡ from + taken)
+
+-- the refusal stands where the grammar of equations says of that front
+abbrev pub FrontStands : TokenList → ℕ → SyntaxRefusal → Type 0
+FrontStands tokens from refusal = Tells refusal (λ f. MeansFront Equations place_of_token tokens.end (drop from tokens.tokens) (Err f))

@@ -1,16 +1,27 @@
-//! The grammar of traits: raw traits, and the reader that takes one token at a time.
+//! The reader of traits and terms: it takes one token at a time, with a stack of what waits for a tree, and answers
+//! what the grammar says.
 #![tactic(auto)]
 
-mod laws;
+mod begin;
+mod chains;
+mod finish;
+mod forms;
+mod hand;
+mod items;
 mod lexeme;
-mod machine;
-mod raw;
+mod names;
 mod read;
 mod refusal;
+mod step;
+mod taking;
+mod trees;
 
-pub use laws::{one_raw_trait, reading_is_grammar};
-pub use raw::{RawDecl, RawDecls, RawForm, RawForms, RawSig, RawTrait, RawWord, RawWords};
-pub use read::read_trait;
+pub use larch_raw::{
+    RawDecl, RawDecls, RawEquation, RawEquations, RawForm, RawForms, RawItem, RawItems, RawNode,
+    RawOpRef, RawOpRefs, RawRight, RawSig, RawTerm, RawTerms, RawTrait, RawVar, RawVars, RawWord,
+    RawWords,
+};
+pub use read::{read_term, read_trait};
 pub use refusal::SyntaxRefusal;
 
 #[cfg(test)]

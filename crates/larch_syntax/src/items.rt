@@ -1,0 +1,423 @@
+ghost use Rattle.std.specs.Prelude.{◌≡◌, ◌++◌, ◌∷◌, [], None, IfOk, true};
+ghost use Rattle.larch_grammar.specs.Forms.{variables_at};
+ghost use Rattle.larch_grammar.specs.Machine.{after_group, after_head, after_semicolon, after_word, as_equation, begin_item, begin_part, clause_word, end_equation, finish, first_word, hand_equation, in_part, step, word_behind, word_frames};
+ghost use Rattle.larch_grammar.specs.Trees.{call_tree};
+ghost use Rattle.larch_grammar.specs.declared.machine.State.{State};
+ghost use Rattle.larch_grammar.specs.declared.machine.Waiting.TheVariants.{Item};
+ghost use Rattle.larch_syntax.specs.Steps.{StopsWith, taking_of};
+ghost use Rattle.larch_grammar.specs.Traits.{named, with_equations, with_item};
+
+use crate::begin::{begin_equation, word_frames};
+use crate::forms::{begin_form, with_word};
+use crate::hand::after_word;
+use crate::taking::{Stepped, Taking, at_head, outside, taken_or_stuck};
+use larch_base::{Memory, Sequence};
+use larch_grammar::{Clause, Lexeme, Naming, State, Waiting};
+use larch_raw::{RawEquation, RawEquations, RawItem, RawTrait, RawVar, RawVars, RawWord, RawWords};
+use std::alloc::Global;
+
+// A trait of this name with nothing in it.
+fn named(alloc: Global, name: RawWord) -> RawTrait
+    ensures { result ≡ named name }
+{
+    RawTrait {
+        name,
+        declarations: Sequence::new(alloc),
+        items: Sequence::new(alloc),
+    }
+}
+
+// The trait with an item more.
+pub(crate) fn with_item(raw: RawTrait, item: RawItem) -> Result<RawTrait, Memory>
+    ensures { IfOk result (λ more. more ≡ with_item raw item) }
+{
+    let RawTrait {
+        name,
+        declarations,
+        mut items,
+    } = raw;
+    items.push(item)?;
+    Ok(RawTrait {
+        name,
+        declarations,
+        items,
+    })
+}
+
+// The trait with these equations as an item more.
+pub(crate) fn with_equations(
+    raw: RawTrait,
+    variables: RawVars,
+    equations: RawEquations,
+) -> Result<RawTrait, Memory>
+    ensures { IfOk result (λ more. more ≡ with_equations raw variables equations) }
+{
+    let raw = with_item(raw, RawItem::Equations(variables, equations))?;
+    Ok(raw)
+}
+
+// The same with an equation more.
+pub(crate) fn with_last(
+    raw: RawTrait,
+    variables: RawVars,
+    equations: RawEquations,
+    equation: RawEquation,
+) -> Result<RawTrait, Memory>
+    ensures { IfOk result (λ more. more ≡ with_equations raw variables (equations ++ equation ∷ [])) }
+{
+    let mut equations = equations;
+    equations.push(equation)?;
+    let raw = with_equations(raw, variables, equations)?;
+    Ok(raw)
+}
+
+// A name is needed.
+pub(crate) fn at_start(lexeme: Lexeme) -> Taking
+    ensures { result ≡ step true State.Start lexeme }
+{
+    match lexeme {
+        Lexeme::Word(name) => outside(State::AfterName(name)),
+        _ => None,
+    }
+}
+
+// A name is read.
+pub(crate) fn after_name(name: RawWord, lexeme: Lexeme) -> Taking
+    ensures { result ≡ step true (State.AfterName name) lexeme }
+{
+    match lexeme {
+        Lexeme::Colon(_pos) => outside(State::NeedTrait(name)),
+        _ => None,
+    }
+}
+
+// A name and `:` are read.
+pub(crate) fn need_trait(alloc: Global, name: RawWord, lexeme: Lexeme) -> Taking
+    ensures { result ≡ step true (State.NeedTrait name) lexeme }
+{
+    match lexeme {
+        Lexeme::Trait => outside(State::AfterHead(named(alloc, name))),
+        _ => None,
+    }
+}
+
+// The head of a trait is read.
+pub(crate) fn after_head(raw: RawTrait, lexeme: Lexeme) -> Taking
+    ensures { result ≡ after_head raw lexeme }
+{
+    match lexeme {
+        Lexeme::Introduces => outside(State::InPart(raw)),
+        Lexeme::Asserts => outside(State::InItems(raw)),
+        _ => None,
+    }
+}
+
+// `introduces` or a declaration is read.
+#[tactic(auto, using(crate::proofs::Defaults::other_part))]
+pub(crate) fn in_part(alloc: Global, raw: RawTrait, lexeme: Lexeme) -> Taking
+    ensures { result ≡ in_part raw lexeme }
+{
+    match lexeme {
+        Lexeme::Introduces => outside(State::InPart(raw)),
+        Lexeme::Asserts => outside(State::InItems(raw)),
+        other => begin_form(Naming::Declared(raw, Sequence::new(alloc)), other),
+    }
+}
+
+// A part, or an item that needs no `;` before it.
+fn begin_part(alloc: Global, raw: RawTrait, lexeme: Lexeme) -> Taking
+    ensures { result ≡ begin_part raw lexeme }
+{
+    match lexeme {
+        Lexeme::ForAll => outside(State::NeedVariable(raw, Sequence::new(alloc))),
+        Lexeme::Asserts => outside(State::InItems(raw)),
+        _ => None,
+    }
+}
+
+// An equation of an item over no variables, which is its first.
+fn first_of_item(alloc: Global, raw: RawTrait) -> Waiting
+    ensures { result ≡ Item raw [] [] }
+{
+    Waiting::Item(raw, Sequence::new(alloc), Sequence::new(alloc))
+}
+
+// The first token of any item, or a part.
+#[tactic(auto, using(crate::proofs::Defaults::other_item))]
+pub(crate) fn begin_item(alloc: Global, raw: RawTrait, lexeme: Lexeme) -> Result<Taking, Memory>
+    ensures { IfOk result (λ taking. taking ≡ begin_item raw lexeme) }
+{
+    match lexeme {
+        Lexeme::Word(word) => Ok(at_head(State::FirstWord(raw, word))),
+        Lexeme::ForAll | Lexeme::Asserts => Ok(begin_part(alloc, raw, lexeme)),
+        other => begin_equation(alloc, other, first_of_item(alloc, raw)),
+    }
+}
+
+// An equation is read, and a token stands behind it.
+pub(crate) fn hand_equation(
+    alloc: Global,
+    equation: RawEquation,
+    waiting: Waiting,
+    lexeme: Lexeme,
+) -> Result<Stepped, Memory>
+    ensures step { IfOk result (λ stepped. taking_of stepped ≡ hand_equation equation waiting lexeme) }
+    ensures stops { IfOk result (λ stepped. StopsWith (as_equation (end_equation equation waiting)) stepped) }
+{
+    match waiting {
+        Waiting::Alone => Ok(Stepped::Stops(Some(equation))),
+        Waiting::Item(raw, variables, equations) => {
+            let taking = behind_equation(alloc, raw, variables, equations, equation, lexeme)?;
+            Ok(taken_or_stuck(taking))
+        }
+    }
+}
+
+// The same where it is the last of these equations of an item.
+fn behind_equation(
+    alloc: Global,
+    raw: RawTrait,
+    variables: RawVars,
+    equations: RawEquations,
+    equation: RawEquation,
+    lexeme: Lexeme,
+) -> Result<Taking, Memory>
+    ensures { IfOk result (λ taking. taking ≡ hand_equation equation (Item raw variables equations) lexeme) }
+{
+    let mut equations = equations;
+    equations.push(equation)?;
+    match lexeme {
+        Lexeme::Semicolon => Ok(outside(State::AfterSemicolon(raw, variables, equations))),
+        Lexeme::Word(word) => {
+            let raw = with_equations(raw, variables, equations)?;
+            Ok(outside(State::ClauseWord(raw, word)))
+        }
+        Lexeme::ForAll | Lexeme::Asserts => {
+            let raw = with_equations(raw, variables, equations)?;
+            Ok(begin_part(alloc, raw, lexeme))
+        }
+        _ => Ok(None),
+    }
+}
+
+// A word that begins an item is read.
+#[tactic(auto, using(crate::proofs::Defaults::other_first))]
+pub(crate) fn first_word(
+    alloc: Global,
+    raw: RawTrait,
+    word: RawWord,
+    lexeme: Lexeme,
+) -> Result<Stepped, Memory>
+    ensures step { IfOk result (λ stepped. taking_of stepped ≡ first_word true raw word lexeme) }
+    ensures stops { IfOk result (λ stepped. StopsWith None stepped) }
+{
+    match lexeme {
+        Lexeme::Generated | Lexeme::Partitioned => {
+            Ok(taken_or_stuck(clause_word(raw, word, lexeme)))
+        }
+        other => word_of_equation(alloc, word, first_of_item(alloc, raw), other),
+    }
+}
+
+// A word that begins an equation is read.
+fn word_of_equation(
+    alloc: Global,
+    word: RawWord,
+    waiting: Waiting,
+    lexeme: Lexeme,
+) -> Result<Stepped, Memory>
+    ensures step { IfOk result (λ stepped. taking_of stepped ≡ after_word true word (word_frames word waiting) lexeme) }
+    ensures stops { IfOk result (λ stepped. StopsWith (as_equation (finish (call_tree word []) (word_frames word waiting))) stepped) }
+{
+    let frames = word_frames(alloc, &word, waiting)?;
+    let stepped = after_word(alloc, word, frames, lexeme)?;
+    Ok(stepped)
+}
+
+// A word behind the `;` of these equations is read.
+#[tactic(auto, using(crate::proofs::Defaults::other_behind))]
+pub(crate) fn word_behind(
+    alloc: Global,
+    raw: RawTrait,
+    variables: RawVars,
+    equations: RawEquations,
+    word: RawWord,
+    lexeme: Lexeme,
+) -> Result<Stepped, Memory>
+    ensures step { IfOk result (λ stepped. taking_of stepped ≡ word_behind true raw variables equations word lexeme) }
+    ensures stops { IfOk result (λ stepped. StopsWith None stepped) }
+{
+    match lexeme {
+        Lexeme::Generated | Lexeme::Partitioned => {
+            let raw = with_equations(raw, variables, equations)?;
+            Ok(taken_or_stuck(clause_word(raw, word, lexeme)))
+        }
+        other => {
+            let waiting = Waiting::Item(raw, variables, equations);
+            word_of_equation(alloc, word, waiting, other)
+        }
+    }
+}
+
+// The word that begins a clause is read.
+pub(crate) fn clause_word(raw: RawTrait, sort: RawWord, lexeme: Lexeme) -> Taking
+    ensures { result ≡ clause_word raw sort lexeme }
+{
+    let generated = match lexeme {
+        Lexeme::Generated => true,
+        Lexeme::Partitioned => false,
+        _ => return None,
+    };
+    outside(State::NeedBy(Clause {
+        raw,
+        generated,
+        sort,
+    }))
+}
+
+// `generated` or `partitioned` is read.
+pub(crate) fn need_by(alloc: Global, clause: Clause, lexeme: Lexeme) -> Taking
+    ensures { result ≡ step true (State.NeedBy clause) lexeme }
+{
+    match lexeme {
+        Lexeme::By => {
+            let naming = Naming::Referred(clause, Sequence::new(alloc));
+            outside(State::NeedForm(naming))
+        }
+        _ => None,
+    }
+}
+
+// The `;` of these equations is read.
+#[tactic(auto, using(crate::proofs::Defaults::other_semicolon))]
+pub(crate) fn after_semicolon(
+    alloc: Global,
+    raw: RawTrait,
+    variables: RawVars,
+    equations: RawEquations,
+    lexeme: Lexeme,
+) -> Result<Taking, Memory>
+    ensures { IfOk result (λ taking. taking ≡ after_semicolon raw variables equations lexeme) }
+{
+    match lexeme {
+        Lexeme::Word(word) => Ok(at_head(State::WordBehind(raw, variables, equations, word))),
+        Lexeme::ForAll | Lexeme::Asserts => {
+            let raw = with_equations(raw, variables, equations)?;
+            Ok(begin_part(alloc, raw, lexeme))
+        }
+        other => begin_equation(alloc, other, Waiting::Item(raw, variables, equations)),
+    }
+}
+
+// A variable is needed.
+pub(crate) fn need_variable(
+    alloc: Global,
+    raw: RawTrait,
+    variables: RawVars,
+    lexeme: Lexeme,
+) -> Result<Taking, Memory>
+    ensures { IfOk result (λ taking. taking ≡ step true (State.NeedVariable raw variables) lexeme) }
+{
+    match lexeme {
+        Lexeme::Word(name) => {
+            let names = with_word(Sequence::new(alloc), name)?;
+            Ok(outside(State::AfterVariable(raw, variables, names)))
+        }
+        _ => Ok(None),
+    }
+}
+
+// Names of variables are read.
+pub(crate) fn after_variable(
+    raw: RawTrait,
+    variables: RawVars,
+    names: RawWords,
+    lexeme: Lexeme,
+) -> Taking
+    ensures { result ≡ step true (State.AfterVariable raw variables names) lexeme }
+{
+    match lexeme {
+        Lexeme::Comma => outside(State::NeedFurtherVariable(raw, variables, names)),
+        Lexeme::Colon(_pos) => outside(State::NeedVariableSort(raw, variables, names)),
+        _ => None,
+    }
+}
+
+// A `,` behind names of variables is read.
+pub(crate) fn need_further_variable(
+    raw: RawTrait,
+    variables: RawVars,
+    names: RawWords,
+    lexeme: Lexeme,
+) -> Result<Taking, Memory>
+    ensures { IfOk result (λ taking. taking ≡ step true (State.NeedFurtherVariable raw variables names) lexeme) }
+{
+    match lexeme {
+        Lexeme::Word(name) => {
+            let names = with_word(names, name)?;
+            Ok(outside(State::AfterVariable(raw, variables, names)))
+        }
+        _ => Ok(None),
+    }
+}
+
+// The `:` behind names of variables is read.
+pub(crate) fn need_variable_sort(
+    raw: RawTrait,
+    variables: RawVars,
+    names: RawWords,
+    lexeme: Lexeme,
+) -> Result<Taking, Memory>
+    ensures { IfOk result (λ taking. taking ≡ step true (State.NeedVariableSort raw variables names) lexeme) }
+{
+    match lexeme {
+        Lexeme::Word(sort) => {
+            let variables = with_group(variables, &names, &sort)?;
+            Ok(outside(State::AfterGroup(raw, variables)))
+        }
+        _ => Ok(None),
+    }
+}
+
+// The variables with these names at a sort too.
+fn with_group(variables: RawVars, names: &RawWords, sort: &RawWord) -> Result<RawVars, Memory>
+    ensures { IfOk result (λ more. more ≡ variables ++ variables_at names.now sort.now) }
+{
+    let mut variables = variables;
+    for name in names.as_slice() {
+        let name = copy_word(name)?;
+        let sort = copy_word(sort)?;
+        variables.push(RawVar { name, sort })?;
+    }
+    Ok(variables)
+}
+
+// The same word once more.
+fn copy_word(word: &RawWord) -> Result<RawWord, Memory>
+    ensures { IfOk result (λ copy. copy ≡ word.now) }
+{
+    let name = word.name.copy()?;
+    Ok(RawWord {
+        name,
+        pos: word.pos,
+    })
+}
+
+// Variables with their sorts are read.
+#[tactic(auto, using(crate::proofs::Defaults::other_group))]
+pub(crate) fn after_group(
+    alloc: Global,
+    raw: RawTrait,
+    variables: RawVars,
+    lexeme: Lexeme,
+) -> Result<Taking, Memory>
+    ensures { IfOk result (λ taking. taking ≡ after_group raw variables lexeme) }
+{
+    match lexeme {
+        Lexeme::Comma => Ok(outside(State::NeedVariable(raw, variables))),
+        other => {
+            let waiting = Waiting::Item(raw, variables, Sequence::new(alloc));
+            begin_equation(alloc, other, waiting)
+        }
+    }
+}

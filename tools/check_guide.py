@@ -1,0 +1,49 @@
+#!/usr/bin/env python3
+"""Runs the examples of docs/TRAITS.md against the built program: python3 tools/check_guide.py [PROGRAM]
+
+Each block marked `lsl` is a file T.lsl; the line below it is what the report says: `right`, or `L:C CODE`. Two files
+that are too long to print are made here. Ends with 1 where an answer is another one, or where no example is found."""
+import pathlib
+import re
+import subprocess
+import sys
+
+TOP = pathlib.Path(__file__).resolve().parent.parent
+
+
+def examples(text):
+    """The blocks with the lines below them."""
+    return re.findall(r"^```lsl\n(.*?)^```\n(.*?)$", text, re.M | re.S)
+
+
+def long_examples():
+    """A trait with 201 open parentheses, and one with 5,001 head tokens."""
+    head = "T: trait introduces a: -> Bool\n  asserts\n    "
+    yield head + "(" * 201 + "a" + ")" * 201 + "\n", "3:205 DEEP"
+    yield head + "a" + " = a" * 2500 + "\n", "3:10005 SIZE"
+
+
+def said(program, trait):
+    """What a report says of T.lsl."""
+    data = trait.encode()
+    commands = b"put T.lsl %d\n" % len(data) + data + b"report\n"
+    done = subprocess.run([program, "session"], input=commands, capture_output=True, timeout=60)
+    line = done.stdout.decode().splitlines()[0]
+    return "right" if line == "trait T" else line.removeprefix("trait T error ")
+
+
+def main():
+    program = sys.argv[1] if len(sys.argv) > 1 else str(TOP / "crates/larch/out/larch")
+    pairs = examples((TOP / "docs/TRAITS.md").read_text()) + list(long_examples())
+    wrong = 0
+    for trait, expected in pairs:
+        answer = said(program, trait)
+        if answer != expected:
+            wrong += 1
+            print(f"expected {expected}, said {answer}:\n{trait[:400]}")
+    print(f"guide: {len(pairs)} examples, {wrong} wrong")
+    return 1 if wrong or len(pairs) < 20 else 0
+
+
+if __name__ == "__main__":
+    sys.exit(main())
