@@ -1,5 +1,6 @@
 //! The reader of traits and terms: it takes one token at a time, with a stack of what waits for a tree, and answers
-//! what the grammar says.
+//! what the grammar of `larch_grammar` says, after that of Guttag and Horning's book Larch: Languages and Tools for
+//! Formal Specification (1993).
 #![tactic(auto)]
 
 mod begin;

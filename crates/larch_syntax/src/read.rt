@@ -19,7 +19,8 @@ use larch_places::{Mark, judge};
 use larch_raw::{RawEquation, RawTrait};
 use std::alloc::Global;
 
-/// The raw trait of these tokens, or the first refusal.
+/// The raw trait that these tokens are, all of them; or the first refusal. Of several that stand at one token the order
+/// is MIXED, SYNTAX, DEEP, SIZE. One pass over the tokens, without recursion.
 pub fn read_trait(alloc: Global, tokens: &Tokens) -> Result<RawTrait, SyntaxRefusal>
     ensures read { IfOk result (λ raw. trait_of tokens.now ≡ Ok raw) }
     ensures refused { IfErr result (λ refusal. Refuses refusal (trait_of tokens.now)) }
@@ -61,8 +62,9 @@ fn last_trait(alloc: Global, state: State) -> Result<Option<RawTrait>, Memory>
     }
 }
 
-/// The raw equation at the front of the tokens from this place on, and the place behind it: it ends where no
-/// equation goes on so. Or the first refusal.
+/// The raw equation at the front of the tokens from this place on, and the place behind it, both counted from 0 in
+/// tokens; or the first refusal, as of `read_trait`. The equation ends where no equation goes on so: before `then` in
+/// `x + y then z`, and before the second `==` in `x == y == z`.
 pub fn read_term(
     alloc: Global,
     tokens: &Tokens,

@@ -9,16 +9,17 @@ use thiserror::Error;
 /// Why tokens are no trait, and where.
 #[derive(Clone, Copy, Debug, PartialEq, Eq, Error)]
 pub enum SyntaxRefusal {
-    /// No text of the grammar goes on so.
+    /// The tokens before this place begin a text of the grammar and those up to it begin none; or the text ends here,
+    /// begins one and is none.
     #[error("no text of the grammar goes on so")]
     Syntax(Pos),
-    /// Different symbols of one chain without parentheses.
+    /// The symbol here stands behind another symbol of its level, without parentheses between them.
     #[error("different symbols of one chain without parentheses")]
     Mixed(Pos),
-    /// Too many constructs are open.
+    /// What opens here is open inside 200 parentheses, brackets and `if`s already.
     #[error("too many constructs are open")]
     Deep(Pos),
-    /// Too many head tokens in one equation.
+    /// The head token here is number 5,001 of its equation.
     #[error("too many head tokens in one equation")]
     Large(Pos),
     /// Want of memory.
