@@ -4,7 +4,8 @@
 The trait has declarations and equations by turns of about the sizes that are printed, up to a megabyte, the largest
 file that a session takes. The second kind has one chain of symbols, overloaded at two sorts, in each equation. Each
 line has the bytes, the best of three runs in milliseconds, and what that is for a kilobyte; where reading is linear the
-last number stays."""
+last number stays. The last two kinds are twenty equations with one chain each, of more and more symbols and at more and
+more sorts, and have the microseconds for a symbol and a sort."""
 import pathlib
 import subprocess
 import sys
@@ -34,6 +35,13 @@ def chains(size):
     return head + chain * max(1, (size - len(head)) // len(chain))
 
 
+def one_chain(symbols, sorts):
+    """A trait with twenty chains of a symbol that is overloaded at so many sorts, as its constant is."""
+    declared = "".join(f"    __ + __: S{i}, S{i} -> S{i}\n    a: -> S{i}\n" for i in range(sorts))
+    chain = "    (a" + " + a" * symbols + "): S0 == a;\n"
+    return "T: trait\n  introduces\n" + declared + "  asserts\n" + chain * 20
+
+
 def seconds(program, text):
     """The time of one session with this trait and one report, and what the report says of it."""
     data = text.encode()
@@ -55,6 +63,11 @@ def main():
             text = make(size)
             took, said = seconds(program, text)
             print(f"  {len(text):9} bytes {took * 1000:9.1f} ms {took * 1_024_000 / len(text):8.3f} ms/kB  {said}")
+    print("one chain")
+    for symbols, sorts in ((300, 2), (600, 2), (1200, 2), (2400, 2), (1200, 4), (1200, 8), (1200, 16)):
+        took, said = seconds(program, one_chain(symbols, sorts))
+        each = took * 1_000_000 / (20 * symbols * sorts)
+        print(f"  {symbols:9} symbols {sorts:3} sorts {took * 1000:9.1f} ms {each:8.3f} us  {said}")
 
 
 if __name__ == "__main__":
