@@ -1,12 +1,12 @@
 ghost use Rattle.std.specs.Prelude.{◌≡◌, ◌++◌, ◌∷◌, [], IfOk};
-ghost use Rattle.larch_grammar.specs.Trees.{bracket_tree, call_tree, field_tree, if_tree, infix_tree, joined, listing_tree, one, postfix_tree, prefix_tree};
+ghost use Rattle.larch_grammar.specs.Trees.{bracket_tree, call_tree, field_tree, if_tree, infix_tree, joined, one, postfix_tree, prefix_tree};
 ghost use Rattle.larch_raw.specs.RawTree.{qualified};
 
 use crate::names::{
     bracket_behind_name, bracket_name, field_name, if_name, infix_name, postfix_name, prefix_name,
 };
 use larch_base::{Memory, Name, Pos};
-use larch_grammar::{Bracket, Link, Listing};
+use larch_grammar::{Bracket, Link};
 use larch_raw::{RawTerm, RawTerms, RawWord};
 use std::alloc::Global;
 
@@ -143,23 +143,6 @@ fn behind(alloc: Global, front: RawTerm, terms: RawTerms) -> Result<RawTerms, Me
     let mut further = terms.into_vec();
     items.append(&mut further)?;
     Ok(RawTerms::from_vec(items))
-}
-
-// What a list of terms belongs to, with the list.
-pub(crate) fn listing_tree(
-    alloc: Global,
-    listing: Listing,
-    terms: RawTerms,
-) -> Result<RawTerm, Memory>
-    ensures { IfOk result (λ term. term ≡ listing_tree listing terms) }
-{
-    match listing {
-        Listing::Call(word) => Ok(call_tree(word, terms)),
-        Listing::Bracketed(bracket, front, pos) => {
-            let term = bracket_tree(alloc, bracket, front, pos, terms)?;
-            Ok(term)
-        }
-    }
 }
 
 // `if`, with its place and three parts.
