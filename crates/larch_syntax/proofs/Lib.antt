@@ -2,6 +2,5 @@ pub mod Defaults
 pub mod Endings
 pub mod Forbidden
 pub mod Fronts
-pub mod Markers
 pub mod Stacks
 pub mod Told

@@ -7,13 +7,12 @@ ghost use Rattle.larch_grammar.specs.Terms.{opens, opens_head};
 ghost use Rattle.larch_grammar.specs.declared.machine.Frame.TheVariants.{Prefixed};
 ghost use Rattle.larch_grammar.specs.declared.machine.State.TheVariants.{NeedPrefixed};
 
-use crate::lexeme::place_of;
 use crate::taking::{Taking, at_head, plainly};
-use crate::trees::{bracket_tree, no_terms};
 use larch_base::{Memory, Pos};
 use larch_grammar::{Bracket, Frame, Lexeme, Listing, Stack, State, Waiting};
 use larch_places::Mark;
 use larch_raw::{RawTerm, RawWord};
+use larch_trees::{bracket_tree, no_terms, place_of};
 use std::alloc::Global;
 
 // A token that opens a construct.

@@ -7,11 +7,11 @@ ghost use Rattle.larch_syntax.specs.Steps.{EndsWith, Leaves, passed_on};
 
 use crate::hand::{Passed, done};
 use crate::taking::at_head;
-use crate::trees::{joined, postfix_tree};
 use larch_base::Memory;
 use larch_grammar::{Frame, Lexeme, Link, Stack, State};
 use larch_places::Mark;
 use larch_raw::{RawTerm, RawWord};
+use larch_trees::{joined, postfix_tree};
 use std::alloc::Global;
 
 // Symbols behind a term with prefix symbols.

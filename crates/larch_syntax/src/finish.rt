@@ -6,14 +6,14 @@ ghost use Rattle.larch_grammar.specs.declared.machine.Frame.{Frame};
 ghost use Rattle.larch_syntax.specs.Steps.{ended_in};
 
 use crate::begin::word_frames;
-use crate::forms::{infix_form, postfix_form, with_clause, with_reference};
-use crate::hand::{equation_of, formula_of};
-use crate::items::{with_equations, with_last};
-use crate::trees::{call_tree, if_tree, joined, no_terms, postfix_tree, prefix_tree};
 use larch_base::{Memory, Pos, Sequence};
 use larch_grammar::{Clause, Frame, Naming, Stack, State, Waiting, Whole};
 use larch_raw::{
     RawEquation, RawEquations, RawForm, RawOpRefs, RawTerm, RawTrait, RawVars, RawWord,
+};
+use larch_trees::{
+    call_tree, equation_of, formula_of, if_tree, infix_form, joined, no_terms, postfix_form,
+    postfix_tree, prefix_tree, with_clause, with_equations, with_last, with_reference,
 };
 use std::alloc::Global;
 

@@ -1,98 +1,20 @@
-ghost use Rattle.std.specs.Prelude.{◌≡◌, ◌++◌, ◌∷◌, [], IfOk, true};
-ghost use Rattle.larch_grammar.specs.Machine.{after_form, after_mark, after_marker, after_marker_symbol, after_reference, after_symbol_form, begin_form, end_marks, hand_sig, need_marks, step, with_clause, with_reference};
-ghost use Rattle.larch_grammar.specs.Traits.{with_declaration};
+ghost use Rattle.std.specs.Prelude.{◌≡◌, IfOk, true};
+ghost use Rattle.larch_grammar.specs.Machine.{after_form, after_mark, after_marker, after_marker_symbol, after_reference, after_symbol_form, begin_form, end_marks, hand_sig, need_marks, step};
 ghost use Rattle.larch_grammar.specs.declared.machine.Naming.TheVariants.{Declared, Referred};
 ghost use Rattle.larch_grammar.specs.declared.machine.State.{State};
-ghost use Rattle.larch_grammar.specs.Trees.{bracket_form, field_name, infix_name, mixfix, plain_form, postfix_name, prefix_name};
 
-use crate::items::{begin_item, with_item};
-use crate::names::{
-    bracket_behind_name, bracket_name, field_name, infix_name, postfix_name, prefix_name,
-};
+use crate::items::begin_item;
 use crate::taking::{Taking, outside};
-use larch_base::{Memory, Name, Pos, Sequence};
+use larch_base::{Memory, Pos, Sequence};
 use larch_grammar::{Bracket, Clause, Lexeme, Naming, Signing, State};
 use larch_raw::{
-    RawDecl, RawForm, RawForms, RawItem, RawOpRef, RawOpRefs, RawSig, RawTrait, RawWord, RawWords,
+    RawDecl, RawForm, RawForms, RawOpRef, RawOpRefs, RawSig, RawTrait, RawWord, RawWords,
+};
+use larch_trees::{
+    bracket_form, field_form, infix_form, plain_form, postfix_form, prefix_form, with_clause,
+    with_declaration, with_reference, with_word,
 };
 use std::alloc::Global;
-
-// A form that is no bare word.
-fn mixfix(name: Name, markers: u32, pos: Pos) -> RawForm
-    ensures { result ≡ mixfix name markers pos }
-{
-    RawForm {
-        name,
-        word: false,
-        markers,
-        pos,
-    }
-}
-
-// A form that is a bare word.
-fn plain_form(word: RawWord) -> RawForm
-    ensures { result ≡ plain_form word }
-{
-    let RawWord { name, pos } = word;
-    RawForm {
-        name,
-        word: true,
-        markers: 0,
-        pos,
-    }
-}
-
-// A symbol alone.
-pub(crate) fn infix_form(alloc: Global, pos: Pos, symbol: RawWord) -> Result<RawForm, Memory>
-    ensures { IfOk result (λ form. form ≡ mixfix (infix_name symbol.name) 2 pos) }
-{
-    let name = infix_name(alloc, &symbol.name)?;
-    Ok(mixfix(name, 2, pos))
-}
-
-// A symbol before a marker.
-fn prefix_form(alloc: Global, symbol: RawWord) -> Result<RawForm, Memory>
-    ensures { IfOk result (λ form. form ≡ mixfix (prefix_name symbol.name) 1 symbol.pos) }
-{
-    let name = prefix_name(alloc, &symbol.name)?;
-    Ok(mixfix(name, 1, symbol.pos))
-}
-
-// A symbol behind a marker, which stands there.
-pub(crate) fn postfix_form(alloc: Global, pos: Pos, symbol: RawWord) -> Result<RawForm, Memory>
-    ensures { IfOk result (λ form. form ≡ mixfix (postfix_name symbol.name) 1 pos) }
-{
-    let name = postfix_name(alloc, &symbol.name)?;
-    Ok(mixfix(name, 1, pos))
-}
-
-// A field; the form begins there.
-fn field_form(alloc: Global, pos: Pos, word: RawWord) -> Result<RawForm, Memory>
-    ensures { IfOk result (λ form. form ≡ mixfix (field_name word.name) 1 pos) }
-{
-    let name = field_name(alloc, &word.name)?;
-    Ok(mixfix(name, 1, pos))
-}
-
-// A bracket as a form, with the place where it begins, and whether a marker stands in front of it.
-fn bracket_form(
-    alloc: Global,
-    behind: bool,
-    bracket: Bracket,
-    markers: u32,
-    pos: Pos,
-) -> Result<RawForm, Memory>
-    ensures { IfOk result (λ form. form ≡ bracket_form behind bracket markers pos) }
-{
-    if behind {
-        let name = bracket_behind_name(alloc, bracket, markers as usize)?;
-        let all = markers.checked_add(1).ok_or(Memory)?;
-        Ok(mixfix(name, all, pos))
-    } else {
-        let name = bracket_name(alloc, bracket, markers as usize)?;
-        Ok(mixfix(name, markers, pos))
-    }
-}
 
 // The first token of a form.
 pub(crate) fn begin_form(naming: Naming, lexeme: Lexeme) -> Taking
@@ -315,15 +237,6 @@ fn after_referred(
     }
 }
 
-// The references with one more, which is a form alone.
-pub(crate) fn with_reference(refs: RawOpRefs, form: RawForm) -> Result<RawOpRefs, Memory>
-    ensures { IfOk result (λ more. more ≡ with_reference refs form) }
-{
-    let mut refs = refs;
-    refs.push(RawOpRef { form, sig: None })?;
-    Ok(refs)
-}
-
 // A reference is read, the last of these.
 #[tactic(auto, using(crate::proofs::Defaults::other_reference))]
 pub(crate) fn after_reference(
@@ -345,24 +258,6 @@ pub(crate) fn after_reference(
             begin_item(alloc, raw, other)
         }
     }
-}
-
-// The trait with a clause of these references.
-pub(crate) fn with_clause(clause: Clause, refs: RawOpRefs) -> Result<RawTrait, Memory>
-    ensures { IfOk result (λ raw. raw ≡ with_clause clause refs) }
-{
-    let Clause {
-        raw,
-        generated,
-        sort,
-    } = clause;
-    let item = if generated {
-        RawItem::Generated(sort, refs)
-    } else {
-        RawItem::Partitioned(sort, refs)
-    };
-    let raw = with_item(raw, item)?;
-    Ok(raw)
 }
 
 // A signature is needed.
@@ -436,30 +331,4 @@ fn hand_sig(signing: Signing, sig: RawSig) -> Result<State, Memory>
             Ok(State::AfterReference(clause, refs))
         }
     }
-}
-
-// The trait with a declaration more.
-fn with_declaration(raw: RawTrait, declaration: RawDecl) -> Result<RawTrait, Memory>
-    ensures { IfOk result (λ more. more ≡ with_declaration raw declaration) }
-{
-    let RawTrait {
-        name,
-        mut declarations,
-        items,
-    } = raw;
-    declarations.push(declaration)?;
-    Ok(RawTrait {
-        name,
-        declarations,
-        items,
-    })
-}
-
-// The words with one more.
-pub(crate) fn with_word(words: RawWords, word: RawWord) -> Result<RawWords, Memory>
-    ensures { IfOk result (λ more. more ≡ words ++ word ∷ []) }
-{
-    let mut words = words;
-    words.push(word)?;
-    Ok(words)
 }

@@ -1,6 +1,5 @@
 ghost use Rattle.std.specs.Prelude.{◌≡◌, ◌∷◌, [], List, None, IfOk, true};
 ghost use Rattle.larch_grammar.specs.Machine.{after_symbol, after_word, as_equation, finish, hand, step};
-ghost use Rattle.larch_grammar.specs.Terms.{equation_of, formula_of};
 ghost use Rattle.larch_grammar.specs.Trees.{call_tree, postfix_tree};
 ghost use Rattle.larch_grammar.specs.declared.machine.Frame.{Frame};
 ghost use Rattle.larch_grammar.specs.declared.machine.Frame.TheVariants.{InFields, InIf, InLeft, InList, InParentheses, InThen};
@@ -12,13 +11,13 @@ use crate::begin::{begin_post, open_bracket, opens};
 use crate::chains::{in_connectives, in_equalities, in_infixes, in_postfixes, in_strays};
 use crate::items::hand_equation;
 use crate::taking::{Stepped, Taking, at_head, plainly, taken_or_stuck};
-use crate::trees::{
-    bracket_tree, call_tree, field_tree, if_tree, no_terms, postfix_tree, prefix_tree, qualified,
-    with_term,
-};
 use larch_base::{Memory, Pos};
 use larch_grammar::{Bracket, Frame, Lexeme, Link, Listing, Stack, State, Waiting};
-use larch_raw::{RawEquation, RawRight, RawTerm, RawTerms, RawWord};
+use larch_raw::{RawTerm, RawTerms, RawWord};
+use larch_trees::{
+    bracket_tree, call_tree, equation_of, field_tree, formula_of, if_tree, no_terms, postfix_tree,
+    prefix_tree, qualified, with_term,
+};
 use std::alloc::Global;
 
 /// What a frame does with a term and the token behind it.
@@ -227,28 +226,6 @@ fn in_left(
             let stepped = hand_equation(alloc, formula_of(term, pos), waiting, other)?;
             Ok(Passed::Done(stepped))
         }
-    }
-}
-
-// A formula.
-pub(crate) fn formula_of(left: RawTerm, first: Pos) -> RawEquation
-    ensures { result ≡ formula_of left first }
-{
-    RawEquation {
-        left,
-        right: None,
-        first,
-    }
-}
-
-// An equation with two sides, and the place of `==`.
-pub(crate) fn equation_of(left: RawTerm, pos: Pos, term: RawTerm, first: Pos) -> RawEquation
-    ensures { result ≡ equation_of left pos term first }
-{
-    RawEquation {
-        left,
-        right: Some(RawRight { term, pos }),
-        first,
     }
 }
 

@@ -1,75 +1,19 @@
-ghost use Rattle.std.specs.Prelude.{◌≡◌, ◌++◌, ◌∷◌, [], None, IfOk, true};
-ghost use Rattle.larch_grammar.specs.Forms.{variables_at};
+ghost use Rattle.std.specs.Prelude.{◌≡◌, [], None, IfOk, true};
 ghost use Rattle.larch_grammar.specs.Machine.{after_group, after_head, after_semicolon, after_word, as_equation, begin_item, begin_part, clause_word, end_equation, finish, first_word, hand_equation, in_part, step, word_behind, word_frames};
 ghost use Rattle.larch_grammar.specs.Trees.{call_tree};
 ghost use Rattle.larch_grammar.specs.declared.machine.State.{State};
 ghost use Rattle.larch_grammar.specs.declared.machine.Waiting.TheVariants.{Item};
 ghost use Rattle.larch_syntax.specs.Steps.{StopsWith, taking_of};
-ghost use Rattle.larch_grammar.specs.Traits.{named, with_equations, with_item};
 
 use crate::begin::{begin_equation, word_frames};
-use crate::forms::{begin_form, with_word};
+use crate::forms::begin_form;
 use crate::hand::after_word;
 use crate::taking::{Stepped, Taking, at_head, outside, taken_or_stuck};
 use larch_base::{Memory, Sequence};
 use larch_grammar::{Clause, Lexeme, Naming, State, Waiting};
-use larch_raw::{RawEquation, RawEquations, RawItem, RawTrait, RawVar, RawVars, RawWord, RawWords};
+use larch_raw::{RawEquation, RawEquations, RawTrait, RawVars, RawWord, RawWords};
+use larch_trees::{named, with_equations, with_group, with_word};
 use std::alloc::Global;
-
-// A trait of this name with nothing in it.
-fn named(alloc: Global, name: RawWord) -> RawTrait
-    ensures { result ≡ named name }
-{
-    RawTrait {
-        name,
-        declarations: Sequence::new(alloc),
-        items: Sequence::new(alloc),
-    }
-}
-
-// The trait with an item more.
-pub(crate) fn with_item(raw: RawTrait, item: RawItem) -> Result<RawTrait, Memory>
-    ensures { IfOk result (λ more. more ≡ with_item raw item) }
-{
-    let RawTrait {
-        name,
-        declarations,
-        mut items,
-    } = raw;
-    items.push(item)?;
-    Ok(RawTrait {
-        name,
-        declarations,
-        items,
-    })
-}
-
-// The trait with these equations as an item more.
-pub(crate) fn with_equations(
-    raw: RawTrait,
-    variables: RawVars,
-    equations: RawEquations,
-) -> Result<RawTrait, Memory>
-    ensures { IfOk result (λ more. more ≡ with_equations raw variables equations) }
-{
-    let raw = with_item(raw, RawItem::Equations(variables, equations))?;
-    Ok(raw)
-}
-
-// The same with an equation more.
-pub(crate) fn with_last(
-    raw: RawTrait,
-    variables: RawVars,
-    equations: RawEquations,
-    equation: RawEquation,
-) -> Result<RawTrait, Memory>
-    ensures { IfOk result (λ more. more ≡ with_equations raw variables (equations ++ equation ∷ [])) }
-{
-    let mut equations = equations;
-    equations.push(equation)?;
-    let raw = with_equations(raw, variables, equations)?;
-    Ok(raw)
-}
 
 // A name is needed.
 pub(crate) fn at_start(lexeme: Lexeme) -> Taking
@@ -377,30 +321,6 @@ pub(crate) fn need_variable_sort(
         }
         _ => Ok(None),
     }
-}
-
-// The variables with these names at a sort too.
-fn with_group(variables: RawVars, names: &RawWords, sort: &RawWord) -> Result<RawVars, Memory>
-    ensures { IfOk result (λ more. more ≡ variables ++ variables_at names.now sort.now) }
-{
-    let mut variables = variables;
-    for name in names.as_slice() {
-        let name = copy_word(name)?;
-        let sort = copy_word(sort)?;
-        variables.push(RawVar { name, sort })?;
-    }
-    Ok(variables)
-}
-
-// The same word once more.
-fn copy_word(word: &RawWord) -> Result<RawWord, Memory>
-    ensures { IfOk result (λ copy. copy ≡ word.now) }
-{
-    let name = word.name.copy()?;
-    Ok(RawWord {
-        name,
-        pos: word.pos,
-    })
 }
 
 // Variables with their sorts are read.

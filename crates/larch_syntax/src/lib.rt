@@ -9,13 +9,10 @@ mod finish;
 mod forms;
 mod hand;
 mod items;
-mod lexeme;
-mod names;
 mod read;
 mod refusal;
 mod step;
 mod taking;
-mod trees;
 
 pub use larch_raw::{
     RawDecl, RawDecls, RawEquation, RawEquations, RawForm, RawForms, RawItem, RawItems, RawNode,

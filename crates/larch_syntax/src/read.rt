@@ -8,7 +8,6 @@ ghost use Rattle.larch_places.specs.Look.{at_front};
 ghost use Rattle.larch_syntax.specs.Reading.{FrontStands, IsFront, Refuses, TraitStands, refused_at, refused_or, term_of, trait_of};
 
 use crate::finish::last;
-use crate::lexeme::lexeme_of;
 use crate::refusal::{SyntaxRefusal, refusal_of};
 use crate::step::step;
 use crate::taking::Stepped;
@@ -17,6 +16,7 @@ use larch_grammar::{State, Waiting, Whole};
 use larch_lexer::{Token, Tokens};
 use larch_places::{Mark, judge};
 use larch_raw::{RawEquation, RawTrait};
+use larch_trees::lexeme_of;
 use std::alloc::Global;
 
 /// The raw trait that these tokens are, all of them; or the first refusal. Of several that stand at one token the order

@@ -1,6 +1,6 @@
 use Rattle.std.proofs.Common.{◌≡◌, ◌++◌, take}
 use Rattle.larch_grammar.specs.Forms.{variables_at}
-use Rattle.larch_syntax.proofs.items.with_group.Given as goal
+use Rattle.larch_trees.proofs.whole.with_group.Given as goal
 
 -- the names so far have their variables
 abbrev pub invariant-loop-name : goal.invariant-loop-name

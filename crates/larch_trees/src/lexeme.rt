@@ -7,8 +7,8 @@ use larch_grammar::{Bracket, Lexeme};
 use larch_lexer::{Kind, Token};
 use larch_raw::RawWord;
 
-// What the grammar knows of a token.
-pub(crate) fn lexeme_of(token: &Token) -> Result<Lexeme, Memory>
+/// What the grammar knows of a token.
+pub fn lexeme_of(token: &Token) -> Result<Lexeme, Memory>
     ensures { IfOk result (λ lexeme. lexeme ≡ lexeme_of token.now) }
 {
     match token.kind {
@@ -163,8 +163,8 @@ fn punctuation_lexeme(text: &[u8], pos: Pos) -> Lexeme
     }
 }
 
-// Where a token stands that can begin an equation.
-pub(crate) fn place_of(lexeme: &Lexeme) -> Pos
+/// Where a token stands that can begin an equation.
+pub fn place_of(lexeme: &Lexeme) -> Pos
     ensures { result ≡ place_of lexeme.now }
 {
     match lexeme {

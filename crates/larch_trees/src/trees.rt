@@ -10,15 +10,15 @@ use larch_grammar::{Bracket, Link};
 use larch_raw::{RawTerm, RawTerms, RawWord};
 use std::alloc::Global;
 
-// No terms.
-pub(crate) fn no_terms(alloc: Global) -> RawTerms
+/// No terms.
+pub fn no_terms(alloc: Global) -> RawTerms
     ensures { result ≡ [] }
 {
     RawTerms::from_vec(Vec::new(alloc))
 }
 
-// The terms with one more.
-pub(crate) fn with_term(terms: RawTerms, term: RawTerm) -> Result<RawTerms, Memory>
+/// The terms with one more.
+pub fn with_term(terms: RawTerms, term: RawTerm) -> Result<RawTerms, Memory>
     ensures { IfOk result (λ more. more ≡ terms ++ term ∷ []) }
 {
     let mut items = terms.into_vec();
@@ -49,12 +49,8 @@ fn infix_tree(
     Ok(RawTerm::apply(name, operands, symbol.pos))
 }
 
-// A prefix symbol before its operand.
-pub(crate) fn prefix_tree(
-    alloc: Global,
-    symbol: RawWord,
-    operand: RawTerm,
-) -> Result<RawTerm, Memory>
+/// A prefix symbol before its operand.
+pub fn prefix_tree(alloc: Global, symbol: RawWord, operand: RawTerm) -> Result<RawTerm, Memory>
     ensures { IfOk result (λ term. term ≡ prefix_tree symbol operand) }
 {
     let name = prefix_name(alloc, &symbol.name)?;
@@ -62,12 +58,8 @@ pub(crate) fn prefix_tree(
     Ok(term)
 }
 
-// A postfix symbol behind its operand.
-pub(crate) fn postfix_tree(
-    alloc: Global,
-    symbol: RawWord,
-    operand: RawTerm,
-) -> Result<RawTerm, Memory>
+/// A postfix symbol behind its operand.
+pub fn postfix_tree(alloc: Global, symbol: RawWord, operand: RawTerm) -> Result<RawTerm, Memory>
     ensures { IfOk result (λ term. term ≡ postfix_tree symbol operand) }
 {
     let name = postfix_name(alloc, &symbol.name)?;
@@ -75,8 +67,8 @@ pub(crate) fn postfix_tree(
     Ok(term)
 }
 
-// A field of its operand, with the place of the dot.
-pub(crate) fn field_tree(
+/// A field of its operand, with the place of the dot.
+pub fn field_tree(
     alloc: Global,
     pos: Pos,
     word: RawWord,
@@ -89,29 +81,24 @@ pub(crate) fn field_tree(
     Ok(term)
 }
 
-// A term that is said to have this sort.
-pub(crate) fn qualified(
-    alloc: Global,
-    term: RawTerm,
-    sort: RawWord,
-    pos: Pos,
-) -> Result<RawTerm, Memory>
+/// A term that is said to have this sort.
+pub fn qualified(alloc: Global, term: RawTerm, sort: RawWord, pos: Pos) -> Result<RawTerm, Memory>
     ensures { IfOk result (λ whole. whole ≡ qualified term sort pos) }
 {
     let term = Box::new(alloc, term)?;
     Ok(RawTerm::qualified(term, sort, pos))
 }
 
-// A word with its arguments.
-pub(crate) fn call_tree(word: RawWord, arguments: RawTerms) -> RawTerm
+/// A word with its arguments.
+pub fn call_tree(word: RawWord, arguments: RawTerms) -> RawTerm
     ensures { result ≡ call_tree word arguments }
 {
     let RawWord { name, pos } = word;
     RawTerm::apply(name, arguments, pos)
 }
 
-// A bracket, perhaps with an operand in front of it.
-pub(crate) fn bracket_tree(
+/// A bracket, perhaps with an operand in front of it.
+pub fn bracket_tree(
     alloc: Global,
     bracket: Bracket,
     front: Option<RawTerm>,
@@ -145,8 +132,8 @@ fn behind(alloc: Global, front: RawTerm, terms: RawTerms) -> Result<RawTerms, Me
     Ok(RawTerms::from_vec(items))
 }
 
-// `if`, with its place and three parts.
-pub(crate) fn if_tree(
+/// `if`, with its place and three parts.
+pub fn if_tree(
     alloc: Global,
     pos: Pos,
     condition: RawTerm,
@@ -162,8 +149,8 @@ pub(crate) fn if_tree(
     Ok(RawTerm::apply(name, parts, pos))
 }
 
-// A term behind the symbol of a chain, or the first of one.
-pub(crate) fn joined(alloc: Global, link: Option<Link>, term: RawTerm) -> Result<RawTerm, Memory>
+/// A term behind the symbol of a chain, or the first of one.
+pub fn joined(alloc: Global, link: Option<Link>, term: RawTerm) -> Result<RawTerm, Memory>
     ensures { IfOk result (λ whole. whole ≡ joined link term) }
 {
     match link {

@@ -1,6 +1,6 @@
 use Rattle.std.proofs.Common.{◌≡◌, ◌++◌}
 use Rattle.larch_grammar.specs.Trees.{more_markers}
-use Rattle.larch_syntax.proofs.names.write_more.Given as goal
+use Rattle.larch_trees.proofs.names.write_more.Given as goal
 
 -- so many markers are written
 abbrev pub invariant-loop-marker : goal.invariant-loop-marker
