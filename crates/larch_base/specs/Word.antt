@@ -13,6 +13,6 @@ goes_on [] = true
 goes_on (byte ∷ bytes) = (is_ascii_alphanumeric byte || (byte == 39) || ((byte == 95) && begins_alphanumeric bytes)) && goes_on bytes
 
 -- a letter or digit, and what may follow it
-abbrev pub is_word_lem : List ℕ → Bool
-is_word_lem [] = false
-is_word_lem (byte ∷ bytes) = is_ascii_alphanumeric byte && goes_on bytes
+abbrev pub is_word : List ℕ → Bool
+is_word [] = false
+is_word (byte ∷ bytes) = is_ascii_alphanumeric byte && goes_on bytes

@@ -3,6 +3,7 @@
 
 mod bytes;
 mod code;
+mod fault;
 mod file_name;
 pub mod limits;
 mod memory;
@@ -10,16 +11,19 @@ mod name;
 mod position;
 mod sequence;
 mod steps;
+mod way;
 mod word;
 
 pub use bytes::Bytes;
 pub use code::Code;
+pub use fault::Fault;
 pub use file_name::{FileName, NameRefusal};
 pub use memory::Memory;
 pub use name::Name;
 pub use position::Pos;
 pub use sequence::Sequence;
 pub use steps::Steps;
+pub use way::Way;
 pub use word::is_word;
 
 #[cfg(test)]

@@ -1,7 +1,7 @@
-ghost use Rattle.std.specs.Prelude.{◌≡◌, ◌+◌, ◌^◌, ◌<◌};
+ghost use Rattle.std.specs.Prelude.{◌≡◌, ◌≢◌, ◌+◌, ◌^◌, ◌<◌};
 ghost use Rattle.larch_base.specs.Position.{start_of_text, advance};
 
-/// A place in a text: a line and a column, both from 1, counted in bytes. A line ends with byte 10.
+/// A position in a text: a line and a column, both from 1, counted in bytes. A line ends with a newline.
 #[derive(Clone, Copy, Debug, PartialEq, Eq)]
 pub struct Pos {
     pub line: u32,
@@ -16,10 +16,11 @@ impl Pos {
         Pos { line: 1, column: 1 }
     }
 
-    /// The place behind a byte that stands here. Neither number may be at the top of `u32`.
+    /// The position behind a byte that stands here. The line may not be at the top of `u32` where the byte is a
+    /// newline, nor the column where it is another one.
     pub fn advance(self, byte: u8) -> Pos
-        requires line { self.line + 1 < 2 ^ 32 }
-        requires column { self.column + 1 < 2 ^ 32 }
+        requires line { byte ≡ 10 → self.line + 1 < 2 ^ 32 }
+        requires column { byte ≢ 10 → self.column + 1 < 2 ^ 32 }
         ensures { result ≡ advance self byte }
     {
         if byte == b'\n' {

@@ -1,10 +1,10 @@
 ghost use Rattle.std.specs.Prelude.{◌≡◌};
-ghost use Rattle.larch_base.specs.Word.{is_word_lem, goes_on};
+ghost use Rattle.larch_base.specs.Word.{is_word, goes_on};
 
 /// Whether the bytes are a word: a letter or digit, then letters, digits, `'`, and `_` where a letter or
 /// digit stands behind it.
 pub fn is_word(bytes: &[u8]) -> bool
-    ensures { result ≡ is_word_lem bytes.now }
+    ensures { result ≡ is_word bytes.now }
 {
     match bytes {
         [first, rest @ ..] => first.is_ascii_alphanumeric() && goes_on(rest),

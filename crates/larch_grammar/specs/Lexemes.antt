@@ -10,64 +10,60 @@ use Rattle.larch_grammar.specs.declared.lexeme.Bracket.TheVariants.{Square, Curl
 use Rattle.larch_grammar.specs.declared.lexeme.Lexeme.{Lexeme}
 use Rattle.larch_grammar.specs.declared.lexeme.Lexeme.TheVariants.{Word, Symbol, Not, Connective, Equality, Equates, Arrow, Colon, Comma, Semicolon, Dot, Marker, Open, Close, OpenBracket, CloseBracket, ForAll, Trait, Introduces, Asserts, Generated, Partitioned, By, If, Then, Else, Other}
 
--- a text is this word
-abbrev pub is_word : List ℕ → List ℕ → Bool
-is_word text word = bytes_eq text word
-
 -- words of what the grammar doesn't have: composition, shorthands and claims
 abbrev pub stands_nowhere : List ℕ → Bool
-stands_nowhere text = is_word text (codes "includes") || is_word text (codes "assumes") || is_word text (codes "implies") || is_word text (codes "converts") || is_word text (codes "exempting") || is_word text (codes "for") || is_word text (codes "enumeration") || is_word text (codes "tuple") || is_word text (codes "union") || is_word text (codes "of")
+stands_nowhere text = bytes_eq text (codes "includes") || bytes_eq text (codes "assumes") || bytes_eq text (codes "implies") || bytes_eq text (codes "converts") || bytes_eq text (codes "exempting") || bytes_eq text (codes "for") || bytes_eq text (codes "enumeration") || bytes_eq text (codes "tuple") || bytes_eq text (codes "union") || bytes_eq text (codes "of")
 
 -- a word of terms, or one that isn't reserved
 abbrev pub term_word : List ℕ → Pos → Lexeme
 term_word text pos =
-    cond (is_word text (codes "if")) (If pos)
-    (cond (is_word text (codes "then")) Then
-    (cond (is_word text (codes "else")) Else
+    cond (bytes_eq text (codes "if")) (If pos)
+    (cond (bytes_eq text (codes "then")) Then
+    (cond (bytes_eq text (codes "else")) Else
     (cond (stands_nowhere text) Other (Word (record { name = text; pos = pos })))))
 
 -- a token of kind word with this text, which stands there
 abbrev pub word_lexeme : List ℕ → Pos → Lexeme
 word_lexeme text pos =
-    cond (is_word text (codes "trait")) Trait
-    (cond (is_word text (codes "introduces")) Introduces
-    (cond (is_word text (codes "asserts")) Asserts
-    (cond (is_word text (codes "generated")) Generated
-    (cond (is_word text (codes "partitioned")) Partitioned
-    (cond (is_word text (codes "by")) By (term_word text pos))))))
+    cond (bytes_eq text (codes "trait")) Trait
+    (cond (bytes_eq text (codes "introduces")) Introduces
+    (cond (bytes_eq text (codes "asserts")) Asserts
+    (cond (bytes_eq text (codes "generated")) Generated
+    (cond (bytes_eq text (codes "partitioned")) Partitioned
+    (cond (bytes_eq text (codes "by")) By (term_word text pos))))))
 
 -- a run: one with a meaning of its own, or a symbol
 abbrev pub run_lexeme : List ℕ → Pos → Lexeme
 run_lexeme text pos =
-    cond (is_word text (codes "->")) Arrow
-    (cond (is_word text (codes "==")) (Equates pos)
-    (cond (is_word text (codes "=") || is_word text (codes "~=")) (Equality (record { name = text; pos = pos }))
-    (cond (is_word text (codes "~")) (Not (record { name = text; pos = pos }))
-    (cond (is_word text (codes "=>") || is_word text (codes "<=>")) (Connective (record { name = text; pos = pos })) (Symbol (record { name = text; pos = pos }))))))
+    cond (bytes_eq text (codes "->")) Arrow
+    (cond (bytes_eq text (codes "==")) (Equates pos)
+    (cond (bytes_eq text (codes "=") || bytes_eq text (codes "~=")) (Equality (record { name = text; pos = pos }))
+    (cond (bytes_eq text (codes "~")) (Not (record { name = text; pos = pos }))
+    (cond (bytes_eq text (codes "=>") || bytes_eq text (codes "<=>")) (Connective (record { name = text; pos = pos })) (Symbol (record { name = text; pos = pos }))))))
 
 -- a bracket
 abbrev pub bracket_lexeme : List ℕ → Pos → Lexeme
 bracket_lexeme text pos =
-    cond (is_word text (codes "(")) (Open pos)
-    (cond (is_word text (codes ")")) Close
-    (cond (is_word text (codes "[")) (OpenBracket Square pos)
-    (cond (is_word text (codes "]")) (CloseBracket Square)
-    (cond (is_word text (codes "{")) (OpenBracket Curly pos)
-    (cond (is_word text (codes "}")) (CloseBracket Curly) Other)))))
+    cond (bytes_eq text (codes "(")) (Open pos)
+    (cond (bytes_eq text (codes ")")) Close
+    (cond (bytes_eq text (codes "[")) (OpenBracket Square pos)
+    (cond (bytes_eq text (codes "]")) (CloseBracket Square)
+    (cond (bytes_eq text (codes "{")) (OpenBracket Curly pos)
+    (cond (bytes_eq text (codes "}")) (CloseBracket Curly) Other)))))
 
 -- punctuation
 abbrev pub punctuation_lexeme : List ℕ → Pos → Lexeme
 punctuation_lexeme text pos =
-    cond (is_word text (codes ":")) (Colon pos)
-    (cond (is_word text (codes ",")) Comma
-    (cond (is_word text (codes ";")) Semicolon
-    (cond (is_word text (codes ".")) (Dot pos) (bracket_lexeme text pos))))
+    cond (bytes_eq text (codes ":")) (Colon pos)
+    (cond (bytes_eq text (codes ",")) Comma
+    (cond (bytes_eq text (codes ";")) Semicolon
+    (cond (bytes_eq text (codes ".")) (Dot pos) (bracket_lexeme text pos))))
 
 -- a token of this kind with this text, which stands there
 abbrev pub lexeme_by : Kind → List ℕ → Pos → Lexeme
 lexeme_by kind.Word text pos = word_lexeme text pos
 lexeme_by kind.Marker text pos = Marker pos
-lexeme_by kind.Backslash text pos = cond (is_word text (codes "\\forall")) ForAll (Symbol (record { name = text; pos = pos }))
+lexeme_by kind.Backslash text pos = cond (bytes_eq text (codes "\\forall")) ForAll (Symbol (record { name = text; pos = pos }))
 lexeme_by kind.Connective text pos = Connective (record { name = text; pos = pos })
 lexeme_by kind.Run text pos = run_lexeme text pos
 lexeme_by kind.Punctuation text pos = punctuation_lexeme text pos

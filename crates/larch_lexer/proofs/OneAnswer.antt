@@ -3,7 +3,7 @@ use Rattle.std.proofs.Common.{ℕ, zero, suc, ◌≡◌, ◌≢◌, ◌+◌, ◌
 use Rattle.std.proofs.Math.Seq.{take-append_seam, drop-append_seam}
 use Rattle.std.proofs.lemmas.Bool.{eqb-false, true≢false}
 use Rattle.std.proofs.lemmas.List.{take-append-drop, length-drop}
-use Rattle.larch_base.specs.Position.{start_of_text, advance, place_behind}
+use Rattle.larch_base.specs.Position.{start_of_text, advance, position_behind}
 use Rattle.larch_base.specs.declared.position.Pos.{Pos}
 use Rattle.larch_lexer.specs.TokenTable.{is_blank, Longest, BeginsNoToken, EndsLine, LexAnswer, with_tokens, Lexes, at_end, skips_blank, skips_comment, takes_token, no_token}
 use Rattle.larch_lexer.specs.Lexing.{passing, stands_in, piece_at, led_by, lexed, lexed_within}
@@ -28,19 +28,19 @@ skipped_comment count below place rest further h e =
     let all = subst (λ n. All (λ byte. byte ≢ 10) (take n rest)) (sym e) (comment_words rest) in
     let ends = subst (λ n. EndsLine (drop n rest)) (sym e) (comment_ends rest) in
     let less : length left ≤ count = omega (arith, length-drop further rest) in
-    let whole = skips_comment words left all ends (below (place_behind place (37 ∷ words)) left less) in
+    let whole = skips_comment words left all ends (below (position_behind place (37 ∷ words)) left less) in
     subst (λ answer. Lexes place (37 ∷ rest) answer) (sym (lexed_behind further (advance place 37) rest))
-    (subst (λ bytes. Lexes place (37 ∷ bytes) (lexed_within 0 (place_behind place (37 ∷ words)) left)) (take-append-drop further rest) whole)
+    (subst (λ bytes. Lexes place (37 ∷ bytes) (lexed_within 0 (position_behind place (37 ∷ words)) left)) (take-append-drop further rest) whole)
 
 taken_token : (count : ℕ) → HaveAnswer count → (place : Pos) (byte : ℕ) (rest : List ℕ) (kind : Kind) (further : ℕ) → length rest ≤ count → piece_at byte rest ≡ Lexeme kind further → Lexes place (byte ∷ rest) (with_tokens (record { kind = kind; text = take (further + 1) (byte ∷ rest); pos = place } ∷ []) (lexed_within further (advance place byte) rest))
 taken_token count below place byte rest kind further h e =
     let front = byte ∷ take further rest in
     let left = drop further rest in
     let less : length left ≤ count = omega (arith, length-drop further rest) in
-    let whole = takes_token kind front left (piece_is_longest byte rest kind further e) (below (place_behind place front) left less) in
+    let whole = takes_token kind front left (piece_is_longest byte rest kind further e) (below (position_behind place front) left less) in
     subst (λ answer. Lexes place (byte ∷ rest) (with_tokens (record { kind = kind; text = take (further + 1) (byte ∷ rest); pos = place } ∷ []) answer)) (sym (lexed_behind further (advance place byte) rest))
-    (subst (λ n. Lexes place (byte ∷ rest) (with_tokens (record { kind = kind; text = take n (byte ∷ rest); pos = place } ∷ []) (lexed_within 0 (place_behind place front) left))) (sym (add-one further))
-    (subst (λ bytes. Lexes place (byte ∷ bytes) (with_tokens (record { kind = kind; text = front; pos = place } ∷ []) (lexed_within 0 (place_behind place front) left))) (take-append-drop further rest) whole))
+    (subst (λ n. Lexes place (byte ∷ rest) (with_tokens (record { kind = kind; text = take n (byte ∷ rest); pos = place } ∷ []) (lexed_within 0 (position_behind place front) left))) (sym (add-one further))
+    (subst (λ bytes. Lexes place (byte ∷ bytes) (with_tokens (record { kind = kind; text = front; pos = place } ∷ []) (lexed_within 0 (position_behind place front) left))) (take-append-drop further rest) whole))
 
 led : (count : ℕ) → HaveAnswer count → (place : Pos) (byte : ℕ) (rest : List ℕ) → length rest ≤ count → (piece : Piece) → piece_at byte rest ≡ piece → Sound byte rest piece → Lexes place (byte ∷ rest) (led_by piece place (byte ∷ rest) (λ inside. lexed_within inside (advance place byte) rest))
 led count below place byte rest h (Skipped further) e (inl same) = subst (λ n. Lexes place (byte ∷ rest) (lexed_within n (advance place byte) rest)) (sym same.1) (skips_blank same.0 (below (advance place byte) rest h))
@@ -75,15 +75,15 @@ on_blank : (place : Pos) (byte : ℕ) (rest : List ℕ) → is_blank byte ≡ tr
 unfolding onward led_of
 on_blank place byte rest e = ap (led_of place byte rest) (blank_piece byte rest e)
 
-on_comment : (place : Pos) (words rest : List ℕ) → All (λ byte. byte ≢ 10) words → EndsLine rest → lexed_within 0 place (37 ∷ (words ++ rest)) ≡ lexed_within 0 (place_behind place (37 ∷ words)) rest
+on_comment : (place : Pos) (words rest : List ℕ) → All (λ byte. byte ≢ 10) words → EndsLine rest → lexed_within 0 place (37 ∷ (words ++ rest)) ≡ lexed_within 0 (position_behind place (37 ∷ words)) rest
 unfolding onward led_of
 on_comment place words rest all ends =
     ap (onward place 37 (words ++ rest)) (comment_length words rest all ends)
     ∙ (lexed_behind (length words) (advance place 37) (words ++ rest)
-    ∙ (ap (λ taken. lexed_within 0 (place_behind (advance place 37) taken) (drop (length words) (words ++ rest))) (take-append_seam words rest)
-    ∙ ap (λ left. lexed_within 0 (place_behind (advance place 37) words) left) (drop-append_seam words rest)))
+    ∙ (ap (λ taken. lexed_within 0 (position_behind (advance place 37) taken) (drop (length words) (words ++ rest))) (take-append_seam words rest)
+    ∙ ap (λ left. lexed_within 0 (position_behind (advance place 37) words) left) (drop-append_seam words rest)))
 
-on_token : (place : Pos) (kind : Kind) (front behind : List ℕ) → Longest kind front behind → lexed_within 0 place (front ++ behind) ≡ with_tokens (record { kind = kind; text = front; pos = place } ∷ []) (lexed_within 0 (place_behind place front) behind)
+on_token : (place : Pos) (kind : Kind) (front behind : List ℕ) → Longest kind front behind → lexed_within 0 place (front ++ behind) ≡ with_tokens (record { kind = kind; text = front; pos = place } ∷ []) (lexed_within 0 (position_behind place front) behind)
 unfolding onward led_of
 on_token place kind [] behind longest = absurd (form_reaches kind [] behind longest.has_it)
 on_token place kind (byte ∷ bytes) behind longest =
@@ -91,9 +91,9 @@ on_token place kind (byte ∷ bytes) behind longest =
     let n = length bytes in
     ap (led_of place byte text) (longest_is kind byte bytes behind longest)
     ∙ (ap (λ answer. with_tokens (record { kind = kind; text = take (n + 1) (byte ∷ text); pos = place } ∷ []) answer) (lexed_behind n (advance place byte) text)
-    ∙ (ap (λ count. with_tokens (record { kind = kind; text = take count (byte ∷ text); pos = place } ∷ []) (lexed_within 0 (place_behind (advance place byte) (take n text)) (drop n text))) (add-one n)
-    ∙ (ap (λ taken. with_tokens (record { kind = kind; text = byte ∷ taken; pos = place } ∷ []) (lexed_within 0 (place_behind (advance place byte) taken) (drop n text))) (take-append_seam bytes behind)
-    ∙ ap (λ left. with_tokens (record { kind = kind; text = byte ∷ bytes; pos = place } ∷ []) (lexed_within 0 (place_behind (advance place byte) bytes) left)) (drop-append_seam bytes behind))))
+    ∙ (ap (λ count. with_tokens (record { kind = kind; text = take count (byte ∷ text); pos = place } ∷ []) (lexed_within 0 (position_behind (advance place byte) (take n text)) (drop n text))) (add-one n)
+    ∙ (ap (λ taken. with_tokens (record { kind = kind; text = byte ∷ taken; pos = place } ∷ []) (lexed_within 0 (position_behind (advance place byte) taken) (drop n text))) (take-append_seam bytes behind)
+    ∙ ap (λ left. with_tokens (record { kind = kind; text = byte ∷ bytes; pos = place } ∷ []) (lexed_within 0 (position_behind (advance place byte) bytes) left)) (drop-append_seam bytes behind))))
 
 none_there : (byte : ℕ) (rest : List ℕ) (piece : Piece) → Sound byte rest piece → is_blank byte ≡ false → byte ≢ 37 → BeginsNoToken (byte ∷ rest) → piece ≡ Nothing
 none_there byte rest (Skipped further) (inl same) unblank percent none = absurd (true≢false (sym same.0 ∙ unblank))
@@ -109,8 +109,8 @@ on_none place byte rest unblank percent none = ap (led_of place byte rest) (none
 pub lexes_once : (place : Pos) (text : List ℕ) (answer : LexAnswer) → Lexes place text answer → lexed_within 0 place text ≡ answer
 lexes_once place text answer (at_end _) = refl
 lexes_once place text answer (skips_blank {byte = byte} {rest = rest} e more) = on_blank place byte rest e ∙ lexes_once (advance place byte) rest answer more
-lexes_once place text answer (skips_comment words rest all ends more) = on_comment place words rest all ends ∙ lexes_once (place_behind place (37 ∷ words)) rest answer more
-lexes_once place text answer (takes_token {answer = before} kind front behind longest more) = on_token place kind front behind longest ∙ ap (with_tokens (record { kind = kind; text = front; pos = place } ∷ [])) (lexes_once (place_behind place front) behind before more)
+lexes_once place text answer (skips_comment words rest all ends more) = on_comment place words rest all ends ∙ lexes_once (position_behind place (37 ∷ words)) rest answer more
+lexes_once place text answer (takes_token {answer = before} kind front behind longest more) = on_token place kind front behind longest ∙ ap (with_tokens (record { kind = kind; text = front; pos = place } ∷ [])) (lexes_once (position_behind place front) behind before more)
 lexes_once place text answer (no_token _ byte rest e percent none) = on_none place byte rest e percent none
 
 pub lexed_lexes : (text : List ℕ) → Lexes start_of_text text (lexed text)

@@ -2,7 +2,7 @@
 use Rattle.std.proofs.Common.{ℕ, ◌≡◌, ◌+◌, ◌≤◌, ◌<◌, ◌==◌, ◌⊎◌, List, [], ◌∷◌, ◌++◌, refl, sym, subst, arith, inl, inr, All, IfOk, Ok, Err}
 use Rattle.std.proofs.lemmas.Bool.{cond_both}
 use Rattle.std.proofs.lemmas.List.Elements.{All-nil, All-cons, All-weaker}
-use Rattle.larch_base.specs.Position.{start_of_text, advance, place_behind}
+use Rattle.larch_base.specs.Position.{start_of_text, advance, position_behind}
 use Rattle.larch_base.specs.declared.position.Pos.{Pos}
 use Rattle.larch_lexer.specs.Order.{Precedes, Rising}
 use Rattle.larch_lexer.specs.TokenList.{TokenList}
@@ -38,13 +38,13 @@ not_after_then p q r (inr h) (inr k) = inr (omega arith, omega arith)
 advance_later : (place : Pos) (byte : ℕ) → Precedes place (advance place byte)
 advance_later place byte = cond_both {A = Pos} (byte == 10) (record { line = place.line + 1; column = 1 }) (record { line = place.line; column = place.column + 1 }) (Precedes place) (λ _. inl (omega arith)) (λ _. inr (refl, omega arith))
 
-behind_not_before : (place : Pos) (bytes : List ℕ) → NotAfter place (place_behind place bytes)
+behind_not_before : (place : Pos) (bytes : List ℕ) → NotAfter place (position_behind place bytes)
 behind_not_before place [] = same_place place
-behind_not_before place (byte ∷ bytes) = not_after_then place (advance place byte) (place_behind (advance place byte) bytes) (loosely place (advance place byte) (advance_later place byte)) (behind_not_before (advance place byte) bytes)
+behind_not_before place (byte ∷ bytes) = not_after_then place (advance place byte) (position_behind (advance place byte) bytes) (loosely place (advance place byte) (advance_later place byte)) (behind_not_before (advance place byte) bytes)
 
-behind_later : (kind : Kind) (place : Pos) (front behind : List ℕ) → Longest kind front behind → Precedes place (place_behind place front)
+behind_later : (kind : Kind) (place : Pos) (front behind : List ℕ) → Longest kind front behind → Precedes place (position_behind place front)
 behind_later kind place [] behind longest = absurd (form_reaches kind [] behind longest.has_it)
-behind_later kind place (byte ∷ bytes) behind longest = precedes_then place (advance place byte) (place_behind (advance place byte) bytes) (advance_later place byte) (behind_not_before (advance place byte) bytes)
+behind_later kind place (byte ∷ bytes) behind longest = precedes_then place (advance place byte) (position_behind (advance place byte) bytes) (advance_later place byte) (behind_not_before (advance place byte) bytes)
 
 -- the tokens stand from a place on, and their places rise
 InOrder : Pos → LexAnswer → Type 0
@@ -68,8 +68,8 @@ in_order : (place : Pos) (text : List ℕ) (answer : LexAnswer) → Lexes place 
 unfolding InOrder
 in_order place text answer (at_end _) = (All-nil (λ (token : Token). NotAfter place token.pos), tt)
 in_order place text answer (skips_blank {byte = byte} {rest = rest} e more) = from_earlier place (advance place byte) answer (loosely place (advance place byte) (advance_later place byte)) (in_order (advance place byte) rest answer more)
-in_order place text answer (skips_comment words rest all ends more) = from_earlier place (place_behind place (37 ∷ words)) answer (behind_not_before place (37 ∷ words)) (in_order (place_behind place (37 ∷ words)) rest answer more)
-in_order place text answer (takes_token {answer = later} kind front behind longest more) = one_more kind front place (place_behind place front) later (behind_later kind place front behind longest) (in_order (place_behind place front) behind later more)
+in_order place text answer (skips_comment words rest all ends more) = from_earlier place (position_behind place (37 ∷ words)) answer (behind_not_before place (37 ∷ words)) (in_order (position_behind place (37 ∷ words)) rest answer more)
+in_order place text answer (takes_token {answer = later} kind front behind longest more) = one_more kind front place (position_behind place front) later (behind_later kind place front behind longest) (in_order (position_behind place front) behind later more)
 in_order place text answer (no_token _ byte rest e percent none) = tt
 
 pub places_rise : (text : List ℕ) (all : TokenList) → Lexes start_of_text text (Ok all) → Rising all.tokens
@@ -85,16 +85,16 @@ unfolding EndsAt
 same_end tokens place (Ok all) e = e
 same_end tokens place (Err refusal) e = tt
 
-ends : (place : Pos) (text : List ℕ) (answer : LexAnswer) → Lexes place text answer → EndsAt (place_behind place text) answer
+ends : (place : Pos) (text : List ℕ) (answer : LexAnswer) → Lexes place text answer → EndsAt (position_behind place text) answer
 unfolding EndsAt
 ends place text answer (at_end _) = refl
 ends place text answer (skips_blank {byte = byte} {rest = rest} e more) = ends (advance place byte) rest answer more
-ends place text answer (skips_comment words rest all line more) = subst (λ last. EndsAt last answer) (sym (behind_both place (37 ∷ words) rest)) (ends (place_behind place (37 ∷ words)) rest answer more)
+ends place text answer (skips_comment words rest all line more) = subst (λ last. EndsAt last answer) (sym (behind_both place (37 ∷ words) rest)) (ends (position_behind place (37 ∷ words)) rest answer more)
 ends place text answer (takes_token {answer = later} kind front behind longest more) =
-    same_end (record { kind = kind; text = front; pos = place } ∷ []) (place_behind place (front ++ behind)) later
-    (subst (λ last. EndsAt last later) (sym (behind_both place front behind)) (ends (place_behind place front) behind later more))
+    same_end (record { kind = kind; text = front; pos = place } ∷ []) (position_behind place (front ++ behind)) later
+    (subst (λ last. EndsAt last later) (sym (behind_both place front behind)) (ends (position_behind place front) behind later more))
 ends place text answer (no_token _ byte rest e percent none) = tt
 
-pub end_is_behind : (text : List ℕ) (all : TokenList) → Lexes start_of_text text (Ok all) → all.end ≡ place_behind start_of_text text
+pub end_is_behind : (text : List ℕ) (all : TokenList) → Lexes start_of_text text (Ok all) → all.end ≡ position_behind start_of_text text
 unfolding EndsAt
 end_is_behind text all lexes = ends start_of_text text (Ok all) lexes

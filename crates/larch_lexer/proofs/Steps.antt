@@ -1,7 +1,7 @@
 -- One piece further.
 use Rattle.std.proofs.Common.{ℕ, ◌<◌, zero, suc, ◌≡◌, ◌+◌, ◌-◌, List, [], ◌∷◌, ◌++◌, take, drop, length, get_or, ◌≤◌, refl, sym, ◌∙◌, ap, append_assoc, arith, add-one, Some, None, Ok, Err}
 use Rattle.std.proofs.lemmas.List.{append-nil, take_all, length-drop}
-use Rattle.larch_base.specs.Position.{advance, place_behind}
+use Rattle.larch_base.specs.Position.{advance, position_behind}
 use Rattle.larch_base.specs.declared.position.Pos.{Pos}
 use Rattle.larch_lexer.specs.TokenList.{TokenList}
 use Rattle.larch_lexer.specs.TokenTable.{LexAnswer, with_tokens}
@@ -23,28 +23,28 @@ with_more tokens more (Ok all) = ap (joined all) (append_assoc tokens more all.t
 with_more tokens more (Err refusal) = refl
 
 -- what is left of a piece is passed over
-pub lexed_behind : (inside : ℕ) (place : Pos) (text : List ℕ) → lexed_within inside place text ≡ lexed_within 0 (place_behind place (take inside text)) (drop inside text)
+pub lexed_behind : (inside : ℕ) (place : Pos) (text : List ℕ) → lexed_within inside place text ≡ lexed_within 0 (position_behind place (take inside text)) (drop inside text)
 lexed_behind zero place text = refl
 lexed_behind (suc inside) place [] = refl
 lexed_behind (suc inside) place (byte ∷ rest) = lexed_behind inside (advance place byte) rest
 
 -- the piece at the front, and then the rest
-led_on : (piece : Piece) (place : Pos) (byte : ℕ) (rest : List ℕ) (further : ℕ) → further_of piece ≡ Some further → led_by piece place (byte ∷ rest) (λ inside. lexed_within inside (advance place byte) rest) ≡ with_tokens (tokens_of piece (take (suc further) (byte ∷ rest)) place) (lexed_within 0 (place_behind place (take (suc further) (byte ∷ rest))) (drop (suc further) (byte ∷ rest)))
+led_on : (piece : Piece) (place : Pos) (byte : ℕ) (rest : List ℕ) (further : ℕ) → further_of piece ≡ Some further → led_by piece place (byte ∷ rest) (λ inside. lexed_within inside (advance place byte) rest) ≡ with_tokens (tokens_of piece (take (suc further) (byte ∷ rest)) place) (lexed_within 0 (position_behind place (take (suc further) (byte ∷ rest))) (drop (suc further) (byte ∷ rest)))
 led_on (Skipped n) place byte rest further e =
     let same : n ≡ further = cc in
-    rw same (lexed_behind further (advance place byte) rest ∙ sym (with_none (lexed_within 0 (place_behind (advance place byte) (take further rest)) (drop further rest))))
+    rw same (lexed_behind further (advance place byte) rest ∙ sym (with_none (lexed_within 0 (position_behind (advance place byte) (take further rest)) (drop further rest))))
 led_on (Lexeme kind n) place byte rest further e =
     let same : n ≡ further = cc in
     rw (same, add-one further) (ap (with_tokens (record { kind = kind; text = byte ∷ take further rest; pos = place } ∷ [])) (lexed_behind further (advance place byte) rest))
 led_on Nothing place byte rest further e = absurd cc
 
-further_on : (tokens : List Token) (place : Pos) (byte : ℕ) (rest : List ℕ) (further : ℕ) → further_of (piece_at byte rest) ≡ Some further → with_tokens tokens (lexed_within 0 place (byte ∷ rest)) ≡ with_tokens (tokens ++ tokens_of (piece_at byte rest) (take (suc further) (byte ∷ rest)) place) (lexed_within 0 (place_behind place (take (suc further) (byte ∷ rest))) (drop (suc further) (byte ∷ rest)))
+further_on : (tokens : List Token) (place : Pos) (byte : ℕ) (rest : List ℕ) (further : ℕ) → further_of (piece_at byte rest) ≡ Some further → with_tokens tokens (lexed_within 0 place (byte ∷ rest)) ≡ with_tokens (tokens ++ tokens_of (piece_at byte rest) (take (suc further) (byte ∷ rest)) place) (lexed_within 0 (position_behind place (take (suc further) (byte ∷ rest))) (drop (suc further) (byte ∷ rest)))
 further_on tokens place byte rest further e =
     ap (with_tokens tokens) (led_on (piece_at byte rest) place byte rest further e)
-    ∙ sym (with_more tokens (tokens_of (piece_at byte rest) (take (suc further) (byte ∷ rest)) place) (lexed_within 0 (place_behind place (take (suc further) (byte ∷ rest))) (drop (suc further) (byte ∷ rest))))
+    ∙ sym (with_more tokens (tokens_of (piece_at byte rest) (take (suc further) (byte ∷ rest)) place) (lexed_within 0 (position_behind place (take (suc further) (byte ∷ rest))) (drop (suc further) (byte ∷ rest))))
 
 -- the piece at the front of a text joins the tokens, and the rest of the text is left
-pub one_further : (tokens : List Token) (place : Pos) (text : List ℕ) (further : ℕ) → 1 ≤ length text → further_of (piece_at (get_or text 0 0) (drop 1 text)) ≡ Some further → with_tokens tokens (lexed_within 0 place text) ≡ with_tokens (tokens ++ tokens_of (piece_at (get_or text 0 0) (drop 1 text)) (take (further + 1) text) place) (lexed_within 0 (place_behind place (take (further + 1) text)) (drop (further + 1) text))
+pub one_further : (tokens : List Token) (place : Pos) (text : List ℕ) (further : ℕ) → 1 ≤ length text → further_of (piece_at (get_or text 0 0) (drop 1 text)) ≡ Some further → with_tokens tokens (lexed_within 0 place text) ≡ with_tokens (tokens ++ tokens_of (piece_at (get_or text 0 0) (drop 1 text)) (take (further + 1) text) place) (lexed_within 0 (position_behind place (take (further + 1) text)) (drop (further + 1) text))
 one_further tokens place [] further h e = absurd (omega arith)
 one_further tokens place (byte ∷ rest) further h e = rw (add-one further) (further_on tokens place byte rest further e)
 
@@ -69,7 +69,7 @@ pub same_on : (tokens now : List Token) (place next : Pos) (text taken left : Li
     → taken ≡ take (further + 1) text
     → left ≡ drop (further + 1) text
     → now ≡ tokens ++ tokens_of piece taken place
-    → next ≡ place_behind place taken
+    → next ≡ position_behind place taken
     → with_tokens now (lexed_within 0 next left) ≡ with_tokens tokens (lexed_within 0 place text)
 same_on tokens now place next text taken left piece further h p f t l n b =
     let o = others_are text in

@@ -3,8 +3,8 @@ use Rattle.std.specs.Prelude.{◌≡◌, ℕ, ◌==◌, ◌&&◌, ◌||◌, not,
 use Rattle.std.specs.Char.{is_ascii_alphabetic}
 use Rattle.std.specs.List.{list_all, list_any}
 use Rattle.std.specs.Str.{bytes_eq}
-use Rattle.larch_base.specs.Position.{advance, place_behind}
-use Rattle.larch_base.specs.Word.{is_word_lem}
+use Rattle.larch_base.specs.Position.{advance, position_behind}
+use Rattle.larch_base.specs.Word.{is_word}
 use Rattle.larch_base.specs.declared.position.Pos.{Pos}
 use Rattle.larch_lexer.specs.TokenList.{TokenList}
 use Rattle.larch_lexer.specs.declared.refusal.LexRefusal.{LexRefusal}
@@ -60,7 +60,7 @@ is_punctuation_mark _ = false
 
 -- the table: the bytes are a token of a kind, where some bytes stand behind them
 abbrev pub has_form : Kind → List ℕ → List ℕ → Bool
-has_form Word bytes behind = is_word_lem bytes
+has_form Word bytes behind = is_word bytes
 has_form Marker bytes behind = bytes_eq bytes (codes "__")
 has_form Backslash bytes behind = is_backslash_word bytes
 has_form Connective bytes behind = bytes_eq bytes (47 ∷ 92 ∷ []) || bytes_eq bytes (92 ∷ 47 ∷ [])
@@ -99,6 +99,6 @@ with_tokens tokens (Err refusal) = Err refusal
 pub data Lexes : Pos → List ℕ → LexAnswer → Type 0 where
   at_end : (place : Pos) → Lexes place [] (Ok (record { tokens = []; end = place }))
   skips_blank : {place : Pos} {byte : ℕ} {rest : List ℕ} {answer : LexAnswer} → IsTrue (is_blank byte) → Lexes (advance place byte) rest answer → Lexes place (byte ∷ rest) answer
-  skips_comment : {place : Pos} {answer : LexAnswer} (words rest : List ℕ) → All (λ byte. byte ≢ 10) words → EndsLine rest → Lexes (place_behind place (37 ∷ words)) rest answer → Lexes place (37 ∷ (words ++ rest)) answer
-  takes_token : {place : Pos} {answer : LexAnswer} (kind : Kind) (front behind : List ℕ) → Longest kind front behind → Lexes (place_behind place front) behind answer → Lexes place (front ++ behind) (with_tokens (record { kind = kind; text = front; pos = place } ∷ []) answer)
+  skips_comment : {place : Pos} {answer : LexAnswer} (words rest : List ℕ) → All (λ byte. byte ≢ 10) words → EndsLine rest → Lexes (position_behind place (37 ∷ words)) rest answer → Lexes place (37 ∷ (words ++ rest)) answer
+  takes_token : {place : Pos} {answer : LexAnswer} (kind : Kind) (front behind : List ℕ) → Longest kind front behind → Lexes (position_behind place front) behind answer → Lexes place (front ++ behind) (with_tokens (record { kind = kind; text = front; pos = place } ∷ []) answer)
   no_token : (place : Pos) (byte : ℕ) (rest : List ℕ) → is_blank byte ≡ false → byte ≢ 37 → BeginsNoToken (byte ∷ rest) → Lexes place (byte ∷ rest) (Err place)

@@ -1,5 +1,5 @@
 ghost use Rattle.std.specs.Prelude.{◌≡◌, List, ℕ, All, Ok};
-ghost use Rattle.larch_base.specs.Position.{start_of_text, place_behind};
+ghost use Rattle.larch_base.specs.Position.{start_of_text, position_behind};
 ghost use Rattle.larch_lexer.specs.Lexing.{lexed};
 ghost use Rattle.larch_lexer.specs.Order.{IsSliceOf, Rising};
 ghost use Rattle.larch_lexer.specs.TokenList.{TokenList};
@@ -15,5 +15,5 @@ pub fn one_lexing()
 pub fn tokens_in_order()
     ensures slices { (text : List ℕ) (all : TokenList) → Lexes start_of_text text (Ok all) → All (IsSliceOf text) all.tokens }
     ensures rising { (text : List ℕ) (all : TokenList) → Lexes start_of_text text (Ok all) → Rising all.tokens }
-    ensures end { (text : List ℕ) (all : TokenList) → Lexes start_of_text text (Ok all) → all.end ≡ place_behind start_of_text text }
+    ensures end { (text : List ℕ) (all : TokenList) → Lexes start_of_text text (Ok all) → all.end ≡ position_behind start_of_text text }
 {}

@@ -1,5 +1,5 @@
 ghost use Rattle.std.specs.Prelude.{◌≡◌, ◌≤◌, ◌+◌, ◌<◌, ◌^◌, length, ◌++◌, IfErr, IfOk, OnOk, Ok, Err};
-ghost use Rattle.larch_base.specs.Position.{start_of_text, place_behind};
+ghost use Rattle.larch_base.specs.Position.{start_of_text, position_behind};
 ghost use Rattle.larch_base.specs.declared.limits.TheConstants.{MAX_FILE_BYTES};
 ghost use Rattle.larch_lexer.specs.Lexing.{lexed, tokens_of};
 ghost use Rattle.larch_lexer.specs.TokenTable.{IfLex, Lexes};
@@ -57,7 +57,7 @@ fn push_lexeme(
 fn pos_behind(pos: Pos, bytes: &[u8]) -> Pos
     requires line { pos.line + length bytes.now < 2 ^ 32 }
     requires column { pos.column + length bytes.now < 2 ^ 32 }
-    ensures { result ≡ place_behind pos bytes.now }
+    ensures { result ≡ position_behind pos bytes.now }
 {
     let mut place = pos;
     for byte in bytes {

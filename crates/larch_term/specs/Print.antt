@@ -1,7 +1,7 @@
 -- Terms, statements and operators as texts.
 use Rattle.std.specs.Prelude.{ℕ, ◌==◌, ◌&&◌, ◌||◌, cond, Bool, true, false, List, [], ◌∷◌, ◌++◌, drop, length, codes, bytes_eq}
 use Rattle.std.specs.List.{join_by}
-use Rattle.larch_base.specs.Word.{is_word_lem}
+use Rattle.larch_base.specs.Word.{is_word}
 use Rattle.larch_term.specs.Operator.{OperatorName, PlainOperator, plain, boxed}
 use Rattle.larch_term.specs.Tree.{Tree, Forest, var, app, none, more}
 use Rattle.larch_term.specs.Truth.{bool_sort}
@@ -32,7 +32,7 @@ begins_with_bracket (byte ∷ bytes) = opens_bracket byte
 -- a variable, a word and a name that begins with a bracket need no parentheses as arguments
 abbrev pub stands_alone : Tree → Bool
 stands_alone (var n s) = true
-stands_alone (app f ts) = is_word_lem (name_bytes f.name) || begins_with_bracket (name_bytes f.name)
+stands_alone (app f ts) = is_word (name_bytes f.name) || begins_with_bracket (name_bytes f.name)
 
 -- an argument in a marker's place: as it is between brackets and where it stands alone, else in parentheses
 abbrev pub placed : Bool → Piece → List ℕ
@@ -69,7 +69,7 @@ argument_list (piece ∷ pieces) = codes "(" ++ join_by (λ p. p.text) (codes ",
 
 -- a word stands before its arguments, another name round them
 abbrev pub printed_application : List ℕ → List Piece → List ℕ
-printed_application name pieces = cond (is_word_lem name) (name ++ argument_list pieces) (filled false name pieces)
+printed_application name pieces = cond (is_word name) (name ++ argument_list pieces) (filled false name pieces)
 
 abbrev mutual
   -- the text of a term

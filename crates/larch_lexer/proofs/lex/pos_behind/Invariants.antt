@@ -1,11 +1,11 @@
 use Rattle.std.proofs.Common.{◌≡◌, ◌≤◌, ◌+◌, drop}
-use Rattle.larch_base.specs.Position.{place_behind}
+use Rattle.larch_base.specs.Position.{position_behind}
 use Rattle.larch_lexer.proofs.lex.pos_behind.Given as goal
 
 -- the bytes that are left lead to the same place, and each byte moved a line or a column at most
 abbrev pub invariant-loop-byte : goal.invariant-loop-byte
 invariant-loop-byte l = record {
-  behind : place_behind l.place (drop l.byte-index l.bytes) ≡ place_behind l.fn.pos l.bytes;
+  behind : position_behind l.place (drop l.byte-index l.bytes) ≡ position_behind l.fn.pos l.bytes;
   line : l.place.line ≤ l.fn.pos.line + l.byte-index;
   column : l.place.column ≤ l.fn.pos.column + l.byte-index;
 }

@@ -1,0 +1,4 @@
+pub mod Bools
+pub mod Lists
+pub mod Members
+pub mod Options
