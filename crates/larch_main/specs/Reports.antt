@@ -11,9 +11,9 @@ use Rattle.larch_syntax.specs.Reading.{trait_of}
 use Rattle.larch_raw.specs.declared.equation.RawTrait.{RawTrait}
 use Rattle.larch_syntax.specs.declared.refusal.SyntaxRefusal.{SyntaxRefusal}
 use Rattle.larch_syntax.specs.declared.refusal.SyntaxRefusal.TheVariants as syntax_
-use Rattle.larch_traits.specs.Declarations.{Fault}
-use Rattle.larch_traits.specs.Presentation.{presentation_of}
-use Rattle.larch_traits.specs.declared.presentation.Presentation.{Presentation}
+use Rattle.larch_items.specs.Declarations.{Fault}
+use Rattle.larch_items.specs.Presentation.{presentation_of}
+use Rattle.larch_items.specs.declared.presentation.Presentation.{Presentation}
 use Rattle.larch_main.specs.declared.check.Verdict.{Verdict}
 use Rattle.larch_main.specs.declared.check.Verdict.TheVariants.{Right, Wrong}
 use Rattle.larch_main.specs.FileTable.{Table}

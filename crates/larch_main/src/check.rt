@@ -1,12 +1,12 @@
 ghost use Rattle.std.specs.Prelude.{◌≡◌, ◌≤◌, length, IfOk};
 ghost use Rattle.larch_syntax.specs.Reading.{trait_of};
 ghost use Rattle.larch_main.specs.Reports.{verdict_of, name_verdict, presentation_verdict, trait_verdict};
-ghost use Rattle.larch_traits.specs.Presentation.{presentation_of};
+ghost use Rattle.larch_items.specs.Presentation.{presentation_of};
 
 use larch_base::{Code, Memory, Pos};
 use larch_lexer::{LexRefusal, Tokens, lex_lsl};
 use larch_syntax::{RawTrait, SyntaxRefusal, read_trait};
-use larch_traits::{TraitRefusal, present};
+use larch_items::{TraitRefusal, present};
 use std::alloc::Global;
 
 /// What is to be said of a trait file.
