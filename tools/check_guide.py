@@ -2,7 +2,8 @@
 """Runs the examples of docs/TRAITS.md against the built program: python3 tools/check_guide.py [PROGRAM]
 
 Each block marked `lsl` is a file T.lsl; the line below it is what the report says: `right`, or `L:C CODE`. Two files
-that are too long to print are made here. Ends with 1 where an answer is another one, or where no example is found."""
+that are too long to print are made here. Each code of the program has exactly one part `### CODE`, and each such part
+is of a code. Ends with 1 where an answer is another one, or a code lacks its part, or no example is found."""
 import pathlib
 import re
 import subprocess
@@ -23,6 +24,14 @@ def long_examples():
     yield head + "a" + " = a" * 2500 + "\n", "3:10005 SIZE"
 
 
+def without_part(text):
+    """The codes of the program that have no part or several, and the parts that are of no code."""
+    codes = re.findall(r'Code::\w+ => b?"([A-Z-]+)"', (TOP / "crates/larch_base/src/code.rt").read_text())
+    parts = re.findall(r"^### ([A-Z-]+)$", text, re.M)
+    wrong = [code for code in codes if parts.count(code) != 1] + [part for part in parts if part not in codes]
+    return wrong if codes else ["no code found in crates/larch_base/src/code.rt"]
+
+
 def said(program, trait):
     """What a report says of T.lsl."""
     data = trait.encode()
@@ -34,8 +43,12 @@ def said(program, trait):
 
 def main():
     program = sys.argv[1] if len(sys.argv) > 1 else str(TOP / "crates/larch/out/larch")
-    pairs = examples((TOP / "docs/TRAITS.md").read_text()) + list(long_examples())
+    guide = (TOP / "docs/TRAITS.md").read_text()
+    pairs = examples(guide) + list(long_examples())
     wrong = 0
+    for code in without_part(guide):
+        wrong += 1
+        print(f"not exactly one part in docs/TRAITS.md: {code}")
     for trait, expected in pairs:
         answer = said(program, trait)
         if answer != expected:
