@@ -1,39 +1,19 @@
 -- The tests of operators, terms and statements tell exactly what is equal.
-use Rattle.std.proofs.Common.{◌≡◌, ℕ, List, Bool, false, ◌&&◌, ◌==◌, bytes_eq, IsTrue, ◌↔◌, refl, ap, ap₂}
+use Rattle.std.proofs.Common.{◌≡◌, List, Bool, false, ◌&&◌, bytes_eq, IsTrue, ◌↔◌, refl, ap₂}
 use Rattle.std.specs.Bool.{Decides}
-use Rattle.std.proofs.lemmas.Bool.Decides.{Decides-eqb, Decides-and, Decides-like, same_from_decides}
+use Rattle.std.proofs.lemmas.Bool.Decides.{Decides-and, Decides-like, same_from_decides}
 use Rattle.std.proofs.lemmas.Slice.Eq.{bytes_eq-Decides, slice_eq-Decides}
 use Rattle.std.specs.Cmp.Lexicographic.{pointwise}
-use Rattle.larch_term.specs.Operator.{OperatorName, PlainOperator, plain, boxed}
+use Rattle.larch_term.specs.Operator.{PlainOperator}
+pub use Rattle.larch_term.specs.OperatorKey.{name_Decides, sorts_Decides, operator_Decides}
 use Rattle.larch_term.specs.Tree.{Tree, Forest, var, app, none, more}
 use Rattle.larch_term.specs.declared.statement.Statement.{Statement}
 use Rattle.larch_term.specs.declared.statement.Statement.TheVariants.{Equation, Generated, Partitioned}
-use Rattle.larch_operators.specs.Same.{same_name, same_operator, same_tree, same_forest, same_statement}
+use Rattle.larch_operators.specs.Same.{same_operator, same_tree, same_forest, same_statement}
 
 -- a test that is never passed
 never : {R : Type 0} → (R → ⊥) → Decides false R
 never f = (λ e. cc, λ r. absurd (f r))
-
-pub name_Decides : (n m : OperatorName) → Decides (same_name n m) (n ≡ m)
-name_Decides (plain n) (plain m) = Decides-like (bytes_eq n m) (ap plain) (λ e. cc) (bytes_eq-Decides n m)
-name_Decides (plain n) (boxed c l) = never (λ e. cc)
-name_Decides (boxed b k) (plain m) = never (λ e. cc)
-name_Decides (boxed b k) (boxed c l) =
-    Decides-like ((b == c) && (k == l)) (λ h. ap₂ boxed h.0 h.1) (λ e. (cc, cc)) (Decides-and (b == c) (k == l) (Decides-eqb b c) (Decides-eqb k l))
-
-pub sorts_Decides : (ss zs : List (List ℕ)) → Decides (pointwise bytes_eq ss zs) (ss ≡ zs)
-sorts_Decides ss zs = slice_eq-Decides bytes_eq-Decides ss zs (pointwise bytes_eq ss zs) refl
-
-same_record : (f g : PlainOperator) → f.name ≡ g.name → f.domain ≡ g.domain → f.range ≡ g.range → f ≡ g
-same_record f g n d r = λ i. record { name = n i; domain = d i; range = r i }
-
-pub operator_Decides : (f g : PlainOperator) → Decides (same_operator f g) (f ≡ g)
-unfolding same_operator
-operator_Decides f g =
-    Decides-like (same_name f.name g.name && (pointwise bytes_eq f.domain g.domain && bytes_eq f.range g.range))
-    (λ h. same_record f g h.0 h.1.0 h.1.1) (λ e. (ap (λ o. o.name) e, (ap (λ o. o.domain) e, ap (λ o. o.range) e)))
-    (Decides-and (same_name f.name g.name) (pointwise bytes_eq f.domain g.domain && bytes_eq f.range g.range) (name_Decides f.name g.name)
-    (Decides-and (pointwise bytes_eq f.domain g.domain) (bytes_eq f.range g.range) (sorts_Decides f.domain g.domain) (bytes_eq-Decides f.range g.range)))
 
 mutual
   unfolding same_tree same_forest

@@ -1,21 +1,10 @@
 -- Tests of operators, terms and statements for equality.
-use Rattle.std.specs.Prelude.{◌==◌, ◌&&◌, Bool, true, false, bytes_eq}
+use Rattle.std.specs.Prelude.{◌&&◌, Bool, true, false, bytes_eq}
 use Rattle.std.specs.Cmp.Lexicographic.{pointwise}
-use Rattle.larch_term.specs.Operator.{OperatorName, PlainOperator, plain, boxed}
+pub use Rattle.larch_term.specs.OperatorKey.{same_name, same_operator}
 use Rattle.larch_term.specs.Tree.{Tree, Forest, var, app, none, more}
 use Rattle.larch_term.specs.declared.statement.Statement.{Statement}
 use Rattle.larch_term.specs.declared.statement.Statement.TheVariants.{Equation, Generated, Partitioned}
-
--- whether two names are equal
-abbrev pub same_name : OperatorName → OperatorName → Bool
-same_name (plain n) (plain m) = bytes_eq n m
-same_name (plain n) (boxed c l) = false
-same_name (boxed b k) (plain m) = false
-same_name (boxed b k) (boxed c l) = (b == c) && (k == l)
-
--- whether two operators have one name, one domain and one range
-unfoldable pub same_operator : PlainOperator → PlainOperator → Bool
-same_operator f g = same_name f.name g.name && (pointwise bytes_eq f.domain g.domain && bytes_eq f.range g.range)
 
 unfoldable mutual
   -- whether two terms are equal

@@ -1,6 +1,7 @@
 pub mod BuiltIn
 pub mod Occurrence
 pub mod Operator
+pub mod OperatorKey
 pub mod OperatorView
 pub mod Place
 pub mod Print

@@ -11,6 +11,7 @@ mod counting;
 mod equality;
 pub mod laws;
 mod operator;
+mod operator_key;
 mod place;
 mod print;
 mod replacing;
