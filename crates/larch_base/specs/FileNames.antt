@@ -2,6 +2,7 @@
 use Rattle.std.specs.Prelude.{ℕ, ◌==◌, ◌&&◌, ◌||◌, nat_lt, nat_le, Bool, List, length, codes}
 use Rattle.std.specs.Char.{is_ascii_alphanumeric}
 use Rattle.std.specs.Str.{bytes_eq}
+use Rattle.larch_base.specs.declared.limits.TheConstants.{MAX_STEM_BYTES}
 use Rattle.std.specs.List.{list_all, before_first, after_first}
 
 -- letters, digits and _ stand in a stem
@@ -10,7 +11,7 @@ is_stem_byte byte = is_ascii_alphanumeric byte || (byte == 95)
 
 -- 1 to 64 of them
 abbrev pub is_stem : List ℕ → Bool
-is_stem bytes = nat_lt 0 (length bytes) && nat_le (length bytes) 64 && list_all is_stem_byte bytes
+is_stem bytes = nat_lt 0 (length bytes) && nat_le (length bytes) MAX_STEM_BYTES && list_all is_stem_byte bytes
 
 abbrev pub is_dot : ℕ → Bool
 is_dot byte = byte == 46

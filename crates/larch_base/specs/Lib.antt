@@ -1,6 +1,6 @@
 pub mod Answering
 pub mod CodeText
 pub mod FileNames
-pub mod Limits
+pub mod Labels
 pub mod Position
 pub mod Word

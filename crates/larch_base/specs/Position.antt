@@ -1,5 +1,5 @@
 -- Lines and columns of a text.
-use Rattle.std.specs.Prelude.{ℕ, ◌+◌, ◌==◌, if◌then◌else◌, List, [], ◌∷◌}
+use Rattle.std.specs.Prelude.{ℕ, ◌+◌, ◌==◌, if◌then◌else◌, List, [], ◌∷◌, ◌++◌, codes, decimal}
 use Rattle.larch_base.specs.declared.position.Pos.{Pos}
 
 -- where a text begins
@@ -16,3 +16,7 @@ advance pos byte =
 abbrev pub position_behind : Pos → List ℕ → Pos
 position_behind pos [] = pos
 position_behind pos (byte ∷ bytes) = position_behind (advance pos byte) bytes
+
+-- a position as reports write it
+abbrev pub position_text : Pos → List ℕ
+position_text pos = decimal pos.line ++ codes ":" ++ decimal pos.column

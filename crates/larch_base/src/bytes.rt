@@ -42,7 +42,7 @@ impl Bytes {
         self.bytes.as_slice()
     }
 
-    /// Puts bytes at the end. Where memory is wanting nothing changes.
+    /// Puts bytes at the end. Where memory runs out nothing changes.
     pub fn append(&mut self, more: &[u8]) -> Result<(), Memory>
         ensures ok { OnOk result (self.new ≡ self.old ++ more.now) }
         ensures err { OnErr result (self.new ≡ self.old) }

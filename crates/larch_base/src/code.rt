@@ -1,5 +1,7 @@
 ghost use Rattle.std.specs.Prelude.{◌≡◌};
 
+use std::fmt;
+
 /// Why a trait, a script or one of its commands is refused.
 #[derive(Clone, Copy, Debug, PartialEq, Eq)]
 pub enum Code {
@@ -119,5 +121,16 @@ impl Code {
             Code::UnknownDuty => "UNKNOWN-DUTY",
             Code::DutyTwice => "DUTY-TWICE",
         }
+    }
+}
+
+impl fmt::Display for Code {
+    ghost use Rattle.std.specs.Prelude.{Some};
+    ghost use Rattle.larch_base.specs.CodeText.{code_text};
+
+    ghost output = { λ code. Some (code_text code) };
+
+    fn fmt<W: fmt::Write>(&self, f: &mut fmt::Formatter<W>) -> fmt::Result {
+        f.write_str(self.text())
     }
 }

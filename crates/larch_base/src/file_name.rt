@@ -6,17 +6,15 @@ ghost use Rattle.std.specs.Cmp.Rules.{comparing};
 ghost use Rattle.std.specs.List.{list_all, position_or_len};
 ghost use Rattle.std.specs.Ordering.{nat_cmp, as_partial_cmp};
 ghost use Rattle.larch_base.specs.FileNames.{is_file_name, is_trait_file, is_dot, is_stem, is_stem_byte, stem_of, ending_of};
-ghost use Rattle.larch_base.specs.declared.file_name.NameRefusal.TheVariants.{Memory as wants_memory};
+ghost use Rattle.larch_base.specs.declared.file_name.NameRefusal.TheVariants.{Memory as out_of_memory};
 
+use crate::limits::MAX_STEM_BYTES;
 use crate::memory::Memory;
 use crate::name::Name;
 use std::alloc::Global;
 use std::cmp::Ordering;
 use std::marker::Model;
 use thiserror::Error;
-
-/// The most bytes that a stem has.
-const MAX_STEM_BYTES: usize = 64;
 
 /// The name of a trait file or a script: 1 to 64 letters, digits and `_`, then `.lsl` or `.lp`. Contracts see
 /// it as its bytes.
@@ -31,13 +29,13 @@ pub enum NameRefusal {
     /// They have another form.
     #[error("not a file name")]
     NotAName,
-    /// Want of memory.
+    /// Out of memory.
     #[error("out of memory")]
     Memory,
 }
 
 impl From<Memory> for NameRefusal {
-    ghost from_gives = { λ _ refusal. refusal ≡ wants_memory };
+    ghost from_gives = { λ _ refusal. refusal ≡ out_of_memory };
 
     fn from(_memory: Memory) -> NameRefusal {
         NameRefusal::Memory
@@ -133,7 +131,7 @@ impl Ord for FileName {
 fn is_stem(bytes: &[u8]) -> bool
     ensures { result ≡ is_stem bytes.now }
 {
-    0 < bytes.len() && bytes.len() <= MAX_STEM_BYTES && all_stem_bytes(bytes)
+    0 < bytes.len() && bytes.len() <= MAX_STEM_BYTES as usize && all_stem_bytes(bytes)
 }
 
 fn all_stem_bytes(bytes: &[u8]) -> bool

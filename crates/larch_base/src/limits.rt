@@ -3,19 +3,22 @@
 /// Bytes that one session takes from its source.
 pub const MAX_SOURCE_BYTES: u64 = 67_108_864;
 
+/// Bytes of the stem of a file name.
+pub const MAX_STEM_BYTES: u32 = 64;
+
 /// Bytes of one file.
 pub const MAX_FILE_BYTES: u32 = 1_048_576;
 
 /// Files of a session.
 pub const MAX_FILES: u32 = 256;
 
-/// Bytes of a session line, its byte 10 left out.
+/// Bytes of a session line, its newline left out.
 pub const MAX_LINE_BYTES: u32 = 200;
 
 /// Head tokens of one equation.
 pub const MAX_HEAD_TOKENS: u32 = 5_000;
 
-/// Constructs that are open at one place of a text.
+/// Constructs that are open at one position of a text.
 pub const MAX_NESTING: u32 = 200;
 
 /// Operators of a flat trait.

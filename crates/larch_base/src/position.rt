@@ -1,6 +1,8 @@
 ghost use Rattle.std.specs.Prelude.{◌≡◌, ◌≢◌, ◌+◌, ◌^◌, ◌<◌};
 ghost use Rattle.larch_base.specs.Position.{start_of_text, advance};
 
+use std::fmt;
+
 /// A position in a text: a line and a column, both from 1, counted in bytes. A line ends with a newline.
 #[derive(Clone, Copy, Debug, PartialEq, Eq)]
 pub struct Pos {
@@ -34,5 +36,18 @@ impl Pos {
                 column: self.column + 1,
             }
         }
+    }
+}
+
+impl fmt::Display for Pos {
+    ghost use Rattle.std.specs.Prelude.{Some};
+    ghost use Rattle.larch_base.specs.Position.{position_text};
+
+    ghost output = { λ pos. Some (position_text pos) };
+
+    fn fmt<W: fmt::Write>(&self, f: &mut fmt::Formatter<W>) -> fmt::Result {
+        let line = self.line;
+        let column = self.column;
+        write!(f, "{line}:{column}")
     }
 }

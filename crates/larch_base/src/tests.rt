@@ -40,3 +40,19 @@ fn gathers(rt: HostRuntime) -> Result<(), Fail> {
     assert_eq!(rt; texts.as_slice().len(), 1);
     Ok(())
 }
+
+#[test]
+fn prints(rt: HostRuntime) -> Result<(), Fail> {
+    let fault = Fault {
+        pos: Pos { line: 3, column: 7 },
+        code: Code::NoReading,
+    };
+    let Fault { pos, code } = fault;
+    assert_eq!(rt;
+        format!(in rt.alloc(); "{pos} {code}")?.as_str(),
+        "3:7 NO-READING"
+    );
+    let label = Label::Imply(12);
+    assert_eq!(rt; label.to_string(rt.alloc())?.as_str(), "imply.12");
+    Ok(())
+}
