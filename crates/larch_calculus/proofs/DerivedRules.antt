@@ -1,8 +1,10 @@
 -- Rules that follow.
-use Rattle.std.proofs.Common.{◌≡◌, ℕ, Bool, true, false, not, ◌&&◌, ◌||◌, cond, List, [], ◌∷◌, ◌++◌, codes, Some, All, Contains, refl, sym, ap, subst, arith, inl, inr}
-use Rattle.std.proofs.lemmas.List.Elements.{All-nil, All-cons, All-weaker, All-contains, Contains-append_left, Contains-append_right, Contains-append_cases}
+use Rattle.std.proofs.Common.{◌≡◌, ℕ, Bool, true, false, not, ◌&&◌, ◌||◌, cond, List, [], ◌∷◌, ◌++◌, codes, Some, All, Contains, refl, sym, ap, subst, inl, inr}
+use Rattle.std.proofs.lemmas.List.Elements.{All-nil, All-cons, All-weaker, All-contains}
 use Rattle.std.proofs.lemmas.Slice.Eq.{bytes_eq-Decides}
+use Rattle.larch_base.proofs.Members.{contains_here, contains_later, contains_left, contains_right, contains_either}
 use Rattle.larch_term.specs.Operator.{PlainOperator}
+use Rattle.larch_term.specs.BuiltIn.{built_in}
 use Rattle.larch_term.specs.Truth.{bool_sort}
 use Rattle.larch_term.specs.Tree.{Tree, var}
 use Rattle.larch_term.specs.Sorts.{sort_of, WellSorted, IsOver, IsKnown}
@@ -10,17 +12,19 @@ use Rattle.larch_term.specs.Place.{at, put}
 use Rattle.larch_term.specs.Occurrence.{occurrences}
 use Rattle.larch_term.specs.Statement.{IsStatementOver, statement_zero}
 use Rattle.larch_term.specs.Substitution.{image, Fits}
+use Rattle.larch_term.specs.declared.built_in.BuiltIn.TheVariants.{Implies}
 use Rattle.larch_term.specs.declared.substitution.Entry.{Entry}
 use Rattle.larch_term.specs.declared.statement.Statement.{Statement}
 use Rattle.larch_term.specs.declared.statement.Statement.TheVariants.{Equation}
 use Rattle.larch_term.specs.declared.statement.Theory.{Theory}
 use Rattle.larch_calculus.specs.Formula.{truth, falsity, conjunction, implication, choice}
-use Rattle.larch_calculus.specs.Identity.{Proposition, letter, always, both, implied, propositional, chosen_first, chosen_second}
+use Rattle.larch_calculus.specs.Identity.{always, both, implied, propositional, chosen_first, chosen_second}
 use Rattle.larch_calculus.specs.Theories.{IsTermOver, IsWellSortedTheory, IsIncluded, IsPrefix, with_statements}
+use Rattle.larch_calculus.specs.Letters.{two, x_letter, y_letter}
 use Rattle.larch_calculus.specs.Derivable.{Derivable, axiom_, identity, reflexive, symmetric, replace, instance, weaken, cases}
 use Rattle.larch_calculus.proofs.Renamed.{statement_itself}
-use Rattle.larch_calculus.proofs.Sorted.{truth_over, with_statements_well_sorted}
-use Rattle.larch_calculus.proofs.Translation.{falsity_over, translated}
+use Rattle.larch_calculus.proofs.Sorted.{truth_over, falsity_over, sides_over, included_with, with_statements_well_sorted}
+use Rattle.larch_calculus.proofs.Translation.{translated}
 use Rattle.larch_calculus.proofs.WellSorted.{well_sorted}
 
 pub transitive : {t : Theory} {a b c : Tree} → Derivable t (Equation a b) → Derivable t (Equation b c) → Derivable t (Equation a c)
@@ -34,16 +38,6 @@ replaced_left p h d e = symmetric (replace p (symmetric d) e h refl)
 
 pub replaced_inside : {t : Theory} {a u v : Tree} (p : List ℕ) → IsTermOver t.operators a → at a p ≡ Some u → Derivable t (Equation u v) → Derivable t (Equation a (put a p v))
 replaced_inside p w h e = replace p (reflexive w) e h refl
-
--- terms for x and for y, both of one sort
-abbrev pub two : List ℕ → Tree → Tree → List Entry
-two s a b = record { name = codes "x"; sort = s; term = a } ∷ record { name = codes "y"; sort = s; term = b } ∷ []
-
-abbrev pub x_of : List ℕ → Tree
-x_of s = var (codes "x") s
-
-abbrev pub y_of : List ℕ → Tree
-y_of s = var (codes "y") s
 
 pub image_x : (s : List ℕ) (a b : Tree) → image (two s a b) (codes "x") s ≡ a
 image_x s a b = ap (λ c. cond c a (cond false b (var (codes "x") s))) ((bytes_eq-Decides s s).1 refl)
@@ -93,12 +87,6 @@ both_ways true false = refl
 both_ways false true = refl
 both_ways false false = refl
 
-abbrev pub x_letter : Proposition
-x_letter = letter (codes "x")
-
-abbrev pub y_letter : Proposition
-y_letter = letter (codes "y")
-
 -- a /\ true == a
 pub with_truth : {t : Theory} (a : Tree) → IsTermOver t.operators a → sort_of a ≡ bool_sort → Derivable t (Equation (conjunction a truth) a)
 with_truth {t} a wa ea =
@@ -113,37 +101,33 @@ exchanged {t} a b wa ea wb eb =
     (identity (propositional (both x_letter (implied x_letter y_letter)) (both y_letter (implied y_letter x_letter)) refl refl
     (λ given. both_ways (given (codes "x")) (given (codes "y"))))) refl refl
 
-sides_of : {r s t u : List ℕ} → r ∷ s ∷ [] ≡ t ∷ u ∷ [] → (r ≡ t) × (s ≡ u)
-sides_of e = (cc, cc)
-
 -- formulas that imply each other are equal
 pub equal_by_implications : {t : Theory} {a b : Tree} → Derivable t (Equation (implication a b) truth) → Derivable t (Equation (implication b a) truth) → Derivable t (Equation a b)
 equal_by_implications {t} {a} {b} d e =
-    let w = well_sorted d in
-    let sorts = sides_of w.0.0.0 in
-    let wa : IsTermOver t.operators a = (w.0.0.1.0, w.0.1.1.0) in
-    let wb : IsTermOver t.operators b = (w.0.0.1.1.0, w.0.1.1.1.0) in
+    let sides = sides_over t.operators (built_in Implies bool_sort) bool_sort bool_sort a b refl (well_sorted d).0 in
+    let wa = sides.0.0 in
+    let wb = sides.1.0 in
     let middle : Derivable t (Equation (conjunction a truth) (conjunction b (implication b a))) =
-    symmetric (replace (2 ∷ []) (symmetric (exchanged a b wa sorts.0 wb sorts.1)) d refl refl) in
-    transitive (symmetric (with_truth a wa sorts.0)) (transitive (replace (2 ∷ []) middle e refl refl) (with_truth b wb sorts.1))
+    symmetric (replace (2 ∷ []) (symmetric (exchanged a b wa sides.0.1 wb sides.1.1)) d refl refl) in
+    transitive (symmetric (with_truth a wa sides.0.1)) (transitive (replace (2 ∷ []) middle e refl refl) (with_truth b wb sides.1.1))
+
+-- what a theory states is derivable from it
+pub stated : (t : Theory) (s : Statement) → IsWellSortedTheory t → Contains t.statements s → Derivable t s
+stated t s w c =
+    axiom_ (contains_later statement_zero s t.statements c) (All-contains (IsStatementOver t.operators) t.statements s w c)
 
 -- what is supposed is derivable
 pub supposed : (t : Theory) (h : Statement) → IsStatementOver t.operators h → Derivable (with_statements t (h ∷ [])) h
-supposed t h w = axiom_ (Contains-append_right (statement_zero ∷ []) (t.statements ++ h ∷ []) h (Contains-append_right t.statements (h ∷ []) h (here h))) w
-  where
-    here : (h : Statement) → Contains (h ∷ []) h
-    here h = (0, omega arith, refl)
-
-pub supposing_is_more : (t : Theory) (h : Statement) → IsIncluded t (with_statements t (h ∷ []))
-supposing_is_more t h = record { operators = λ f c. c; statements = λ s c. Contains-append_left t.statements (h ∷ []) s c }
+supposed t h w =
+    axiom_ (contains_later statement_zero h (t.statements ++ h ∷ []) (contains_right t.statements (h ∷ []) h (contains_here h []))) w
 
 supposing_first : (t : Theory) (h k : Statement) → IsIncluded (with_statements t (k ∷ [])) (with_statements (with_statements t (h ∷ [])) (k ∷ []))
 supposing_first t h k =
     record {
       operators = λ f c. c;
-      statements = λ s c. elim (Contains-append_cases t.statements (k ∷ []) s c) [
-        | inl a ↦ Contains-append_left (t.statements ++ h ∷ []) (k ∷ []) s (Contains-append_left t.statements (h ∷ []) s a)
-        | inr b ↦ Contains-append_right (t.statements ++ h ∷ []) (k ∷ []) s b
+      statements = λ s c. elim (contains_either t.statements (k ∷ []) s c) [
+        | inl a ↦ contains_left (t.statements ++ h ∷ []) (k ∷ []) s (contains_left t.statements (h ∷ []) s a)
+        | inr b ↦ contains_right (t.statements ++ h ∷ []) (k ∷ []) s b
       ];
     }
 
@@ -158,9 +142,9 @@ pub equal_by_suppositions : {t : Theory} {a b : Tree} → IsWellSortedTheory t
 equal_by_suppositions {t} {a} {b} w wa sa oa wb sb ob d e =
     let fs = t.operators in
     let a_true : IsStatementOver fs (Equation a truth) = (wa, (truth_over fs).0, sa) in
-    let a_false : IsStatementOver fs (Equation a falsity) = (wa, falsity_over fs, sa) in
+    let a_false : IsStatementOver fs (Equation a falsity) = (wa, (falsity_over fs).0, sa) in
     let b_true : IsStatementOver fs (Equation b truth) = (wb, (truth_over fs).0, sb) in
-    let b_false : IsStatementOver fs (Equation b falsity) = (wb, falsity_over fs, sb) in
+    let b_false : IsStatementOver fs (Equation b falsity) = (wb, (falsity_over fs).0, sb) in
     let t_false = with_statements t (Equation a falsity ∷ []) in
     let wt = supposing_well_sorted t (Equation a falsity) w a_false in
     cases a wa sa oa
@@ -168,14 +152,14 @@ equal_by_suppositions {t} {a} {b} w wa sa oa wb sb ob d e =
     (cases b wb sb ob
     (transitive (weaken (supposing_well_sorted t (Equation b truth) w b_true) (supposing_first t (Equation a falsity) (Equation b truth)) e)
     (symmetric (supposed t_false (Equation b truth) b_true)))
-    (transitive (weaken wt (supposing_is_more t_false (Equation b falsity)) (supposed t (Equation a falsity) a_false))
+    (transitive (weaken wt (included_with t_false (Equation b falsity ∷ [])) (supposed t (Equation a falsity) a_false))
     (symmetric (supposed t_false (Equation b falsity) b_false))))
 
 pub prefix_included : (t u : Theory) → IsPrefix t u → IsIncluded t u
 prefix_included t u p =
     record {
-      operators = λ f c. subst (λ fs. Contains fs f) (sym p.0.1) (Contains-append_left t.operators p.0.0 f c);
-      statements = λ s c. subst (λ ss. Contains ss s) (sym p.1.1) (Contains-append_left t.statements p.1.0 s c);
+      operators = λ f c. subst (λ fs. Contains fs f) (sym p.0.1) (contains_left t.operators p.0.0 f c);
+      statements = λ s c. subst (λ ss. Contains ss s) (sym p.1.1) (contains_left t.statements p.1.0 s c);
     }
 
 -- what a theory states may be derived from another one with its operators
@@ -198,7 +182,7 @@ cut_theory {t} {u} {s} wt wu fs rs d =
 pub cut_statements : {t : Theory} (ss : List Statement) {s : Statement} → IsWellSortedTheory t → All (Derivable t) ss → Derivable (with_statements t ss) s → Derivable t s
 cut_statements {t} ss w h d =
     cut_theory (with_statements_well_sorted t ss w (All-weaker (Derivable t) (IsStatementOver t.operators) (λ r e. well_sorted e) ss h)) w (λ f c. c)
-    (λ r c. elim (Contains-append_cases t.statements ss r c) [
-      | inl a ↦ axiom_ (Contains-append_right (statement_zero ∷ []) t.statements r a) (All-contains (IsStatementOver t.operators) t.statements r w a)
+    (λ r c. elim (contains_either t.statements ss r c) [
+      | inl a ↦ stated t r w a
       | inr b ↦ All-contains (Derivable t) ss r h b
     ]) d

@@ -2,6 +2,7 @@
 use Rattle.std.proofs.Common.{◌≡◌, ◌≢◌, ℕ, inl, inr, List, ◌∷◌, ◌++◌, map, Option, Some, None, option_map, option_and_then, unwrap_or, All, Contains, refl, sym, ◌∙◌, ap, subst}
 use Rattle.std.specs.List.{slice_get}
 use Rattle.std.proofs.lemmas.List.Elements.{All-map, All-weaker}
+use Rattle.larch_base.proofs.Lists.{all_from, pairs_map}
 use Rattle.larch_term.specs.Operator.{OperatorName, PlainOperator, boxed}
 use Rattle.larch_term.specs.Tree.{Tree, Forest, var, app, none, more}
 use Rattle.larch_term.specs.Sorts.{sort_of, sorts_of, WellSorted, AllWellSorted, IsOver, AllOver, IsKnown}
@@ -10,7 +11,6 @@ use Rattle.larch_term.specs.declared.statement.Theory.{Theory}
 use Rattle.larch_calculus.specs.Freed.{place_of, variable_for, freed, freed_all}
 use Rattle.larch_calculus.specs.Renaming.{renamed_operator, renamed, renamed_all, KeepsBuiltIn}
 use Rattle.larch_calculus.specs.Theories.{IsNewName, AreNew}
-use Rattle.larch_calculus.proofs.Lists.{all_from, pairs_map}
 use Rattle.larch_calculus.proofs.Names.{same_alike, not_placed, placed, place_alike, has_variable, next_box, box_is_new}
 use Rattle.larch_calculus.proofs.Renamed.{Known, Same, same_operator}
 use Rattle.larch_calculus.proofs.Sorted.{known_cases}

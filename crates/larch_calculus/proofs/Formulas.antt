@@ -1,26 +1,25 @@
 -- An equation and its formula are derivable from each other.
 use Rattle.std.proofs.Common.{◌≡◌, ℕ, ◌==◌, Bool, true, false, ◌&&◌, cond, List, [], ◌∷◌, length, codes, bytes_eq, refl, sym, ap, subst, arith}
 use Rattle.std.proofs.lemmas.Slice.Eq.{bytes_eq-Decides}
+use Rattle.larch_base.proofs.Bools.{both_true}
 use Rattle.larch_term.specs.Operator.{OperatorName, PlainOperator, plain, boxed}
 use Rattle.larch_term.specs.BuiltIn.{built_in}
 use Rattle.larch_term.specs.Truth.{bool_sort}
 use Rattle.larch_term.specs.Tree.{Tree, var, app, none, more}
 use Rattle.larch_term.specs.Sorts.{sort_of}
 use Rattle.larch_term.specs.Print.{is_truth, is_true, name_bytes}
-use Rattle.larch_term.specs.declared.built_in.BuiltIn.TheVariants.{True}
+use Rattle.larch_term.specs.declared.built_in.BuiltIn.TheVariants.{True, Iff}
 use Rattle.larch_term.specs.declared.statement.Statement.TheVariants.{Equation}
 use Rattle.larch_term.specs.declared.statement.Theory.{Theory}
 use Rattle.larch_calculus.specs.Formula.{truth, equivalence, equality, formula}
-use Rattle.larch_calculus.specs.Identity.{always, equivalent, equal, propositional, equal_itself, agree}
+use Rattle.larch_calculus.specs.Identity.{always, equivalent, equal, propositional, equal_itself, agree_itself}
+use Rattle.larch_calculus.specs.Letters.{two, x_letter, y_letter}
 use Rattle.larch_calculus.specs.Theories.{IsTermOver}
 use Rattle.larch_calculus.specs.Derivable as rule
 use Rattle.larch_calculus.specs.Derivable.{Derivable, identity, symmetric, instance}
-use Rattle.larch_calculus.proofs.DerivedRules.{transitive, replaced_left, two, image_x, two_fit, two_over, x_letter, y_letter}
+use Rattle.larch_calculus.proofs.DerivedRules.{transitive, replaced_left, image_x, two_fit, two_over}
+use Rattle.larch_calculus.proofs.Sorted.{sides_over}
 use Rattle.larch_calculus.proofs.WellSorted.{well_sorted}
-
-both_true : (p q : Bool) → p && q ≡ true → (p ≡ true) × (q ≡ true)
-both_true true q e = (refl, e)
-both_true false q e = cc
 
 no_sorts : (ss : List (List ℕ)) → (length ss == 0) ≡ true → ss ≡ []
 no_sorts [] e = refl
@@ -40,10 +39,6 @@ pub truth_is : (t : Tree) → is_truth t ≡ true → t ≡ truth
 truth_is (var n s) e = cc
 truth_is (app f none) e = ap (λ g. app g none) (is_true_one f e)
 truth_is (app f (more t ts)) e = cc
-
-agree_itself : (p : Bool) → agree p p ≡ true
-agree_itself true = refl
-agree_itself false = refl
 
 -- (a = a) == true
 equals_itself : {t : Theory} (a : Tree) → IsTermOver t.operators a → Derivable t (Equation (equality (sort_of a) a a) truth)
@@ -65,9 +60,6 @@ equal_is_equivalent : {t : Theory} (a b : Tree) → IsTermOver t.operators a →
 equal_is_equivalent {t} a b wa ea wb eb =
     instance (two bool_sort a b) (two_fit bool_sort a b wa.0 ea wb.0 eb) (two_over t.operators bool_sort a b wa.1 wb.1)
     (identity (propositional (equal x_letter y_letter) (equivalent x_letter y_letter) refl refl (λ given. refl))) refl refl
-
-sides_of : {r s t u : List ℕ} → r ∷ s ∷ [] ≡ t ∷ u ∷ [] → (r ≡ t) × (s ≡ u)
-sides_of e = (cc, cc)
 
 -- the four cases of a formula, each with what is known in it
 formula_is : (P : Tree → Type 0) (a b : Tree) → (b ≡ truth → P a) → (a ≡ truth → P b) → (sort_of a ≡ bool_sort → P (equivalence a b)) → P (equality (sort_of a) a b) → P (formula a b)
@@ -95,7 +87,6 @@ equation_follows {t} a b =
     (λ e d. subst (λ z. Derivable t (Equation a z)) (sym e) d)
     (λ e d. subst (λ z. Derivable t (Equation z b)) (sym e) (symmetric d))
     (λ e d.
-    let w = well_sorted d in
-    let sorts = sides_of w.0.0.0 in
-    rule.equal bool_sort (transitive (equal_is_equivalent a b (w.0.0.1.0, w.0.1.1.0) sorts.0 (w.0.0.1.1.0, w.0.1.1.1.0) sorts.1) d))
+    let sides = sides_over t.operators (built_in Iff bool_sort) bool_sort bool_sort a b refl (well_sorted d).0 in
+    rule.equal bool_sort (transitive (equal_is_equivalent a b sides.0.0 sides.0.1 sides.1.0 sides.1.1) d))
     (λ d. rule.equal (sort_of a) d)

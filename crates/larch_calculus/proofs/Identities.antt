@@ -11,16 +11,12 @@ use Rattle.larch_term.specs.declared.built_in.BuiltIn.TheVariants.{True, False, 
 use Rattle.larch_term.specs.declared.statement.Statement.TheVariants.{Equation}
 use Rattle.larch_calculus.specs.Formula.{truth, falsity, negation, equality, inequality, choice}
 use Rattle.larch_calculus.specs.Identity.{Proposition, letter, always, never, denied, both, either, implied, equivalent, equal, unequal, chosen, term_of, IsIdentity, propositional, equal_itself, equal_exchanged, unequal_denied, chosen_first, chosen_second, chosen_same}
-use Rattle.larch_calculus.specs.Theories.{IsTermOver}
+use Rattle.larch_calculus.specs.Theories.{IsTermOver, IsTermOf}
 
 -- a built-in operator over arguments of its domain's sorts
 built : (fs : List PlainOperator) (b : BuiltIn) (s : List ℕ) (ts : Forest) → sorts_of ts ≡ built_in_domain b s → AllWellSorted ts → AllOver fs ts
     → IsTermOver fs (app (built_in b s) ts)
 built fs b s ts e w o = ((e, w), (inr (b, (s, refl)), o))
-
--- a well sorted term of a sort
-abbrev pub IsTermOf : List PlainOperator → List ℕ → Tree → Type 0
-IsTermOf fs s t = IsTermOver fs t × (sort_of t ≡ s)
 
 pub variable_of : (fs : List PlainOperator) (n s : List ℕ) → IsTermOf fs s (var n s)
 variable_of fs n s = ((tt, tt), refl)

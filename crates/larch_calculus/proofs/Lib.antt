@@ -3,7 +3,6 @@ pub mod DerivedRules
 pub mod Extension
 pub mod Formulas
 pub mod Identities
-pub mod Lists
 pub mod Names
 pub mod Numbers
 pub mod Observed

@@ -4,11 +4,12 @@ use Rattle.std.specs.List.{slice_get, AllPairs}
 use Rattle.std.proofs.lemmas.List.Elements.{All-head, All-tail, All-contains}
 use Rattle.std.proofs.lemmas.Option.{slice_get-map}
 use Rattle.std.proofs.lemmas.Slice.Eq.{bytes_eq-Decides}
+use Rattle.larch_base.proofs.Bools.{true_or_false}
+use Rattle.larch_base.proofs.Members.{contains_cases, contains_here}
 use Rattle.larch_term.specs.Operator.{OperatorName, PlainOperator, plain, boxed}
 use Rattle.larch_term.specs.Sorts.{IsKnown}
 use Rattle.larch_term.specs.declared.variable.Variable.{Variable}
 use Rattle.larch_calculus.specs.Freed.{same_name, place_of, variable_for}
-use Rattle.larch_calculus.proofs.Lists.{true_or_false, contains_cases, contains_here}
 
 pub same_name_is : (n m : OperatorName) → same_name n m ≡ true → n ≡ m
 same_name_is (plain n) (plain m) e = ap plain ((bytes_eq-Decides n m).0 e)

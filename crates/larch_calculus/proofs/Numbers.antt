@@ -2,6 +2,7 @@
 use Rattle.std.proofs.Common.{◌≡◌, ℕ, zero, suc, inl, List, [], ◌∷◌, codes, Some, refl, subst, arith}
 use Rattle.std.specs.List.{slice_get}
 use Rattle.std.proofs.lemmas.List.Elements.{All-nil, All-cons}
+use Rattle.larch_base.proofs.Members.{contains_here, contains_later}
 use Rattle.larch_term.specs.Operator.{PlainOperator, boxed}
 use Rattle.larch_term.specs.Tree.{app, none}
 use Rattle.larch_term.specs.Sorts.{IsKnown}
@@ -12,10 +13,10 @@ use Rattle.larch_calculus.specs.Theories.{IsNewName, extended}
 use Rattle.larch_calculus.specs.Generation.{constant_terms, equation_at, induction_hypotheses}
 use Rattle.larch_calculus.specs.Derivable.{Derivable, AreArguments, axiom_, replace, instance, induct}
 use Rattle.larch_calculus.specs.Example.{number_sort, nought, successor, plus, x_number, numbers_generated, sum_with_nought, sum_with_successor, numbers, sum_from_nought}
-use Rattle.larch_calculus.proofs.Lists.{contains_here, contains_later}
 use Rattle.larch_calculus.proofs.Names.{box_is_new}
 use Rattle.larch_calculus.proofs.Sorted.{knows_more, statement_over_more}
-use Rattle.larch_calculus.proofs.DerivedRules.{two, two_fit, two_over}
+use Rattle.larch_calculus.proofs.DerivedRules.{two_fit, two_over}
+use Rattle.larch_calculus.specs.Letters.{two}
 
 has_nought : IsKnown numbers.operators nought
 has_nought = inl (contains_here nought (successor ∷ plus ∷ []))

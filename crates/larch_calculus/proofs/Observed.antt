@@ -1,15 +1,20 @@
 -- Observations are well sorted.
-use Rattle.std.proofs.Common.{◌≡◌, ℕ, suc, ◌<◌, ◌≤◌, ◌==◌, ◌⊎◌, inl, inr, Bool, true, false, cond, List, [], ◌∷◌, map, All, Contains, bytes_eq, refl, sym, ◌∙◌, subst, arith}
-use Rattle.std.proofs.lemmas.List.Elements.{All-map, Contains-append_cases}
+use Rattle.std.proofs.Common.{◌≡◌, ℕ, suc, ◌<◌, ◌≤◌, ◌==◌, ◌⊎◌, inl, inr, Bool, true, false, cond, List, [], ◌∷◌, ◌++◌, map, All, Contains, bytes_eq, refl, sym, ◌∙◌, subst, arith}
+use Rattle.std.proofs.lemmas.List.Elements.{All-map, All-contains}
 use Rattle.std.proofs.lemmas.Slice.Eq.{bytes_eq-Decides}
+use Rattle.larch_base.proofs.Bools.{true_or_false}
+use Rattle.larch_base.proofs.Members.{contains_cases, contains_here, contains_later, contains_right, contains_either, contained_in_map}
+use Rattle.larch_base.proofs.Lists.{all_from}
 use Rattle.larch_term.specs.Operator.{PlainOperator}
 use Rattle.larch_term.specs.Tree.{Tree, var}
 use Rattle.larch_term.specs.Sorts.{sort_of, sorts_of, WellSorted, AllWellSorted, IsOver, AllOver, IsKnown}
 use Rattle.larch_term.specs.Statement.{IsStatementOver}
-use Rattle.larch_term.specs.declared.statement.Statement.TheVariants.{Equation}
-use Rattle.larch_calculus.specs.Theories.{IsTermOver}
+use Rattle.larch_term.specs.declared.statement.Statement.TheVariants.{Equation, Partitioned}
+use Rattle.larch_term.specs.declared.statement.Theory.{Theory}
+use Rattle.larch_calculus.specs.Formula.{constant}
+use Rattle.larch_calculus.specs.Theories.{IsTermOver, AreConstants}
 use Rattle.larch_calculus.specs.Observation.{Observation, arguments_with, observed, observations_of, observations, places_of_sort}
-use Rattle.larch_calculus.proofs.Lists.{true_or_false, all_from, contains_cases, contains_here, contains_later, contained_in_map}
+use Rattle.larch_calculus.proofs.Sorted.{knows_more}
 
 number_is : (k p : ℕ) → (k == p) ≡ true → k ≡ p
 number_is k p e = grind arith
@@ -80,7 +85,7 @@ pub observation_is : (s : List ℕ) (os : List PlainOperator) (w : Observation) 
     → Contains os w.observer × Contains (places_of_sort s 1 w.observer.domain) w.place
 observation_is s [] w c = let lt = c.1 in absurd (omega arith)
 observation_is s (o ∷ os) w c =
-    elim (Contains-append_cases (map (λ k. record { observer = o; place = k }) (places_of_sort s 1 o.domain)) (observations_of s os) w c) [
+    elim (contains_either (map (λ k. record { observer = o; place = k }) (places_of_sort s 1 o.domain)) (observations_of s os) w c) [
       | inl a ↦
           let r = contained_in_map (λ k. record { observer = o; place = k }) (places_of_sort s 1 o.domain) w a in
           subst (λ x. Contains (o ∷ os) x.observer × Contains (places_of_sort s 1 x.observer.domain) x.place) r.2 (contains_here o os, r.1)
@@ -104,3 +109,16 @@ observations_over fs names s os t u k wt et wu eu =
     (λ w c.
     let r = observation_is s os w c in
     (observed_over fs names s w t (k w.observer r.0) r.1 wt et, observed_over fs names s w u (k w.observer r.0) r.1 wu eu, refl)))
+
+-- so are those between two new constants
+pub partition_over : (t : Theory) (names : ℕ → List ℕ) (s : List ℕ) (os : List PlainOperator) (c d : PlainOperator)
+    → IsStatementOver t.operators (Partitioned s os) → AreConstants (c ∷ d ∷ []) → c.range ≡ s → d.range ≡ s
+    → All (IsStatementOver (t.operators ++ c ∷ d ∷ [])) (observations names s os (constant c) (constant d))
+partition_over t names s os c d w k e f =
+    let cs = c ∷ d ∷ [] in
+    let known : (o : PlainOperator) → Contains os o → IsKnown t.operators o =
+    λ o i. (All-contains (λ g. IsKnown t.operators g × Contains g.domain s) os o w i).0 in
+    let constant_over : (g : PlainOperator) → Contains cs g → IsTermOver (t.operators ++ cs) (constant g) =
+    λ g i. ((sym (All-contains (λ g. g.domain ≡ []) cs g k i), tt), (inl (contains_right t.operators cs g i), tt)) in
+    observations_over (t.operators ++ cs) names s os (constant c) (constant d) (λ o i. knows_more t.operators cs o (known o i))
+    (constant_over c (contains_here c (d ∷ []))) e (constant_over d (contains_later c d (d ∷ []) (contains_here d []))) f

@@ -2,6 +2,8 @@
 use Rattle.std.proofs.Common.{◌≡◌, ℕ, zero, suc, cond, List, [], ◌∷◌, ◌++◌, map, Some, option_map, option_and_then, All, Contains, refl, sym, ◌∙◌, ap}
 use Rattle.std.proofs.lemmas.List.Elements.{All-map, All-weaker}
 use Rattle.std.proofs.lemmas.Option.{option_and_then_some}
+use Rattle.larch_base.proofs.Lists.{map_by}
+use Rattle.larch_base.proofs.Options.{map_cond}
 use Rattle.larch_term.specs.Operator.{OperatorName, PlainOperator}
 use Rattle.larch_term.specs.BuiltIn.{built_in}
 use Rattle.larch_term.specs.Tree.{Tree, Forest, var, app, none, more}
@@ -16,7 +18,6 @@ use Rattle.larch_term.specs.declared.statement.Statement.{Statement}
 use Rattle.larch_term.specs.declared.statement.Statement.TheVariants.{Equation, Generated, Partitioned}
 use Rattle.larch_calculus.specs.Theories.{IsTermOver}
 use Rattle.larch_calculus.specs.Renaming.{renamed_operator, renamed, renamed_all, renamed_statement, KeepsBuiltIn}
-use Rattle.larch_calculus.proofs.Lists.{map_cond, map_by}
 
 pub renamed_sort : (new : OperatorName → OperatorName) (t : Tree) → sort_of (renamed new t) ≡ sort_of t
 renamed_sort new (var n s) = refl

@@ -1,6 +1,8 @@
 -- Built-in terms, identities, observations and hypotheses by other names.
 use Rattle.std.proofs.Common.{◌≡◌, ℕ, suc, ◌==◌, List, [], ◌∷◌, ◌++◌, map, bytes_eq, refl, sym, ◌∙◌, ap}
 use Rattle.std.proofs.lemmas.List.{map-append}
+use Rattle.larch_base.proofs.Lists.{map_map, map_by}
+use Rattle.larch_base.proofs.Options.{map_cond, cond_by}
 use Rattle.larch_term.specs.Operator.{OperatorName, PlainOperator}
 use Rattle.larch_term.specs.Truth.{bool_sort}
 use Rattle.larch_term.specs.Tree.{Tree, var, app, none, more}
@@ -14,7 +16,6 @@ use Rattle.larch_calculus.specs.Identity.{Proposition, letter, always, never, de
 use Rattle.larch_calculus.specs.Observation.{Observation, arguments_with, observed, observations_of, observations, places_of_sort}
 use Rattle.larch_calculus.specs.Generation.{variables_from, variable_terms, holding, conjoined, implied_by, generation_formula, generation_hypotheses, only, constant_terms, equation_at, induction_hypotheses}
 use Rattle.larch_calculus.specs.Renaming.{renamed_operator, renamed, renamed_all, renamed_statement, KeepsBuiltIn}
-use Rattle.larch_calculus.proofs.Lists.{map_cond, cond_by, map_map, map_by}
 use Rattle.larch_calculus.proofs.Renamed.{renamed_built_in, renamed_substituted}
 
 pub truth_renamed : (new : OperatorName → OperatorName) → KeepsBuiltIn new → renamed new truth ≡ truth

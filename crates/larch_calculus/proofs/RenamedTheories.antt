@@ -2,6 +2,8 @@
 use Rattle.std.proofs.Common.{◌≡◌, inl, inr, List, [], ◌∷◌, ◌++◌, map, All, Contains, refl, sym, ◌∙◌, ap, subst}
 use Rattle.std.proofs.lemmas.List.Elements.{All-map, All-weaker, All-contains, All-head, All-tail, Contains-append_right}
 use Rattle.std.proofs.lemmas.List.{map-append}
+use Rattle.larch_base.proofs.Members.{contains_map}
+use Rattle.larch_base.proofs.Lists.{map_by}
 use Rattle.larch_term.specs.Operator.{OperatorName, PlainOperator, plain, boxed}
 use Rattle.larch_term.specs.BuiltIn.{built_in_name}
 use Rattle.larch_term.specs.Tree.{Tree, Forest, var, app, none, more}
@@ -12,7 +14,6 @@ use Rattle.larch_term.specs.declared.statement.Theory.{Theory}
 use Rattle.larch_calculus.specs.Theories.{IsWellSortedTheory, extended}
 use Rattle.larch_calculus.specs.Derivable.{Derivable, axiom_}
 use Rattle.larch_calculus.specs.Renaming.{renamed_operator, renamed, renamed_all, renamed_statement, renamed_theory, KeepsBuiltIn, RenamesBoxes, IsPlainName, HasPlainNames, IsTranslation}
-use Rattle.larch_calculus.proofs.Lists.{contains_map, map_by}
 use Rattle.larch_calculus.proofs.Renamed.{Known, Same, renamed_statement_over, same_operator, statement_itself}
 use Rattle.larch_calculus.proofs.Sorted.{extended_well_sorted}
 use Rattle.larch_calculus.proofs.Translation.{translated, statement_same}

@@ -1,23 +1,26 @@
 -- Statements stay well sorted over more operators; hypotheses are well sorted.
 use Rattle.std.proofs.Common.{◌≡◌, ℕ, suc, ◌⊎◌, inl, inr, cond, List, [], ◌∷◌, ◌++◌, All, Contains, bytes_eq, refl, sym, ◌∙◌, ap, subst, arith}
-use Rattle.std.proofs.lemmas.List.Elements.{All-nil, All-cons, All-append, All-head, All-tail, All-map, All-weaker, Contains-append_left, Contains-append_right, Contains-append_cases}
+use Rattle.std.proofs.lemmas.List.Elements.{All-nil, All-cons, All-append, All-head, All-tail, All-map, All-weaker, All-contains}
 use Rattle.std.proofs.lemmas.Slice.Eq.{bytes_eq-Decides}
+use Rattle.larch_base.proofs.Bools.{true_or_false}
+use Rattle.larch_base.proofs.Lists.{all_from}
+use Rattle.larch_base.proofs.Members.{contains_left, contains_right, contains_either}
 use Rattle.larch_term.specs.Operator.{PlainOperator}
 use Rattle.larch_term.specs.Truth.{bool_sort}
 use Rattle.larch_term.specs.Tree.{Tree, Forest, var, app, none, more}
 use Rattle.larch_term.specs.Sorts.{sort_of, sorts_of, WellSorted, AllWellSorted, IsOver, AllOver, IsKnown}
-use Rattle.larch_term.specs.Statement.{IsStatementOver}
+use Rattle.larch_term.specs.BuiltIn.{built_in}
+use Rattle.larch_term.specs.Statement.{IsStatementOver, statement_zero}
 use Rattle.larch_term.specs.Substitution.{Fits}
-use Rattle.larch_term.specs.declared.built_in.BuiltIn.TheVariants.{True, And, Implies}
+use Rattle.larch_term.specs.declared.built_in.BuiltIn.TheVariants.{True, False, And, Implies}
 use Rattle.larch_term.specs.declared.variable.Variable.{Variable}
 use Rattle.larch_term.specs.declared.statement.Statement.{Statement}
 use Rattle.larch_term.specs.declared.statement.Statement.TheVariants.{Equation, Generated, Partitioned}
 use Rattle.larch_term.specs.declared.statement.Theory.{Theory}
 use Rattle.larch_term.proofs.SubstitutionLaws.{substituted_sort, substituted_well_sorted, substituted_over}
-use Rattle.larch_calculus.specs.Formula.{constant, applied, truth, conjunction, implication}
-use Rattle.larch_calculus.specs.Theories.{IsTermOver, IsWellSortedTheory, IsIncluded, extended, with_statements}
+use Rattle.larch_calculus.specs.Formula.{constant, applied, joined, truth, falsity, conjunction, implication}
+use Rattle.larch_calculus.specs.Theories.{IsTermOver, IsTermOf, IsWellSortedTheory, IsIncluded, AreConstants, extended, with_statements}
 use Rattle.larch_calculus.specs.Generation.{variables_from, variable_terms, holding, conjoined, implied_by, generation_formula, generation_hypotheses, only, equation_at, induction_hypotheses}
-use Rattle.larch_calculus.proofs.Lists.{true_or_false}
 
 -- operators known among some are known among others
 abbrev pub Knows : List PlainOperator → List PlainOperator → Type 0
@@ -43,19 +46,30 @@ statement_over_more fs gs k (Partitioned s hs) w =
     All-weaker (λ g. IsKnown fs g × Contains g.domain s) (λ g. IsKnown gs g × Contains g.domain s) (λ g p. (k g p.0, p.1)) hs w
 
 pub knows_more : (fs gs : List PlainOperator) → Knows fs (fs ++ gs)
-knows_more fs gs f (inl c) = inl (Contains-append_left fs gs f c)
+knows_more fs gs f (inl c) = inl (contains_left fs gs f c)
 knows_more fs gs f (inr b) = inr b
 
 pub knows_last : (fs gs : List PlainOperator) (f : PlainOperator) → Contains gs f → IsKnown (fs ++ gs) f
-knows_last fs gs f c = inl (Contains-append_right fs gs f c)
+knows_last fs gs f c = inl (contains_right fs gs f c)
 
 pub known_cases : (fs gs : List PlainOperator) (f : PlainOperator) → IsKnown (fs ++ gs) f → IsKnown fs f ⊎ Contains gs f
-known_cases fs gs f (inl c) = elim (Contains-append_cases fs gs f c) [ inl a ↦ inl (inl a) | inr b ↦ inr b ]
+known_cases fs gs f (inl c) = elim (contains_either fs gs f c) [ inl a ↦ inl (inl a) | inr b ↦ inr b ]
 known_cases fs gs f (inr b) = inl (inr b)
 
 pub knows_included : (t u : Theory) → IsIncluded t u → Knows t.operators u.operators
 knows_included t u i f (inl c) = inl (i.operators f c)
 knows_included t u i f (inr b) = inr b
+
+-- a theory is included in its extensions
+pub included_more : (u : Theory) (cs : List PlainOperator) (hs : List Statement) → IsIncluded u (extended u cs hs)
+included_more u cs hs =
+    record {
+      operators = λ f c. contains_left u.operators cs f c;
+      statements = λ s c. contains_left u.statements hs s c;
+    }
+
+pub included_with : (u : Theory) (hs : List Statement) → IsIncluded u (with_statements u hs)
+included_with u hs = record { operators = λ f c. c; statements = λ s c. contains_left u.statements hs s c }
 
 pub extended_well_sorted : (t : Theory) (cs : List PlainOperator) (hs : List Statement) → IsWellSortedTheory t
     → All (IsStatementOver (t.operators ++ cs)) hs → IsWellSortedTheory (extended t cs hs)
@@ -69,10 +83,20 @@ with_statements_well_sorted t hs w h = All-append (IsStatementOver t.operators) 
 
 -- a well sorted formula over operators
 abbrev pub IsFormulaOver : List PlainOperator → Tree → Type 0
-IsFormulaOver fs t = IsTermOver fs t × (sort_of t ≡ bool_sort)
+IsFormulaOver fs t = IsTermOf fs bool_sort t
 
 pub truth_over : (fs : List PlainOperator) → IsFormulaOver fs truth
 truth_over fs = ((((refl), tt), (inr (True, (bool_sort, refl)), tt)), refl)
+
+pub falsity_over : (fs : List PlainOperator) → IsFormulaOver fs falsity
+falsity_over fs = (((refl, tt), (inr (False, (bool_sort, refl)), tt)), refl)
+
+-- what every theory states of the truth values is well sorted
+pub zero_over : (fs : List PlainOperator) → IsStatementOver fs statement_zero
+zero_over fs =
+    let P : PlainOperator → Type 0 = λ g. IsKnown fs g × (g.range ≡ bool_sort) in
+    All-cons P (built_in True bool_sort) (built_in False bool_sort ∷ []) (inr (True, (bool_sort, refl)), refl)
+    (All-cons P (built_in False bool_sort) [] (inr (False, (bool_sort, refl)), refl) (All-nil P))
 
 conjunction_over : (fs : List PlainOperator) (t u : Tree) → IsFormulaOver fs t → IsFormulaOver fs u → IsFormulaOver fs (conjunction t u)
 conjunction_over fs t u p q =
@@ -91,6 +115,17 @@ implied_over : (fs : List PlainOperator) (us : List Tree) (t : Tree) → All (Is
 implied_over fs [] t h p = p
 implied_over fs (u ∷ us) t h p =
     implication_over fs (conjoined u us) t (conjoined_over fs u us (All-head (IsFormulaOver fs) u us h) (All-tail (IsFormulaOver fs) u us h)) p
+
+-- arguments of a well sorted term have the sorts of its operator's domain
+pub side_over : (fs : List PlainOperator) (f : PlainOperator) (r : List ℕ) (a : Tree) → f.domain ≡ r ∷ []
+    → IsTermOver fs (applied f a) → IsTermOf fs r a
+side_over fs f r a e w = let p : sort_of a ∷ [] ≡ r ∷ [] = w.0.0 ∙ e in ((w.0.1.0, w.1.1.0), cc)
+
+pub sides_over : (fs : List PlainOperator) (f : PlainOperator) (r s : List ℕ) (a b : Tree) → f.domain ≡ r ∷ s ∷ []
+    → IsTermOver fs (joined f a b) → IsTermOf fs r a × IsTermOf fs s b
+sides_over fs f r s a b e w =
+    let p : sort_of a ∷ sort_of b ∷ [] ≡ r ∷ s ∷ [] = w.0.0 ∙ e in
+    (((w.0.1.0, w.1.1.0), cc), ((w.0.1.1.0, w.1.1.1.0), cc))
 
 applied_over : (fs : List PlainOperator) (p : PlainOperator) (s : List ℕ) (t : Tree) → Contains fs p → p.domain ≡ s ∷ [] → p.range ≡ bool_sort
     → IsTermOver fs t → sort_of t ≡ s → IsFormulaOver fs (applied p t)
@@ -125,7 +160,7 @@ pub generation_over : (t : Theory) (p : PlainOperator) (s : List ℕ) (gs : List
     → p.domain ≡ s ∷ [] → p.range ≡ bool_sort → All (IsStatementOver (t.operators ++ p ∷ [])) (generation_hypotheses p s gs)
 generation_over t p s gs w d r =
     let fs = t.operators ++ p ∷ [] in
-    let c : Contains fs p = Contains-append_right t.operators (p ∷ []) p (0, omega arith, refl) in
+    let c : Contains fs p = contains_right t.operators (p ∷ []) p (0, omega arith, refl) in
     All-map (IsStatementOver fs) (λ f. Equation (generation_formula p s f) truth) gs
     (All-weaker (λ f. IsKnown t.operators f × (f.range ≡ s)) (λ f. IsStatementOver fs (Equation (generation_formula p s f) truth))
     (λ f h.
@@ -165,3 +200,12 @@ induction_over fs x s l r (c ∷ cs) w h =
           (equation_over fs x s l r (constant c) w ((sym own.1, tt), (inl own.0, tt)) ((bytes_eq-Decides c.range s).0 e)) rest)
       | inr e ↦ subst (λ b. All (IsStatementOver fs) (cond b (equation_at x s l r (constant c) ∷ induction_hypotheses x s l r cs) (induction_hypotheses x s l r cs))) (sym e) rest
     ]
+
+-- the hypotheses of an induction are well sorted over the theory's operators and the constants
+pub suppositions_over : (t : Theory) (x s : List ℕ) (a b : Tree) (cs : List PlainOperator) → IsStatementOver t.operators (Equation a b)
+    → AreConstants cs → All (IsStatementOver (t.operators ++ cs)) (induction_hypotheses x s a b cs)
+suppositions_over t x s a b cs w k =
+    induction_over (t.operators ++ cs) x s a b cs
+    (statement_over_more t.operators (t.operators ++ cs) (knows_more t.operators cs) (Equation a b) w)
+    (all_from (λ c. Contains (t.operators ++ cs) c × (c.domain ≡ [])) cs
+    (λ c h. (contains_right t.operators cs c h, All-contains (λ c. c.domain ≡ []) cs c k h)))

@@ -1,5 +1,5 @@
 -- Identities: equations between built-in terms that hold by the meaning of the built-in operators alone.
-use Rattle.std.specs.Prelude.{◌≡◌, ℕ, Bool, true, false, not, ◌&&◌, ◌||◌, cond, List}
+use Rattle.std.specs.Prelude.{◌≡◌, ℕ, Bool, true, false, not, ◌&&◌, ◌||◌, cond, if◌then◌else◌, List, refl}
 use Rattle.larch_term.specs.Tree.{Tree, var}
 use Rattle.larch_term.specs.Truth.{bool_sort}
 use Rattle.larch_calculus.specs.Formula.{truth, falsity, negation, conjunction, disjunction, implication, equivalence, equality, inequality, choice}
@@ -34,7 +34,11 @@ term_of (chosen p q r) = choice bool_sort (term_of p) (term_of q) (term_of r)
 
 -- whether two truth values are one
 abbrev pub agree : Bool → Bool → Bool
-agree p q = cond p q (not q)
+agree p q = if p then q else not q
+
+pub agree_itself : (p : Bool) → agree p p ≡ true
+agree_itself true = refl
+agree_itself false = refl
 
 -- its truth value where its variables have these
 abbrev pub value : (List ℕ → Bool) → Proposition → Bool

@@ -5,6 +5,7 @@ pub mod Freed
 pub mod Generation
 pub mod Identity
 pub mod Induction
+pub mod Letters
 pub mod Observation
 pub mod Renaming
 pub mod Theories

@@ -1,8 +1,8 @@
 -- Theories with more operators and statements.
-use Rattle.std.specs.Prelude.{◌≡◌, ◌≢◌, List, [], ◌++◌, All, AllPairs, Contains}
+use Rattle.std.specs.Prelude.{◌≡◌, ◌≢◌, ℕ, List, [], ◌++◌, All, AllPairs, Contains}
 use Rattle.larch_term.specs.Operator.{OperatorName, PlainOperator}
 use Rattle.larch_term.specs.Tree.{Tree}
-use Rattle.larch_term.specs.Sorts.{WellSorted, IsOver, IsKnown}
+use Rattle.larch_term.specs.Sorts.{sort_of, WellSorted, IsOver, IsKnown}
 use Rattle.larch_term.specs.Statement.{IsStatementOver}
 use Rattle.larch_term.specs.declared.statement.Statement.{Statement}
 use Rattle.larch_term.specs.declared.statement.Theory.{Theory}
@@ -10,6 +10,10 @@ use Rattle.larch_term.specs.declared.statement.Theory.{Theory}
 -- a well sorted term over operators
 abbrev pub IsTermOver : List PlainOperator → Tree → Type 0
 IsTermOver fs t = WellSorted t × IsOver fs t
+
+-- a well sorted term of a sort
+abbrev pub IsTermOf : List PlainOperator → List ℕ → Tree → Type 0
+IsTermOf fs s t = IsTermOver fs t × (sort_of t ≡ s)
 
 -- each statement of the theory is well sorted over its operators
 abbrev pub IsWellSortedTheory : Theory → Type 0

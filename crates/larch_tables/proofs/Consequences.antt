@@ -12,10 +12,12 @@ use Rattle.larch_term.specs.declared.statement.Statement.{Statement}
 use Rattle.larch_term.specs.declared.statement.Statement.TheVariants.{Equation}
 use Rattle.larch_term.specs.declared.statement.Theory.{Theory}
 use Rattle.larch_calculus.specs.Formula.{applied, joined, truth, falsity, negation, conjunction, disjunction, implication, equivalence, equality}
-use Rattle.larch_calculus.specs.Identity.{Proposition, always, never, denied, both, either, implied, equivalent, chosen, term_of, agree, value, propositional}
+use Rattle.larch_calculus.specs.Identity.{Proposition, always, never, denied, both, either, implied, equivalent, chosen, term_of, agree_itself, value, propositional}
 use Rattle.larch_calculus.specs.Derivable.{Derivable, identity, replace, instance, equal}
-use Rattle.larch_calculus.proofs.DerivedRules.{two, two_fit, two_over, transitive, x_letter, y_letter}
-use Rattle.larch_calculus.proofs.Identities.{IsTermOf}
+use Rattle.larch_calculus.specs.Letters.{two, x_letter, y_letter}
+use Rattle.larch_calculus.specs.Theories.{IsTermOf}
+use Rattle.larch_calculus.proofs.DerivedRules.{two_fit, two_over, transitive}
+use Rattle.larch_calculus.proofs.Sorted.{side_over, sides_over}
 use Rattle.larch_calculus.proofs.WellSorted.{well_sorted}
 use Rattle.larch_tables.specs.Rows.{PlainRow, x, y, a, b, deduction_rows, numbered, instance_of}
 use Rattle.larch_tables.proofs.Identities.{assigned, Every, every_at, at_place}
@@ -29,10 +31,6 @@ identical : {t : Theory} (a b : Tree) → IsTermOf t.operators bool_sort a → I
 identical {t} a b wa wb p q h =
     instance (two bool_sort a b) (two_fit bool_sort a b wa.0.0 wa.1 wb.0.0 wb.1) (two_over t.operators bool_sort a b wa.0.1 wb.0.1)
     (identity (propositional p q refl refl h)) refl refl
-
-agree_itself : (b : Bool) → agree b b ≡ true
-agree_itself true = refl
-agree_itself false = refl
 
 -- the second proposition where two others agree, and else the first
 abbrev so : Proposition → Proposition → Proposition → Proposition → Proposition
@@ -65,22 +63,13 @@ followed {t} a b wa wb g v c w l r e f h k d =
     d refl refl)
     (identical a b wa wb (so v v c w) w (λ given. ap (λ z. cond z (value given w) (value given c)) (agree_itself (value given v))))
 
-sides_of : {r s t u : List ℕ} → r ∷ s ∷ [] ≡ t ∷ u ∷ [] → (r ≡ t) × (s ≡ u)
-sides_of e = (cc, cc)
-
-side_of : {r s : List ℕ} → r ∷ [] ≡ s ∷ [] → r ≡ s
-side_of e = cc
-
 -- what an operator over Bool is applied to is of sort Bool
 argument_sort : {t : Theory} (f : PlainOperator) {a v : Tree} → f.domain ≡ bool_sort ∷ [] → Derivable t (Equation (applied f a) v) → IsTermOf t.operators bool_sort a
-argument_sort f e d = let w = well_sorted d in ((w.0.0.1.0, w.0.1.1.0), side_of (w.0.0.0 ∙ e))
+argument_sort {t} f {a} e d = side_over t.operators f bool_sort a e (well_sorted d).0
 
 argument_sorts : {t : Theory} (f : PlainOperator) {a b v : Tree} → f.domain ≡ bool_sort ∷ bool_sort ∷ [] → Derivable t (Equation (joined f a b) v)
     → IsTermOf t.operators bool_sort a × IsTermOf t.operators bool_sort b
-argument_sorts f e d =
-    let w = well_sorted d in
-    let sorts = sides_of (w.0.0.0 ∙ e) in
-    (((w.0.0.1.0, w.0.1.1.0), sorts.0), ((w.0.0.1.1.0, w.0.1.1.1.0), sorts.1))
+argument_sorts {t} f {a} {b} e d = sides_over t.operators f bool_sort bool_sort a b e (well_sorted d).0
 
 one : (P : Statement → Type 0) (c : Statement) → P c → All P (c ∷ [])
 one P c p = All-cons P c [] p (All-nil P)
