@@ -1,20 +1,20 @@
 -- With and without symbols that are let in the machine steps the same, except at such a symbol.
 use Rattle.std.proofs.Common.{◌≡◌, true, false, Some, None, List, [], ◌∷◌, ap, ◌∙◌}
 use Rattle.larch_lexer.specs.declared.token.Token.{Token}
-use Rattle.larch_places.specs.Counts.{is_mixed}
-use Rattle.larch_places.specs.declared.mark.Mark.{Mark}
-use Rattle.larch_places.specs.declared.mark.Mark.TheVariants.{Chained}
-use Rattle.larch_places.proofs.Walking.{none_some, some_equal}
+use Rattle.larch_fronts.specs.Mark.{is_mixed}
+use Rattle.larch_fronts.specs.declared.mark.Mark.{Mark}
+use Rattle.larch_fronts.specs.declared.mark.Mark.TheVariants.{Chained}
+use Rattle.larch_fronts.proofs.Walking.{none_some, some_equal}
 use Rattle.larch_raw.specs.declared.declared.RawWord.{RawWord}
 use Rattle.larch_raw.specs.declared.equation.RawEquation.{RawEquation}
 use Rattle.larch_raw.specs.declared.equation.RawTrait.{RawTrait}
 use Rattle.larch_raw.specs.declared.equation.RawVar.{RawVar}
 use Rattle.larch_raw.specs.RawTree.{RawTree}
-use Rattle.larch_grammar.specs.Lexemes.{lexeme_of}
+use Rattle.larch_grammar.specs.Terminals.{terminal_of}
 use Rattle.larch_grammar.specs.Machine.{Taking, after_symbol, after_word, first_word, hand, step, step_at, word_behind, word_frames}
-use Rattle.larch_grammar.specs.Trees.{call_tree, if_tree, joined, postfix_tree, prefix_tree}
-use Rattle.larch_grammar.specs.declared.lexeme.Lexeme.{Lexeme}
-use Rattle.larch_grammar.specs.declared.lexeme.Lexeme.TheVariants.{Word, Symbol, Connective, Equality, Colon, Dot, Open, OpenBracket, Generated, Partitioned}
+use Rattle.larch_grammar.specs.Trees.{call_tree, if_tree, chain_tree, postfix_tree, prefix_tree}
+use Rattle.larch_grammar.specs.declared.terminal.Terminal.{Terminal}
+use Rattle.larch_grammar.specs.declared.terminal.Terminal.TheVariants.{Word, Symbol, Connective, Equality, Colon, Dot, Open, OpenBracket, Generated, Partitioned}
 use Rattle.larch_grammar.specs.declared.machine.Frame.{Frame}
 use Rattle.larch_grammar.specs.declared.machine.Frame.TheVariants.{InFields, InStrays, Prefixed, InPostfixes, InInfixes, InEqualities, InConnectives, InElse}
 use Rattle.larch_grammar.specs.declared.machine.State.{State}
@@ -31,7 +31,7 @@ same a = (λ m k e h. e, λ m k e. e)
 let_in : (n : State) → Alike (Some (Chained true, n)) None
 let_in n = (λ m k e h. let q : true ≡ false = ap (λ x. is_mixed x.0) (some_equal e) ∙ h in cc, λ m k e. absurd (none_some e))
 
-hand_alike : (k : List Frame) (r : RawTree) (t : Lexeme) → Alike (hand true r k t) (hand false r k t)
+hand_alike : (k : List Frame) (r : RawTree) (t : Terminal) → Alike (hand true r k t) (hand false r k t)
 hand_alike [] r t = same None
 hand_alike (InFields ∷ k) r (Dot p) = same _
 hand_alike (InFields ∷ k) r (Colon p) = same _
@@ -45,35 +45,35 @@ hand_alike (InPostfixes ∷ k) r t = hand_alike k r t
 hand_alike (InInfixes None ∷ k) r (Symbol x) = same _
 hand_alike (InInfixes None ∷ k) r t = hand_alike k r t
 hand_alike (InInfixes (Some l) ∷ k) r (Symbol x) = same _
-hand_alike (InInfixes (Some l) ∷ k) r t = hand_alike k (joined (Some l) r) t
+hand_alike (InInfixes (Some l) ∷ k) r t = hand_alike k (chain_tree (Some l) r) t
 hand_alike (InEqualities l ∷ k) r (Equality x) = same _
-hand_alike (InEqualities l ∷ k) r t = hand_alike k (joined l r) t
+hand_alike (InEqualities l ∷ k) r t = hand_alike k (chain_tree l r) t
 hand_alike (InConnectives l ∷ k) r (Connective x) = same _
-hand_alike (InConnectives l ∷ k) r t = hand_alike k (joined l r) t
+hand_alike (InConnectives l ∷ k) r t = hand_alike k (chain_tree l r) t
 hand_alike (InElse p a b ∷ k) r t = hand_alike k (if_tree p a b r) t
 hand_alike (f ∷ k) r t = same _
 
-after_word_alike : (w : RawWord) (k : List Frame) (t : Lexeme) → Alike (after_word true w k t) (after_word false w k t)
+after_word_alike : (w : RawWord) (k : List Frame) (t : Terminal) → Alike (after_word true w k t) (after_word false w k t)
 after_word_alike w k (Open p) = same _
 after_word_alike w k t = hand_alike (InFields ∷ k) (call_tree w []) t
 
-after_symbol_alike : (x : RawWord) (r : RawTree) (k : List Frame) (t : Lexeme) → Alike (after_symbol true x r k t) (after_symbol false x r k t)
+after_symbol_alike : (x : RawWord) (r : RawTree) (k : List Frame) (t : Terminal) → Alike (after_symbol true x r k t) (after_symbol false x r k t)
 after_symbol_alike x r k (Word w) = same _
 after_symbol_alike x r k (Open p) = same _
 after_symbol_alike x r k (OpenBracket b p) = same _
 after_symbol_alike x r k t = hand_alike (InPostfixes ∷ k) (postfix_tree x r) t
 
-first_word_alike : (raw : RawTrait) (w : RawWord) (t : Lexeme) → Alike (first_word true raw w t) (first_word false raw w t)
+first_word_alike : (raw : RawTrait) (w : RawWord) (t : Terminal) → Alike (first_word true raw w t) (first_word false raw w t)
 first_word_alike raw w Generated = same _
 first_word_alike raw w Partitioned = same _
 first_word_alike raw w t = after_word_alike w (word_frames w (Item raw [] [])) t
 
-word_behind_alike : (raw : RawTrait) (vs : List RawVar) (es : List RawEquation) (w : RawWord) (t : Lexeme) → Alike (word_behind true raw vs es w t) (word_behind false raw vs es w t)
+word_behind_alike : (raw : RawTrait) (vs : List RawVar) (es : List RawEquation) (w : RawWord) (t : Terminal) → Alike (word_behind true raw vs es w t) (word_behind false raw vs es w t)
 word_behind_alike raw vs es w Generated = same _
 word_behind_alike raw vs es w Partitioned = same _
 word_behind_alike raw vs es w t = after_word_alike w (word_frames w (Item raw vs es)) t
 
-alike : (n : State) (t : Lexeme) → Alike (step true n t) (step false n t)
+alike : (n : State) (t : Terminal) → Alike (step true n t) (step false n t)
 alike (FirstWord raw w) t = first_word_alike raw w t
 alike (WordBehind raw vs es w) t = word_behind_alike raw vs es w t
 alike (AfterWord w k) t = after_word_alike w k t
@@ -82,16 +82,16 @@ alike (Have r k) t = hand_alike k r t
 alike n t = same _
 
 -- where nothing MIXED is counted a step with the symbols that are let in is one without them
-pub agree : (n : State) (t : Lexeme) (m : Mark) (k : State) → step true n t ≡ Some (m, k) → is_mixed m ≡ false → step false n t ≡ Some (m, k)
+pub agree : (n : State) (t : Terminal) (m : Mark) (k : State) → step true n t ≡ Some (m, k) → is_mixed m ≡ false → step false n t ≡ Some (m, k)
 agree n t = (alike n t).0
 
 -- a step without the symbols that are let in is one with them
-pub stray : (n : State) (t : Lexeme) (m : Mark) (k : State) → step false n t ≡ Some (m, k) → step true n t ≡ Some (m, k)
+pub stray : (n : State) (t : Terminal) (m : Mark) (k : State) → step false n t ≡ Some (m, k) → step true n t ≡ Some (m, k)
 stray n t = (alike n t).1
 
 -- the same of the tokens of a text
 pub agree_at : (n : State) (t : Token) (m : Mark) (k : State) → step_at true n t ≡ Some (m, k) → is_mixed m ≡ false → step_at false n t ≡ Some (m, k)
-agree_at n t = agree n (lexeme_of t)
+agree_at n t = agree n (terminal_of t)
 
 pub stray_at : (n : State) (t : Token) (m : Mark) (k : State) → step_at false n t ≡ Some (m, k) → step_at true n t ≡ Some (m, k)
-stray_at n t = stray n (lexeme_of t)
+stray_at n t = stray n (terminal_of t)

@@ -1,8 +1,8 @@
 -- A step of the machine can be taken back.
 use Rattle.std.proofs.Common.{Bool, List, ◌∷◌}
-use Rattle.larch_places.specs.Walks.{Taken}
-use Rattle.larch_grammar.specs.declared.lexeme.Lexeme.{Lexeme}
-use Rattle.larch_grammar.specs.declared.lexeme.Lexeme.TheVariants.{Word, Arrow, Colon, Comma, Marker, Trait, By}
+use Rattle.larch_fronts.specs.Walks.{Taken}
+use Rattle.larch_grammar.specs.declared.terminal.Terminal.{Terminal}
+use Rattle.larch_grammar.specs.declared.terminal.Terminal.TheVariants.{Word, Arrow, Colon, Comma, Marker, Trait, By}
 use Rattle.larch_grammar.specs.declared.machine.Before.TheVariants as before
 use Rattle.larch_grammar.specs.declared.machine.Signing.TheVariants.{Declaration, Reference}
 use Rattle.larch_grammar.specs.declared.machine.State.{State}
@@ -18,7 +18,7 @@ use Rattle.larch_grammar.proofs.BackItems.{by_back, clause_back, first_back, gro
 use Rattle.larch_grammar.proofs.BackTerms.{bracket_back, equation_back, hand_back, oper_back, operand_back, post_back, symbol_back, term_back, word_back}
 
 -- a step can be taken back
-pub step_back : (s : Bool) (n : State) (l : Lexeme) → Taken (step s n l) (λ m k. (i : List Marked) (z : Whole) → Fits s k i z → Fits s n ((l, m) ∷ i) z)
+pub step_back : (s : Bool) (n : State) (l : Terminal) → Taken (step s n l) (λ m k. (i : List Marked) (z : Whole) → Fits s k i z → Fits s n ((l, m) ∷ i) z)
 step_back s Start (Word w) = λ i z f. f
 step_back s (AfterName w) (Colon p) = λ i z f. f p
 step_back s (NeedTrait w) Trait = λ i z f. λ p. (f.0, trait_of_parts a_word f.1, f.2)

@@ -1,14 +1,15 @@
 -- Where the tokens may end, nothing need follow; and every state can be completed.
-use Rattle.std.proofs.Common.{◌≡◌, ℕ, Bool, true, inl, Option, Some, None, List, [], ◌∷◌, ◌++◌, codes, map, refl}
+use Rattle.std.proofs.Common.{◌≡◌, ℕ, Bool, inl, Option, Some, None, List, [], ◌∷◌, ◌++◌, codes, map, refl}
 use Rattle.larch_base.specs.Position.{start_of_text}
 use Rattle.larch_base.specs.declared.position.Pos.{Pos}
 use Rattle.larch_lexer.specs.declared.token.Kind.{Kind}
 use Rattle.larch_lexer.specs.declared.token.Kind.TheVariants as kind
 use Rattle.larch_lexer.specs.declared.token.Token.{Token}
-use Rattle.larch_places.specs.Walks.{Taken}
-use Rattle.larch_places.specs.declared.mark.Mark.{Mark}
-use Rattle.larch_places.specs.declared.mark.Mark.TheVariants.{Head}
-use Rattle.larch_places.proofs.Walking.{none_some, some_equal}
+use Rattle.larch_fronts.specs.Walks.{Taken}
+use Rattle.larch_fronts.specs.declared.mark.Mark.{Mark}
+use Rattle.larch_fronts.specs.declared.mark.Mark.TheVariants.{Head}
+use Rattle.larch_fronts.proofs.Walking.{none_some, some_equal}
+use Rattle.larch_raw.specs.declared.equation.ClauseKind.TheVariants as clause_kind
 use Rattle.larch_raw.specs.RawTree.{RawTree, qualified}
 use Rattle.larch_raw.specs.declared.declared.RawForm.{RawForm}
 use Rattle.larch_raw.specs.declared.declared.RawOpRef.{RawOpRef}
@@ -16,9 +17,9 @@ use Rattle.larch_raw.specs.declared.declared.RawWord.{RawWord}
 use Rattle.larch_raw.specs.declared.equation.RawEquation.{RawEquation}
 use Rattle.larch_raw.specs.declared.equation.RawTrait.{RawTrait}
 use Rattle.larch_raw.specs.declared.equation.RawVar.{RawVar}
-use Rattle.larch_grammar.specs.declared.lexeme.Bracket.{Bracket}
-use Rattle.larch_grammar.specs.declared.lexeme.Bracket.TheVariants.{Square, Curly}
-use Rattle.larch_grammar.specs.declared.lexeme.Lexeme.TheVariants.{Word}
+use Rattle.larch_grammar.specs.declared.terminal.Bracket.{Bracket}
+use Rattle.larch_grammar.specs.declared.terminal.Bracket.TheVariants.{Square, Curly}
+use Rattle.larch_grammar.specs.declared.terminal.Terminal.TheVariants.{Word}
 use Rattle.larch_grammar.specs.declared.machine.Before.{Before}
 use Rattle.larch_grammar.specs.declared.machine.Before.TheVariants as before
 use Rattle.larch_grammar.specs.declared.machine.Clause.{Clause}
@@ -36,11 +37,11 @@ use Rattle.larch_grammar.specs.declared.machine.Waiting.TheVariants.{Alone, Item
 use Rattle.larch_grammar.specs.declared.machine.Whole.{Whole}
 use Rattle.larch_grammar.specs.declared.machine.Whole.TheVariants as whole
 use Rattle.larch_grammar.specs.Forms.{bare_symbol, by_form, no_reference, postfix_form}
-use Rattle.larch_grammar.specs.Lexemes.{lexeme_of}
+use Rattle.larch_grammar.specs.Terminals.{terminal_of}
 use Rattle.larch_grammar.specs.Machine.{Taking, end_equation, end_form, final, finish, step, with_clause, word_frames}
 use Rattle.larch_grammar.specs.Terms.{behind, formula_of, equation_of, no_connective, no_equality, no_field, no_infix, no_postfix, no_stray, no_symbol, word_alone}
 use Rattle.larch_grammar.specs.Traits.{assertions, no_assertion, no_declaration, no_end, no_equation, no_item, seen, with_equations}
-use Rattle.larch_grammar.specs.Trees.{bracket_tree, call_tree, field_tree, if_tree, joined, listing_tree, postfix_tree, prefix_tree}
+use Rattle.larch_grammar.specs.Trees.{bracket_tree, call_tree, field_tree, if_tree, chain_tree, listing_tree, postfix_tree, prefix_tree}
 use Rattle.larch_grammar.proofs.Fits.{Fits, FitsBehind, FitsForm, FitsIn, FitsItems, FitsPost, FitsReferences}
 use Rattle.larch_grammar.proofs.Back.{step_back}
 use Rattle.larch_grammar.proofs.BackItems.{ended_by_equation, ended_by_item, equation_of_post, item_of_equation}
@@ -72,9 +73,9 @@ finish_fits s r (InStrays ∷ k) z e = ([], r, no_stray, finish_fits s r k z e)
 finish_fits s r (Prefixed x ∷ k) z e = finish_fits s (prefix_tree x r) k z e
 finish_fits s r (InPostfixes ∷ k) z e = ([], r, no_postfix, finish_fits s r k z e)
 finish_fits s r (InInfixes None ∷ k) z e = ([], r, no_symbol, finish_fits s r k z e)
-finish_fits s r (InInfixes (Some l) ∷ k) z e = ([], joined (Some l) r, no_infix, finish_fits s (joined (Some l) r) k z e)
-finish_fits s r (InEqualities l ∷ k) z e = ([], joined l r, no_equality, finish_fits s (joined l r) k z e)
-finish_fits s r (InConnectives l ∷ k) z e = ([], joined l r, no_connective, finish_fits s (joined l r) k z e)
+finish_fits s r (InInfixes (Some l) ∷ k) z e = ([], chain_tree (Some l) r, no_infix, finish_fits s (chain_tree (Some l) r) k z e)
+finish_fits s r (InEqualities l ∷ k) z e = ([], chain_tree l r, no_equality, finish_fits s (chain_tree l r) k z e)
+finish_fits s r (InConnectives l ∷ k) z e = ([], chain_tree l r, no_connective, finish_fits s (chain_tree l r) k z e)
 finish_fits s r (InParentheses ∷ k) z e = absurd (none_some e)
 finish_fits s r (InList h ts ∷ k) z e = absurd (none_some e)
 finish_fits s r (InIf p ∷ k) z e = absurd (none_some e)
@@ -152,13 +153,13 @@ abbrev pub Completes : Bool → State → Type 0
 Completes s n = (i : List (Token × Mark)) × (z : Whole) × Fits s n (map seen i) z
 
 -- what completes the state behind a step completes the one before it
-before_step : (s : Bool) (n : State) (t : Token) (o : Taking) → Back s o (lexeme_of t) (Fits s n) → Taken o (λ m k. Completes s k → Completes s n)
+before_step : (s : Bool) (n : State) (t : Token) (o : Taking) → Back s o (terminal_of t) (Fits s n) → Taken o (λ m k. Completes s k → Completes s n)
 before_step s n t None h = tt
 before_step s n t (Some p) h = λ c. ((t, p.0) ∷ c.0, c.1, h (map seen c.0) c.1 c.2)
 
 -- this token, and then what completes the state behind it
-onward : (s : Bool) (n : State) (t : Token) → Taken (step s n (lexeme_of t)) (λ m k. Completes s k → Completes s n)
-onward s n t = before_step s n t (step s n (lexeme_of t)) (step_back s n (lexeme_of t))
+onward : (s : Bool) (n : State) (t : Token) → Taken (step s n (terminal_of t)) (λ m k. Completes s k → Completes s n)
+onward s n t = before_step s n t (step s n (terminal_of t)) (step_back s n (terminal_of t))
 
 -- no tokens, where they may end
 ended_in : (s : Bool) (n : State) (z : Whole) → final n ≡ Some z → Completes s n
@@ -221,9 +222,9 @@ have_some s r (InStrays ∷ k) = let c = have_some s r k in (c.0, c.1, (_, _, no
 have_some s r (Prefixed x ∷ k) = have_some s (prefix_tree x r) k
 have_some s r (InPostfixes ∷ k) = let c = have_some s r k in (c.0, c.1, (_, _, no_postfix, c.2))
 have_some s r (InInfixes None ∷ k) = let c = have_some s r k in (c.0, c.1, (_, _, no_symbol, c.2))
-have_some s r (InInfixes (Some l) ∷ k) = let c = have_some s (joined (Some l) r) k in (c.0, c.1, (_, _, no_infix, c.2))
-have_some s r (InEqualities l ∷ k) = let c = have_some s (joined l r) k in (c.0, c.1, (_, _, no_equality, c.2))
-have_some s r (InConnectives l ∷ k) = let c = have_some s (joined l r) k in (c.0, c.1, (_, _, no_connective, c.2))
+have_some s r (InInfixes (Some l) ∷ k) = let c = have_some s (chain_tree (Some l) r) k in (c.0, c.1, (_, _, no_infix, c.2))
+have_some s r (InEqualities l ∷ k) = let c = have_some s (chain_tree l r) k in (c.0, c.1, (_, _, no_equality, c.2))
+have_some s r (InConnectives l ∷ k) = let c = have_some s (chain_tree l r) k in (c.0, c.1, (_, _, no_connective, c.2))
 have_some s r (InParentheses ∷ k) = onward s (Have r (InParentheses ∷ k)) close (have_some s r k)
 have_some s r (InList (Call w) ts ∷ k) = onward s (Have r (InList (Call w) ts ∷ k)) close (have_some s (listing_tree (Call w) (ts ++ r ∷ [])) k)
 have_some s r (InList (Bracketed Square l p) ts ∷ k) = onward s (Have r (InList (Bracketed Square l p) ts ∷ k)) close_square (have_some s (listing_tree (Bracketed Square l p) (ts ++ r ∷ [])) k)
@@ -282,7 +283,7 @@ some_fit s (InItems r) = ended_in s (InItems r) _ refl
 some_fit s (FirstWord r w) = ended_in s (FirstWord r w) _ refl
 some_fit s (AfterSemicolon r vs es) = ended_in s (AfterSemicolon r vs es) _ refl
 some_fit s (WordBehind r vs es w) = ended_in s (WordBehind r vs es w) _ refl
-some_fit s (ClauseWord r w) = onward s (ClauseWord r w) generated (by_some s (record { raw = r; generated = true; sort = w }))
+some_fit s (ClauseWord r w) = onward s (ClauseWord r w) generated (by_some s (record { raw = r; kind = clause_kind.Generated; sort = w }))
 some_fit s (NeedBy c) = by_some s c
 some_fit s (NeedVariable r vs) = onward s (NeedVariable r vs) word (names_some s r vs _)
 some_fit s (AfterVariable r vs ws) = names_some s r vs ws

@@ -1,20 +1,22 @@
 -- What may follow in each state of the machine, so that the whole is this trait or this equation.
-use Rattle.std.proofs.Common.{◌≡◌, ℕ, suc, Bool, true, false, ◌⊎◌, Option, Some, None, List, [], ◌∷◌, ◌++◌, subst}
+use Rattle.std.proofs.Common.{◌≡◌, ℕ, suc, Bool, ◌⊎◌, Option, Some, None, List, [], ◌∷◌, ◌++◌, subst}
 use Rattle.larch_base.specs.declared.position.Pos.{Pos}
-use Rattle.larch_places.specs.declared.mark.Mark.{Mark}
-use Rattle.larch_places.specs.declared.mark.Mark.TheVariants.{Outside, Plain, Head}
+use Rattle.larch_fronts.specs.declared.mark.Mark.{Mark}
+use Rattle.larch_fronts.specs.declared.mark.Mark.TheVariants.{Outside, Plain, Head}
 use Rattle.larch_raw.specs.RawTree.{RawTree}
 use Rattle.larch_raw.specs.declared.declared.RawForm.{RawForm}
 use Rattle.larch_raw.specs.declared.declared.RawOpRef.{RawOpRef}
 use Rattle.larch_raw.specs.declared.declared.RawSig.{RawSig}
 use Rattle.larch_raw.specs.declared.declared.RawWord.{RawWord}
 use Rattle.larch_raw.specs.declared.equation.RawEquation.{RawEquation}
+use Rattle.larch_raw.specs.declared.equation.ClauseKind.{ClauseKind}
+use Rattle.larch_raw.specs.declared.equation.ClauseKind.TheVariants as clause_kind
 use Rattle.larch_raw.specs.declared.equation.RawItem.{RawItem}
 use Rattle.larch_raw.specs.declared.equation.RawTrait.{RawTrait}
 use Rattle.larch_raw.specs.declared.equation.RawVar.{RawVar}
-use Rattle.larch_grammar.specs.declared.lexeme.Bracket.{Bracket}
-use Rattle.larch_grammar.specs.declared.lexeme.Lexeme.{Lexeme}
-use Rattle.larch_grammar.specs.declared.lexeme.Lexeme.TheVariants.{Word, Symbol, Equates, Arrow, Colon, Comma, Semicolon, Dot, Marker, Close, OpenBracket, CloseBracket, Generated, Partitioned, Then, Else}
+use Rattle.larch_grammar.specs.declared.terminal.Bracket.{Bracket}
+use Rattle.larch_grammar.specs.declared.terminal.Terminal.{Terminal}
+use Rattle.larch_grammar.specs.declared.terminal.Terminal.TheVariants.{Word, Symbol, Equates, Arrow, Colon, Comma, Semicolon, Dot, Marker, Close, OpenBracket, CloseBracket, Generated, Partitioned, Then, Else}
 use Rattle.larch_grammar.specs.declared.machine.Before.{Before}
 use Rattle.larch_grammar.specs.declared.machine.Before.TheVariants as before
 use Rattle.larch_grammar.specs.declared.machine.Clause.{Clause}
@@ -37,7 +39,7 @@ use Rattle.larch_grammar.specs.Forms.{Marked, AreForms, AreGroups, AreMarkers, A
 use Rattle.larch_grammar.specs.Machine.{symbol_of, with_clause}
 use Rattle.larch_grammar.specs.Terms.{Cond, Connectives, Equalities, Fields, InBracket, Infixes, IsEquation, Oper, Operand, Others, Post, Postfixes, Strays, Symbols, equation_of, formula_of, opens_head}
 use Rattle.larch_grammar.specs.Traits.{AreAssertions, AreDecls, AreEquations, AreItems, AreParts, IsClause, IsMarkedTrait, MayEnd, with_declaration, with_equations, with_item}
-use Rattle.larch_grammar.specs.Trees.{bracket_form, field_name, if_tree, joined, listing_tree, mixfix, prefix_tree}
+use Rattle.larch_grammar.specs.Trees.{bracket_form, field_name, if_tree, chain_tree, listing_tree, mixfix, prefix_tree}
 
 -- parts and items
 
@@ -81,13 +83,13 @@ abbrev pub FitsReferences : Bool → Clause → List RawOpRef → List Marked �
 FitsReferences s c rs i z = (j k : List Marked) × (qs : List RawOpRef) × AreOpRefs rs i j qs × MayEnd j k × FitsItems s before.Anything (with_clause c qs) k z
 
 -- the word behind the sort of a clause
-abbrev pub clause_lexeme : Bool → Lexeme
-clause_lexeme true = Generated
-clause_lexeme false = Partitioned
+abbrev pub clause_terminal : ClauseKind → Terminal
+clause_terminal clause_kind.Generated = Generated
+clause_terminal clause_kind.Partitioned = Partitioned
 
 -- what may follow that word, whatever is counted at the sort
 abbrev pub FitsBy : Bool → Clause → List Marked → Whole → Type 0
-FitsBy s c i z = (m : Mark) → (j : List Marked) × (y : RawItem) × IsClause m ((Word c.sort, m) ∷ (clause_lexeme c.generated, Outside) ∷ i) j y × FitsItems s before.Anything (with_item c.raw y) j z
+FitsBy s c i z = (m : Mark) → (j : List Marked) × (y : RawItem) × IsClause m ((Word c.sort, m) ∷ (clause_terminal c.kind, Outside) ∷ i) j y × FitsItems s before.Anything (with_item c.raw y) j z
 
 -- what may follow a signature
 abbrev pub FitsSigned : Bool → Signing → RawSig → List Marked → Whole → Type 0
@@ -122,7 +124,7 @@ FitsMarks s n behind b m p i z = (j : List Marked) × (l : ℕ) × AreMarkers b 
 -- terms
 
 -- what ends a list of terms
-abbrev pub closing : Listing → Lexeme
+abbrev pub closing : Listing → Terminal
 closing (Call w) = Close
 closing (Bracketed b l p) = CloseBracket b
 
@@ -134,9 +136,9 @@ FitsIn s q (InStrays ∷ k) i z = (o : List Marked) × (p : RawTree) × Strays s
 FitsIn s q (Prefixed x ∷ k) i z = FitsIn s (prefix_tree x q) k i z
 FitsIn s q (InPostfixes ∷ k) i z = (o : List Marked) × (p : RawTree) × Postfixes q i o p × FitsIn s p k o z
 FitsIn s q (InInfixes None ∷ k) i z = (o : List Marked) × (p : RawTree) × Symbols s (depth_of k) q i o p × FitsIn s p k o z
-FitsIn s q (InInfixes (Some l) ∷ k) i z = (o : List Marked) × (p : RawTree) × Infixes s (depth_of k) l.symbol (joined (Some l) q) i o p × FitsIn s p k o z
-FitsIn s q (InEqualities l ∷ k) i z = (o : List Marked) × (p : RawTree) × Equalities s (depth_of k) (symbol_of l) (joined l q) i o p × FitsIn s p k o z
-FitsIn s q (InConnectives l ∷ k) i z = (o : List Marked) × (p : RawTree) × Connectives s (depth_of k) (symbol_of l) (joined l q) i o p × FitsIn s p k o z
+FitsIn s q (InInfixes (Some l) ∷ k) i z = (o : List Marked) × (p : RawTree) × Infixes s (depth_of k) l.symbol (chain_tree (Some l) q) i o p × FitsIn s p k o z
+FitsIn s q (InEqualities l ∷ k) i z = (o : List Marked) × (p : RawTree) × Equalities s (depth_of k) (symbol_of l) (chain_tree l q) i o p × FitsIn s p k o z
+FitsIn s q (InConnectives l ∷ k) i z = (o : List Marked) × (p : RawTree) × Connectives s (depth_of k) (symbol_of l) (chain_tree l q) i o p × FitsIn s p k o z
 FitsIn s q (InParentheses ∷ k) i z = (o : List Marked) × (i ≡ (Close, Plain) ∷ o) × FitsIn s q k o z
 FitsIn s q (InList h ts ∷ k) i z = (o : List Marked) × (us : List RawTree) × Others s (suc (depth_of k)) (closing h) (ts ++ q ∷ []) i o us × FitsIn s (listing_tree h us) k o z
 FitsIn s q (InIf p ∷ k) i z = (j l m o : List Marked) × (b c : RawTree) × (i ≡ (Then, Plain) ∷ j) × Cond s (suc (depth_of k)) j l b × (l ≡ (Else, Plain) ∷ m) × Cond s (suc (depth_of k)) m o c × FitsIn s (if_tree p q b c) k o z

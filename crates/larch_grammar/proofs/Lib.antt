@@ -9,3 +9,4 @@ pub mod CompleteTraits
 pub mod Ends
 pub mod Fits
 pub mod Law
+pub mod Markers

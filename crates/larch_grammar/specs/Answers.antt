@@ -3,9 +3,9 @@ use Rattle.std.specs.Prelude.{ℕ, Bool, true, List, [], map, drop, Result}
 use Rattle.larch_base.specs.declared.position.Pos.{Pos}
 use Rattle.larch_lexer.specs.TokenList.{TokenList}
 use Rattle.larch_lexer.specs.declared.token.Token.{Token}
-use Rattle.larch_places.specs.Look.{front, look}
-use Rattle.larch_places.specs.declared.mark.Fault.{Fault}
-use Rattle.larch_places.specs.declared.mark.Mark.{Mark}
+use Rattle.larch_fronts.specs.Answer.{front, look}
+use Rattle.larch_fronts.specs.declared.mark.Flaw.{Flaw}
+use Rattle.larch_fronts.specs.declared.mark.Mark.{Mark}
 use Rattle.larch_raw.specs.declared.equation.RawEquation.{RawEquation}
 use Rattle.larch_raw.specs.declared.equation.RawTrait.{RawTrait}
 use Rattle.larch_grammar.specs.Machine.{as_equation, as_trait, final, step_at}
@@ -16,8 +16,8 @@ use Rattle.larch_grammar.specs.declared.machine.State.TheVariants.{Start, NeedEq
 use Rattle.larch_grammar.specs.declared.machine.Waiting.TheVariants.{Alone}
 
 -- where a token stands
-abbrev pub place_of_token : Token → Pos
-place_of_token token = token.pos
+abbrev pub position_of_token : Token → Pos
+position_of_token token = token.pos
 
 -- these marked tokens are this trait
 abbrev pub Traits : Bool → List (Token × Mark) → RawTrait → Type 0
@@ -27,18 +27,18 @@ Traits s marked raw = IsMarkedTrait s (map seen marked) raw
 abbrev pub Equations : Bool → List (Token × Mark) → RawEquation → Type 0
 Equations s marked raw = IsEquation s (map seen marked) [] raw
 
--- the trait of a token list from a state on, with so many head tokens before it, or the first fault with its place
-abbrev pub trait_from : Pos → ℕ → State → List Token → Result RawTrait (Fault × Pos)
-trait_from end heads state tokens = look (step_at true) (λ n. as_trait (final n)) place_of_token end heads state tokens
+-- the trait of a token list from a state on, with so many head tokens before it, or the first flaw with its position
+abbrev pub trait_from : Pos → ℕ → State → List Token → Result RawTrait (Flaw × Pos)
+trait_from end heads state tokens = look (step_at true) (λ n. as_trait (final n)) position_of_token end heads state tokens
 
--- the trait of a token list, or the first fault with its place
-abbrev pub trait_answer : TokenList → Result RawTrait (Fault × Pos)
+-- the trait of a token list, or the first flaw with its position
+abbrev pub trait_answer : TokenList → Result RawTrait (Flaw × Pos)
 trait_answer tokens = trait_from tokens.end 0 Start tokens.tokens
 
 -- the equation at the front of a token list from a state on, with so many head tokens and tokens before it
-abbrev pub term_from : Pos → ℕ → ℕ → State → List Token → Result (RawEquation × ℕ) (Fault × Pos)
-term_from end heads taken state tokens = front (step_at true) (λ n. as_equation (final n)) place_of_token end heads taken state tokens
+abbrev pub term_from : Pos → ℕ → ℕ → State → List Token → Result (RawEquation × ℕ) (Flaw × Pos)
+term_from end heads taken state tokens = front (step_at true) (λ n. as_equation (final n)) position_of_token end heads taken state tokens
 
--- the equation at the longest front of the tokens from this one on, and its number of tokens; or the first fault
-abbrev pub term_answer : TokenList → ℕ → Result (RawEquation × ℕ) (Fault × Pos)
+-- the equation at the longest front of the tokens from this one on, and its number of tokens; or the first flaw
+abbrev pub term_answer : TokenList → ℕ → Result (RawEquation × ℕ) (Flaw × Pos)
 term_answer tokens from = term_from tokens.end 0 0 (NeedEquation Alone) (drop from tokens.tokens)

@@ -2,24 +2,24 @@
 -- behind. Each token stands beside its mark, which says what is counted at it; here nothing is.
 use Rattle.std.specs.Prelude.{ℕ, suc, true, false, List, [], ◌∷◌, ◌++◌, map, Some, None}
 use Rattle.larch_base.specs.declared.position.Pos.{Pos}
-use Rattle.larch_places.specs.declared.mark.Mark.{Mark}
-use Rattle.larch_places.specs.declared.mark.Mark.TheVariants.{Outside}
+use Rattle.larch_fronts.specs.declared.mark.Mark.{Mark}
+use Rattle.larch_fronts.specs.declared.mark.Mark.TheVariants.{Outside}
 use Rattle.larch_raw.specs.declared.declared.RawForm.{RawForm}
 use Rattle.larch_raw.specs.declared.declared.RawOpRef.{RawOpRef}
 use Rattle.larch_raw.specs.declared.declared.RawSig.{RawSig}
 use Rattle.larch_raw.specs.declared.declared.RawWord.{RawWord}
 use Rattle.larch_raw.specs.declared.equation.RawVar.{RawVar}
-use Rattle.larch_grammar.specs.declared.lexeme.Bracket.{Bracket}
-use Rattle.larch_grammar.specs.declared.lexeme.Lexeme.{Lexeme}
-use Rattle.larch_grammar.specs.declared.lexeme.Lexeme.TheVariants.{Word, Symbol, Arrow, Colon, Comma, Dot, Marker, OpenBracket, CloseBracket}
+use Rattle.larch_grammar.specs.declared.terminal.Bracket.{Bracket}
+use Rattle.larch_grammar.specs.declared.terminal.Terminal.{Terminal}
+use Rattle.larch_grammar.specs.declared.terminal.Terminal.TheVariants.{Word, Symbol, Arrow, Colon, Comma, Dot, Marker, OpenBracket, CloseBracket}
 use Rattle.larch_grammar.specs.Trees.{infix_name, prefix_name, postfix_name, field_name, plain_form, mixfix, bracket_form}
 
 -- a token beside its mark
 abbrev pub Marked : Type 0
-Marked = Lexeme × Mark
+Marked = Terminal × Mark
 
 -- a token outside all equations
-abbrev pub out : Lexeme → Marked
+abbrev pub out : Terminal → Marked
 out t = (t, Outside)
 
 -- a word that isn't reserved

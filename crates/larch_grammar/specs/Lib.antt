@@ -1,7 +1,7 @@
 pub mod Answers
 pub mod Depth
 pub mod Forms
-pub mod Lexemes
+pub mod Terminals
 pub mod Machine
 pub mod Opening
 pub mod Terms

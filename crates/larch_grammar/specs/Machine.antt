@@ -3,22 +3,22 @@
 use Rattle.std.specs.Prelude.{ℕ, suc, Bool, true, false, cond, Option, Some, None, List, [], ◌∷◌, ◌++◌}
 use Rattle.larch_base.specs.declared.position.Pos.{Pos}
 use Rattle.larch_lexer.specs.declared.token.Token.{Token}
-use Rattle.larch_places.specs.declared.mark.Mark.{Mark}
-use Rattle.larch_places.specs.declared.mark.Mark.TheVariants as mark
+use Rattle.larch_fronts.specs.declared.mark.Mark.{Mark}
+use Rattle.larch_fronts.specs.declared.mark.Mark.TheVariants as mark
 use Rattle.larch_raw.specs.declared.declared.RawForm.{RawForm}
 use Rattle.larch_raw.specs.declared.declared.RawOpRef.{RawOpRef}
 use Rattle.larch_raw.specs.declared.declared.RawSig.{RawSig}
 use Rattle.larch_raw.specs.declared.declared.RawWord.{RawWord}
 use Rattle.larch_raw.specs.declared.equation.RawEquation.{RawEquation}
-use Rattle.larch_raw.specs.declared.equation.RawItem.{RawItem}
+use Rattle.larch_raw.specs.declared.equation.ClauseKind.TheVariants as clause_kind
 use Rattle.larch_raw.specs.declared.equation.RawItem.TheVariants as item
 use Rattle.larch_raw.specs.declared.equation.RawTrait.{RawTrait}
 use Rattle.larch_raw.specs.declared.equation.RawVar.{RawVar}
 use Rattle.larch_raw.specs.RawTree.{RawTree, qualified}
-use Rattle.larch_grammar.specs.declared.lexeme.Bracket.{Bracket}
-use Rattle.larch_grammar.specs.declared.lexeme.Bracket.TheVariants.{Square, Curly}
-use Rattle.larch_grammar.specs.declared.lexeme.Lexeme.{Lexeme}
-use Rattle.larch_grammar.specs.declared.lexeme.Lexeme.TheVariants.{Word, Symbol, Not, Connective, Equality, Equates, Arrow, Colon, Comma, Semicolon, Dot, Marker, Open, Close, OpenBracket, CloseBracket, ForAll, Trait, Introduces, Asserts, Generated, Partitioned, By, If, Then, Else}
+use Rattle.larch_grammar.specs.declared.terminal.Bracket.{Bracket}
+use Rattle.larch_grammar.specs.declared.terminal.Bracket.TheVariants.{Square, Curly}
+use Rattle.larch_grammar.specs.declared.terminal.Terminal.{Terminal}
+use Rattle.larch_grammar.specs.declared.terminal.Terminal.TheVariants.{Word, Symbol, Not, Connective, Equality, Equates, Arrow, Colon, Comma, Semicolon, Dot, Marker, Open, Close, OpenBracket, CloseBracket, ForAll, Trait, Introduces, Asserts, Generated, Partitioned, By, If, Then, Else}
 use Rattle.larch_grammar.specs.declared.machine.Clause.{Clause}
 use Rattle.larch_grammar.specs.declared.machine.Frame.{Frame}
 use Rattle.larch_grammar.specs.declared.machine.Frame.TheVariants.{InFields, InStrays, Prefixed, InPostfixes, InInfixes, InEqualities, InConnectives, InParentheses, InList, InIf, InThen, InElse, InLeft, InRight}
@@ -37,10 +37,10 @@ use Rattle.larch_grammar.specs.declared.machine.Whole.{Whole}
 use Rattle.larch_grammar.specs.declared.machine.Whole.TheVariants as whole
 use Rattle.larch_grammar.specs.Depth.{depth_of}
 use Rattle.larch_grammar.specs.Forms.{variables_at}
-use Rattle.larch_grammar.specs.Lexemes.{lexeme_of, place_of}
+use Rattle.larch_grammar.specs.Terminals.{terminal_of, position_of}
 use Rattle.larch_grammar.specs.Terms.{opens, opens_head, chained, formula_of, equation_of}
 use Rattle.larch_grammar.specs.Traits.{named, with_declaration, with_item, with_equations}
-use Rattle.larch_grammar.specs.Trees.{infix_name, prefix_name, postfix_name, field_name, prefix_tree, postfix_tree, field_tree, call_tree, bracket_tree, listing_tree, if_tree, joined, mixfix, plain_form, bracket_form}
+use Rattle.larch_grammar.specs.Trees.{infix_name, prefix_name, postfix_name, field_name, prefix_tree, postfix_tree, field_tree, call_tree, bracket_tree, listing_tree, if_tree, chain_tree, mixfix, plain_form, bracket_form}
 
 -- the mark and the state of a step, if there is one
 abbrev pub Taking : Type 0
@@ -65,50 +65,50 @@ abbrev pub open_bracket : Bracket → Pos → Option RawTree → List Frame → 
 open_bracket b p l k = Some (opens_head (suc (depth_of k)), NeedFirst b l p k)
 
 -- the first token of a Post
-abbrev pub begin_post : Lexeme → List Frame → Taking
+abbrev pub begin_post : Terminal → List Frame → Taking
 begin_post (Word w) k = at_head (AfterWord w k)
 begin_post (Open p) k = Some (opens (suc (depth_of k)), NeedTerm (InParentheses ∷ InFields ∷ k))
 begin_post (OpenBracket b p) k = open_bracket b p None k
 begin_post _ k = None
 
 -- the first token behind a prefix symbol
-abbrev pub begin_prefixed : Lexeme → List Frame → Taking
+abbrev pub begin_prefixed : Terminal → List Frame → Taking
 begin_prefixed (Symbol x) k = at_head (NeedPrefixed (Prefixed x ∷ k))
 begin_prefixed (Not x) k = at_head (NeedPrefixed (Prefixed x ∷ k))
 begin_prefixed t k = begin_post t (InStrays ∷ k)
 
 -- the first token of an Oper
-abbrev pub begin_operand : Lexeme → List Frame → Taking
+abbrev pub begin_operand : Terminal → List Frame → Taking
 begin_operand (Symbol x) k = at_head (NeedPrefixed (Prefixed x ∷ k))
 begin_operand (Not x) k = at_head (NeedPrefixed (Prefixed x ∷ k))
 begin_operand t k = begin_post t (InInfixes None ∷ k)
 
 -- the first token of a term
-abbrev pub begin_term : Lexeme → List Frame → Taking
+abbrev pub begin_term : Terminal → List Frame → Taking
 begin_term (If p) k = Some (opens_head (suc (depth_of k)), NeedTerm (InIf p ∷ k))
 begin_term t k = begin_operand t (InEqualities None ∷ InConnectives None ∷ k)
 
 -- the first token of an equation
-abbrev pub begin_equation : Lexeme → Waiting → Taking
-begin_equation t w = begin_term t (InLeft (place_of t) w ∷ [])
+abbrev pub begin_equation : Terminal → Waiting → Taking
+begin_equation t w = begin_term t (InLeft (position_of t) w ∷ [])
 
 -- items: what may stand where an item may begin
 
 -- a part, or an item that needs no `;` before it
-abbrev pub begin_part : RawTrait → Lexeme → Taking
+abbrev pub begin_part : RawTrait → Terminal → Taking
 begin_part raw ForAll = outside (NeedVariable raw [])
 begin_part raw Asserts = outside (InItems raw)
 begin_part raw _ = None
 
 -- the first token of any item, or a part
-abbrev pub begin_item : RawTrait → Lexeme → Taking
+abbrev pub begin_item : RawTrait → Terminal → Taking
 begin_item raw (Word w) = at_head (FirstWord raw w)
 begin_item raw ForAll = begin_part raw ForAll
 begin_item raw Asserts = begin_part raw Asserts
 begin_item raw t = begin_equation t (Item raw [] [])
 
 -- an equation is read, and a token stands behind it
-abbrev pub hand_equation : RawEquation → Waiting → Lexeme → Taking
+abbrev pub hand_equation : RawEquation → Waiting → Terminal → Taking
 hand_equation e Alone t = None
 hand_equation e (Item raw vs es) Semicolon = outside (AfterSemicolon raw vs (es ++ e ∷ []))
 hand_equation e (Item raw vs es) (Word w) = outside (ClauseWord (with_equations raw vs (es ++ e ∷ [])) w)
@@ -120,7 +120,7 @@ symbol_of None = None
 symbol_of (Some link) = Some link.symbol
 
 -- a term of a list is read: another one follows, or the list ends
-abbrev pub hand_list : RawTree → Listing → List RawTree → List Frame → Lexeme → Taking
+abbrev pub hand_list : RawTree → Listing → List RawTree → List Frame → Terminal → Taking
 hand_list r h ts k Comma = plainly (NeedTerm (InList h (ts ++ r ∷ []) ∷ k))
 hand_list r (Call w) ts k Close = plainly (Have (listing_tree (Call w) (ts ++ r ∷ [])) k)
 hand_list r (Bracketed Square l p) ts k (CloseBracket Square) = plainly (Have (listing_tree (Bracketed Square l p) (ts ++ r ∷ [])) k)
@@ -128,7 +128,7 @@ hand_list r (Bracketed Curly l p) ts k (CloseBracket Curly) = plainly (Have (lis
 hand_list r h ts k _ = None
 
 -- a term is read, and a token stands behind it: the innermost frame takes the token, or hands on what it makes of the term
-abbrev pub hand : Bool → RawTree → List Frame → Lexeme → Taking
+abbrev pub hand : Bool → RawTree → List Frame → Terminal → Taking
 hand s r [] t = None
 hand s r (InFields ∷ k) (Dot p) = at_head (NeedField r p k)
 hand s r (InFields ∷ k) (Colon p) = at_head (NeedSortOf r p k)
@@ -141,12 +141,12 @@ hand s r (InPostfixes ∷ k) (Symbol x) = at_head (Have (postfix_tree x r) (InPo
 hand s r (InPostfixes ∷ k) t = hand s r k t
 hand s r (InInfixes None ∷ k) (Symbol x) = at_head (AfterSymbol x r k)
 hand s r (InInfixes None ∷ k) t = hand s r k t
-hand s r (InInfixes (Some l) ∷ k) (Symbol x) = Some (chained (Some l.symbol) x, NeedPost (InInfixes (Some (record { symbol = x; left = joined (Some l) r })) ∷ k))
-hand s r (InInfixes (Some l) ∷ k) t = hand s (joined (Some l) r) k t
-hand s r (InEqualities l ∷ k) (Equality x) = Some (chained (symbol_of l) x, NeedOperand (InEqualities (Some (record { symbol = x; left = joined l r })) ∷ k))
-hand s r (InEqualities l ∷ k) t = hand s (joined l r) k t
-hand s r (InConnectives l ∷ k) (Connective x) = Some (chained (symbol_of l) x, NeedOperand (InEqualities None ∷ InConnectives (Some (record { symbol = x; left = joined l r })) ∷ k))
-hand s r (InConnectives l ∷ k) t = hand s (joined l r) k t
+hand s r (InInfixes (Some l) ∷ k) (Symbol x) = Some (chained (Some l.symbol) x, NeedPost (InInfixes (Some (record { symbol = x; left = chain_tree (Some l) r })) ∷ k))
+hand s r (InInfixes (Some l) ∷ k) t = hand s (chain_tree (Some l) r) k t
+hand s r (InEqualities l ∷ k) (Equality x) = Some (chained (symbol_of l) x, NeedOperand (InEqualities (Some (record { symbol = x; left = chain_tree l r })) ∷ k))
+hand s r (InEqualities l ∷ k) t = hand s (chain_tree l r) k t
+hand s r (InConnectives l ∷ k) (Connective x) = Some (chained (symbol_of l) x, NeedOperand (InEqualities None ∷ InConnectives (Some (record { symbol = x; left = chain_tree l r })) ∷ k))
+hand s r (InConnectives l ∷ k) t = hand s (chain_tree l r) k t
 hand s r (InParentheses ∷ k) Close = plainly (Have r k)
 hand s r (InParentheses ∷ k) t = None
 hand s r (InList h ts ∷ k) t = hand_list r h ts k t
@@ -171,9 +171,9 @@ finish r (InFields ∷ k) = finish r k
 finish r (InStrays ∷ k) = finish r k
 finish r (Prefixed x ∷ k) = finish (prefix_tree x r) k
 finish r (InPostfixes ∷ k) = finish r k
-finish r (InInfixes l ∷ k) = finish (joined l r) k
-finish r (InEqualities l ∷ k) = finish (joined l r) k
-finish r (InConnectives l ∷ k) = finish (joined l r) k
+finish r (InInfixes l ∷ k) = finish (chain_tree l r) k
+finish r (InEqualities l ∷ k) = finish (chain_tree l r) k
+finish r (InConnectives l ∷ k) = finish (chain_tree l r) k
 finish r (InParentheses ∷ k) = None
 finish r (InList h ts ∷ k) = None
 finish r (InIf p ∷ k) = None
@@ -183,18 +183,18 @@ finish r (InLeft p w ∷ k) = end_equation (formula_of r p) w
 finish r (InRight p l q w ∷ k) = end_equation (equation_of l q r p) w
 
 -- a word is read: its arguments begin, or it stands alone
-abbrev pub after_word : Bool → RawWord → List Frame → Lexeme → Taking
+abbrev pub after_word : Bool → RawWord → List Frame → Terminal → Taking
 after_word s w k (Open p) = Some (opens (suc (depth_of k)), NeedTerm (InList (Call w) [] ∷ InFields ∷ k))
 after_word s w k t = hand s (call_tree w []) (InFields ∷ k) t
 
 -- a bracket is open: it ends, or its first term begins
-abbrev pub begin_bracket : Bracket → Option RawTree → Pos → List Frame → Lexeme → Taking
+abbrev pub begin_bracket : Bracket → Option RawTree → Pos → List Frame → Terminal → Taking
 begin_bracket Square l p k (CloseBracket Square) = plainly (Have (bracket_tree Square l p []) (InFields ∷ k))
 begin_bracket Curly l p k (CloseBracket Curly) = plainly (Have (bracket_tree Curly l p []) (InFields ∷ k))
 begin_bracket b l p k t = begin_term t (InList (Bracketed b l p) [] ∷ InFields ∷ k)
 
 -- a term and a symbol are read: the symbol is infix where a Post begins, and postfix elsewhere
-abbrev pub after_symbol : Bool → RawWord → RawTree → List Frame → Lexeme → Taking
+abbrev pub after_symbol : Bool → RawWord → RawTree → List Frame → Terminal → Taking
 after_symbol s x r k (Word w) = begin_post (Word w) (InInfixes (Some (record { symbol = x; left = r })) ∷ k)
 after_symbol s x r k (Open p) = begin_post (Open p) (InInfixes (Some (record { symbol = x; left = r })) ∷ k)
 after_symbol s x r k (OpenBracket b p) = begin_post (OpenBracket b p) (InInfixes (Some (record { symbol = x; left = r })) ∷ k)
@@ -207,7 +207,7 @@ word_frames w e = InInfixes None ∷ InEqualities None ∷ InConnectives None �
 -- forms, signatures and clauses
 
 -- the first token of a form
-abbrev pub begin_form : Naming → Lexeme → Taking
+abbrev pub begin_form : Naming → Terminal → Taking
 begin_form n (Word w) = outside (AfterForm n (plain_form w))
 begin_form n (Symbol x) = outside (AfterSymbolForm n x)
 begin_form n (Dot p) = outside (AfterDotForm n p)
@@ -215,17 +215,12 @@ begin_form n (Marker p) = outside (AfterMarker n p)
 begin_form n (OpenBracket b p) = outside (NeedMarks n false b p)
 begin_form n _ = None
 
--- the clause with these references
-abbrev pub clause_item : Bool → RawWord → List RawOpRef → RawItem
-clause_item true sort rs = item.Generated sort rs
-clause_item false sort rs = item.Partitioned sort rs
-
 -- the trait with a clause of these references
 abbrev pub with_clause : Clause → List RawOpRef → RawTrait
-with_clause c rs = with_item c.raw (clause_item c.generated c.sort rs)
+with_clause c rs = with_item c.raw (item.Clause c.kind c.sort rs)
 
 -- a reference is read, the last of these, and a token stands behind it
-abbrev pub after_reference : Clause → List RawOpRef → Lexeme → Taking
+abbrev pub after_reference : Clause → List RawOpRef → Terminal → Taking
 after_reference c rs Comma = outside (NeedForm (Referred c rs))
 after_reference c rs Semicolon = outside (InItems (with_clause c rs))
 after_reference c rs t = begin_item (with_clause c rs) t
@@ -235,7 +230,7 @@ abbrev pub with_reference : List RawOpRef → RawForm → List RawOpRef
 with_reference rs f = rs ++ record { form = f; sig = None } ∷ []
 
 -- a form is read, and a token stands behind it
-abbrev pub after_form : Naming → RawForm → Lexeme → Taking
+abbrev pub after_form : Naming → RawForm → Terminal → Taking
 after_form (Declared raw fs) f Comma = outside (NeedForm (Declared raw (fs ++ f ∷ [])))
 after_form (Declared raw fs) f (Colon p) = outside (NeedSig (Declaration raw (fs ++ f ∷ [])))
 after_form (Declared raw fs) f _ = None
@@ -248,82 +243,82 @@ hand_sig (Declaration raw fs) sig = InPart (with_declaration raw (record { forms
 hand_sig (Reference c rs f) sig = AfterReference c (rs ++ record { form = f; sig = Some sig } ∷ [])
 
 -- a symbol that begins a form is read
-abbrev pub after_symbol_form : Naming → RawWord → Lexeme → Taking
+abbrev pub after_symbol_form : Naming → RawWord → Terminal → Taking
 after_symbol_form n x (Marker p) = outside (AfterForm n (mixfix (prefix_name x.name) 1 x.pos))
 after_symbol_form n x t = after_form n (mixfix (infix_name x.name) 2 x.pos) t
 
 -- a `__` that begins a form is read
-abbrev pub after_marker : Naming → Pos → Lexeme → Taking
+abbrev pub after_marker : Naming → Pos → Terminal → Taking
 after_marker n p (Dot q) = outside (AfterDotForm n p)
 after_marker n p (Symbol x) = outside (AfterMarkerSymbol n p x)
 after_marker n p (OpenBracket b q) = outside (NeedMarks n true b p)
 after_marker n p _ = None
 
 -- a `__` and a symbol are read
-abbrev pub after_marker_symbol : Naming → Pos → RawWord → Lexeme → Taking
+abbrev pub after_marker_symbol : Naming → Pos → RawWord → Terminal → Taking
 after_marker_symbol n p x (Marker q) = outside (AfterForm n (mixfix (infix_name x.name) 2 p))
 after_marker_symbol n p x t = after_form n (mixfix (postfix_name x.name) 1 p) t
 
 -- the bracket of a form ends
-abbrev pub end_marks : Naming → Bool → Bracket → ℕ → Pos → Lexeme → Taking
+abbrev pub end_marks : Naming → Bool → Bracket → ℕ → Pos → Terminal → Taking
 end_marks n behind Square m p (CloseBracket Square) = outside (AfterForm n (bracket_form behind Square m p))
 end_marks n behind Curly m p (CloseBracket Curly) = outside (AfterForm n (bracket_form behind Curly m p))
 end_marks n behind b m p _ = None
 
 -- a bracket of a form is open
-abbrev pub need_marks : Naming → Bool → Bracket → Pos → Lexeme → Taking
+abbrev pub need_marks : Naming → Bool → Bracket → Pos → Terminal → Taking
 need_marks n behind b p (Marker q) = outside (AfterMark n behind b 1 p)
 need_marks n behind b p t = end_marks n behind b 0 p t
 
 -- so many markers stand in it
-abbrev pub after_mark : Naming → Bool → Bracket → ℕ → Pos → Lexeme → Taking
+abbrev pub after_mark : Naming → Bool → Bracket → ℕ → Pos → Terminal → Taking
 after_mark n behind b m p Comma = outside (NeedMark n behind b m p)
 after_mark n behind b m p t = end_marks n behind b m p t
 
 -- the word that begins a clause is read
-abbrev pub clause_word : RawTrait → RawWord → Lexeme → Taking
-clause_word raw w Generated = outside (NeedBy (record { raw = raw; generated = true; sort = w }))
-clause_word raw w Partitioned = outside (NeedBy (record { raw = raw; generated = false; sort = w }))
+abbrev pub clause_word : RawTrait → RawWord → Terminal → Taking
+clause_word raw w Generated = outside (NeedBy (record { raw = raw; kind = clause_kind.Generated; sort = w }))
+clause_word raw w Partitioned = outside (NeedBy (record { raw = raw; kind = clause_kind.Partitioned; sort = w }))
 clause_word raw w _ = None
 
 -- a word that begins an item is read, where the equation would be the first of its item
-abbrev pub first_word : Bool → RawTrait → RawWord → Lexeme → Taking
+abbrev pub first_word : Bool → RawTrait → RawWord → Terminal → Taking
 first_word s raw w Generated = clause_word raw w Generated
 first_word s raw w Partitioned = clause_word raw w Partitioned
 first_word s raw w t = after_word s w (word_frames w (Item raw [] [])) t
 
 -- a word behind the `;` of these equations is read
-abbrev pub word_behind : Bool → RawTrait → List RawVar → List RawEquation → RawWord → Lexeme → Taking
+abbrev pub word_behind : Bool → RawTrait → List RawVar → List RawEquation → RawWord → Terminal → Taking
 word_behind s raw vs es w Generated = clause_word (with_equations raw vs es) w Generated
 word_behind s raw vs es w Partitioned = clause_word (with_equations raw vs es) w Partitioned
 word_behind s raw vs es w t = after_word s w (word_frames w (Item raw vs es)) t
 
 -- the `;` of these equations is read
-abbrev pub after_semicolon : RawTrait → List RawVar → List RawEquation → Lexeme → Taking
+abbrev pub after_semicolon : RawTrait → List RawVar → List RawEquation → Terminal → Taking
 after_semicolon raw vs es (Word w) = at_head (WordBehind raw vs es w)
 after_semicolon raw vs es ForAll = begin_part (with_equations raw vs es) ForAll
 after_semicolon raw vs es Asserts = begin_part (with_equations raw vs es) Asserts
 after_semicolon raw vs es t = begin_equation t (Item raw vs es)
 
 -- variables with their sorts are read
-abbrev pub after_group : RawTrait → List RawVar → Lexeme → Taking
+abbrev pub after_group : RawTrait → List RawVar → Terminal → Taking
 after_group raw vs Comma = outside (NeedVariable raw vs)
 after_group raw vs t = begin_equation t (Item raw vs [])
 
 -- `introduces` or a declaration is read
-abbrev pub in_part : RawTrait → Lexeme → Taking
+abbrev pub in_part : RawTrait → Terminal → Taking
 in_part raw Introduces = outside (InPart raw)
 in_part raw Asserts = outside (InItems raw)
 in_part raw t = begin_form (Declared raw []) t
 
 -- the head of a trait is read
-abbrev pub after_head : RawTrait → Lexeme → Taking
+abbrev pub after_head : RawTrait → Terminal → Taking
 after_head raw Introduces = outside (InPart raw)
 after_head raw Asserts = outside (InItems raw)
 after_head raw _ = None
 
 -- the mark of a token and the state behind it
-abbrev pub step : Bool → State → Lexeme → Taking
+abbrev pub step : Bool → State → Terminal → Taking
 step s Start (Word name) = outside (AfterName name)
 step s (AfterName name) (Colon p) = outside (NeedTrait name)
 step s (NeedTrait name) Trait = outside (AfterHead (named name))
@@ -394,7 +389,7 @@ final _ = None
 
 -- the same at a token of a text
 abbrev pub step_at : Bool → State → Token → Taking
-step_at s n t = step s n (lexeme_of t)
+step_at s n t = step s n (terminal_of t)
 
 -- the whole as a trait
 abbrev pub as_trait : Option Whole → Option RawTrait

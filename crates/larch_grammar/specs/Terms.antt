@@ -5,16 +5,16 @@ use Rattle.std.specs.Str.{bytes_eq}
 use Rattle.larch_base.specs.Position.{start_of_text}
 use Rattle.larch_base.specs.declared.limits.TheConstants.{MAX_NESTING}
 use Rattle.larch_base.specs.declared.position.Pos.{Pos}
-use Rattle.larch_places.specs.declared.mark.Mark.{Mark}
-use Rattle.larch_places.specs.declared.mark.Mark.TheVariants.{Plain, Head, Opens, OpensHead, Chained}
+use Rattle.larch_fronts.specs.declared.mark.Mark.{Mark}
+use Rattle.larch_fronts.specs.declared.mark.Mark.TheVariants.{Plain, Head, Opens, OpensHead, Chained}
 use Rattle.larch_raw.specs.declared.declared.RawWord.{RawWord}
 use Rattle.larch_raw.specs.declared.equation.RawEquation.{RawEquation}
 use Rattle.larch_raw.specs.RawTree.{RawTree, qualified}
-use Rattle.larch_grammar.specs.declared.lexeme.Bracket.{Bracket}
-use Rattle.larch_grammar.specs.declared.lexeme.Lexeme.{Lexeme}
-use Rattle.larch_grammar.specs.declared.lexeme.Lexeme.TheVariants.{Word, Symbol, Not, Connective, Equality, Equates, Colon, Comma, Dot, Open, Close, OpenBracket, CloseBracket, If, Then, Else}
+use Rattle.larch_grammar.specs.declared.terminal.Bracket.{Bracket}
+use Rattle.larch_grammar.specs.declared.terminal.Terminal.{Terminal}
+use Rattle.larch_grammar.specs.declared.terminal.Terminal.TheVariants.{Word, Symbol, Not, Connective, Equality, Equates, Colon, Comma, Dot, Open, Close, OpenBracket, CloseBracket, If, Then, Else}
 use Rattle.larch_grammar.specs.Forms.{Marked}
-use Rattle.larch_grammar.specs.Lexemes.{place_of}
+use Rattle.larch_grammar.specs.Terminals.{position_of}
 use Rattle.larch_grammar.specs.Trees.{infix_tree, prefix_tree, postfix_tree, field_tree, call_tree, bracket_tree, if_tree}
 
 -- a token that opens a construct, so many being open then
@@ -31,7 +31,7 @@ chained None y = Head
 chained (Some x) y = Chained (not (bytes_eq x.name y.name))
 
 -- a Post may begin with this token
-abbrev pub begins_post : Lexeme → Bool
+abbrev pub begins_post : Terminal → Bool
 begins_post (Word w) = true
 begins_post (Open p) = true
 begins_post (OpenBracket b p) = true
@@ -43,14 +43,14 @@ NoPost [] = Unit {0}
 NoPost (t ∷ i) = IsTrue (not (begins_post t.0))
 
 -- P = Sym | "~"
-pub data IsPrefix : Lexeme → RawWord → Type 0 where
+pub data IsPrefix : Terminal → RawWord → Type 0 where
   a_symbol : {x : RawWord} → IsPrefix (Symbol x) x
   a_not : {x : RawWord} → IsPrefix (Not x) x
 
 -- where the first of these tokens stands
-abbrev pub first_place : List Marked → Pos
-first_place [] = start_of_text
-first_place (t ∷ i) = place_of t.0
+abbrev pub first_position : List Marked → Pos
+first_position [] = start_of_text
+first_position (t ∷ i) = position_of t.0
 
 mutual
   -- Cond = "if" Cond "then" Cond "else" Cond | Logic
@@ -74,12 +74,12 @@ mutual
 
   -- Oper = P { P } Post | Post Sym { Sym } | Post { Sym Post }
   pub data Oper : Bool → ℕ → List Marked → List Marked → RawTree → Type 0 where
-    prefixed : {s : Bool} {d : ℕ} {t : Lexeme} {x : RawWord} {i o : List Marked} {q : RawTree} → IsPrefix t x → Operand s d i o q → Oper s d ((t, Head) ∷ i) o (prefix_tree x q)
+    prefixed : {s : Bool} {d : ℕ} {t : Terminal} {x : RawWord} {i o : List Marked} {q : RawTree} → IsPrefix t x → Operand s d i o q → Oper s d ((t, Head) ∷ i) o (prefix_tree x q)
     plain : {s : Bool} {d : ℕ} {i m o : List Marked} {l q : RawTree} → Post s d i m l → Symbols s d l m o q → Oper s d i o q
 
   -- what stands behind a prefix symbol
   pub data Operand : Bool → ℕ → List Marked → List Marked → RawTree → Type 0 where
-    another_prefix : {s : Bool} {d : ℕ} {t : Lexeme} {x : RawWord} {i o : List Marked} {q : RawTree} → IsPrefix t x → Operand s d i o q → Operand s d ((t, Head) ∷ i) o (prefix_tree x q)
+    another_prefix : {s : Bool} {d : ℕ} {t : Terminal} {x : RawWord} {i o : List Marked} {q : RawTree} → IsPrefix t x → Operand s d i o q → Operand s d ((t, Head) ∷ i) o (prefix_tree x q)
     operand : {s : Bool} {d : ℕ} {i m o : List Marked} {l q : RawTree} → Post s d i m l → Strays s l m o q → Operand s d i o q
 
   -- the symbols behind the first Post: none, postfix ones where no Post follows the first, or infix ones
@@ -123,19 +123,19 @@ mutual
     operands : {s : Bool} {d : ℕ} {b : Bracket} {l : Option RawTree} {p : Pos} {i j o : List Marked} {a : RawTree} {ts : List RawTree} → Cond s (suc d) i j a → Others s (suc d) (CloseBracket b) (a ∷ []) j o ts → InBracket s d l ((OpenBracket b p, opens_head (suc d)) ∷ i) o (bracket_tree b l p ts)
 
   -- { "," Cond } and the closing token, where the terms before are these
-  pub data Others : Bool → ℕ → Lexeme → List RawTree → List Marked → List Marked → List RawTree → Type 0 where
-    no_other : {s : Bool} {d : ℕ} {c : Lexeme} {ts : List RawTree} {o : List Marked} → Others s d c ts ((c, Plain) ∷ o) o ts
-    another : {s : Bool} {d : ℕ} {c : Lexeme} {a : RawTree} {ts us : List RawTree} {i j o : List Marked} → Cond s d i j a → Others s d c (ts ++ a ∷ []) j o us → Others s d c ts ((Comma, Plain) ∷ i) o us
+  pub data Others : Bool → ℕ → Terminal → List RawTree → List Marked → List Marked → List RawTree → Type 0 where
+    no_other : {s : Bool} {d : ℕ} {c : Terminal} {ts : List RawTree} {o : List Marked} → Others s d c ts ((c, Plain) ∷ o) o ts
+    another : {s : Bool} {d : ℕ} {c : Terminal} {a : RawTree} {ts us : List RawTree} {i j o : List Marked} → Cond s d i j a → Others s d c (ts ++ a ∷ []) j o us → Others s d c ts ((Comma, Plain) ∷ i) o us
 
 -- a formula
 abbrev pub formula_of : RawTree → Pos → RawEquation
 formula_of l first = record { left = l; right = None; first = first }
 
--- an equation with two sides, and the place of `==`
+-- an equation with two sides, and the position of `==`
 abbrev pub equation_of : RawTree → Pos → RawTree → Pos → RawEquation
 equation_of l p r first = record { left = l; right = Some (record { term = r; pos = p }); first = first }
 
 -- Equation = Cond [ "==" Cond ]
 pub data IsEquation : Bool → List Marked → List Marked → RawEquation → Type 0 where
-  formula : {s : Bool} {i o : List Marked} {l : RawTree} → Cond s 0 i o l → IsEquation s i o (formula_of l (first_place i))
-  two_sides : {s : Bool} {i m o : List Marked} {l r : RawTree} {p : Pos} → Cond s 0 i ((Equates p, Head) ∷ m) l → Cond s 0 m o r → IsEquation s i o (equation_of l p r (first_place i))
+  formula : {s : Bool} {i o : List Marked} {l : RawTree} → Cond s 0 i o l → IsEquation s i o (formula_of l (first_position i))
+  two_sides : {s : Bool} {i m o : List Marked} {l r : RawTree} {p : Pos} → Cond s 0 i ((Equates p, Head) ∷ m) l → Cond s 0 m o r → IsEquation s i o (equation_of l p r (first_position i))

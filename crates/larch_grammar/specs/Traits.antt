@@ -2,24 +2,26 @@
 use Rattle.std.specs.Prelude.{◌≡◌, Bool, false, List, [], ◌∷◌, ◌++◌, map}
 use Rattle.larch_base.specs.declared.position.Pos.{Pos}
 use Rattle.larch_lexer.specs.declared.token.Token.{Token}
-use Rattle.larch_places.specs.declared.mark.Mark.{Mark}
-use Rattle.larch_places.specs.declared.mark.Mark.TheVariants.{Outside, Head}
+use Rattle.larch_fronts.specs.declared.mark.Mark.{Mark}
+use Rattle.larch_fronts.specs.declared.mark.Mark.TheVariants.{Outside, Head}
 use Rattle.larch_raw.specs.declared.declared.RawDecl.{RawDecl}
 use Rattle.larch_raw.specs.declared.declared.RawForm.{RawForm}
 use Rattle.larch_raw.specs.declared.declared.RawOpRef.{RawOpRef}
 use Rattle.larch_raw.specs.declared.declared.RawSig.{RawSig}
 use Rattle.larch_raw.specs.declared.declared.RawWord.{RawWord}
 use Rattle.larch_raw.specs.declared.equation.RawEquation.{RawEquation}
+use Rattle.larch_raw.specs.declared.equation.ClauseKind.{ClauseKind}
+use Rattle.larch_raw.specs.declared.equation.ClauseKind.TheVariants as clause_kind
 use Rattle.larch_raw.specs.declared.equation.RawItem.{RawItem}
 use Rattle.larch_raw.specs.declared.equation.RawItem.TheVariants as item
 use Rattle.larch_raw.specs.declared.equation.RawTrait.{RawTrait}
 use Rattle.larch_raw.specs.declared.equation.RawVar.{RawVar}
-use Rattle.larch_grammar.specs.declared.lexeme.Lexeme.{Lexeme}
-use Rattle.larch_grammar.specs.declared.lexeme.Lexeme.TheVariants.{Word, Colon, Semicolon, ForAll, Trait, Introduces, Asserts, Generated, Partitioned, By}
+use Rattle.larch_grammar.specs.declared.terminal.Terminal.{Terminal}
+use Rattle.larch_grammar.specs.declared.terminal.Terminal.TheVariants.{Word, Colon, Semicolon, ForAll, Trait, Introduces, Asserts, Generated, Partitioned, By}
 use Rattle.larch_grammar.specs.declared.machine.Before.{Before}
 use Rattle.larch_grammar.specs.declared.machine.Before.TheVariants.{Anything, Equations, Semicolon as semicolon}
 use Rattle.larch_grammar.specs.Forms.{Marked, IsWord, IsForm, AreForms, IsSig, IsOpRef, AreOpRefs, IsGroup, AreGroups}
-use Rattle.larch_grammar.specs.Lexemes.{lexeme_of}
+use Rattle.larch_grammar.specs.Terminals.{terminal_of}
 use Rattle.larch_grammar.specs.Terms.{IsEquation}
 
 -- a trait of this name with nothing in it
@@ -47,10 +49,10 @@ pub data AreDecls : RawTrait → List Marked → List Marked → RawTrait → Ty
   no_declaration : {r : RawTrait} {o : List Marked} → AreDecls r o o r
   another_declaration : {r z : RawTrait} {d : RawDecl} {i j o : List Marked} → IsDecl i j d → AreDecls (with_declaration r d) j o z → AreDecls r i o z
 
--- "generated" | "partitioned": the item of a clause with this sort and these references
-pub data IsClauseWord : Lexeme → (RawWord → List RawOpRef → RawItem) → Type 0 where
-  generates : IsClauseWord Generated item.Generated
-  partitions : IsClauseWord Partitioned item.Partitioned
+-- "generated" | "partitioned": the kind of a clause
+pub data IsClauseWord : Terminal → ClauseKind → Type 0 where
+  generates : IsClauseWord Generated clause_kind.Generated
+  partitions : IsClauseWord Partitioned clause_kind.Partitioned
 
 -- [ ";" ]
 pub data MayEnd : List Marked → List Marked → Type 0 where
@@ -65,7 +67,7 @@ clause_mark semicolon = Head
 
 -- Word ( "generated" | "partitioned" ) "by" OpRef { "," OpRef } [ ";" ]
 pub data IsClause : Mark → List Marked → List Marked → RawItem → Type 0 where
-  clause : {m : Mark} {i j k o : List Marked} {sort : RawWord} {t : Lexeme} {g : RawWord → List RawOpRef → RawItem} {r : RawOpRef} {rs : List RawOpRef} → IsClauseWord t g → IsOpRef i j r → AreOpRefs (r ∷ []) j k rs → MayEnd k o → IsClause m ((Word sort, m) ∷ (t, Outside) ∷ (By, Outside) ∷ i) o (g sort rs)
+  clause : {m : Mark} {i j k o : List Marked} {sort : RawWord} {t : Terminal} {kind : ClauseKind} {r : RawOpRef} {rs : List RawOpRef} → IsClauseWord t kind → IsOpRef i j r → AreOpRefs (r ∷ []) j k rs → MayEnd k o → IsClause m ((Word sort, m) ∷ (t, Outside) ∷ (By, Outside) ∷ i) o (item.Clause kind sort rs)
 
 -- { ";" Equation } [ ";" ], where the equations before are these; and whether it ends with `;`
 pub data AreEquations : Bool → List RawEquation → List Marked → List Marked → List RawEquation → Before → Type 0 where
@@ -97,7 +99,7 @@ pub data IsMarkedTrait : Bool → List Marked → RawTrait → Type 0 where
 
 -- a token of a text beside its mark
 abbrev pub seen : Token × Mark → Marked
-seen marked = (lexeme_of marked.0, marked.1)
+seen marked = (terminal_of marked.0, marked.1)
 
 -- these tokens are this trait
 abbrev pub IsTrait : List Token → RawTrait → Type 0

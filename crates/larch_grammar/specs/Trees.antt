@@ -4,8 +4,8 @@ use Rattle.larch_base.specs.declared.position.Pos.{Pos}
 use Rattle.larch_raw.specs.declared.declared.RawForm.{RawForm}
 use Rattle.larch_raw.specs.declared.declared.RawWord.{RawWord}
 use Rattle.larch_raw.specs.RawTree.{RawTree, apply, raw_forest}
-use Rattle.larch_grammar.specs.declared.lexeme.Bracket.{Bracket}
-use Rattle.larch_grammar.specs.declared.lexeme.Bracket.TheVariants.{Square, Curly}
+use Rattle.larch_grammar.specs.declared.terminal.Bracket.{Bracket}
+use Rattle.larch_grammar.specs.declared.terminal.Bracket.TheVariants.{Square, Curly}
 use Rattle.larch_grammar.specs.declared.machine.Link.{Link}
 use Rattle.larch_grammar.specs.declared.machine.Listing.{Listing}
 use Rattle.larch_grammar.specs.declared.machine.Listing.TheVariants.{Call, Bracketed}
@@ -69,7 +69,7 @@ prefix_tree x r = one (prefix_name x.name) x.pos r
 abbrev pub postfix_tree : RawWord → RawTree → RawTree
 postfix_tree x l = one (postfix_name x.name) x.pos l
 
--- a field of its operand, with the place of the dot
+-- a field of its operand, with the position of the dot
 abbrev pub field_tree : Pos → RawWord → RawTree → RawTree
 field_tree p w l = one (field_name w.name) p l
 
@@ -87,14 +87,14 @@ abbrev pub listing_tree : Listing → List RawTree → RawTree
 listing_tree (Call w) ts = call_tree w ts
 listing_tree (Bracketed b l p) ts = bracket_tree b l p ts
 
--- `if`, with its place and three parts
+-- `if`, with its position and three parts
 abbrev pub if_tree : Pos → RawTree → RawTree → RawTree → RawTree
 if_tree p a b c = apply if_name (raw_forest (a ∷ b ∷ c ∷ [])) p
 
 -- a term behind the symbol of a chain, or the first of one
-abbrev pub joined : Option Link → RawTree → RawTree
-joined None r = r
-joined (Some link) r = infix_tree link.symbol link.left r
+abbrev pub chain_tree : Option Link → RawTree → RawTree
+chain_tree None r = r
+chain_tree (Some link) r = infix_tree link.symbol link.left r
 
 -- a form that is no bare word
 abbrev pub mixfix : List ℕ → ℕ → Pos → RawForm
@@ -104,7 +104,7 @@ mixfix name n pos = record { name = name; word = false; markers = n; pos = pos }
 abbrev pub plain_form : RawWord → RawForm
 plain_form w = record { name = w.name; word = true; markers = 0; pos = w.pos }
 
--- a bracket as a form, with the place where it begins, and whether a marker stands in front of it
+-- a bracket as a form, with the position where it begins, and whether a marker stands in front of it
 abbrev pub bracket_form : Bool → Bracket → ℕ → Pos → RawForm
 bracket_form false b n pos = mixfix (bracket_name b n) n pos
 bracket_form true b n pos = mixfix (bracket_behind_name b n) (suc n) pos

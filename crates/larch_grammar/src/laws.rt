@@ -3,23 +3,23 @@ ghost use Rattle.std.specs.Prelude.{◌≡◌, ◌↔◌, ℕ, List, Result, dro
 ghost use Rattle.larch_base.specs.declared.position.Pos.{Pos};
 ghost use Rattle.larch_lexer.specs.TokenList.{TokenList};
 ghost use Rattle.larch_lexer.specs.declared.token.Token.{Token};
-ghost use Rattle.larch_places.specs.Claims.{Means, MeansFront, Spells};
-ghost use Rattle.larch_places.specs.declared.mark.Fault.{Fault};
+ghost use Rattle.larch_fronts.specs.Claims.{Means, MeansFront, Spells};
+ghost use Rattle.larch_fronts.specs.declared.mark.Flaw.{Flaw};
 ghost use Rattle.larch_raw.specs.declared.equation.RawEquation.{RawEquation};
 ghost use Rattle.larch_raw.specs.declared.equation.RawTrait.{RawTrait};
-ghost use Rattle.larch_grammar.specs.Answers.{Equations, Traits, place_of_token, term_answer, trait_answer};
+ghost use Rattle.larch_grammar.specs.Answers.{Equations, Traits, position_of_token, term_answer, trait_answer};
 
 /// A token list has at most one raw trait.
 pub fn one_raw_trait()
     ensures { (tokens : List Token) (first second : RawTrait) → Spells Traits tokens first → Spells Traits tokens second → first ≡ second }
 {}
 
-/// The raw trait or the fault that the machine answers is exactly what the grammar says.
+/// The raw trait or the flaw that the machine answers is exactly what the grammar says.
 pub fn reading_is_grammar()
-    ensures { (tokens : TokenList) (answer : Result RawTrait (Fault × Pos)) → (trait_answer tokens ≡ answer) ↔ Means Traits place_of_token tokens.end tokens.tokens answer }
+    ensures { (tokens : TokenList) (answer : Result RawTrait (Flaw × Pos)) → (trait_answer tokens ≡ answer) ↔ Means Traits position_of_token tokens.end tokens.tokens answer }
 {}
 
-/// The same of the longest front of the tokens from a place on that begins some equation.
+/// The same of the longest front of the tokens from a position on that begins some equation.
 pub fn front_is_grammar()
-    ensures { (tokens : TokenList) (from : ℕ) (answer : Result (RawEquation × ℕ) (Fault × Pos)) → (term_answer tokens from ≡ answer) ↔ MeansFront Equations place_of_token tokens.end (drop from tokens.tokens) answer }
+    ensures { (tokens : TokenList) (from : ℕ) (answer : Result (RawEquation × ℕ) (Flaw × Pos)) → (term_answer tokens from ≡ answer) ↔ MeansFront Equations position_of_token tokens.end (drop from tokens.tokens) answer }
 {}

@@ -1,13 +1,27 @@
-//! The grammar of traits and terms: its relation, the machine that reads it, and the law that the two say the same.
+//! The grammar of traits and terms: its relation, the machine that reads it, and the law that the two say the same;
+//! what a token is to the grammar, and the names, terms, forms and items that a reader puts together of tokens.
 //!
 //! The reader that takes tokens with memory of its own is in the crate above.
 #![tactic(auto)]
 
+mod form;
 pub mod laws;
-mod lexeme;
 mod machine;
+mod names;
 mod stack;
+mod terminal;
+mod traits;
+mod trees;
 
-pub use lexeme::{Bracket, Lexeme};
+pub use form::{bracket_form, field_form, infix_form, plain_form, postfix_form, prefix_form};
 pub use machine::{Before, Clause, Frame, Link, Listing, Naming, Signing, State, Waiting, Whole};
 pub use stack::Stack;
+pub use terminal::{Bracket, Terminal, position_of, terminal_of};
+pub use traits::{
+    equation_of, formula_of, named, with_clause, with_declaration, with_equations, with_group,
+    with_last, with_reference, with_word,
+};
+pub use trees::{
+    bracket_tree, call_tree, chain_tree, field_tree, if_tree, no_terms, postfix_tree, prefix_tree,
+    qualified, with_term,
+};

@@ -1,12 +1,12 @@
 ghost use Rattle.std.specs.Prelude.{◌≡◌};
 ghost use Rattle.larch_grammar.specs.Opening.{is_opening};
 
-use crate::lexeme::Bracket;
 use crate::stack::Stack;
+use crate::terminal::Bracket;
 use larch_base::Pos;
 use larch_raw::{
-    RawEquation, RawEquations, RawForm, RawForms, RawOpRefs, RawSig, RawTerm, RawTerms, RawTrait,
-    RawVars, RawWord, RawWords,
+    ClauseKind, RawEquation, RawEquations, RawForm, RawForms, RawOpRefs, RawSig, RawTerm, RawTerms,
+    RawTrait, RawVars, RawWord, RawWords,
 };
 
 /// What tokens are read as.
@@ -18,11 +18,11 @@ pub enum Whole {
     Equation(RawEquation),
 }
 
-/// A clause of which so much is read: the trait before it, whether it is a clause of generators, and its sort.
+/// A clause of which so much is read: the trait before it, its kind and its sort.
 #[derive(Drop)]
 pub struct Clause {
     pub raw: RawTrait,
-    pub generated: bool,
+    pub kind: ClauseKind,
     pub sort: RawWord,
 }
 

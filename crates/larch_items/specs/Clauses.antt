@@ -9,8 +9,8 @@ use Rattle.larch_term.specs.declared.statement.Statement.{Statement}
 use Rattle.larch_term.specs.declared.statement.Statement.TheVariants as statement
 use Rattle.larch_items.specs.Declarations.{Fault}
 use Rattle.larch_items.specs.Items.{clause_of, operators_named, ranges_over, takes, unknown_clause_sort, unless}
-use Rattle.larch_items.specs.declared.references.ClauseKind.{ClauseKind}
-use Rattle.larch_items.specs.declared.references.ClauseKind.TheVariants.{Generated, Partitioned}
+use Rattle.larch_raw.specs.declared.equation.ClauseKind.{ClauseKind}
+use Rattle.larch_raw.specs.declared.equation.ClauseKind.TheVariants.{Generated, Partitioned}
 
 -- the operator suits a clause of this sort
 abbrev pub suits : ClauseKind → List ℕ → PlainOperator → Bool

@@ -8,6 +8,7 @@ use Rattle.larch_raw.specs.declared.declared.RawForm.{RawForm}
 use Rattle.larch_raw.specs.declared.declared.RawOpRef.{RawOpRef}
 use Rattle.larch_raw.specs.declared.declared.RawSig.{RawSig}
 use Rattle.larch_raw.specs.declared.declared.RawWord.{RawWord}
+use Rattle.larch_raw.specs.declared.equation.ClauseKind.TheVariants as kind
 use Rattle.larch_raw.specs.declared.equation.RawEquation.{RawEquation}
 use Rattle.larch_raw.specs.declared.equation.RawItem.{RawItem}
 use Rattle.larch_raw.specs.declared.equation.RawItem.TheVariants as item
@@ -121,8 +122,8 @@ takes sort f = list_any (bytes_eq sort) f.domain
 -- what an item states, or what is wrong with it: a clause of generators wants one operator with its sort as range for
 -- each reference, and a clause of observers one with its sort in the domain
 abbrev pub item_states : List PlainOperator → RawItem → Result (List Statement) Fault
-item_states fs (item.Generated sort refs) = unless (unknown_clause_sort fs sort) (clause_of (Generated sort.name) (operators_named fs (ranges_over sort.name) Generator refs))
-item_states fs (item.Partitioned sort refs) = unless (unknown_clause_sort fs sort) (clause_of (Partitioned sort.name) (operators_named fs (takes sort.name) Partition refs))
+item_states fs (item.Clause kind.Generated sort refs) = unless (unknown_clause_sort fs sort) (clause_of (Generated sort.name) (operators_named fs (ranges_over sort.name) Generator refs))
+item_states fs (item.Clause kind.Partitioned sort refs) = unless (unknown_clause_sort fs sort) (clause_of (Partitioned sort.name) (operators_named fs (takes sort.name) Partition refs))
 item_states fs (item.Equations vs es) = equations_state fs vs es
 
 -- what items state, in order

@@ -6,10 +6,10 @@ ghost use Rattle.larch_items.specs.Declarations.{first_place};
 ghost use Rattle.larch_items.specs.Items.{append_to, equations_state, item_states, items_state, named_again, read_before, scope_of, statements_of, unknown_clause_sort, unknown_variable_sort};
 ghost use Rattle.larch_items.specs.Refusals.{Refuses, Tells};
 
-use crate::references::{ClauseKind, resolve};
+use crate::references::resolve;
 use crate::refusal::TraitRefusal;
 use larch_base::{Code, Pos, Sequence};
-use larch_raw::{RawEquation, RawItem, RawOpRef, RawVar, RawWord};
+use larch_raw::{ClauseKind, RawEquation, RawItem, RawOpRef, RawVar, RawWord};
 use larch_sorts::{ReadRefusal, Scope, Signature, read_in};
 use larch_term::{Operator, Operators, Sort, Statement, Statements};
 use std::alloc::Global;
@@ -45,20 +45,11 @@ fn push_item(
     ensures err { IfErr result (λ refusal. Refuses refusal (item_states operators.now item.now)) }
 {
     match item {
-        RawItem::Generated(sort, refs) => push_clause(
+        RawItem::Clause(kind, sort, refs) => push_clause(
             alloc,
             operators,
             signature,
-            ClauseKind::Generated,
-            sort,
-            refs.as_slice(),
-            statements,
-        ),
-        RawItem::Partitioned(sort, refs) => push_clause(
-            alloc,
-            operators,
-            signature,
-            ClauseKind::Partitioned,
+            *kind,
             sort,
             refs.as_slice(),
             statements,

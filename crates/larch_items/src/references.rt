@@ -10,18 +10,9 @@ ghost use Rattle.larch_items.specs.Refusals.{MissesOne, PutsOne, Refuses};
 use crate::declarations::operator_of;
 use crate::refusal::TraitRefusal;
 use larch_base::{Code, Memory, Sequence};
-use larch_raw::RawOpRef;
+use larch_raw::{ClauseKind, RawOpRef};
 use larch_term::{Operator, Operators, Sort, same_operator};
 use std::alloc::Global;
-
-/// The two kinds of clauses.
-#[derive(Clone, Copy, Debug, PartialEq, Eq)]
-pub(crate) enum ClauseKind {
-    /// Of generators, which range over the clause's sort.
-    Generated,
-    /// Of observers, which have it in their domains.
-    Partitioned,
-}
 
 // The operators that the references of a clause name.
 pub(crate) fn resolve(

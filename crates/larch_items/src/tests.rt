@@ -52,7 +52,7 @@ fn generated(alloc: Global) -> Result<RawItem, Memory> {
     let form = form(alloc, false)?;
     let refs = one(alloc, RawOpRef { form, sig: None })?;
     let sort = word(alloc, "N", 20)?;
-    Ok(RawItem::Generated(sort, refs))
+    Ok(RawItem::Clause(larch_raw::ClauseKind::Generated, sort, refs))
 }
 
 // \forall x: M, over no equations

@@ -10,16 +10,16 @@ use Rattle.larch_raw.specs.RawTree.{RawTree, RawForest, apply, qualified, no_mor
 abbrev text : Coded (List ℕ)
 text = coded_list coded_ℕ
 
-abbrev place : Coded Pos
-place = pos_row.the_row.coded
+abbrev position : Coded Pos
+position = pos_row.the_row.coded
 
 abbrev word : Coded RawWord
-word = code_by (List ℕ × Pos) (coded× text place) (λ w. (w.name, w.pos)) (λ p. record { name = p.0; pos = p.1 }) (λ _. refl)
+word = code_by (List ℕ × Pos) (coded× text position) (λ w. (w.name, w.pos)) (λ p. record { name = p.0; pos = p.1 }) (λ _. refl)
 
 abbrev mutual
   pub raw_code : RawTree → Gv
-  raw_code (apply n ts p) = gcons (gnum 0) (gcons (text.code n) (gcons (place.code p) (raw_forest_code ts)))
-  raw_code (qualified t w p) = gcons (gnum 1) (gcons (raw_code t) (gcons (word.code w) (place.code p)))
+  raw_code (apply n ts p) = gcons (gnum 0) (gcons (text.code n) (gcons (position.code p) (raw_forest_code ts)))
+  raw_code (qualified t w p) = gcons (gnum 1) (gcons (raw_code t) (gcons (word.code w) (position.code p)))
 
   pub raw_forest_code : RawForest → Gv
   raw_forest_code no_more = gnil
@@ -29,16 +29,16 @@ mutual
   pub raw_inj : (t u : RawTree) → raw_code t ≡ raw_code u → t ≡ u
   raw_inj (apply n ts p) (apply m us q) e =
       let a : text.code n ≡ text.code m = cc in
-      let b : place.code p ≡ place.code q = cc in
+      let b : position.code p ≡ position.code q = cc in
       let c : raw_forest_code ts ≡ raw_forest_code us = cc in
-      cc (text.inj n m a, place.inj p q b, raw_forest_inj ts us c)
+      cc (text.inj n m a, position.inj p q b, raw_forest_inj ts us c)
   raw_inj (apply n ts p) (qualified u w q) e = cc
   raw_inj (qualified t v p) (apply m us q) e = cc
   raw_inj (qualified t v p) (qualified u w q) e =
       let a : raw_code t ≡ raw_code u = cc in
       let b : word.code v ≡ word.code w = cc in
-      let c : place.code p ≡ place.code q = cc in
-      cc (raw_inj t u a, word.inj v w b, place.inj p q c)
+      let c : position.code p ≡ position.code q = cc in
+      cc (raw_inj t u a, word.inj v w b, position.inj p q c)
 
   pub raw_forest_inj : (ts us : RawForest) → raw_forest_code ts ≡ raw_forest_code us → ts ≡ us
   raw_forest_inj no_more no_more e = cc

@@ -30,13 +30,20 @@ pub struct RawEquation {
 /// The equations of an item, in order.
 pub type RawEquations = Sequence<RawEquation>;
 
+/// What a clause says of its operators.
+#[derive(Clone, Copy, Debug, PartialEq, Eq)]
+pub enum ClauseKind {
+    /// They generate the values of its sort.
+    Generated,
+    /// They tell the values of its sort apart.
+    Partitioned,
+}
+
 /// An item of assertions.
 #[derive(Drop)]
 pub enum RawItem {
-    /// A sort, and the operators that generate it.
-    Generated(RawWord, RawOpRefs),
-    /// A sort, and the operators that tell its values apart.
-    Partitioned(RawWord, RawOpRefs),
+    /// A clause of a sort, with references to its operators.
+    Clause(ClauseKind, RawWord, RawOpRefs),
     /// Equations over these variables.
     Equations(RawVars, RawEquations),
 }

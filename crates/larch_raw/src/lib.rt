@@ -1,4 +1,4 @@
-//! Traits, equations and terms as they are written: what the grammar reads and the checks above it judge.
+//! Traits, equations and terms as they are written: what the grammar reads and the checks above it admit.
 //!
 //! A raw term has a node for each head token, so that of an equation within its limits is at most 5,000 deep.
 #![tactic(auto)]
@@ -11,6 +11,6 @@ pub use declared::{
     RawDecl, RawDecls, RawForm, RawForms, RawOpRef, RawOpRefs, RawSig, RawWord, RawWords,
 };
 pub use equation::{
-    RawEquation, RawEquations, RawItem, RawItems, RawRight, RawTrait, RawVar, RawVars,
+    ClauseKind, RawEquation, RawEquations, RawItem, RawItems, RawRight, RawTrait, RawVar, RawVars,
 };
 pub use term::{RawNode, RawTerm, RawTerms};

@@ -10,10 +10,10 @@ use Rattle.larch_raw.specs.declared.equation.RawTrait.{RawTrait}
 use Rattle.larch_raw.specs.declared.equation.RawVar.{RawVar}
 use Rattle.larch_grammar.specs.Machine.{after_form, after_group, after_reference, after_semicolon, after_symbol, after_word, begin_bracket, begin_equation, begin_form, begin_item, begin_operand, begin_post, begin_prefixed, begin_term, first_word, hand, in_part, plainly, with_clause, with_reference, word_behind, word_frames}
 use Rattle.larch_grammar.specs.Trees.{bracket_tree, call_tree, postfix_tree}
-use Rattle.larch_grammar.specs.declared.lexeme.Bracket.{Bracket}
-use Rattle.larch_grammar.specs.declared.lexeme.Bracket.TheVariants.{Square, Curly}
-use Rattle.larch_grammar.specs.declared.lexeme.Lexeme.{Lexeme}
-use Rattle.larch_grammar.specs.declared.lexeme.Lexeme.TheVariants.{Word, Symbol, Not, Colon, Comma, Semicolon, Open, OpenBracket, CloseBracket, ForAll, Introduces, Asserts, Generated, Partitioned, If}
+use Rattle.larch_grammar.specs.declared.terminal.Bracket.{Bracket}
+use Rattle.larch_grammar.specs.declared.terminal.Bracket.TheVariants.{Square, Curly}
+use Rattle.larch_grammar.specs.declared.terminal.Terminal.{Terminal}
+use Rattle.larch_grammar.specs.declared.terminal.Terminal.TheVariants.{Word, Symbol, Not, Colon, Comma, Semicolon, Open, OpenBracket, CloseBracket, ForAll, Introduces, Asserts, Generated, Partitioned, If}
 use Rattle.larch_grammar.specs.declared.machine.Clause.{Clause}
 use Rattle.larch_grammar.specs.declared.machine.Frame.{Frame}
 use Rattle.larch_grammar.specs.declared.machine.Frame.TheVariants.{InConnectives, InEqualities, InFields, InInfixes, InList, InPostfixes, InStrays}
@@ -23,77 +23,77 @@ use Rattle.larch_grammar.specs.declared.machine.State.TheVariants.{Have}
 use Rattle.larch_grammar.specs.declared.machine.Waiting.TheVariants.{Item}
 use Rattle.larch_syntax.specs.Steps.{closes}
 
-pub other_operand : (t : Lexeme) (k : List Frame) → ((y : RawWord) → t ≡ Symbol y → ⊥) → ((y : RawWord) → t ≡ Not y → ⊥) → begin_operand t k ≡ begin_post t (InInfixes None ∷ k)
+pub other_operand : (t : Terminal) (k : List Frame) → ((y : RawWord) → t ≡ Symbol y → ⊥) → ((y : RawWord) → t ≡ Not y → ⊥) → begin_operand t k ≡ begin_post t (InInfixes None ∷ k)
 other_operand (Symbol y) k h i = absurd (h y refl)
 other_operand (Not y) k h i = absurd (i y refl)
 other_operand t k h i = refl
 
-pub other_prefixed : (t : Lexeme) (k : List Frame) → ((y : RawWord) → t ≡ Symbol y → ⊥) → ((y : RawWord) → t ≡ Not y → ⊥) → begin_prefixed t k ≡ begin_post t (InStrays ∷ k)
+pub other_prefixed : (t : Terminal) (k : List Frame) → ((y : RawWord) → t ≡ Symbol y → ⊥) → ((y : RawWord) → t ≡ Not y → ⊥) → begin_prefixed t k ≡ begin_post t (InStrays ∷ k)
 other_prefixed (Symbol y) k h i = absurd (h y refl)
 other_prefixed (Not y) k h i = absurd (i y refl)
 other_prefixed t k h i = refl
 
-pub other_term : (t : Lexeme) (k : List Frame) → ((p : Pos) → t ≡ If p → ⊥) → begin_term t k ≡ begin_operand t (InEqualities None ∷ InConnectives None ∷ k)
+pub other_term : (t : Terminal) (k : List Frame) → ((p : Pos) → t ≡ If p → ⊥) → begin_term t k ≡ begin_operand t (InEqualities None ∷ InConnectives None ∷ k)
 other_term (If p) k h = absurd (h p refl)
 other_term t k h = refl
 
-pub other_part : (raw : RawTrait) (t : Lexeme) → (t ≡ Introduces → ⊥) → (t ≡ Asserts → ⊥) → in_part raw t ≡ begin_form (Declared raw []) t
+pub other_part : (raw : RawTrait) (t : Terminal) → (t ≡ Introduces → ⊥) → (t ≡ Asserts → ⊥) → in_part raw t ≡ begin_form (Declared raw []) t
 other_part raw Introduces h i = absurd (h refl)
 other_part raw Asserts h i = absurd (i refl)
 other_part raw t h i = refl
 
-pub other_group : (raw : RawTrait) (vs : List RawVar) (t : Lexeme) → (t ≡ Comma → ⊥) → after_group raw vs t ≡ begin_equation t (Item raw vs [])
+pub other_group : (raw : RawTrait) (vs : List RawVar) (t : Terminal) → (t ≡ Comma → ⊥) → after_group raw vs t ≡ begin_equation t (Item raw vs [])
 other_group raw vs Comma h = absurd (h refl)
 other_group raw vs t h = refl
 
-pub other_semicolon : (raw : RawTrait) (vs : List RawVar) (es : List RawEquation) (t : Lexeme) → ((y : RawWord) → t ≡ Word y → ⊥) → (t ≡ ForAll → ⊥) → (t ≡ Asserts → ⊥) → after_semicolon raw vs es t ≡ begin_equation t (Item raw vs es)
+pub other_semicolon : (raw : RawTrait) (vs : List RawVar) (es : List RawEquation) (t : Terminal) → ((y : RawWord) → t ≡ Word y → ⊥) → (t ≡ ForAll → ⊥) → (t ≡ Asserts → ⊥) → after_semicolon raw vs es t ≡ begin_equation t (Item raw vs es)
 other_semicolon raw vs es (Word y) h i j = absurd (h y refl)
 other_semicolon raw vs es ForAll h i j = absurd (i refl)
 other_semicolon raw vs es Asserts h i j = absurd (j refl)
 other_semicolon raw vs es t h i j = refl
 
-pub other_item : (raw : RawTrait) (t : Lexeme) → ((y : RawWord) → t ≡ Word y → ⊥) → (t ≡ ForAll → ⊥) → (t ≡ Asserts → ⊥) → begin_item raw t ≡ begin_equation t (Item raw [] [])
+pub other_item : (raw : RawTrait) (t : Terminal) → ((y : RawWord) → t ≡ Word y → ⊥) → (t ≡ ForAll → ⊥) → (t ≡ Asserts → ⊥) → begin_item raw t ≡ begin_equation t (Item raw [] [])
 other_item raw (Word y) h i j = absurd (h y refl)
 other_item raw ForAll h i j = absurd (i refl)
 other_item raw Asserts h i j = absurd (j refl)
 other_item raw t h i j = refl
 
-pub other_reference : (c : Clause) (rs : List RawOpRef) (t : Lexeme) → (t ≡ Comma → ⊥) → (t ≡ Semicolon → ⊥) → after_reference c rs t ≡ begin_item (with_clause c rs) t
+pub other_reference : (c : Clause) (rs : List RawOpRef) (t : Terminal) → (t ≡ Comma → ⊥) → (t ≡ Semicolon → ⊥) → after_reference c rs t ≡ begin_item (with_clause c rs) t
 other_reference c rs Comma h i = absurd (h refl)
 other_reference c rs Semicolon h i = absurd (i refl)
 other_reference c rs t h i = refl
 
-pub other_referred : (c : Clause) (rs : List RawOpRef) (f : RawForm) (t : Lexeme) → ((p : Pos) → t ≡ Colon p → ⊥) → after_form (Referred c rs) f t ≡ after_reference c (with_reference rs f) t
+pub other_referred : (c : Clause) (rs : List RawOpRef) (f : RawForm) (t : Terminal) → ((p : Pos) → t ≡ Colon p → ⊥) → after_form (Referred c rs) f t ≡ after_reference c (with_reference rs f) t
 other_referred c rs f (Colon p) h = absurd (h p refl)
 other_referred c rs f t h = refl
 
-pub other_symbol : (x : RawWord) (r : RawTree) (k : List Frame) (t : Lexeme) → ((y : RawWord) → t ≡ Word y → ⊥) → ((p : Pos) → t ≡ Open p → ⊥) → ((b : Bracket) (p : Pos) → t ≡ OpenBracket b p → ⊥) → after_symbol true x r k t ≡ hand true (postfix_tree x r) (InPostfixes ∷ k) t
+pub other_symbol : (x : RawWord) (r : RawTree) (k : List Frame) (t : Terminal) → ((y : RawWord) → t ≡ Word y → ⊥) → ((p : Pos) → t ≡ Open p → ⊥) → ((b : Bracket) (p : Pos) → t ≡ OpenBracket b p → ⊥) → after_symbol true x r k t ≡ hand true (postfix_tree x r) (InPostfixes ∷ k) t
 other_symbol x r k (Word y) h i j = absurd (h y refl)
 other_symbol x r k (Open p) h i j = absurd (i p refl)
 other_symbol x r k (OpenBracket b p) h i j = absurd (j b p refl)
 other_symbol x r k t h i j = refl
 
-pub other_word : (w : RawWord) (k : List Frame) (t : Lexeme) → ((p : Pos) → t ≡ Open p → ⊥) → after_word true w k t ≡ hand true (call_tree w []) (InFields ∷ k) t
+pub other_word : (w : RawWord) (k : List Frame) (t : Terminal) → ((p : Pos) → t ≡ Open p → ⊥) → after_word true w k t ≡ hand true (call_tree w []) (InFields ∷ k) t
 other_word w k (Open p) h = absurd (h p refl)
 other_word w k t h = refl
 
-pub other_first : (raw : RawTrait) (w : RawWord) (t : Lexeme) → (t ≡ Generated → ⊥) → (t ≡ Partitioned → ⊥) → first_word true raw w t ≡ after_word true w (word_frames w (Item raw [] [])) t
+pub other_first : (raw : RawTrait) (w : RawWord) (t : Terminal) → (t ≡ Generated → ⊥) → (t ≡ Partitioned → ⊥) → first_word true raw w t ≡ after_word true w (word_frames w (Item raw [] [])) t
 other_first raw w Generated h i = absurd (h refl)
 other_first raw w Partitioned h i = absurd (i refl)
 other_first raw w t h i = refl
 
-pub other_behind : (raw : RawTrait) (vs : List RawVar) (es : List RawEquation) (w : RawWord) (t : Lexeme) → (t ≡ Generated → ⊥) → (t ≡ Partitioned → ⊥) → word_behind true raw vs es w t ≡ after_word true w (word_frames w (Item raw vs es)) t
+pub other_behind : (raw : RawTrait) (vs : List RawVar) (es : List RawEquation) (w : RawWord) (t : Terminal) → (t ≡ Generated → ⊥) → (t ≡ Partitioned → ⊥) → word_behind true raw vs es w t ≡ after_word true w (word_frames w (Item raw vs es)) t
 other_behind raw vs es w Generated h i = absurd (h refl)
 other_behind raw vs es w Partitioned h i = absurd (i refl)
 other_behind raw vs es w t h i = refl
 
-pub bracket_closed : (b : Bracket) (l : Option RawTree) (p : Pos) (k : List Frame) (t : Lexeme) → closes b t ≡ true → begin_bracket b l p k t ≡ plainly (Have (bracket_tree b l p []) (InFields ∷ k))
+pub bracket_closed : (b : Bracket) (l : Option RawTree) (p : Pos) (k : List Frame) (t : Terminal) → closes b t ≡ true → begin_bracket b l p k t ≡ plainly (Have (bracket_tree b l p []) (InFields ∷ k))
 bracket_closed Square l p k (CloseBracket Square) h = refl
 bracket_closed Curly l p k (CloseBracket Curly) h = refl
 bracket_closed Square l p k t h = let n : ⊥ = cc in absurd n
 bracket_closed Curly l p k t h = let n : ⊥ = cc in absurd n
 
-pub bracket_open : (b : Bracket) (l : Option RawTree) (p : Pos) (k : List Frame) (t : Lexeme) → closes b t ≡ false → begin_bracket b l p k t ≡ begin_term t (InList (Bracketed b l p) [] ∷ InFields ∷ k)
+pub bracket_open : (b : Bracket) (l : Option RawTree) (p : Pos) (k : List Frame) (t : Terminal) → closes b t ≡ false → begin_bracket b l p k t ≡ begin_term t (InList (Bracketed b l p) [] ∷ InFields ∷ k)
 bracket_open Square l p k (CloseBracket Square) h = let n : ⊥ = cc in absurd n
 bracket_open Curly l p k (CloseBracket Curly) h = let n : ⊥ = cc in absurd n
 bracket_open Square l p k t h = refl

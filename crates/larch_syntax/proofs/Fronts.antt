@@ -5,7 +5,7 @@ use Rattle.larch_grammar.specs.Answers.{term_from}
 use Rattle.larch_grammar.specs.Machine.{as_equation, final}
 use Rattle.larch_grammar.specs.declared.machine.State.{State}
 use Rattle.larch_lexer.specs.declared.token.Token.{Token}
-use Rattle.larch_places.specs.Look.{at_mark, front_at, front_on}
+use Rattle.larch_fronts.specs.Answer.{at_mark, front_at, front_on}
 use Rattle.larch_syntax.specs.Takes.{Takes}
 use Rattle.larch_syntax.specs.declared.read.Taken.TheVariants.{On}
 

@@ -1,10 +1,10 @@
 -- What the code's functions answer, beside the machine's.
 use Rattle.std.specs.Prelude.{◌≡◌, Bool, true, false, List, Option, Some, None}
 use Rattle.larch_grammar.specs.Machine.{Taking, as_equation, finish, hand}
-use Rattle.larch_grammar.specs.declared.lexeme.Bracket.{Bracket}
-use Rattle.larch_grammar.specs.declared.lexeme.Bracket.TheVariants.{Square, Curly}
-use Rattle.larch_grammar.specs.declared.lexeme.Lexeme.{Lexeme}
-use Rattle.larch_grammar.specs.declared.lexeme.Lexeme.TheVariants.{CloseBracket}
+use Rattle.larch_grammar.specs.declared.terminal.Bracket.{Bracket}
+use Rattle.larch_grammar.specs.declared.terminal.Bracket.TheVariants.{Square, Curly}
+use Rattle.larch_grammar.specs.declared.terminal.Terminal.{Terminal}
+use Rattle.larch_grammar.specs.declared.terminal.Terminal.TheVariants.{CloseBracket}
 use Rattle.larch_grammar.specs.declared.machine.Frame.{Frame}
 use Rattle.larch_grammar.specs.declared.machine.Whole.{Whole}
 use Rattle.larch_raw.specs.declared.equation.RawEquation.{RawEquation}
@@ -32,17 +32,17 @@ StopsWith equation (Stops ended) = equation ≡ ended
 
 -- what a frame that hands on leaves to the frames around it
 abbrev pub passed_on : Passed → Taking
-passed_on (On term frames lexeme) = hand true term frames lexeme
+passed_on (On term frames terminal) = hand true term frames terminal
 passed_on (Done stepped) = taking_of stepped
 
 -- the equation by itself that ends here is the same for what is handed on
 abbrev pub EndsWith : Option RawEquation → Passed → Type 0
-EndsWith equation (On term frames lexeme) = equation ≡ as_equation (finish term frames)
+EndsWith equation (On term frames terminal) = equation ≡ as_equation (finish term frames)
 EndsWith equation (Done stepped) = StopsWith equation stepped
 
 -- what is handed on is handed to these frames
 abbrev pub Leaves : List Frame → Passed → Type 0
-Leaves frames (On term left lexeme) = left ≡ frames
+Leaves frames (On term left terminal) = left ≡ frames
 Leaves frames (Done stepped) = Unit {0}
 
 -- the whole, where this is what a frame makes of a term
@@ -51,7 +51,7 @@ ended_in frames (ended.On term) = finish term frames
 ended_in frames (ended.Done whole) = whole
 
 -- whether a token ends a bracket
-abbrev pub closes : Bracket → Lexeme → Bool
+abbrev pub closes : Bracket → Terminal → Bool
 closes Square (CloseBracket Square) = true
 closes Curly (CloseBracket Curly) = true
 closes _ _ = false

@@ -9,10 +9,10 @@ ghost use Rattle.larch_grammar.specs.declared.machine.State.TheVariants.{NeedPre
 
 use crate::taking::{Taking, at_head, plainly};
 use larch_base::{Memory, Pos};
-use larch_grammar::{Bracket, Frame, Lexeme, Listing, Stack, State, Waiting};
-use larch_places::Mark;
+use larch_grammar::{Bracket, Frame, Terminal, Listing, Stack, State, Waiting};
+use larch_fronts::Mark;
 use larch_raw::{RawTerm, RawWord};
-use larch_trees::{bracket_tree, no_terms, place_of};
+use larch_grammar::{bracket_tree, no_terms, position_of};
 use std::alloc::Global;
 
 // A token that opens a construct.
@@ -43,17 +43,17 @@ pub(crate) fn open_bracket(
 }
 
 // The first token of a Post.
-pub(crate) fn begin_post(lexeme: Lexeme, stack: Stack) -> Result<Taking, Memory>
-    ensures { IfOk result (λ taking. taking ≡ begin_post lexeme stack) }
+pub(crate) fn begin_post(terminal: Terminal, stack: Stack) -> Result<Taking, Memory>
+    ensures { IfOk result (λ taking. taking ≡ begin_post terminal stack) }
 {
-    match lexeme {
-        Lexeme::Word(word) => Ok(at_head(State::AfterWord(word, stack))),
-        Lexeme::Open(_pos) => {
+    match terminal {
+        Terminal::Word(word) => Ok(at_head(State::AfterWord(word, stack))),
+        Terminal::Open(_pos) => {
             let mark = opens(&stack);
             let inside = stack.with(Frame::InFields)?.with(Frame::InParentheses)?;
             Ok(Some((mark, State::NeedTerm(inside))))
         }
-        Lexeme::OpenBracket(bracket, pos) => Ok(open_bracket(bracket, pos, None, stack)),
+        Terminal::OpenBracket(bracket, pos) => Ok(open_bracket(bracket, pos, None, stack)),
         _ => Ok(None),
     }
 }
@@ -68,33 +68,33 @@ fn begin_prefix(symbol: RawWord, stack: Stack) -> Result<Taking, Memory>
 
 // The first token behind a prefix symbol.
 #[tactic(auto, using(crate::proofs::Defaults::other_prefixed))]
-pub(crate) fn begin_prefixed(lexeme: Lexeme, stack: Stack) -> Result<Taking, Memory>
-    ensures { IfOk result (λ taking. taking ≡ begin_prefixed lexeme stack) }
+pub(crate) fn begin_prefixed(terminal: Terminal, stack: Stack) -> Result<Taking, Memory>
+    ensures { IfOk result (λ taking. taking ≡ begin_prefixed terminal stack) }
 {
-    match lexeme {
-        Lexeme::Symbol(symbol) | Lexeme::Not(symbol) => begin_prefix(symbol, stack),
+    match terminal {
+        Terminal::Symbol(symbol) | Terminal::Not(symbol) => begin_prefix(symbol, stack),
         other => begin_post(other, stack.with(Frame::InStrays)?),
     }
 }
 
 // The first token of an Oper.
 #[tactic(auto, using(crate::proofs::Defaults::other_operand))]
-pub(crate) fn begin_operand(lexeme: Lexeme, stack: Stack) -> Result<Taking, Memory>
-    ensures { IfOk result (λ taking. taking ≡ begin_operand lexeme stack) }
+pub(crate) fn begin_operand(terminal: Terminal, stack: Stack) -> Result<Taking, Memory>
+    ensures { IfOk result (λ taking. taking ≡ begin_operand terminal stack) }
 {
-    match lexeme {
-        Lexeme::Symbol(symbol) | Lexeme::Not(symbol) => begin_prefix(symbol, stack),
+    match terminal {
+        Terminal::Symbol(symbol) | Terminal::Not(symbol) => begin_prefix(symbol, stack),
         other => begin_post(other, stack.with(Frame::InInfixes(None))?),
     }
 }
 
 // The first token of a term.
 #[tactic(auto, using(crate::proofs::Defaults::other_term))]
-pub(crate) fn begin_term(lexeme: Lexeme, stack: Stack) -> Result<Taking, Memory>
-    ensures { IfOk result (λ taking. taking ≡ begin_term lexeme stack) }
+pub(crate) fn begin_term(terminal: Terminal, stack: Stack) -> Result<Taking, Memory>
+    ensures { IfOk result (λ taking. taking ≡ begin_term terminal stack) }
 {
-    match lexeme {
-        Lexeme::If(pos) => {
+    match terminal {
+        Terminal::If(pos) => {
             let mark = opens_head(&stack);
             let condition = stack.with(Frame::InIf(pos))?;
             Ok(Some((mark, State::NeedTerm(condition))))
@@ -111,14 +111,14 @@ pub(crate) fn begin_term(lexeme: Lexeme, stack: Stack) -> Result<Taking, Memory>
 // The first token of an equation.
 pub(crate) fn begin_equation(
     alloc: Global,
-    lexeme: Lexeme,
+    terminal: Terminal,
     waiting: Waiting,
 ) -> Result<Taking, Memory>
-    ensures { IfOk result (λ taking. taking ≡ begin_equation lexeme waiting) }
+    ensures { IfOk result (λ taking. taking ≡ begin_equation terminal waiting) }
 {
-    let left = Frame::InLeft(place_of(&lexeme), waiting);
+    let left = Frame::InLeft(position_of(&terminal), waiting);
     let stack = Stack::new(alloc).with(left)?;
-    let taking = begin_term(lexeme, stack)?;
+    let taking = begin_term(terminal, stack)?;
     Ok(taking)
 }
 
@@ -129,25 +129,25 @@ pub(crate) fn begin_bracket(
     front: Option<RawTerm>,
     pos: Pos,
     stack: Stack,
-    lexeme: Lexeme,
+    terminal: Terminal,
 ) -> Result<Taking, Memory>
-    ensures { IfOk result (λ taking. taking ≡ begin_bracket bracket front pos stack lexeme) }
+    ensures { IfOk result (λ taking. taking ≡ begin_bracket bracket front pos stack terminal) }
 {
     let stack = stack.with(Frame::InFields)?;
-    if closes(bracket, &lexeme) {
+    if closes(bracket, &terminal) {
         end_bracket(alloc, bracket, front, pos, stack)
     } else {
-        begin_first(alloc, bracket, front, pos, stack, lexeme)
+        begin_first(alloc, bracket, front, pos, stack, terminal)
     }
 }
 
 // Whether a token ends a bracket.
-fn closes(bracket: Bracket, lexeme: &Lexeme) -> bool
-    ensures { result ≡ closes bracket lexeme.now }
+fn closes(bracket: Bracket, terminal: &Terminal) -> bool
+    ensures { result ≡ closes bracket terminal.now }
 {
-    match (bracket, lexeme) {
-        (Bracket::Square, Lexeme::CloseBracket(Bracket::Square))
-        | (Bracket::Curly, Lexeme::CloseBracket(Bracket::Curly)) => true,
+    match (bracket, terminal) {
+        (Bracket::Square, Terminal::CloseBracket(Bracket::Square))
+        | (Bracket::Curly, Terminal::CloseBracket(Bracket::Curly)) => true,
         _ => false,
     }
 }
@@ -173,13 +173,13 @@ fn begin_first(
     front: Option<RawTerm>,
     pos: Pos,
     stack: Stack,
-    lexeme: Lexeme,
+    terminal: Terminal,
 ) -> Result<Taking, Memory>
-    ensures { IfOk result (λ taking. taking ≡ begin_term lexeme (Frame.InList (Listing.Bracketed bracket front pos) [] ∷ stack)) }
+    ensures { IfOk result (λ taking. taking ≡ begin_term terminal (Frame.InList (Listing.Bracketed bracket front pos) [] ∷ stack)) }
 {
     let listing = Listing::Bracketed(bracket, front, pos);
     let inside = stack.with(Frame::InList(listing, no_terms(alloc)))?;
-    let taking = begin_term(lexeme, inside)?;
+    let taking = begin_term(terminal, inside)?;
     Ok(taking)
 }
 

@@ -1,17 +1,17 @@
 ghost use Rattle.std.specs.Prelude.{◌≡◌, ◌∷◌, IfOk, true};
 ghost use Rattle.larch_grammar.specs.Machine.{as_equation, finish, hand, symbol_of};
 ghost use Rattle.larch_grammar.specs.Terms.{chained};
-ghost use Rattle.larch_grammar.specs.Trees.{joined};
+ghost use Rattle.larch_grammar.specs.Trees.{chain_tree};
 ghost use Rattle.larch_grammar.specs.declared.machine.Frame.TheVariants.{InConnectives, InEqualities, InInfixes, InPostfixes, InStrays};
 ghost use Rattle.larch_syntax.specs.Steps.{EndsWith, Leaves, passed_on};
 
 use crate::hand::{Passed, done};
 use crate::taking::at_head;
 use larch_base::Memory;
-use larch_grammar::{Frame, Lexeme, Link, Stack, State};
-use larch_places::Mark;
+use larch_grammar::{Frame, Terminal, Link, Stack, State};
+use larch_fronts::Mark;
 use larch_raw::{RawTerm, RawWord};
-use larch_trees::{joined, postfix_tree};
+use larch_grammar::{chain_tree, postfix_tree};
 use std::alloc::Global;
 
 // Symbols behind a term with prefix symbols.
@@ -19,14 +19,14 @@ pub(crate) fn in_strays(
     alloc: Global,
     term: RawTerm,
     stack: Stack,
-    lexeme: Lexeme,
+    terminal: Terminal,
 ) -> Result<Passed, Memory>
-    ensures hands { IfOk result (λ passed. passed_on passed ≡ hand true term (InStrays ∷ stack) lexeme) }
+    ensures hands { IfOk result (λ passed. passed_on passed ≡ hand true term (InStrays ∷ stack) terminal) }
     ensures ends { IfOk result (λ passed. EndsWith (as_equation (finish term (InStrays ∷ stack))) passed) }
     ensures frames { IfOk result (λ passed. Leaves stack passed) }
 {
-    match lexeme {
-        Lexeme::Symbol(symbol) => {
+    match terminal {
+        Terminal::Symbol(symbol) => {
             let whole = postfix_tree(alloc, symbol, term)?;
             let stack = stack.with(Frame::InStrays)?;
             Ok(done(Some((Mark::Chained(true), State::Have(whole, stack)))))
@@ -40,14 +40,14 @@ pub(crate) fn in_postfixes(
     alloc: Global,
     term: RawTerm,
     stack: Stack,
-    lexeme: Lexeme,
+    terminal: Terminal,
 ) -> Result<Passed, Memory>
-    ensures hands { IfOk result (λ passed. passed_on passed ≡ hand true term (InPostfixes ∷ stack) lexeme) }
+    ensures hands { IfOk result (λ passed. passed_on passed ≡ hand true term (InPostfixes ∷ stack) terminal) }
     ensures ends { IfOk result (λ passed. EndsWith (as_equation (finish term (InPostfixes ∷ stack))) passed) }
     ensures frames { IfOk result (λ passed. Leaves stack passed) }
 {
-    match lexeme {
-        Lexeme::Symbol(symbol) => {
+    match terminal {
+        Terminal::Symbol(symbol) => {
             let whole = postfix_tree(alloc, symbol, term)?;
             let stack = stack.with(Frame::InPostfixes)?;
             Ok(done(at_head(State::Have(whole, stack))))
@@ -62,24 +62,24 @@ pub(crate) fn in_infixes(
     link: Option<Link>,
     term: RawTerm,
     stack: Stack,
-    lexeme: Lexeme,
+    terminal: Terminal,
 ) -> Result<Passed, Memory>
-    ensures hands { IfOk result (λ passed. passed_on passed ≡ hand true term ((InInfixes link) ∷ stack) lexeme) }
+    ensures hands { IfOk result (λ passed. passed_on passed ≡ hand true term ((InInfixes link) ∷ stack) terminal) }
     ensures ends { IfOk result (λ passed. EndsWith (as_equation (finish term ((InInfixes link) ∷ stack))) passed) }
     ensures frames { IfOk result (λ passed. Leaves stack passed) }
 {
-    match (link, lexeme) {
-        (None, Lexeme::Symbol(symbol)) => {
+    match (link, terminal) {
+        (None, Terminal::Symbol(symbol)) => {
             Ok(done(at_head(State::AfterSymbol(symbol, term, stack))))
         }
         (None, other) => Ok(Passed::On(term, stack, other)),
-        (Some(link), Lexeme::Symbol(symbol)) => {
+        (Some(link), Terminal::Symbol(symbol)) => {
             let (mark, link) = next_link(alloc, Some(link), term, symbol)?;
             let stack = stack.with(Frame::InInfixes(Some(link)))?;
             Ok(done(Some((mark, State::NeedPost(stack)))))
         }
         (Some(link), other) => {
-            let whole = joined(alloc, Some(link), term)?;
+            let whole = chain_tree(alloc, Some(link), term)?;
             Ok(Passed::On(whole, stack, other))
         }
     }
@@ -93,13 +93,13 @@ fn next_link(
     symbol: RawWord,
 ) -> Result<(Mark, Link), Memory>
     ensures mark { IfOk result (λ next. next.0 ≡ chained (symbol_of link) symbol) }
-    ensures link { IfOk result (λ next. next.1 ≡ record { symbol = symbol; left = joined link term }) }
+    ensures link { IfOk result (λ next. next.1 ≡ record { symbol = symbol; left = chain_tree link term }) }
 {
     let mark = match &link {
         None => Mark::Head,
         Some(before) => Mark::Chained(before.symbol.name.bytes() != symbol.name.bytes()),
     };
-    let left = joined(alloc, link, term)?;
+    let left = chain_tree(alloc, link, term)?;
     Ok((mark, Link { symbol, left }))
 }
 
@@ -109,20 +109,20 @@ pub(crate) fn in_equalities(
     link: Option<Link>,
     term: RawTerm,
     stack: Stack,
-    lexeme: Lexeme,
+    terminal: Terminal,
 ) -> Result<Passed, Memory>
-    ensures hands { IfOk result (λ passed. passed_on passed ≡ hand true term ((InEqualities link) ∷ stack) lexeme) }
+    ensures hands { IfOk result (λ passed. passed_on passed ≡ hand true term ((InEqualities link) ∷ stack) terminal) }
     ensures ends { IfOk result (λ passed. EndsWith (as_equation (finish term ((InEqualities link) ∷ stack))) passed) }
     ensures frames { IfOk result (λ passed. Leaves stack passed) }
 {
-    match lexeme {
-        Lexeme::Equality(symbol) => {
+    match terminal {
+        Terminal::Equality(symbol) => {
             let (mark, link) = next_link(alloc, link, term, symbol)?;
             let stack = stack.with(Frame::InEqualities(Some(link)))?;
             Ok(done(Some((mark, State::NeedOperand(stack)))))
         }
         other => {
-            let whole = joined(alloc, link, term)?;
+            let whole = chain_tree(alloc, link, term)?;
             Ok(Passed::On(whole, stack, other))
         }
     }
@@ -134,14 +134,14 @@ pub(crate) fn in_connectives(
     link: Option<Link>,
     term: RawTerm,
     stack: Stack,
-    lexeme: Lexeme,
+    terminal: Terminal,
 ) -> Result<Passed, Memory>
-    ensures hands { IfOk result (λ passed. passed_on passed ≡ hand true term ((InConnectives link) ∷ stack) lexeme) }
+    ensures hands { IfOk result (λ passed. passed_on passed ≡ hand true term ((InConnectives link) ∷ stack) terminal) }
     ensures ends { IfOk result (λ passed. EndsWith (as_equation (finish term ((InConnectives link) ∷ stack))) passed) }
     ensures frames { IfOk result (λ passed. Leaves stack passed) }
 {
-    match lexeme {
-        Lexeme::Connective(symbol) => {
+    match terminal {
+        Terminal::Connective(symbol) => {
             let (mark, link) = next_link(alloc, link, term, symbol)?;
             let stack = stack
                 .with(Frame::InConnectives(Some(link)))?
@@ -149,7 +149,7 @@ pub(crate) fn in_connectives(
             Ok(done(Some((mark, State::NeedOperand(stack)))))
         }
         other => {
-            let whole = joined(alloc, link, term)?;
+            let whole = chain_tree(alloc, link, term)?;
             Ok(Passed::On(whole, stack, other))
         }
     }

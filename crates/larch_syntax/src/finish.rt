@@ -11,8 +11,8 @@ use larch_grammar::{Clause, Frame, Naming, Stack, State, Waiting, Whole};
 use larch_raw::{
     RawEquation, RawEquations, RawForm, RawOpRefs, RawTerm, RawTrait, RawVars, RawWord,
 };
-use larch_trees::{
-    call_tree, equation_of, formula_of, if_tree, infix_form, joined, no_terms, postfix_form,
+use larch_grammar::{
+    call_tree, equation_of, formula_of, if_tree, infix_form, chain_tree, no_terms, postfix_form,
     postfix_tree, prefix_tree, with_clause, with_equations, with_last, with_reference,
 };
 use std::alloc::Global;
@@ -233,7 +233,7 @@ fn end_at(alloc: Global, frame: Frame, term: RawTerm) -> Result<Ended, Memory>
             Ok(Ended::On(whole))
         }
         Frame::InInfixes(link) | Frame::InEqualities(link) | Frame::InConnectives(link) => {
-            let whole = joined(alloc, link, term)?;
+            let whole = chain_tree(alloc, link, term)?;
             Ok(Ended::On(whole))
         }
         Frame::InElse(pos, condition, first) => {

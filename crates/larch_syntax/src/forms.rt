@@ -6,26 +6,26 @@ ghost use Rattle.larch_grammar.specs.declared.machine.State.{State};
 use crate::items::begin_item;
 use crate::taking::{Taking, outside};
 use larch_base::{Memory, Pos, Sequence};
-use larch_grammar::{Bracket, Clause, Lexeme, Naming, Signing, State};
+use larch_grammar::{Bracket, Clause, Terminal, Naming, Signing, State};
 use larch_raw::{
     RawDecl, RawForm, RawForms, RawOpRef, RawOpRefs, RawSig, RawTrait, RawWord, RawWords,
 };
-use larch_trees::{
+use larch_grammar::{
     bracket_form, field_form, infix_form, plain_form, postfix_form, prefix_form, with_clause,
     with_declaration, with_reference, with_word,
 };
 use std::alloc::Global;
 
 // The first token of a form.
-pub(crate) fn begin_form(naming: Naming, lexeme: Lexeme) -> Taking
-    ensures { result ≡ begin_form naming lexeme }
+pub(crate) fn begin_form(naming: Naming, terminal: Terminal) -> Taking
+    ensures { result ≡ begin_form naming terminal }
 {
-    match lexeme {
-        Lexeme::Word(word) => outside(State::AfterForm(naming, plain_form(word))),
-        Lexeme::Symbol(symbol) => outside(State::AfterSymbolForm(naming, symbol)),
-        Lexeme::Dot(pos) => outside(State::AfterDotForm(naming, pos)),
-        Lexeme::Marker(pos) => outside(State::AfterMarker(naming, pos)),
-        Lexeme::OpenBracket(bracket, pos) => {
+    match terminal {
+        Terminal::Word(word) => outside(State::AfterForm(naming, plain_form(word))),
+        Terminal::Symbol(symbol) => outside(State::AfterSymbolForm(naming, symbol)),
+        Terminal::Dot(pos) => outside(State::AfterDotForm(naming, pos)),
+        Terminal::Marker(pos) => outside(State::AfterMarker(naming, pos)),
+        Terminal::OpenBracket(bracket, pos) => {
             outside(State::NeedMarks(naming, false, bracket, pos))
         }
         _ => None,
@@ -37,12 +37,12 @@ pub(crate) fn after_symbol_form(
     alloc: Global,
     naming: Naming,
     symbol: RawWord,
-    lexeme: Lexeme,
+    terminal: Terminal,
 ) -> Result<Taking, Memory>
-    ensures { IfOk result (λ taking. taking ≡ after_symbol_form naming symbol lexeme) }
+    ensures { IfOk result (λ taking. taking ≡ after_symbol_form naming symbol terminal) }
 {
-    match lexeme {
-        Lexeme::Marker(_pos) => {
+    match terminal {
+        Terminal::Marker(_pos) => {
             let form = prefix_form(alloc, symbol)?;
             Ok(outside(State::AfterForm(naming, form)))
         }
@@ -58,12 +58,12 @@ pub(crate) fn after_dot_form(
     alloc: Global,
     naming: Naming,
     pos: Pos,
-    lexeme: Lexeme,
+    terminal: Terminal,
 ) -> Result<Taking, Memory>
-    ensures { IfOk result (λ taking. taking ≡ step true (State.AfterDotForm naming pos) lexeme) }
+    ensures { IfOk result (λ taking. taking ≡ step true (State.AfterDotForm naming pos) terminal) }
 {
-    match lexeme {
-        Lexeme::Word(word) => {
+    match terminal {
+        Terminal::Word(word) => {
             let form = field_form(alloc, pos, word)?;
             Ok(outside(State::AfterForm(naming, form)))
         }
@@ -72,13 +72,13 @@ pub(crate) fn after_dot_form(
 }
 
 // A `__` that begins a form is read.
-pub(crate) fn after_marker(naming: Naming, pos: Pos, lexeme: Lexeme) -> Taking
-    ensures { result ≡ after_marker naming pos lexeme }
+pub(crate) fn after_marker(naming: Naming, pos: Pos, terminal: Terminal) -> Taking
+    ensures { result ≡ after_marker naming pos terminal }
 {
-    match lexeme {
-        Lexeme::Dot(_dot) => outside(State::AfterDotForm(naming, pos)),
-        Lexeme::Symbol(symbol) => outside(State::AfterMarkerSymbol(naming, pos, symbol)),
-        Lexeme::OpenBracket(bracket, _open) => {
+    match terminal {
+        Terminal::Dot(_dot) => outside(State::AfterDotForm(naming, pos)),
+        Terminal::Symbol(symbol) => outside(State::AfterMarkerSymbol(naming, pos, symbol)),
+        Terminal::OpenBracket(bracket, _open) => {
             outside(State::NeedMarks(naming, true, bracket, pos))
         }
         _ => None,
@@ -91,12 +91,12 @@ pub(crate) fn after_marker_symbol(
     naming: Naming,
     pos: Pos,
     symbol: RawWord,
-    lexeme: Lexeme,
+    terminal: Terminal,
 ) -> Result<Taking, Memory>
-    ensures { IfOk result (λ taking. taking ≡ after_marker_symbol naming pos symbol lexeme) }
+    ensures { IfOk result (λ taking. taking ≡ after_marker_symbol naming pos symbol terminal) }
 {
-    match lexeme {
-        Lexeme::Marker(_behind) => {
+    match terminal {
+        Terminal::Marker(_behind) => {
             let form = infix_form(alloc, pos, symbol)?;
             Ok(outside(State::AfterForm(naming, form)))
         }
@@ -115,13 +115,13 @@ fn end_marks(
     bracket: Bracket,
     markers: u32,
     pos: Pos,
-    lexeme: Lexeme,
+    terminal: Terminal,
 ) -> Result<Taking, Memory>
-    ensures { IfOk result (λ taking. taking ≡ end_marks naming behind bracket markers pos lexeme) }
+    ensures { IfOk result (λ taking. taking ≡ end_marks naming behind bracket markers pos terminal) }
 {
-    match (bracket, lexeme) {
-        (Bracket::Square, Lexeme::CloseBracket(Bracket::Square))
-        | (Bracket::Curly, Lexeme::CloseBracket(Bracket::Curly)) => {
+    match (bracket, terminal) {
+        (Bracket::Square, Terminal::CloseBracket(Bracket::Square))
+        | (Bracket::Curly, Terminal::CloseBracket(Bracket::Curly)) => {
             let form = bracket_form(alloc, behind, bracket, markers, pos)?;
             Ok(outside(State::AfterForm(naming, form)))
         }
@@ -136,12 +136,12 @@ pub(crate) fn need_marks(
     behind: bool,
     bracket: Bracket,
     pos: Pos,
-    lexeme: Lexeme,
+    terminal: Terminal,
 ) -> Result<Taking, Memory>
-    ensures { IfOk result (λ taking. taking ≡ need_marks naming behind bracket pos lexeme) }
+    ensures { IfOk result (λ taking. taking ≡ need_marks naming behind bracket pos terminal) }
 {
-    match lexeme {
-        Lexeme::Marker(_marker) => Ok(outside(State::AfterMark(naming, behind, bracket, 1, pos))),
+    match terminal {
+        Terminal::Marker(_marker) => Ok(outside(State::AfterMark(naming, behind, bracket, 1, pos))),
         other => end_marks(alloc, naming, behind, bracket, 0, pos, other),
     }
 }
@@ -154,12 +154,12 @@ pub(crate) fn after_mark(
     bracket: Bracket,
     markers: u32,
     pos: Pos,
-    lexeme: Lexeme,
+    terminal: Terminal,
 ) -> Result<Taking, Memory>
-    ensures { IfOk result (λ taking. taking ≡ after_mark naming behind bracket markers pos lexeme) }
+    ensures { IfOk result (λ taking. taking ≡ after_mark naming behind bracket markers pos terminal) }
 {
-    match lexeme {
-        Lexeme::Comma => Ok(outside(State::NeedMark(naming, behind, bracket, markers, pos))),
+    match terminal {
+        Terminal::Comma => Ok(outside(State::NeedMark(naming, behind, bracket, markers, pos))),
         other => end_marks(alloc, naming, behind, bracket, markers, pos, other),
     }
 }
@@ -171,12 +171,12 @@ pub(crate) fn need_mark(
     bracket: Bracket,
     markers: u32,
     pos: Pos,
-    lexeme: Lexeme,
+    terminal: Terminal,
 ) -> Result<Taking, Memory>
-    ensures { IfOk result (λ taking. taking ≡ step true (State.NeedMark naming behind bracket markers pos) lexeme) }
+    ensures { IfOk result (λ taking. taking ≡ step true (State.NeedMark naming behind bracket markers pos) terminal) }
 {
-    match lexeme {
-        Lexeme::Marker(_marker) => {
+    match terminal {
+        Terminal::Marker(_marker) => {
             let more = markers.checked_add(1).ok_or(Memory)?;
             Ok(outside(State::AfterMark(naming, behind, bracket, more, pos)))
         }
@@ -189,13 +189,13 @@ pub(crate) fn after_form(
     alloc: Global,
     naming: Naming,
     form: RawForm,
-    lexeme: Lexeme,
+    terminal: Terminal,
 ) -> Result<Taking, Memory>
-    ensures { IfOk result (λ taking. taking ≡ after_form naming form lexeme) }
+    ensures { IfOk result (λ taking. taking ≡ after_form naming form terminal) }
 {
     match naming {
-        Naming::Declared(raw, forms) => after_declared(raw, forms, form, lexeme),
-        Naming::Referred(clause, refs) => after_referred(alloc, clause, refs, form, lexeme),
+        Naming::Declared(raw, forms) => after_declared(raw, forms, form, terminal),
+        Naming::Referred(clause, refs) => after_referred(alloc, clause, refs, form, terminal),
     }
 }
 
@@ -204,15 +204,15 @@ fn after_declared(
     raw: RawTrait,
     forms: RawForms,
     form: RawForm,
-    lexeme: Lexeme,
+    terminal: Terminal,
 ) -> Result<Taking, Memory>
-    ensures { IfOk result (λ taking. taking ≡ after_form (Declared raw forms) form lexeme) }
+    ensures { IfOk result (λ taking. taking ≡ after_form (Declared raw forms) form terminal) }
 {
     let mut forms = forms;
     forms.push(form)?;
-    match lexeme {
-        Lexeme::Comma => Ok(outside(State::NeedForm(Naming::Declared(raw, forms)))),
-        Lexeme::Colon(_pos) => Ok(outside(State::NeedSig(Signing::Declaration(raw, forms)))),
+    match terminal {
+        Terminal::Comma => Ok(outside(State::NeedForm(Naming::Declared(raw, forms)))),
+        Terminal::Colon(_pos) => Ok(outside(State::NeedSig(Signing::Declaration(raw, forms)))),
         _ => Ok(None),
     }
 }
@@ -224,12 +224,12 @@ fn after_referred(
     clause: Clause,
     refs: RawOpRefs,
     form: RawForm,
-    lexeme: Lexeme,
+    terminal: Terminal,
 ) -> Result<Taking, Memory>
-    ensures { IfOk result (λ taking. taking ≡ after_form (Referred clause refs) form lexeme) }
+    ensures { IfOk result (λ taking. taking ≡ after_form (Referred clause refs) form terminal) }
 {
-    match lexeme {
-        Lexeme::Colon(_pos) => Ok(outside(State::NeedSig(Signing::Reference(clause, refs, form)))),
+    match terminal {
+        Terminal::Colon(_pos) => Ok(outside(State::NeedSig(Signing::Reference(clause, refs, form)))),
         other => {
             let refs = with_reference(refs, form)?;
             after_reference(alloc, clause, refs, other)
@@ -243,13 +243,13 @@ pub(crate) fn after_reference(
     alloc: Global,
     clause: Clause,
     refs: RawOpRefs,
-    lexeme: Lexeme,
+    terminal: Terminal,
 ) -> Result<Taking, Memory>
-    ensures { IfOk result (λ taking. taking ≡ after_reference clause refs lexeme) }
+    ensures { IfOk result (λ taking. taking ≡ after_reference clause refs terminal) }
 {
-    match lexeme {
-        Lexeme::Comma => Ok(outside(State::NeedForm(Naming::Referred(clause, refs)))),
-        Lexeme::Semicolon => {
+    match terminal {
+        Terminal::Comma => Ok(outside(State::NeedForm(Naming::Referred(clause, refs)))),
+        Terminal::Semicolon => {
             let raw = with_clause(clause, refs)?;
             Ok(outside(State::InItems(raw)))
         }
@@ -261,36 +261,36 @@ pub(crate) fn after_reference(
 }
 
 // A signature is needed.
-pub(crate) fn need_sig(alloc: Global, signing: Signing, lexeme: Lexeme) -> Result<Taking, Memory>
-    ensures { IfOk result (λ taking. taking ≡ step true (State.NeedSig signing) lexeme) }
+pub(crate) fn need_sig(alloc: Global, signing: Signing, terminal: Terminal) -> Result<Taking, Memory>
+    ensures { IfOk result (λ taking. taking ≡ step true (State.NeedSig signing) terminal) }
 {
-    match lexeme {
-        Lexeme::Word(word) => {
+    match terminal {
+        Terminal::Word(word) => {
             let sorts = with_word(Sequence::new(alloc), word)?;
             Ok(outside(State::AfterSort(signing, sorts)))
         }
-        Lexeme::Arrow => Ok(outside(State::NeedRange(signing, Sequence::new(alloc)))),
+        Terminal::Arrow => Ok(outside(State::NeedRange(signing, Sequence::new(alloc)))),
         _ => Ok(None),
     }
 }
 
 // A sort of a domain is read.
-pub(crate) fn after_sort(signing: Signing, sorts: RawWords, lexeme: Lexeme) -> Taking
-    ensures { result ≡ step true (State.AfterSort signing sorts) lexeme }
+pub(crate) fn after_sort(signing: Signing, sorts: RawWords, terminal: Terminal) -> Taking
+    ensures { result ≡ step true (State.AfterSort signing sorts) terminal }
 {
-    match lexeme {
-        Lexeme::Comma => outside(State::NeedSort(signing, sorts)),
-        Lexeme::Arrow => outside(State::NeedRange(signing, sorts)),
+    match terminal {
+        Terminal::Comma => outside(State::NeedSort(signing, sorts)),
+        Terminal::Arrow => outside(State::NeedRange(signing, sorts)),
         _ => None,
     }
 }
 
 // A `,` behind a sort is read.
-pub(crate) fn need_sort(signing: Signing, sorts: RawWords, lexeme: Lexeme) -> Result<Taking, Memory>
-    ensures { IfOk result (λ taking. taking ≡ step true (State.NeedSort signing sorts) lexeme) }
+pub(crate) fn need_sort(signing: Signing, sorts: RawWords, terminal: Terminal) -> Result<Taking, Memory>
+    ensures { IfOk result (λ taking. taking ≡ step true (State.NeedSort signing sorts) terminal) }
 {
-    match lexeme {
-        Lexeme::Word(word) => {
+    match terminal {
+        Terminal::Word(word) => {
             let sorts = with_word(sorts, word)?;
             Ok(outside(State::AfterSort(signing, sorts)))
         }
@@ -302,12 +302,12 @@ pub(crate) fn need_sort(signing: Signing, sorts: RawWords, lexeme: Lexeme) -> Re
 pub(crate) fn need_range(
     signing: Signing,
     domain: RawWords,
-    lexeme: Lexeme,
+    terminal: Terminal,
 ) -> Result<Taking, Memory>
-    ensures { IfOk result (λ taking. taking ≡ step true (State.NeedRange signing domain) lexeme) }
+    ensures { IfOk result (λ taking. taking ≡ step true (State.NeedRange signing domain) terminal) }
 {
-    match lexeme {
-        Lexeme::Word(range) => {
+    match terminal {
+        Terminal::Word(range) => {
             let after = hand_sig(signing, RawSig { domain, range })?;
             Ok(outside(after))
         }

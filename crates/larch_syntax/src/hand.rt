@@ -12,9 +12,9 @@ use crate::chains::{in_connectives, in_equalities, in_infixes, in_postfixes, in_
 use crate::items::hand_equation;
 use crate::taking::{Stepped, Taking, at_head, plainly, taken_or_stuck};
 use larch_base::{Memory, Pos};
-use larch_grammar::{Bracket, Frame, Lexeme, Link, Listing, Stack, State, Waiting};
+use larch_grammar::{Bracket, Frame, Terminal, Link, Listing, Stack, State, Waiting};
 use larch_raw::{RawTerm, RawTerms, RawWord};
-use larch_trees::{
+use larch_grammar::{
     bracket_tree, call_tree, equation_of, field_tree, formula_of, if_tree, no_terms, postfix_tree,
     prefix_tree, qualified, with_term,
 };
@@ -24,7 +24,7 @@ use std::alloc::Global;
 #[derive(Drop)]
 pub(crate) enum Passed {
     /// It hands what it makes of the term on to the frames around it, with the token.
-    On(RawTerm, Stack, Lexeme),
+    On(RawTerm, Stack, Terminal),
     /// It takes the token, or nothing does.
     Done(Stepped),
 }
@@ -46,20 +46,20 @@ pub(crate) fn hand(
     alloc: Global,
     term: RawTerm,
     stack: Stack,
-    lexeme: Lexeme,
+    terminal: Terminal,
 ) -> Result<Stepped, Memory>
-    ensures step { IfOk result (λ stepped. taking_of stepped ≡ hand true term stack lexeme) }
+    ensures step { IfOk result (λ stepped. taking_of stepped ≡ hand true term stack terminal) }
     ensures stops { IfOk result (λ stepped. StopsWith (as_equation (finish term stack)) stepped) }
 {
     let mut term = term;
     let mut stack = stack;
-    let mut lexeme = lexeme;
+    let mut terminal = terminal;
     while let Some(frame) = stack.pop() {
-        match pass(alloc, frame, term, stack, lexeme)? {
+        match pass(alloc, frame, term, stack, terminal)? {
             Passed::On(whole, frames, token) => {
                 term = whole;
                 stack = frames;
-                lexeme = token;
+                terminal = token;
             }
             Passed::Done(stepped) => return Ok(stepped),
         }
@@ -73,62 +73,62 @@ fn pass(
     frame: Frame,
     term: RawTerm,
     stack: Stack,
-    lexeme: Lexeme,
+    terminal: Terminal,
 ) -> Result<Passed, Memory>
-    ensures hands { IfOk result (λ passed. passed_on passed ≡ hand true term (frame ∷ stack) lexeme) }
+    ensures hands { IfOk result (λ passed. passed_on passed ≡ hand true term (frame ∷ stack) terminal) }
     ensures ends { IfOk result (λ passed. EndsWith (as_equation (finish term (frame ∷ stack))) passed) }
     ensures frames { IfOk result (λ passed. Leaves stack passed) }
 {
     match frame {
-        Frame::InFields => Ok(in_fields(term, stack, lexeme)),
-        Frame::InStrays => in_strays(alloc, term, stack, lexeme),
+        Frame::InFields => Ok(in_fields(term, stack, terminal)),
+        Frame::InStrays => in_strays(alloc, term, stack, terminal),
         Frame::Prefixed(symbol) => {
             let whole = prefix_tree(alloc, symbol, term)?;
-            Ok(Passed::On(whole, stack, lexeme))
+            Ok(Passed::On(whole, stack, terminal))
         }
-        Frame::InPostfixes => in_postfixes(alloc, term, stack, lexeme),
-        Frame::InInfixes(link) => in_infixes(alloc, link, term, stack, lexeme),
-        Frame::InEqualities(link) => in_equalities(alloc, link, term, stack, lexeme),
-        Frame::InConnectives(link) => in_connectives(alloc, link, term, stack, lexeme),
-        Frame::InParentheses => Ok(in_parentheses(term, stack, lexeme)),
-        Frame::InList(listing, terms) => in_list(alloc, listing, terms, term, stack, lexeme),
-        Frame::InIf(pos) => in_if(pos, term, stack, lexeme),
-        Frame::InThen(pos, condition) => in_then(pos, condition, term, stack, lexeme),
+        Frame::InPostfixes => in_postfixes(alloc, term, stack, terminal),
+        Frame::InInfixes(link) => in_infixes(alloc, link, term, stack, terminal),
+        Frame::InEqualities(link) => in_equalities(alloc, link, term, stack, terminal),
+        Frame::InConnectives(link) => in_connectives(alloc, link, term, stack, terminal),
+        Frame::InParentheses => Ok(in_parentheses(term, stack, terminal)),
+        Frame::InList(listing, terms) => in_list(alloc, listing, terms, term, stack, terminal),
+        Frame::InIf(pos) => in_if(pos, term, stack, terminal),
+        Frame::InThen(pos, condition) => in_then(pos, condition, term, stack, terminal),
         Frame::InElse(pos, condition, first) => {
             let whole = if_tree(alloc, pos, condition, first, term)?;
-            Ok(Passed::On(whole, stack, lexeme))
+            Ok(Passed::On(whole, stack, terminal))
         }
-        Frame::InLeft(pos, waiting) => in_left(alloc, pos, waiting, term, stack, lexeme),
+        Frame::InLeft(pos, waiting) => in_left(alloc, pos, waiting, term, stack, terminal),
         Frame::InRight(pos, left, equates, waiting) => {
             let equation = equation_of(left, equates, term, pos);
-            let stepped = hand_equation(alloc, equation, waiting, lexeme)?;
+            let stepped = hand_equation(alloc, equation, waiting, terminal)?;
             Ok(Passed::Done(stepped))
         }
     }
 }
 
 // Fields, brackets and a sort may follow.
-fn in_fields(term: RawTerm, stack: Stack, lexeme: Lexeme) -> Passed
-    ensures hands { passed_on result ≡ hand true term (InFields ∷ stack) lexeme }
+fn in_fields(term: RawTerm, stack: Stack, terminal: Terminal) -> Passed
+    ensures hands { passed_on result ≡ hand true term (InFields ∷ stack) terminal }
     ensures ends { EndsWith (as_equation (finish term (InFields ∷ stack))) result }
     ensures frames { Leaves stack result }
 {
-    match lexeme {
-        Lexeme::Dot(pos) => done(at_head(State::NeedField(term, pos, stack))),
-        Lexeme::Colon(pos) => done(at_head(State::NeedSortOf(term, pos, stack))),
-        Lexeme::OpenBracket(bracket, pos) => done(open_bracket(bracket, pos, Some(term), stack)),
+    match terminal {
+        Terminal::Dot(pos) => done(at_head(State::NeedField(term, pos, stack))),
+        Terminal::Colon(pos) => done(at_head(State::NeedSortOf(term, pos, stack))),
+        Terminal::OpenBracket(bracket, pos) => done(open_bracket(bracket, pos, Some(term), stack)),
         other => Passed::On(term, stack, other),
     }
 }
 
 // Inside parentheses.
-fn in_parentheses(term: RawTerm, stack: Stack, lexeme: Lexeme) -> Passed
-    ensures hands { passed_on result ≡ hand true term (InParentheses ∷ stack) lexeme }
+fn in_parentheses(term: RawTerm, stack: Stack, terminal: Terminal) -> Passed
+    ensures hands { passed_on result ≡ hand true term (InParentheses ∷ stack) terminal }
     ensures ends { EndsWith (as_equation (finish term (InParentheses ∷ stack))) result }
     ensures frames { Leaves stack result }
 {
-    match lexeme {
-        Lexeme::Close => done(plainly(State::Have(term, stack))),
+    match terminal {
+        Terminal::Close => done(plainly(State::Have(term, stack))),
         _ => done(None),
     }
 }
@@ -140,27 +140,27 @@ fn in_list(
     terms: RawTerms,
     term: RawTerm,
     stack: Stack,
-    lexeme: Lexeme,
+    terminal: Terminal,
 ) -> Result<Passed, Memory>
-    ensures hands { IfOk result (λ passed. passed_on passed ≡ hand true term (InList listing terms ∷ stack) lexeme) }
+    ensures hands { IfOk result (λ passed. passed_on passed ≡ hand true term (InList listing terms ∷ stack) terminal) }
     ensures ends { IfOk result (λ passed. EndsWith (as_equation (finish term (InList listing terms ∷ stack))) passed) }
     ensures frames { IfOk result (λ passed. Leaves stack passed) }
 {
     let terms = with_term(terms, term)?;
-    match (listing, lexeme) {
-        (listing, Lexeme::Comma) => {
+    match (listing, terminal) {
+        (listing, Terminal::Comma) => {
             let stack = stack.with(Frame::InList(listing, terms))?;
             Ok(done(plainly(State::NeedTerm(stack))))
         }
-        (Listing::Call(word), Lexeme::Close) => {
+        (Listing::Call(word), Terminal::Close) => {
             Ok(done(plainly(State::Have(call_tree(word, terms), stack))))
         }
-        (Listing::Bracketed(Bracket::Square, front, pos), Lexeme::CloseBracket(Bracket::Square)) =>
+        (Listing::Bracketed(Bracket::Square, front, pos), Terminal::CloseBracket(Bracket::Square)) =>
             {
                 let whole = bracket_tree(alloc, Bracket::Square, front, pos, terms)?;
                 Ok(done(plainly(State::Have(whole, stack))))
             }
-        (Listing::Bracketed(Bracket::Curly, front, pos), Lexeme::CloseBracket(Bracket::Curly)) => {
+        (Listing::Bracketed(Bracket::Curly, front, pos), Terminal::CloseBracket(Bracket::Curly)) => {
             let whole = bracket_tree(alloc, Bracket::Curly, front, pos, terms)?;
             Ok(done(plainly(State::Have(whole, stack))))
         }
@@ -169,13 +169,13 @@ fn in_list(
 }
 
 // `if`: its condition ends with `then`.
-fn in_if(pos: Pos, term: RawTerm, stack: Stack, lexeme: Lexeme) -> Result<Passed, Memory>
-    ensures hands { IfOk result (λ passed. passed_on passed ≡ hand true term (InIf pos ∷ stack) lexeme) }
+fn in_if(pos: Pos, term: RawTerm, stack: Stack, terminal: Terminal) -> Result<Passed, Memory>
+    ensures hands { IfOk result (λ passed. passed_on passed ≡ hand true term (InIf pos ∷ stack) terminal) }
     ensures ends { IfOk result (λ passed. EndsWith (as_equation (finish term (InIf pos ∷ stack))) passed) }
     ensures frames { IfOk result (λ passed. Leaves stack passed) }
 {
-    match lexeme {
-        Lexeme::Then => {
+    match terminal {
+        Terminal::Then => {
             let stack = stack.with(Frame::InThen(pos, term))?;
             Ok(done(plainly(State::NeedTerm(stack))))
         }
@@ -189,14 +189,14 @@ fn in_then(
     condition: RawTerm,
     term: RawTerm,
     stack: Stack,
-    lexeme: Lexeme,
+    terminal: Terminal,
 ) -> Result<Passed, Memory>
-    ensures hands { IfOk result (λ passed. passed_on passed ≡ hand true term (InThen pos condition ∷ stack) lexeme) }
+    ensures hands { IfOk result (λ passed. passed_on passed ≡ hand true term (InThen pos condition ∷ stack) terminal) }
     ensures ends { IfOk result (λ passed. EndsWith (as_equation (finish term (InThen pos condition ∷ stack))) passed) }
     ensures frames { IfOk result (λ passed. Leaves stack passed) }
 {
-    match lexeme {
-        Lexeme::Else => {
+    match terminal {
+        Terminal::Else => {
             let stack = stack.with(Frame::InElse(pos, condition, term))?;
             Ok(done(plainly(State::NeedTerm(stack))))
         }
@@ -211,14 +211,14 @@ fn in_left(
     waiting: Waiting,
     term: RawTerm,
     stack: Stack,
-    lexeme: Lexeme,
+    terminal: Terminal,
 ) -> Result<Passed, Memory>
-    ensures hands { IfOk result (λ passed. passed_on passed ≡ hand true term (InLeft pos waiting ∷ stack) lexeme) }
+    ensures hands { IfOk result (λ passed. passed_on passed ≡ hand true term (InLeft pos waiting ∷ stack) terminal) }
     ensures ends { IfOk result (λ passed. EndsWith (as_equation (finish term (InLeft pos waiting ∷ stack))) passed) }
     ensures frames { IfOk result (λ passed. Leaves stack passed) }
 {
-    match lexeme {
-        Lexeme::Equates(equates) => {
+    match terminal {
+        Terminal::Equates(equates) => {
             let stack = stack.with(Frame::InRight(pos, term, equates, waiting))?;
             Ok(done(at_head(State::NeedTerm(stack))))
         }
@@ -235,12 +235,12 @@ pub(crate) fn need_field(
     term: RawTerm,
     pos: Pos,
     stack: Stack,
-    lexeme: Lexeme,
+    terminal: Terminal,
 ) -> Result<Taking, Memory>
-    ensures { IfOk result (λ taking. taking ≡ step true (State.NeedField term pos stack) lexeme) }
+    ensures { IfOk result (λ taking. taking ≡ step true (State.NeedField term pos stack) terminal) }
 {
-    match lexeme {
-        Lexeme::Word(word) => {
+    match terminal {
+        Terminal::Word(word) => {
             let whole = field_tree(alloc, pos, word, term)?;
             let stack = stack.with(Frame::InFields)?;
             Ok(plainly(State::Have(whole, stack)))
@@ -255,12 +255,12 @@ pub(crate) fn need_sort_of(
     term: RawTerm,
     pos: Pos,
     stack: Stack,
-    lexeme: Lexeme,
+    terminal: Terminal,
 ) -> Result<Taking, Memory>
-    ensures { IfOk result (λ taking. taking ≡ step true (State.NeedSortOf term pos stack) lexeme) }
+    ensures { IfOk result (λ taking. taking ≡ step true (State.NeedSortOf term pos stack) terminal) }
 {
-    match lexeme {
-        Lexeme::Word(sort) => {
+    match terminal {
+        Terminal::Word(sort) => {
             let whole = qualified(alloc, term, sort, pos)?;
             Ok(plainly(State::Have(whole, stack)))
         }
@@ -274,13 +274,13 @@ pub(crate) fn after_word(
     alloc: Global,
     word: RawWord,
     stack: Stack,
-    lexeme: Lexeme,
+    terminal: Terminal,
 ) -> Result<Stepped, Memory>
-    ensures step { IfOk result (λ stepped. taking_of stepped ≡ after_word true word stack lexeme) }
+    ensures step { IfOk result (λ stepped. taking_of stepped ≡ after_word true word stack terminal) }
     ensures stops { IfOk result (λ stepped. StopsWith (as_equation (finish (call_tree word []) stack)) stepped) }
 {
-    match lexeme {
-        Lexeme::Open(_pos) => {
+    match terminal {
+        Terminal::Open(_pos) => {
             let mark = opens(&stack);
             let arguments = Frame::InList(Listing::Call(word), no_terms(alloc));
             let stack = stack.with(Frame::InFields)?.with(arguments)?;
@@ -300,16 +300,16 @@ pub(crate) fn after_symbol(
     symbol: RawWord,
     term: RawTerm,
     stack: Stack,
-    lexeme: Lexeme,
+    terminal: Terminal,
 ) -> Result<Stepped, Memory>
-    ensures step { IfOk result (λ stepped. taking_of stepped ≡ after_symbol true symbol term stack lexeme) }
+    ensures step { IfOk result (λ stepped. taking_of stepped ≡ after_symbol true symbol term stack terminal) }
     ensures stops { IfOk result (λ stepped. StopsWith (as_equation (finish (postfix_tree symbol term) stack)) stepped) }
 {
-    match lexeme {
-        Lexeme::Word(_) | Lexeme::Open(_) | Lexeme::OpenBracket(_, _) => {
+    match terminal {
+        Terminal::Word(_) | Terminal::Open(_) | Terminal::OpenBracket(_, _) => {
             let link = Link { symbol, left: term };
             let stack = stack.with(Frame::InInfixes(Some(link)))?;
-            let taking = begin_post(lexeme, stack)?;
+            let taking = begin_post(terminal, stack)?;
             Ok(taken_or_stuck(taking))
         }
         other => {

@@ -10,71 +10,71 @@ use crate::forms::begin_form;
 use crate::hand::after_word;
 use crate::taking::{Stepped, Taking, at_head, outside, taken_or_stuck};
 use larch_base::{Memory, Sequence};
-use larch_grammar::{Clause, Lexeme, Naming, State, Waiting};
-use larch_raw::{RawEquation, RawEquations, RawTrait, RawVars, RawWord, RawWords};
-use larch_trees::{named, with_equations, with_group, with_word};
+use larch_grammar::{Clause, Terminal, Naming, State, Waiting};
+use larch_raw::{ClauseKind, RawEquation, RawEquations, RawTrait, RawVars, RawWord, RawWords};
+use larch_grammar::{named, with_equations, with_group, with_word};
 use std::alloc::Global;
 
 // A name is needed.
-pub(crate) fn at_start(lexeme: Lexeme) -> Taking
-    ensures { result ≡ step true State.Start lexeme }
+pub(crate) fn at_start(terminal: Terminal) -> Taking
+    ensures { result ≡ step true State.Start terminal }
 {
-    match lexeme {
-        Lexeme::Word(name) => outside(State::AfterName(name)),
+    match terminal {
+        Terminal::Word(name) => outside(State::AfterName(name)),
         _ => None,
     }
 }
 
 // A name is read.
-pub(crate) fn after_name(name: RawWord, lexeme: Lexeme) -> Taking
-    ensures { result ≡ step true (State.AfterName name) lexeme }
+pub(crate) fn after_name(name: RawWord, terminal: Terminal) -> Taking
+    ensures { result ≡ step true (State.AfterName name) terminal }
 {
-    match lexeme {
-        Lexeme::Colon(_pos) => outside(State::NeedTrait(name)),
+    match terminal {
+        Terminal::Colon(_pos) => outside(State::NeedTrait(name)),
         _ => None,
     }
 }
 
 // A name and `:` are read.
-pub(crate) fn need_trait(alloc: Global, name: RawWord, lexeme: Lexeme) -> Taking
-    ensures { result ≡ step true (State.NeedTrait name) lexeme }
+pub(crate) fn need_trait(alloc: Global, name: RawWord, terminal: Terminal) -> Taking
+    ensures { result ≡ step true (State.NeedTrait name) terminal }
 {
-    match lexeme {
-        Lexeme::Trait => outside(State::AfterHead(named(alloc, name))),
+    match terminal {
+        Terminal::Trait => outside(State::AfterHead(named(alloc, name))),
         _ => None,
     }
 }
 
 // The head of a trait is read.
-pub(crate) fn after_head(raw: RawTrait, lexeme: Lexeme) -> Taking
-    ensures { result ≡ after_head raw lexeme }
+pub(crate) fn after_head(raw: RawTrait, terminal: Terminal) -> Taking
+    ensures { result ≡ after_head raw terminal }
 {
-    match lexeme {
-        Lexeme::Introduces => outside(State::InPart(raw)),
-        Lexeme::Asserts => outside(State::InItems(raw)),
+    match terminal {
+        Terminal::Introduces => outside(State::InPart(raw)),
+        Terminal::Asserts => outside(State::InItems(raw)),
         _ => None,
     }
 }
 
 // `introduces` or a declaration is read.
 #[tactic(auto, using(crate::proofs::Defaults::other_part))]
-pub(crate) fn in_part(alloc: Global, raw: RawTrait, lexeme: Lexeme) -> Taking
-    ensures { result ≡ in_part raw lexeme }
+pub(crate) fn in_part(alloc: Global, raw: RawTrait, terminal: Terminal) -> Taking
+    ensures { result ≡ in_part raw terminal }
 {
-    match lexeme {
-        Lexeme::Introduces => outside(State::InPart(raw)),
-        Lexeme::Asserts => outside(State::InItems(raw)),
+    match terminal {
+        Terminal::Introduces => outside(State::InPart(raw)),
+        Terminal::Asserts => outside(State::InItems(raw)),
         other => begin_form(Naming::Declared(raw, Sequence::new(alloc)), other),
     }
 }
 
 // A part, or an item that needs no `;` before it.
-fn begin_part(alloc: Global, raw: RawTrait, lexeme: Lexeme) -> Taking
-    ensures { result ≡ begin_part raw lexeme }
+fn begin_part(alloc: Global, raw: RawTrait, terminal: Terminal) -> Taking
+    ensures { result ≡ begin_part raw terminal }
 {
-    match lexeme {
-        Lexeme::ForAll => outside(State::NeedVariable(raw, Sequence::new(alloc))),
-        Lexeme::Asserts => outside(State::InItems(raw)),
+    match terminal {
+        Terminal::ForAll => outside(State::NeedVariable(raw, Sequence::new(alloc))),
+        Terminal::Asserts => outside(State::InItems(raw)),
         _ => None,
     }
 }
@@ -88,12 +88,12 @@ fn first_of_item(alloc: Global, raw: RawTrait) -> Waiting
 
 // The first token of any item, or a part.
 #[tactic(auto, using(crate::proofs::Defaults::other_item))]
-pub(crate) fn begin_item(alloc: Global, raw: RawTrait, lexeme: Lexeme) -> Result<Taking, Memory>
-    ensures { IfOk result (λ taking. taking ≡ begin_item raw lexeme) }
+pub(crate) fn begin_item(alloc: Global, raw: RawTrait, terminal: Terminal) -> Result<Taking, Memory>
+    ensures { IfOk result (λ taking. taking ≡ begin_item raw terminal) }
 {
-    match lexeme {
-        Lexeme::Word(word) => Ok(at_head(State::FirstWord(raw, word))),
-        Lexeme::ForAll | Lexeme::Asserts => Ok(begin_part(alloc, raw, lexeme)),
+    match terminal {
+        Terminal::Word(word) => Ok(at_head(State::FirstWord(raw, word))),
+        Terminal::ForAll | Terminal::Asserts => Ok(begin_part(alloc, raw, terminal)),
         other => begin_equation(alloc, other, first_of_item(alloc, raw)),
     }
 }
@@ -103,15 +103,15 @@ pub(crate) fn hand_equation(
     alloc: Global,
     equation: RawEquation,
     waiting: Waiting,
-    lexeme: Lexeme,
+    terminal: Terminal,
 ) -> Result<Stepped, Memory>
-    ensures step { IfOk result (λ stepped. taking_of stepped ≡ hand_equation equation waiting lexeme) }
+    ensures step { IfOk result (λ stepped. taking_of stepped ≡ hand_equation equation waiting terminal) }
     ensures stops { IfOk result (λ stepped. StopsWith (as_equation (end_equation equation waiting)) stepped) }
 {
     match waiting {
         Waiting::Alone => Ok(Stepped::Stops(Some(equation))),
         Waiting::Item(raw, variables, equations) => {
-            let taking = behind_equation(alloc, raw, variables, equations, equation, lexeme)?;
+            let taking = behind_equation(alloc, raw, variables, equations, equation, terminal)?;
             Ok(taken_or_stuck(taking))
         }
     }
@@ -124,21 +124,21 @@ fn behind_equation(
     variables: RawVars,
     equations: RawEquations,
     equation: RawEquation,
-    lexeme: Lexeme,
+    terminal: Terminal,
 ) -> Result<Taking, Memory>
-    ensures { IfOk result (λ taking. taking ≡ hand_equation equation (Item raw variables equations) lexeme) }
+    ensures { IfOk result (λ taking. taking ≡ hand_equation equation (Item raw variables equations) terminal) }
 {
     let mut equations = equations;
     equations.push(equation)?;
-    match lexeme {
-        Lexeme::Semicolon => Ok(outside(State::AfterSemicolon(raw, variables, equations))),
-        Lexeme::Word(word) => {
+    match terminal {
+        Terminal::Semicolon => Ok(outside(State::AfterSemicolon(raw, variables, equations))),
+        Terminal::Word(word) => {
             let raw = with_equations(raw, variables, equations)?;
             Ok(outside(State::ClauseWord(raw, word)))
         }
-        Lexeme::ForAll | Lexeme::Asserts => {
+        Terminal::ForAll | Terminal::Asserts => {
             let raw = with_equations(raw, variables, equations)?;
-            Ok(begin_part(alloc, raw, lexeme))
+            Ok(begin_part(alloc, raw, terminal))
         }
         _ => Ok(None),
     }
@@ -150,14 +150,14 @@ pub(crate) fn first_word(
     alloc: Global,
     raw: RawTrait,
     word: RawWord,
-    lexeme: Lexeme,
+    terminal: Terminal,
 ) -> Result<Stepped, Memory>
-    ensures step { IfOk result (λ stepped. taking_of stepped ≡ first_word true raw word lexeme) }
+    ensures step { IfOk result (λ stepped. taking_of stepped ≡ first_word true raw word terminal) }
     ensures stops { IfOk result (λ stepped. StopsWith None stepped) }
 {
-    match lexeme {
-        Lexeme::Generated | Lexeme::Partitioned => {
-            Ok(taken_or_stuck(clause_word(raw, word, lexeme)))
+    match terminal {
+        Terminal::Generated | Terminal::Partitioned => {
+            Ok(taken_or_stuck(clause_word(raw, word, terminal)))
         }
         other => word_of_equation(alloc, word, first_of_item(alloc, raw), other),
     }
@@ -168,13 +168,13 @@ fn word_of_equation(
     alloc: Global,
     word: RawWord,
     waiting: Waiting,
-    lexeme: Lexeme,
+    terminal: Terminal,
 ) -> Result<Stepped, Memory>
-    ensures step { IfOk result (λ stepped. taking_of stepped ≡ after_word true word (word_frames word waiting) lexeme) }
+    ensures step { IfOk result (λ stepped. taking_of stepped ≡ after_word true word (word_frames word waiting) terminal) }
     ensures stops { IfOk result (λ stepped. StopsWith (as_equation (finish (call_tree word []) (word_frames word waiting))) stepped) }
 {
     let frames = word_frames(alloc, &word, waiting)?;
-    let stepped = after_word(alloc, word, frames, lexeme)?;
+    let stepped = after_word(alloc, word, frames, terminal)?;
     Ok(stepped)
 }
 
@@ -186,15 +186,15 @@ pub(crate) fn word_behind(
     variables: RawVars,
     equations: RawEquations,
     word: RawWord,
-    lexeme: Lexeme,
+    terminal: Terminal,
 ) -> Result<Stepped, Memory>
-    ensures step { IfOk result (λ stepped. taking_of stepped ≡ word_behind true raw variables equations word lexeme) }
+    ensures step { IfOk result (λ stepped. taking_of stepped ≡ word_behind true raw variables equations word terminal) }
     ensures stops { IfOk result (λ stepped. StopsWith None stepped) }
 {
-    match lexeme {
-        Lexeme::Generated | Lexeme::Partitioned => {
+    match terminal {
+        Terminal::Generated | Terminal::Partitioned => {
             let raw = with_equations(raw, variables, equations)?;
-            Ok(taken_or_stuck(clause_word(raw, word, lexeme)))
+            Ok(taken_or_stuck(clause_word(raw, word, terminal)))
         }
         other => {
             let waiting = Waiting::Item(raw, variables, equations);
@@ -204,27 +204,23 @@ pub(crate) fn word_behind(
 }
 
 // The word that begins a clause is read.
-pub(crate) fn clause_word(raw: RawTrait, sort: RawWord, lexeme: Lexeme) -> Taking
-    ensures { result ≡ clause_word raw sort lexeme }
+pub(crate) fn clause_word(raw: RawTrait, sort: RawWord, terminal: Terminal) -> Taking
+    ensures { result ≡ clause_word raw sort terminal }
 {
-    let generated = match lexeme {
-        Lexeme::Generated => true,
-        Lexeme::Partitioned => false,
+    let kind = match terminal {
+        Terminal::Generated => ClauseKind::Generated,
+        Terminal::Partitioned => ClauseKind::Partitioned,
         _ => return None,
     };
-    outside(State::NeedBy(Clause {
-        raw,
-        generated,
-        sort,
-    }))
+    outside(State::NeedBy(Clause { raw, kind, sort }))
 }
 
 // `generated` or `partitioned` is read.
-pub(crate) fn need_by(alloc: Global, clause: Clause, lexeme: Lexeme) -> Taking
-    ensures { result ≡ step true (State.NeedBy clause) lexeme }
+pub(crate) fn need_by(alloc: Global, clause: Clause, terminal: Terminal) -> Taking
+    ensures { result ≡ step true (State.NeedBy clause) terminal }
 {
-    match lexeme {
-        Lexeme::By => {
+    match terminal {
+        Terminal::By => {
             let naming = Naming::Referred(clause, Sequence::new(alloc));
             outside(State::NeedForm(naming))
         }
@@ -239,15 +235,15 @@ pub(crate) fn after_semicolon(
     raw: RawTrait,
     variables: RawVars,
     equations: RawEquations,
-    lexeme: Lexeme,
+    terminal: Terminal,
 ) -> Result<Taking, Memory>
-    ensures { IfOk result (λ taking. taking ≡ after_semicolon raw variables equations lexeme) }
+    ensures { IfOk result (λ taking. taking ≡ after_semicolon raw variables equations terminal) }
 {
-    match lexeme {
-        Lexeme::Word(word) => Ok(at_head(State::WordBehind(raw, variables, equations, word))),
-        Lexeme::ForAll | Lexeme::Asserts => {
+    match terminal {
+        Terminal::Word(word) => Ok(at_head(State::WordBehind(raw, variables, equations, word))),
+        Terminal::ForAll | Terminal::Asserts => {
             let raw = with_equations(raw, variables, equations)?;
-            Ok(begin_part(alloc, raw, lexeme))
+            Ok(begin_part(alloc, raw, terminal))
         }
         other => begin_equation(alloc, other, Waiting::Item(raw, variables, equations)),
     }
@@ -258,12 +254,12 @@ pub(crate) fn need_variable(
     alloc: Global,
     raw: RawTrait,
     variables: RawVars,
-    lexeme: Lexeme,
+    terminal: Terminal,
 ) -> Result<Taking, Memory>
-    ensures { IfOk result (λ taking. taking ≡ step true (State.NeedVariable raw variables) lexeme) }
+    ensures { IfOk result (λ taking. taking ≡ step true (State.NeedVariable raw variables) terminal) }
 {
-    match lexeme {
-        Lexeme::Word(name) => {
+    match terminal {
+        Terminal::Word(name) => {
             let names = with_word(Sequence::new(alloc), name)?;
             Ok(outside(State::AfterVariable(raw, variables, names)))
         }
@@ -276,13 +272,13 @@ pub(crate) fn after_variable(
     raw: RawTrait,
     variables: RawVars,
     names: RawWords,
-    lexeme: Lexeme,
+    terminal: Terminal,
 ) -> Taking
-    ensures { result ≡ step true (State.AfterVariable raw variables names) lexeme }
+    ensures { result ≡ step true (State.AfterVariable raw variables names) terminal }
 {
-    match lexeme {
-        Lexeme::Comma => outside(State::NeedFurtherVariable(raw, variables, names)),
-        Lexeme::Colon(_pos) => outside(State::NeedVariableSort(raw, variables, names)),
+    match terminal {
+        Terminal::Comma => outside(State::NeedFurtherVariable(raw, variables, names)),
+        Terminal::Colon(_pos) => outside(State::NeedVariableSort(raw, variables, names)),
         _ => None,
     }
 }
@@ -292,12 +288,12 @@ pub(crate) fn need_further_variable(
     raw: RawTrait,
     variables: RawVars,
     names: RawWords,
-    lexeme: Lexeme,
+    terminal: Terminal,
 ) -> Result<Taking, Memory>
-    ensures { IfOk result (λ taking. taking ≡ step true (State.NeedFurtherVariable raw variables names) lexeme) }
+    ensures { IfOk result (λ taking. taking ≡ step true (State.NeedFurtherVariable raw variables names) terminal) }
 {
-    match lexeme {
-        Lexeme::Word(name) => {
+    match terminal {
+        Terminal::Word(name) => {
             let names = with_word(names, name)?;
             Ok(outside(State::AfterVariable(raw, variables, names)))
         }
@@ -310,12 +306,12 @@ pub(crate) fn need_variable_sort(
     raw: RawTrait,
     variables: RawVars,
     names: RawWords,
-    lexeme: Lexeme,
+    terminal: Terminal,
 ) -> Result<Taking, Memory>
-    ensures { IfOk result (λ taking. taking ≡ step true (State.NeedVariableSort raw variables names) lexeme) }
+    ensures { IfOk result (λ taking. taking ≡ step true (State.NeedVariableSort raw variables names) terminal) }
 {
-    match lexeme {
-        Lexeme::Word(sort) => {
+    match terminal {
+        Terminal::Word(sort) => {
             let variables = with_group(variables, &names, &sort)?;
             Ok(outside(State::AfterGroup(raw, variables)))
         }
@@ -329,12 +325,12 @@ pub(crate) fn after_group(
     alloc: Global,
     raw: RawTrait,
     variables: RawVars,
-    lexeme: Lexeme,
+    terminal: Terminal,
 ) -> Result<Taking, Memory>
-    ensures { IfOk result (λ taking. taking ≡ after_group raw variables lexeme) }
+    ensures { IfOk result (λ taking. taking ≡ after_group raw variables terminal) }
 {
-    match lexeme {
-        Lexeme::Comma => Ok(outside(State::NeedVariable(raw, variables))),
+    match terminal {
+        Terminal::Comma => Ok(outside(State::NeedVariable(raw, variables))),
         other => {
             let waiting = Waiting::Item(raw, variables, Sequence::new(alloc));
             begin_equation(alloc, other, waiting)

@@ -15,7 +15,7 @@ mod step;
 mod taking;
 
 pub use larch_raw::{
-    RawDecl, RawDecls, RawEquation, RawEquations, RawForm, RawForms, RawItem, RawItems, RawNode,
+    ClauseKind, RawDecl, RawDecls, RawEquation, RawEquations, RawForm, RawForms, RawItem, RawItems, RawNode,
     RawOpRef, RawOpRefs, RawRight, RawSig, RawTerm, RawTerms, RawTrait, RawVar, RawVars, RawWord,
     RawWords,
 };

@@ -1,10 +1,10 @@
 ghost use Rattle.std.specs.Prelude.{◌≡◌, ◌+◌, ◌≤◌, length, Err, IfErr, IfOk, None, Ok, Some};
-ghost use Rattle.larch_grammar.specs.Answers.{Traits, place_of_token, term_from};
+ghost use Rattle.larch_grammar.specs.Answers.{Traits, position_of_token, term_from};
 ghost use Rattle.larch_grammar.specs.Machine.{as_equation, as_trait, final};
-ghost use Rattle.larch_places.specs.Claims.{Means};
+ghost use Rattle.larch_fronts.specs.Claims.{Means};
 ghost use Rattle.larch_syntax.specs.Takes.{Forbids, Takes};
-ghost use Rattle.larch_places.specs.Counts.{judged};
-ghost use Rattle.larch_places.specs.Look.{at_front};
+ghost use Rattle.larch_fronts.specs.Mark.{admitted};
+ghost use Rattle.larch_fronts.specs.Answer.{at_front};
 ghost use Rattle.larch_syntax.specs.Reading.{FrontStands, IsFront, Refuses, TraitStands, refused_at, refused_or, term_of, trait_of};
 
 use crate::finish::last;
@@ -14,9 +14,9 @@ use crate::taking::Stepped;
 use larch_base::{Memory, Pos};
 use larch_grammar::{State, Waiting, Whole};
 use larch_lexer::{Token, Tokens};
-use larch_places::{Mark, judge};
+use larch_fronts::{Mark, admit};
 use larch_raw::{RawEquation, RawTrait};
-use larch_trees::lexeme_of;
+use larch_grammar::terminal_of;
 use std::alloc::Global;
 
 /// The raw trait that these tokens are, all of them; or the first refusal. Of several that stand at one token the order
@@ -26,7 +26,7 @@ pub fn read_trait(alloc: Global, tokens: &Tokens) -> Result<RawTrait, SyntaxRefu
     ensures refused { IfErr result (λ refusal. Refuses refusal (trait_of tokens.now)) }
 
     // The grammar says the same without a machine.
-    ensures is_trait { IfOk result (λ raw. Means Traits place_of_token tokens.now.end tokens.now.tokens (Ok raw)) }
+    ensures is_trait { IfOk result (λ raw. Means Traits position_of_token tokens.now.end tokens.now.tokens (Ok raw)) }
     ensures stands { IfErr result (λ refusal. TraitStands tokens.now refusal) }
 {
     trait_by_steps(alloc, tokens)
@@ -62,7 +62,7 @@ fn last_trait(alloc: Global, state: State) -> Result<Option<RawTrait>, Memory>
     }
 }
 
-/// The raw equation at the front of the tokens from this place on, and the place behind it, both counted from 0 in
+/// The raw equation at the front of the tokens from this position on, and the position behind it, both counted from 0 in
 /// tokens; or the first refusal, as of `read_trait`. The equation ends where no equation goes on so: before `then` in
 /// `x + y then z`, and before the second `==` in `x == y == z`.
 pub fn read_term(
@@ -92,13 +92,13 @@ fn front_by_steps(
     ensures refused { IfErr result (λ refusal. Refuses refusal (term_of tokens.now from)) }
 {
     let (equation, taken) = front(alloc, &tokens.as_slice()[from as usize..], tokens.end())?;
-    let place = behind(from, taken)?;
-    Ok((equation, place))
+    let position = behind(from, taken)?;
+    Ok((equation, position))
 }
 
-// The place so many tokens behind this one.
+// The position so many tokens behind this one.
 fn behind(from: u32, taken: usize) -> Result<u32, Memory>
-    ensures { IfOk result (λ place. place ≡ from + taken) }
+    ensures { IfOk result (λ position. position ≡ from + taken) }
 {
     let taken = u32::try_from(taken).map_err(|_| Memory)?;
     from.checked_add(taken).ok_or(Memory)
@@ -163,8 +163,8 @@ fn take(alloc: Global, heads: u32, state: State, token: &Token) -> Result<Taken,
     ensures ok { IfOk result (λ taken. Takes heads state token.now taken) }
     ensures err { IfErr result (λ refusal. Forbids heads state token.now refusal) }
 {
-    let lexeme = lexeme_of(token)?;
-    match step(alloc, state, lexeme)? {
+    let terminal = terminal_of(token)?;
+    match step(alloc, state, terminal)? {
         Stepped::Taken(mark, after) => {
             match count(heads, mark, token.pos) {
                 Ok(more) => Ok(Taken::On(more, after)),
@@ -177,11 +177,11 @@ fn take(alloc: Global, heads: u32, state: State, token: &Token) -> Result<Taken,
 
 // The number of head tokens behind a token with this mark, or the refusal by what is counted at it.
 fn count(heads: u32, mark: Mark, pos: Pos) -> Result<u32, SyntaxRefusal>
-    ensures ok { IfOk result (λ more. judged heads mark ≡ Ok more) }
-    ensures err { IfErr result (λ refusal. refused_at pos (judged heads mark) ≡ Err refusal) }
+    ensures ok { IfOk result (λ more. admitted heads mark ≡ Ok more) }
+    ensures err { IfErr result (λ refusal. refused_at pos (admitted heads mark) ≡ Err refusal) }
 {
-    match judge(heads, mark) {
+    match admit(heads, mark) {
         Ok(more) => Ok(more),
-        Err(fault) => Err(refusal_of(fault, pos)),
+        Err(flaw) => Err(refusal_of(flaw, pos)),
     }
 }

@@ -3,13 +3,13 @@ ghost use Rattle.larch_syntax.specs.Refusals.{refusal_of};
 ghost use Rattle.larch_syntax.specs.declared.refusal.SyntaxRefusal.TheVariants.{Memory as wants_memory};
 
 use larch_base::{Memory, Pos};
-use larch_places::Fault;
+use larch_fronts::Flaw;
 use thiserror::Error;
 
 /// Why tokens are no trait, and where.
 #[derive(Clone, Copy, Debug, PartialEq, Eq, Error)]
 pub enum SyntaxRefusal {
-    /// The tokens before this place begin a text of the grammar and those up to it begin none; or the text ends here,
+    /// The tokens before this position begin a text of the grammar and those up to it begin none; or the text ends here,
     /// begins one and is none.
     #[error("no text of the grammar goes on so")]
     Syntax(Pos),
@@ -22,7 +22,7 @@ pub enum SyntaxRefusal {
     /// The head token here is number 5,001 of its equation.
     #[error("too many head tokens in one equation")]
     Large(Pos),
-    /// Want of memory.
+    /// Out of memory.
     #[error("out of memory")]
     Memory,
 }
@@ -35,14 +35,14 @@ impl From<Memory> for SyntaxRefusal {
     }
 }
 
-// The refusal by this fault at this place.
-pub(crate) fn refusal_of(fault: Fault, pos: Pos) -> SyntaxRefusal
-    ensures { result ≡ refusal_of fault pos }
+// The refusal by this flaw at this position.
+pub(crate) fn refusal_of(flaw: Flaw, pos: Pos) -> SyntaxRefusal
+    ensures { result ≡ refusal_of flaw pos }
 {
-    match fault {
-        Fault::Mixed => SyntaxRefusal::Mixed(pos),
-        Fault::Syntax => SyntaxRefusal::Syntax(pos),
-        Fault::Deep => SyntaxRefusal::Deep(pos),
-        Fault::Large => SyntaxRefusal::Large(pos),
+    match flaw {
+        Flaw::Mixed => SyntaxRefusal::Mixed(pos),
+        Flaw::Syntax => SyntaxRefusal::Syntax(pos),
+        Flaw::Deep => SyntaxRefusal::Deep(pos),
+        Flaw::Large => SyntaxRefusal::Large(pos),
     }
 }

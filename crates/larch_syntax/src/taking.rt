@@ -3,7 +3,7 @@ ghost use Rattle.larch_grammar.specs.Machine.{at_head, outside, plainly};
 ghost use Rattle.larch_syntax.specs.Steps.{StopsWith, taken_or_stuck, taking_of};
 
 use larch_grammar::State;
-use larch_places::Mark;
+use larch_fronts::Mark;
 use larch_raw::RawEquation;
 
 /// What is counted at a token, and the state behind it; nothing where no text of the grammar goes on so.

@@ -100,18 +100,18 @@ fn refuses_at_the_first_wrong_token(rt: HostRuntime) {
     }
 }
 
-// The place behind the equation at the front of a text.
+// The position behind the equation at the front of a text.
 fn behind(alloc: Global, text: &[u8]) -> Option<u32> {
     let tokens = tokens_of(alloc, text)?;
-    let (_equation, place) = read_term(alloc, &tokens, 0).ok()?;
-    Some(place)
+    let (_equation, position) = read_term(alloc, &tokens, 0).ok()?;
+    Some(position)
 }
 
 #[test]
 fn reads_the_longest_front(rt: HostRuntime) {
-    for (text, place) in FRONTS {
+    for (text, position) in FRONTS {
         assert!(rt;
-            behind(rt.alloc(), text.as_bytes()) == Some(place),
+            behind(rt.alloc(), text.as_bytes()) == Some(position),
             "{text}"
         );
     }

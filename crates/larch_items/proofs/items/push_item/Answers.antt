@@ -1,7 +1,7 @@
 use Rattle.std.proofs.Common.{subst, IfErr}
 use Rattle.larch_items.specs.Clauses.{clause_states}
 use Rattle.larch_items.specs.Refusals.{Refuses}
-use Rattle.larch_items.specs.declared.references.ClauseKind.TheVariants.{Generated, Partitioned}
+use Rattle.larch_raw.specs.declared.equation.ClauseKind.TheVariants.{Generated, Partitioned}
 use Rattle.larch_items.proofs.items.push_item.Goals as goal
 
 pub returns-in-Generated-clause-err : goal.returns-in-Generated-clause-err

@@ -6,5 +6,5 @@ use Rattle.larch_syntax.proofs.forms.after_reference.Goals as goal
 pub returns-in_ok-raw-in_default : goal.returns-in_ok-raw-in_default
 returns-in_ok-raw-in_default c =
     subst (λ whole. IfOk c.begin_item.result (λ taking. taking ≡ whole))
-    (ap (λ raw. begin_item raw c.args.lexeme) c.in_ok-raw-in_default.ensures ∙ sym (other_reference c.args.clause c.args.refs c.args.lexeme c.in_default.not-Comma c.in_default.not-Semicolon))
+    (ap (λ raw. begin_item raw c.args.terminal) c.in_ok-raw-in_default.ensures ∙ sym (other_reference c.args.clause c.args.refs c.args.terminal c.in_default.not-Comma c.in_default.not-Semicolon))
     c.begin_item.ensures

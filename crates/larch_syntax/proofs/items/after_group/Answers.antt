@@ -7,5 +7,5 @@ use Rattle.larch_syntax.proofs.items.after_group.Goals as goal
 pub returns-in_default : goal.returns-in_default
 returns-in_default c =
     subst (λ whole. IfOk c.begin_equation.result (λ taking. taking ≡ whole))
-    (ap (λ equations. begin_equation c.args.lexeme (Item c.args.raw c.args.variables equations)) c.new.ensures ∙ sym (other_group c.args.raw c.args.variables c.args.lexeme c.in_default.not-Comma))
+    (ap (λ equations. begin_equation c.args.terminal (Item c.args.raw c.args.variables equations)) c.new.ensures ∙ sym (other_group c.args.raw c.args.variables c.args.terminal c.in_default.not-Comma))
     c.begin_equation.ensures

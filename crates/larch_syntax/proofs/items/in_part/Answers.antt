@@ -6,4 +6,4 @@ use Rattle.larch_syntax.proofs.items.in_part.Goals as goal
 
 pub returns-in_default : goal.returns-in_default
 returns-in_default c =
-    c.begin_form.ensures ∙ ap (λ forms. begin_form (Declared c.args.raw forms) c.args.lexeme) c.new.ensures ∙ sym (other_part c.args.raw c.args.lexeme c.in_default.not-Introduces c.in_default.not-Asserts)
+    c.begin_form.ensures ∙ ap (λ forms. begin_form (Declared c.args.raw forms) c.args.terminal) c.new.ensures ∙ sym (other_part c.args.raw c.args.terminal c.in_default.not-Introduces c.in_default.not-Asserts)

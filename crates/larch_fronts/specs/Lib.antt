@@ -1,0 +1,4 @@
+pub mod Answer
+pub mod Claims
+pub mod Mark
+pub mod Walks

@@ -1,0 +1,242 @@
+ghost use Rattle.std.specs.Prelude.{◌≡◌, IfOk};
+ghost use Rattle.larch_grammar.specs.Terminals.{bracket_terminal, terminal_by, terminal_of, position_of, punctuation_terminal, run_terminal, stands_nowhere, term_word, word_terminal};
+ghost use Rattle.larch_lexer.specs.declared.token.Kind.TheVariants.{Backslash};
+
+use larch_base::{Memory, Name, Pos};
+use larch_lexer::{Kind, Token};
+use larch_raw::RawWord;
+
+/// The two kinds of brackets.
+#[derive(Clone, Copy, Debug, PartialEq, Eq)]
+pub enum Bracket {
+    /// `[` and `]`.
+    Square,
+    /// `{` and `}`.
+    Curly,
+}
+
+/// A token as the grammar knows it, with its position where a tree takes it.
+#[derive(Debug, Drop)]
+pub enum Terminal {
+    /// A word that isn't reserved.
+    Word(RawWord),
+    /// A run or a backslash word with no meaning of its own.
+    Symbol(RawWord),
+    /// `~`.
+    Not(RawWord),
+    /// `/\`, `\/`, `=>` or `<=>`.
+    Connective(RawWord),
+    /// `=` or `~=`.
+    Equality(RawWord),
+    /// `==`.
+    Equates(Pos),
+    /// `->`.
+    Arrow,
+    /// `:`.
+    Colon(Pos),
+    /// `,`.
+    Comma,
+    /// `;`.
+    Semicolon,
+    /// `.`.
+    Dot(Pos),
+    /// `__`.
+    Marker(Pos),
+    /// `(`.
+    Open(Pos),
+    /// `)`.
+    Close,
+    /// `[` or `{`.
+    OpenBracket(Bracket, Pos),
+    /// `]` or `}`.
+    CloseBracket(Bracket),
+    /// `\forall`.
+    ForAll,
+    /// `trait`.
+    Trait,
+    /// `introduces`.
+    Introduces,
+    /// `asserts`.
+    Asserts,
+    /// `generated`.
+    Generated,
+    /// `partitioned`.
+    Partitioned,
+    /// `by`.
+    By,
+    /// `if`.
+    If(Pos),
+    /// `then`.
+    Then,
+    /// `else`.
+    Else,
+    /// A token that stands nowhere in the grammar.
+    Other,
+}
+
+/// What the grammar knows of a token. It fails where memory runs out.
+pub fn terminal_of(token: &Token) -> Result<Terminal, Memory>
+    ensures { IfOk result (λ terminal. terminal ≡ terminal_of token.now) }
+{
+    match token.kind {
+        Kind::Word => word_terminal(&token.text, token.pos),
+        Kind::Marker => Ok(Terminal::Marker(token.pos)),
+        Kind::Backslash => backslash_terminal(&token.text, token.pos),
+        Kind::Connective => {
+            let word = raw_word(&token.text, token.pos)?;
+            Ok(Terminal::Connective(word))
+        }
+        Kind::Run => run_terminal(&token.text, token.pos),
+        Kind::Punctuation => Ok(punctuation_terminal(token.text.bytes(), token.pos)),
+    }
+}
+
+// The text of a token with its position.
+fn raw_word(text: &Name, pos: Pos) -> Result<RawWord, Memory>
+    ensures name { IfOk result (λ word. word.name ≡ text.now) }
+    ensures pos { IfOk result (λ word. word.pos ≡ pos) }
+{
+    let name = text.copy()?;
+    Ok(RawWord { name, pos })
+}
+
+// A token of kind word.
+fn word_terminal(text: &Name, pos: Pos) -> Result<Terminal, Memory>
+    ensures { IfOk result (λ terminal. terminal ≡ word_terminal text.now pos) }
+{
+    let bytes = text.bytes();
+    if bytes == b"trait".as_slice() {
+        Ok(Terminal::Trait)
+    } else if bytes == b"introduces".as_slice() {
+        Ok(Terminal::Introduces)
+    } else if bytes == b"asserts".as_slice() {
+        Ok(Terminal::Asserts)
+    } else if bytes == b"generated".as_slice() {
+        Ok(Terminal::Generated)
+    } else if bytes == b"partitioned".as_slice() {
+        Ok(Terminal::Partitioned)
+    } else if bytes == b"by".as_slice() {
+        Ok(Terminal::By)
+    } else {
+        term_word(text, pos)
+    }
+}
+
+// A word of terms, or one that isn't reserved.
+fn term_word(text: &Name, pos: Pos) -> Result<Terminal, Memory>
+    ensures { IfOk result (λ terminal. terminal ≡ term_word text.now pos) }
+{
+    let bytes = text.bytes();
+    if bytes == b"if".as_slice() {
+        Ok(Terminal::If(pos))
+    } else if bytes == b"then".as_slice() {
+        Ok(Terminal::Then)
+    } else if bytes == b"else".as_slice() {
+        Ok(Terminal::Else)
+    } else if stands_nowhere(bytes) {
+        Ok(Terminal::Other)
+    } else {
+        let word = raw_word(text, pos)?;
+        Ok(Terminal::Word(word))
+    }
+}
+
+// Whether a word is reserved for what the grammar doesn't have.
+fn stands_nowhere(text: &[u8]) -> bool
+    ensures { result ≡ stands_nowhere text.now }
+{
+    text == b"includes".as_slice()
+        || text == b"assumes".as_slice()
+        || text == b"implies".as_slice()
+        || text == b"converts".as_slice()
+        || text == b"exempting".as_slice()
+        || text == b"for".as_slice()
+        || text == b"enumeration".as_slice()
+        || text == b"tuple".as_slice()
+        || text == b"union".as_slice()
+        || text == b"of".as_slice()
+}
+
+// A backslash word: `\forall`, or a symbol.
+fn backslash_terminal(text: &Name, pos: Pos) -> Result<Terminal, Memory>
+    ensures { IfOk result (λ terminal. terminal ≡ terminal_by Backslash text.now pos) }
+{
+    if text.bytes() == b"\\forall".as_slice() {
+        Ok(Terminal::ForAll)
+    } else {
+        let word = raw_word(text, pos)?;
+        Ok(Terminal::Symbol(word))
+    }
+}
+
+// A run: one with a meaning of its own, or a symbol.
+fn run_terminal(text: &Name, pos: Pos) -> Result<Terminal, Memory>
+    ensures { IfOk result (λ terminal. terminal ≡ run_terminal text.now pos) }
+{
+    let bytes = text.bytes();
+    if bytes == b"->".as_slice() {
+        return Ok(Terminal::Arrow);
+    }
+    if bytes == b"==".as_slice() {
+        return Ok(Terminal::Equates(pos));
+    }
+    let word = raw_word(text, pos)?;
+    if bytes == b"=".as_slice() || bytes == b"~=".as_slice() {
+        Ok(Terminal::Equality(word))
+    } else if bytes == b"~".as_slice() {
+        Ok(Terminal::Not(word))
+    } else if bytes == b"=>".as_slice() || bytes == b"<=>".as_slice() {
+        Ok(Terminal::Connective(word))
+    } else {
+        Ok(Terminal::Symbol(word))
+    }
+}
+
+// A bracket.
+fn bracket_terminal(text: &[u8], pos: Pos) -> Terminal
+    ensures { result ≡ bracket_terminal text.now pos }
+{
+    if text == b"(".as_slice() {
+        Terminal::Open(pos)
+    } else if text == b")".as_slice() {
+        Terminal::Close
+    } else if text == b"[".as_slice() {
+        Terminal::OpenBracket(Bracket::Square, pos)
+    } else if text == b"]".as_slice() {
+        Terminal::CloseBracket(Bracket::Square)
+    } else if text == b"{".as_slice() {
+        Terminal::OpenBracket(Bracket::Curly, pos)
+    } else if text == b"}".as_slice() {
+        Terminal::CloseBracket(Bracket::Curly)
+    } else {
+        Terminal::Other
+    }
+}
+
+// Punctuation.
+fn punctuation_terminal(text: &[u8], pos: Pos) -> Terminal
+    ensures { result ≡ punctuation_terminal text.now pos }
+{
+    if text == b":".as_slice() {
+        Terminal::Colon(pos)
+    } else if text == b",".as_slice() {
+        Terminal::Comma
+    } else if text == b";".as_slice() {
+        Terminal::Semicolon
+    } else if text == b".".as_slice() {
+        Terminal::Dot(pos)
+    } else {
+        bracket_terminal(text, pos)
+    }
+}
+
+/// Where a token stands that can begin an equation.
+pub fn position_of(terminal: &Terminal) -> Pos
+    ensures { result ≡ position_of terminal.now }
+{
+    match terminal {
+        Terminal::Word(word) | Terminal::Symbol(word) | Terminal::Not(word) => word.pos,
+        Terminal::Open(pos) | Terminal::OpenBracket(_, pos) | Terminal::If(pos) => *pos,
+        _ => Pos::start(),
+    }
+}

@@ -1,0 +1,158 @@
+ghost use Rattle.std.specs.Prelude.{◌≡◌, ◌++◌, ◌∷◌, [], IfOk};
+ghost use Rattle.larch_grammar.specs.Forms.{variables_at};
+ghost use Rattle.larch_grammar.specs.Machine.{with_clause, with_reference};
+ghost use Rattle.larch_grammar.specs.Terms.{equation_of, formula_of};
+ghost use Rattle.larch_grammar.specs.Traits.{named, with_declaration, with_equations, with_item};
+
+use crate::machine::Clause;
+use larch_base::{Memory, Pos, Sequence};
+use larch_raw::{
+    RawDecl, RawEquation, RawEquations, RawForm, RawItem, RawOpRef, RawOpRefs, RawRight, RawTerm,
+    RawTrait, RawVar, RawVars, RawWord, RawWords,
+};
+use std::alloc::Global;
+
+/// A trait of this name with nothing in it.
+pub fn named(alloc: Global, name: RawWord) -> RawTrait
+    ensures { result ≡ named name }
+{
+    RawTrait {
+        name,
+        declarations: Sequence::new(alloc),
+        items: Sequence::new(alloc),
+    }
+}
+
+/// The trait with a declaration more.
+pub fn with_declaration(raw: RawTrait, declaration: RawDecl) -> Result<RawTrait, Memory>
+    ensures { IfOk result (λ more. more ≡ with_declaration raw declaration) }
+{
+    let RawTrait {
+        name,
+        mut declarations,
+        items,
+    } = raw;
+    declarations.push(declaration)?;
+    Ok(RawTrait {
+        name,
+        declarations,
+        items,
+    })
+}
+
+// The trait with an item more.
+fn with_item(raw: RawTrait, item: RawItem) -> Result<RawTrait, Memory>
+    ensures { IfOk result (λ more. more ≡ with_item raw item) }
+{
+    let RawTrait {
+        name,
+        declarations,
+        mut items,
+    } = raw;
+    items.push(item)?;
+    Ok(RawTrait {
+        name,
+        declarations,
+        items,
+    })
+}
+
+/// The trait with these equations as an item more.
+pub fn with_equations(
+    raw: RawTrait,
+    variables: RawVars,
+    equations: RawEquations,
+) -> Result<RawTrait, Memory>
+    ensures { IfOk result (λ more. more ≡ with_equations raw variables equations) }
+{
+    let raw = with_item(raw, RawItem::Equations(variables, equations))?;
+    Ok(raw)
+}
+
+/// The same with an equation more.
+pub fn with_last(
+    raw: RawTrait,
+    variables: RawVars,
+    equations: RawEquations,
+    equation: RawEquation,
+) -> Result<RawTrait, Memory>
+    ensures { IfOk result (λ more. more ≡ with_equations raw variables (equations ++ equation ∷ [])) }
+{
+    let mut equations = equations;
+    equations.push(equation)?;
+    let raw = with_equations(raw, variables, equations)?;
+    Ok(raw)
+}
+
+/// The trait with a clause of these references.
+pub fn with_clause(clause: Clause, refs: RawOpRefs) -> Result<RawTrait, Memory>
+    ensures { IfOk result (λ raw. raw ≡ with_clause clause refs) }
+{
+    let Clause { raw, kind, sort } = clause;
+    let raw = with_item(raw, RawItem::Clause(kind, sort, refs))?;
+    Ok(raw)
+}
+
+/// The references with one more, which is a form alone.
+pub fn with_reference(refs: RawOpRefs, form: RawForm) -> Result<RawOpRefs, Memory>
+    ensures { IfOk result (λ more. more ≡ with_reference refs form) }
+{
+    let mut refs = refs;
+    refs.push(RawOpRef { form, sig: None })?;
+    Ok(refs)
+}
+
+/// The words with one more.
+pub fn with_word(words: RawWords, word: RawWord) -> Result<RawWords, Memory>
+    ensures { IfOk result (λ more. more ≡ words ++ word ∷ []) }
+{
+    let mut words = words;
+    words.push(word)?;
+    Ok(words)
+}
+
+/// The variables with these names at a sort too.
+pub fn with_group(variables: RawVars, names: &RawWords, sort: &RawWord) -> Result<RawVars, Memory>
+    ensures { IfOk result (λ more. more ≡ variables ++ variables_at names.now sort.now) }
+{
+    let mut variables = variables;
+    for name in names.as_slice() {
+        let name = copy_word(name)?;
+        let sort = copy_word(sort)?;
+        variables.push(RawVar { name, sort })?;
+    }
+    Ok(variables)
+}
+
+// The same word once more.
+fn copy_word(word: &RawWord) -> Result<RawWord, Memory>
+    ensures { IfOk result (λ copy. copy ≡ word.now) }
+{
+    let name = word.name.copy()?;
+    Ok(RawWord {
+        name,
+        pos: word.pos,
+    })
+}
+
+/// A formula.
+pub fn formula_of(left: RawTerm, first: Pos) -> RawEquation
+    ensures { result ≡ formula_of left first }
+{
+    RawEquation {
+        left,
+        right: None,
+        first,
+    }
+}
+
+/// An equation with two sides, and the position of `==`.
+pub fn equation_of(left: RawTerm, pos: Pos, term: RawTerm, first: Pos) -> RawEquation
+    ensures { result ≡ equation_of left pos term first }
+{
+    RawEquation {
+        left,
+        right: Some(RawRight { term, pos }),
+        first,
+    }
+}

@@ -1,4 +1,0 @@
-pub mod Claims
-pub mod Counts
-pub mod Look
-pub mod Walks

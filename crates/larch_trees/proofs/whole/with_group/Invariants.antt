@@ -1,7 +1,0 @@
-use Rattle.std.proofs.Common.{◌≡◌, ◌++◌, take}
-use Rattle.larch_grammar.specs.Forms.{variables_at}
-use Rattle.larch_trees.proofs.whole.with_group.Given as goal
-
--- the names so far have their variables
-abbrev pub invariant-loop-name : goal.invariant-loop-name
-invariant-loop-name l = l.variables ≡ l.initial.variables ++ variables_at (take l.name-index l.names) l.sort
