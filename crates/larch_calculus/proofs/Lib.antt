@@ -1,7 +1,10 @@
 -- Lemmas.
+pub mod Boxes
 pub mod DerivedRules
+pub mod Extended
 pub mod Extension
 pub mod Formulas
+pub mod Freeing
 pub mod Identities
 pub mod Names
 pub mod Numbers

@@ -1,45 +1,25 @@
 -- Names of operators, and the places of constants by their names.
-use Rattle.std.proofs.Common.{◌≡◌, ◌≢◌, ℕ, suc, ◌+◌, ◌<◌, inl, inr, true, false, cond, List, [], ◌∷◌, map, Option, Some, None, option_map, option_and_then, All, Contains, refl, sym, ◌∙◌, ap, subst, arith}
+use Rattle.std.proofs.Common.{◌≡◌, ◌≢◌, ℕ, zero, suc, ◌+◌, ◌<◌, inl, inr, false, cond, List, [], ◌∷◌, map, Option, Some, None, option_map, option_and_then, All, Contains, refl, sym, ◌∙◌, ap, arith}
 use Rattle.std.specs.List.{slice_get, AllPairs}
 use Rattle.std.proofs.lemmas.List.Elements.{All-head, All-tail, All-contains}
 use Rattle.std.proofs.lemmas.Option.{slice_get-map}
-use Rattle.std.proofs.lemmas.Slice.Eq.{bytes_eq-Decides}
-use Rattle.larch_base.proofs.Bools.{true_or_false}
-use Rattle.larch_base.proofs.Members.{contains_cases, contains_here}
+use Rattle.larch_base.proofs.Bools.{true_or_false, same_truth}
+use Rattle.larch_base.proofs.Lists.{pairs_tail}
+use Rattle.larch_base.proofs.Members.{contains_cases, contains_here, got_contains, contains_got}
 use Rattle.larch_term.specs.Operator.{OperatorName, PlainOperator, plain, boxed}
+use Rattle.larch_term.specs.OperatorKey.{same_name, name_Decides}
 use Rattle.larch_term.specs.Sorts.{IsKnown}
 use Rattle.larch_term.specs.declared.variable.Variable.{Variable}
-use Rattle.larch_calculus.specs.Freed.{same_name, place_of, variable_for}
-
-pub same_name_is : (n m : OperatorName) → same_name n m ≡ true → n ≡ m
-same_name_is (plain n) (plain m) e = ap plain ((bytes_eq-Decides n m).0 e)
-same_name_is (plain n) (boxed c j) e = cc
-same_name_is (boxed b k) (plain m) e = cc
-same_name_is (boxed b k) (boxed c j) e =
-    let p : b ≡ c = grind arith in
-    let q : k ≡ j = grind arith in
-    λ i. boxed (p i) (q i)
-
-pub same_name_itself : (n : OperatorName) → same_name n n ≡ true
-same_name_itself (plain n) = (bytes_eq-Decides n n).1 refl
-same_name_itself (boxed b k) = grind arith
-
-pub names_same : (n m : OperatorName) → n ≡ m → same_name n m ≡ true
-names_same n m e = subst (λ x. same_name n x ≡ true) e (same_name_itself n)
+use Rattle.larch_calculus.specs.Freed.{place_of, variable_for}
 
 pub names_apart : (n m : OperatorName) → n ≢ m → same_name n m ≡ false
-names_apart n m h = elim (true_or_false (same_name n m)) [ inl e ↦ absurd (h (same_name_is n m e)) | inr e ↦ e ]
+names_apart n m h = elim (true_or_false (same_name n m)) [ inl e ↦ absurd (h ((name_Decides n m).0 e)) | inr e ↦ e ]
 
 -- whether two names are one is told alike of two others, if the ones are one exactly where the others are
 pub same_alike : (n m a b : OperatorName) → (n ≡ m → a ≡ b) → (a ≡ b → n ≡ m) → same_name a b ≡ same_name n m
 same_alike n m a b f g =
-    elim (true_or_false (same_name n m)) [
-      | inl e ↦ names_same a b (f (same_name_is n m e)) ∙ sym e
-      | inr e ↦ names_apart a b (λ p. false_true (sym e ∙ names_same n m (g p))) ∙ sym e
-    ]
-  where
-    false_true : false ≡ true → ⊥
-    false_true e = cc
+    same_truth (same_name a b) (same_name n m) (λ e. (name_Decides n m).1 (g ((name_Decides a b).0 e)))
+    (λ e. (name_Decides a b).1 (f ((name_Decides n m).0 e)))
 
 pub not_placed : (cs : List PlainOperator) (n : OperatorName) → All (λ c. c.name ≢ n) cs → place_of cs n ≡ None
 not_placed [] n h = refl
@@ -50,20 +30,21 @@ not_placed (c ∷ cs) n h =
 different_from : (c f : PlainOperator) (cs : List PlainOperator) → AllPairs (λ f g. f.name ≢ g.name) (c ∷ cs) → Contains cs f → c.name ≢ f.name
 different_from c f cs d h = All-contains (λ g. c.name ≢ g.name) cs f (λ k e lt. d 0 (suc k) e (omega arith) (omega arith)) h
 
--- a constant among some with different names stands at the place of its name
+-- an operator among some with different names stands at the place of its name
+pub placed_at : (cs : List PlainOperator) (k : ℕ) (f : PlainOperator) → AllPairs (λ f g. f.name ≢ g.name) cs → slice_get cs k ≡ Some f
+    → place_of cs f.name ≡ Some k
+placed_at [] k f d e = cc
+placed_at (c ∷ cs) zero f d e =
+    let p : c ≡ f = cc in
+    ap (λ b. cond b (Some 0) (option_map suc (place_of cs f.name))) ((name_Decides c.name f.name).1 (ap (λ g. g.name) p))
+placed_at (c ∷ cs) (suc k) f d e =
+    let apart = different_from c f cs d (got_contains cs k f e) in
+    ap (λ b. cond b (Some 0) (option_map suc (place_of cs f.name))) (names_apart c.name f.name apart)
+    ∙ ap (option_map suc) (placed_at cs k f (pairs_tail (λ f g. f.name ≢ g.name) c cs d) e)
+
 pub placed : (cs : List PlainOperator) (f : PlainOperator) → AllPairs (λ f g. f.name ≢ g.name) cs → Contains cs f
     → (k : ℕ) × (place_of cs f.name ≡ Some k) × (slice_get cs k ≡ Some f)
-placed [] f d h = let lt = h.1 in absurd (omega arith)
-placed (c ∷ cs) f d h =
-    elim (contains_cases c f cs h) [
-      | inl e ↦ (0, ap (λ b. cond b (Some 0) (option_map suc (place_of cs f.name))) (names_same c.name f.name (ap (λ g. g.name) e)), ap Some e)
-      | inr t ↦
-          let r = placed cs f (λ i j e lt within. d (suc i) (suc j) e (omega arith) (omega arith)) t in (
-            suc r.0,
-            ap (λ b. cond b (Some 0) (option_map suc (place_of cs f.name))) (names_apart c.name f.name (different_from c f cs d t)) ∙ ap (option_map suc) r.1,
-            r.2,
-          )
-    ]
+placed cs f d h = let r = contains_got cs f h in (r.0, placed_at cs r.0 f d r.1, r.1)
 
 -- the places of some names among some constants are as those of others among others
 pub place_alike : (new : PlainOperator → PlainOperator) (cs : List PlainOperator) (n m : OperatorName)

@@ -12,9 +12,9 @@ use Rattle.larch_term.specs.Statement.{IsStatementOver}
 use Rattle.larch_term.specs.declared.statement.Statement.TheVariants.{Equation, Partitioned}
 use Rattle.larch_term.specs.declared.statement.Theory.{Theory}
 use Rattle.larch_calculus.specs.Formula.{constant}
-use Rattle.larch_calculus.specs.Theories.{IsTermOver, AreConstants}
+use Rattle.larch_calculus.specs.Theories.{IsTermOver, IsTermOf, AreConstants}
 use Rattle.larch_calculus.specs.Observation.{Observation, arguments_with, observed, observations_of, observations, places_of_sort}
-use Rattle.larch_calculus.proofs.Sorted.{knows_more}
+use Rattle.larch_calculus.proofs.Sorted.{knows_more, statement_over_more}
 
 number_is : (k p : ℕ) → (k == p) ≡ true → k ≡ p
 number_is k p e = grind arith
@@ -110,15 +110,19 @@ observations_over fs names s os t u k wt et wu eu =
     let r = observation_is s os w c in
     (observed_over fs names s w t (k w.observer r.0) r.1 wt et, observed_over fs names s w u (k w.observer r.0) r.1 wu eu, refl)))
 
+pub observations_of_terms : (fs : List PlainOperator) (names : ℕ → List ℕ) (s : List ℕ) (os : List PlainOperator) (t u : Tree)
+    → IsStatementOver fs (Partitioned s os) → IsTermOf fs s t → IsTermOf fs s u → All (IsStatementOver fs) (observations names s os t u)
+observations_of_terms fs names s os t u w p q =
+    observations_over fs names s os t u (λ o i. (All-contains (λ g. IsKnown fs g × Contains g.domain s) os o w i).0) p.0 p.1 q.0 q.1
+
 -- so are those between two new constants
 pub partition_over : (t : Theory) (names : ℕ → List ℕ) (s : List ℕ) (os : List PlainOperator) (c d : PlainOperator)
     → IsStatementOver t.operators (Partitioned s os) → AreConstants (c ∷ d ∷ []) → c.range ≡ s → d.range ≡ s
     → All (IsStatementOver (t.operators ++ c ∷ d ∷ [])) (observations names s os (constant c) (constant d))
 partition_over t names s os c d w k e f =
     let cs = c ∷ d ∷ [] in
-    let known : (o : PlainOperator) → Contains os o → IsKnown t.operators o =
-    λ o i. (All-contains (λ g. IsKnown t.operators g × Contains g.domain s) os o w i).0 in
     let constant_over : (g : PlainOperator) → Contains cs g → IsTermOver (t.operators ++ cs) (constant g) =
     λ g i. ((sym (All-contains (λ g. g.domain ≡ []) cs g k i), tt), (inl (contains_right t.operators cs g i), tt)) in
-    observations_over (t.operators ++ cs) names s os (constant c) (constant d) (λ o i. knows_more t.operators cs o (known o i))
-    (constant_over c (contains_here c (d ∷ []))) e (constant_over d (contains_later c d (d ∷ []) (contains_here d []))) f
+    observations_of_terms (t.operators ++ cs) names s os (constant c) (constant d)
+    (statement_over_more t.operators (t.operators ++ cs) (knows_more t.operators cs) (Partitioned s os) w)
+    (constant_over c (contains_here c (d ∷ [])), e) (constant_over d (contains_later c d (d ∷ []) (contains_here d [])), f)

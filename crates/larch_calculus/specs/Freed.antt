@@ -1,21 +1,17 @@
--- Variables in the places of constants.
-use Rattle.std.specs.Prelude.{ℕ, suc, Bool, false, ◌==◌, ◌&&◌, cond, List, [], ◌∷◌, bytes_eq, Option, Some, None, option_map, option_and_then, unwrap_or}
+-- Variables in the places of constants, and constants in the places of variables.
+use Rattle.std.specs.Prelude.{ℕ, suc, if◌then◌else◌, List, [], ◌∷◌, Option, Some, None, option_map, option_and_then, unwrap_or}
 use Rattle.std.specs.List.{slice_get}
-use Rattle.larch_term.specs.Operator.{OperatorName, PlainOperator, plain, boxed}
+use Rattle.larch_term.specs.Operator.{OperatorName, PlainOperator}
+use Rattle.larch_term.specs.OperatorKey.{same_name}
 use Rattle.larch_term.specs.Tree.{Tree, Forest, var, app, none, more}
+use Rattle.larch_term.specs.declared.substitution.Entry.{Entry}
 use Rattle.larch_term.specs.declared.variable.Variable.{Variable}
-
--- whether two names are one
-abbrev pub same_name : OperatorName → OperatorName → Bool
-same_name (plain n) (plain m) = bytes_eq n m
-same_name (plain n) (boxed c j) = false
-same_name (boxed b k) (plain m) = false
-same_name (boxed b k) (boxed c j) = (b == c) && (k == j)
+use Rattle.larch_calculus.specs.Formula.{constant}
 
 -- how many operators stand before the first that has the name
 abbrev pub place_of : List PlainOperator → OperatorName → Option ℕ
 place_of [] n = None
-place_of (c ∷ cs) n = cond (same_name c.name n) (Some 0) (option_map suc (place_of cs n))
+place_of (c ∷ cs) n = if same_name c.name n then Some 0 else option_map suc (place_of cs n)
 
 -- the variable that takes the place of the constant with the name
 abbrev pub variable_for : List PlainOperator → List Variable → OperatorName → Option Variable
@@ -30,3 +26,9 @@ abbrev mutual
   pub freed_all : List PlainOperator → List Variable → Forest → Forest
   freed_all cs vs none = none
   freed_all cs vs (more t ts) = more (freed cs vs t) (freed_all cs vs ts)
+
+-- the substitution of constants for variables, in order
+abbrev pub constants_for : List Variable → List PlainOperator → List Entry
+constants_for [] cs = []
+constants_for (v ∷ vs) [] = []
+constants_for (v ∷ vs) (c ∷ cs) = record { name = v.name; sort = v.sort; term = constant c } ∷ constants_for vs cs

@@ -1,3 +1,4 @@
+pub mod Boxes
 pub mod Derivable
 pub mod Example
 pub mod Formula

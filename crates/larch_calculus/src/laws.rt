@@ -1,20 +1,26 @@
 //! What holds of all derivations, for crates above to cite. No function here does anything.
-ghost use Rattle.std.specs.Prelude.{◌≡◌, ◌↔◌, ℕ, List, [], ◌∷◌, map, All, Contains, Some};
+ghost use Rattle.std.specs.Prelude.{◌≡◌, ◌↔◌, ◌<◌, ◌≤◌, ℕ, List, [], ◌∷◌, ◌++◌, map, All, Contains, Some};
 ghost use Rattle.larch_term.specs.Operator.{OperatorName, PlainOperator};
 ghost use Rattle.larch_term.specs.Occurrence.{occurrences};
 ghost use Rattle.larch_term.specs.Place.{at, put};
-ghost use Rattle.larch_term.specs.Sorts.{sort_of};
-ghost use Rattle.larch_term.specs.Statement.{IsStatementOver};
+ghost use Rattle.larch_term.specs.Sorts.{sort_of, IsOver};
+ghost use Rattle.larch_term.specs.Statement.{IsStatementOver, IsTheory, statement_zero};
+ghost use Rattle.larch_term.specs.Substitution.{substituted};
 ghost use Rattle.larch_term.specs.Tree.{Tree};
 ghost use Rattle.larch_term.specs.Truth.{bool_sort};
+ghost use Rattle.larch_term.specs.declared.variable.Variable.{Variable};
 ghost use Rattle.larch_term.specs.declared.statement.Statement.{Statement};
-ghost use Rattle.larch_term.specs.declared.statement.Statement.TheVariants.{Equation};
+ghost use Rattle.larch_term.specs.declared.statement.Statement.TheVariants.{Equation, Generated, Partitioned};
 ghost use Rattle.larch_term.specs.declared.statement.Theory.{Theory};
-ghost use Rattle.larch_calculus.specs.Derivable.{Derivable};
-ghost use Rattle.larch_calculus.specs.Formula.{truth, falsity, implication, formula};
+ghost use Rattle.larch_calculus.specs.Boxes.{constants_from, IsOlder};
+ghost use Rattle.larch_calculus.specs.Derivable.{Derivable, AreArguments};
+ghost use Rattle.larch_calculus.specs.Formula.{constant, applied, joined, truth, falsity, implication, formula};
+ghost use Rattle.larch_calculus.specs.Freed.{freed, constants_for};
+ghost use Rattle.larch_calculus.specs.Generation.{generation_hypotheses, induction_hypotheses};
 ghost use Rattle.larch_calculus.specs.Identity.{IsIdentity};
+ghost use Rattle.larch_calculus.specs.Observation.{observations};
 ghost use Rattle.larch_calculus.specs.Renaming.{renamed_operator, renamed_statement, renamed_theory, KeepsBuiltIn, RenamesBoxes, HasPlainNames, IsTranslation};
-ghost use Rattle.larch_calculus.specs.Theories.{IsTermOver, IsWellSortedTheory, IsIncluded, IsPrefix, with_statements, extended};
+ghost use Rattle.larch_calculus.specs.Theories.{IsTermOver, IsTermOf, IsWellSortedTheory, IsIncluded, IsPrefix, AreNew, AreConstants, with_statements, extended};
 
 /// An identity is well sorted, whatever the operators are.
 pub fn identity_is_well_sorted()
@@ -78,8 +84,90 @@ pub fn contradiction()
     ensures { (t : Theory) (a b : Tree) → Derivable t (Equation truth falsity) → IsStatementOver t.operators (Equation a b) → Derivable t (Equation a b) }
 {}
 
-/// A theory with no more operators is one with more statements alone, and with neither it is itself.
+/// A theory with no more operators is one with more statements alone, and with neither it is itself. What extends an
+/// extension extends the theory. A theory with new operators, and with hypotheses that are well sorted over all of
+/// them, is one again. It includes the theory, and the hypotheses are derivable from it.
 pub fn extensions()
     ensures statements { (t : Theory) (ss : List Statement) → extended t [] ss ≡ with_statements t ss }
     ensures nothing { (t : Theory) → extended t [] [] ≡ t }
+    ensures further { (t : Theory) (cs ds : List PlainOperator) (hs ks : List Statement)
+        → extended (extended t cs hs) ds ks ≡ extended t (cs ++ ds) (hs ++ ks) }
+    ensures well_sorted { (t : Theory) (cs : List PlainOperator) (hs : List Statement) → IsWellSortedTheory t
+        → All (IsStatementOver (extended t cs hs).operators) hs → IsWellSortedTheory (extended t cs hs) }
+    ensures theory { (t : Theory) (cs : List PlainOperator) (hs : List Statement) → IsTheory t → AreNew t cs
+        → All (IsStatementOver (extended t cs hs).operators) hs → IsTheory (extended t cs hs) }
+    ensures included { (t : Theory) (cs : List PlainOperator) (hs : List Statement) → IsIncluded t (extended t cs hs) }
+    ensures hypotheses { (t : Theory) (cs : List PlainOperator) (hs : List Statement)
+        → All (IsStatementOver (extended t cs hs).operators) hs → All (Derivable (extended t cs hs)) hs }
+{}
+
+/// What is supposed where a generation clause is shown, in an induction, and where a partition clause is shown, is well
+/// sorted over the theory with the new operators.
+pub fn suppositions()
+    ensures generation { (t : Theory) (p : PlainOperator) (s : List ℕ) (fs : List PlainOperator) → p.domain ≡ s ∷ [] → p.range ≡ bool_sort
+        → IsStatementOver t.operators (Generated s fs)
+        → All (IsStatementOver (extended t (p ∷ []) []).operators) (generation_hypotheses p s fs) }
+    ensures induction { (t : Theory) (x s : List ℕ) (a b : Tree) (cs : List PlainOperator) → AreConstants cs
+        → IsStatementOver t.operators (Equation a b)
+        → All (IsStatementOver (extended t cs []).operators) (induction_hypotheses x s a b cs) }
+    ensures partition { (t : Theory) (names : ℕ → List ℕ) (s : List ℕ) (os : List PlainOperator) (c d : PlainOperator)
+        → AreConstants (c ∷ d ∷ []) → c.range ≡ s → d.range ≡ s → IsStatementOver t.operators (Partitioned s os)
+        → All (IsStatementOver (extended t (c ∷ d ∷ []) []).operators) (observations names s os (constant c) (constant d)) }
+    ensures observation { (fs : List PlainOperator) (names : ℕ → List ℕ) (s : List ℕ) (os : List PlainOperator) (a b : Tree)
+        → IsStatementOver fs (Partitioned s os) → IsTermOf fs s a → IsTermOf fs s b
+        → All (IsStatementOver fs) (observations names s os a b) }
+{}
+
+/// Constants of a box whose number is above those of all boxes in the theory are new; they may stand for an operator's
+/// arguments in an induction. No box's number is above a number where the theory has plain names; where it is so for a
+/// theory it is so for a higher number, with the constants of the box of that number, and without constants.
+pub fn boxes()
+    ensures constants { (b k : ℕ) (ss : List (List ℕ)) → AreConstants (constants_from b k ss) }
+    ensures sorts { (b k : ℕ) (ss : List (List ℕ)) → map (λ c. c.range) (constants_from b k ss) ≡ ss }
+    ensures new { (b c k : ℕ) (ss : List (List ℕ)) (t : Theory) → IsOlder b t → b < c → AreNew t (constants_from c k ss) }
+    ensures arguments { (b c k : ℕ) (f : PlainOperator) (t : Theory) → IsOlder b t → b < c → AreArguments t f (constants_from c k f.domain) }
+    ensures plain { (b : ℕ) (t : Theory) → HasPlainNames t → IsOlder b t }
+    ensures later { (b c : ℕ) (t : Theory) → IsOlder b t → b ≤ c → IsOlder c t }
+    ensures opened { (b c k : ℕ) (ss : List (List ℕ)) (hs : List Statement) (t : Theory) → IsOlder b t → b ≤ c
+        → IsOlder c (extended t (constants_from c k ss) hs) }
+    ensures left { (b : ℕ) (cs : List PlainOperator) (hs : List Statement) (t : Theory) → IsOlder b (extended t cs hs) → IsOlder b t }
+{}
+
+/// Variables that became constants become variables again, and a term without the constants stays as it is. A term
+/// whose variables all became constants is closed. Both ways keep terms well sorted. So what holds of new constants
+/// holds of all values, and the other way round.
+pub fn freeing()
+    ensures undone { (t : Theory) (cs : List PlainOperator) (vs : List Variable) (a : Tree) → AreNew t cs → IsOver t.operators a
+        → freed cs vs (substituted (constants_for vs cs) a) ≡ a }
+    ensures unchanged { (t : Theory) (cs : List PlainOperator) (vs : List Variable) (a : Tree) → AreNew t cs → IsOver t.operators a
+        → freed cs vs a ≡ a }
+    ensures closed { (cs : List PlainOperator) (vs : List Variable) (a : Tree) → map (λ c. c.range) cs ≡ map (λ v. v.sort) vs
+        → All (Contains vs) (occurrences a) → occurrences (substituted (constants_for vs cs) a) ≡ [] }
+    ensures over { (t : Theory) (cs : List PlainOperator) (vs : List Variable) (s : List ℕ) (a : Tree) → AreConstants cs
+        → map (λ c. c.range) cs ≡ map (λ v. v.sort) vs → IsTermOf t.operators s a
+        → IsTermOf (extended t cs []).operators s (substituted (constants_for vs cs) a) }
+    ensures back { (t : Theory) (cs : List PlainOperator) (vs : List Variable) (s : List ℕ) (a : Tree) → AreNew t cs
+        → map (λ c. c.range) cs ≡ map (λ v. v.sort) vs → IsTermOf (extended t cs []).operators s a
+        → IsTermOf t.operators s (freed cs vs a) }
+    ensures generalised { (t : Theory) (cs : List PlainOperator) (vs : List Variable) (a b : Tree) → AreNew t cs → AreConstants cs
+        → map (λ c. c.range) cs ≡ map (λ v. v.sort) vs → IsStatementOver t.operators (Equation a b)
+        → Derivable (extended t cs []) (Equation (substituted (constants_for vs cs) a) (substituted (constants_for vs cs) b))
+        → Derivable t (Equation a b) }
+    ensures specialised { (t : Theory) (cs : List PlainOperator) (vs : List Variable) (a b : Tree) → IsWellSortedTheory t → AreConstants cs
+        → map (λ c. c.range) cs ≡ map (λ v. v.sort) vs → Derivable t (Equation a b)
+        → Derivable (extended t cs []) (Equation (substituted (constants_for vs cs) a) (substituted (constants_for vs cs) b)) }
+{}
+
+/// What a well sorted theory states is derivable from it, and so is what every theory states of the truth values.
+pub fn stating()
+    ensures stated { (t : Theory) (s : Statement) → IsWellSortedTheory t → Contains t.statements s → Derivable t s }
+    ensures truth_values { (t : Theory) → Derivable t statement_zero }
+{}
+
+/// Arguments of a well sorted term have the sorts of its operator's domain.
+pub fn arguments()
+    ensures one { (fs : List PlainOperator) (f : PlainOperator) (r : List ℕ) (a : Tree) → f.domain ≡ r ∷ []
+        → IsTermOver fs (applied f a) → IsTermOf fs r a }
+    ensures two { (fs : List PlainOperator) (f : PlainOperator) (r s : List ℕ) (a b : Tree) → f.domain ≡ r ∷ s ∷ []
+        → IsTermOver fs (joined f a b) → IsTermOf fs r a × IsTermOf fs s b }
 {}

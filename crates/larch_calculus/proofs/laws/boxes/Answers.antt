@@ -1,0 +1,15 @@
+use Rattle.larch_calculus.proofs.Boxes.{constants_without_arguments, constants_sorts, constants_new, constants_as_arguments, older_plain, older_later, older_opened, older_less}
+use Rattle.larch_calculus.proofs.laws.boxes.Goals as goal
+
+pub returns : goal.returns
+returns c =
+    record {
+      constants = constants_without_arguments;
+      sorts = constants_sorts;
+      new = constants_new;
+      arguments = constants_as_arguments;
+      plain = older_plain;
+      later = older_later;
+      opened = older_opened;
+      left = older_less;
+    }
