@@ -1,9 +1,9 @@
--- A comment goes up to the next byte 10.
+-- A comment goes up to the next newline.
 use Rattle.std.proofs.Common.{ℕ, suc, ◌≡◌, ◌≢◌, ◌+◌, ◌==◌, not, List, [], ◌∷◌, ◌++◌, take, drop, length, refl, ◌∙◌, ap, add-one, All}
 use Rattle.std.proofs.lemmas.Bool.{cond_both, cond-true, cond-false, not-true, not-false, eqb-true, eqb-false, ne_eqb, eq-eqb, not_from_true, not_from_false}
 use Rattle.std.proofs.lemmas.List.Elements.{All-nil, All-cons, All-head, All-tail}
 use Rattle.larch_lexer.specs.TokenTable.{EndsLine}
-use Rattle.larch_lexer.specs.Lexing.{passing, stands_in}
+use Rattle.larch_lexer.specs.Pieces.{passing, stands_in}
 use Rattle.larch_lexer.specs.declared.piece.Stretch.TheVariants.{Comment}
 
 -- not the end of a line

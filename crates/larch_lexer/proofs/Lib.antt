@@ -2,7 +2,7 @@ pub mod Bytes
 pub mod Comments
 pub mod LongestToken
 pub mod OneAnswer
-pub mod Places
+pub mod Positions
 pub mod Rises
 pub mod Slices
 pub mod Steps

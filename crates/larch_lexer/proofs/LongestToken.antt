@@ -4,9 +4,9 @@ use Rattle.std.proofs.Math.Seq.{take-append-add, drop-append-add}
 use Rattle.std.proofs.lemmas.Bool.{false_from_ne_true}
 use Rattle.std.proofs.lemmas.List.{take-append-drop, length-take-le, nil_from_length}
 use Rattle.larch_lexer.specs.TokenTable.{has_form, Longest, BeginsNoToken}
-use Rattle.larch_lexer.specs.Lexing.{piece_at}
+use Rattle.larch_lexer.specs.Pieces.{piece_at}
 use Rattle.larch_lexer.specs.declared.piece.Piece.{Piece}
-use Rattle.larch_lexer.specs.declared.piece.Piece.TheVariants.{Skipped, Lexeme, Nothing}
+use Rattle.larch_lexer.specs.declared.piece.Piece.TheVariants.{Skipped, Kept, Nothing}
 use Rattle.larch_lexer.specs.declared.token.Kind.{Kind}
 use Rattle.larch_lexer.proofs.Table.{Sound, piece_sound, AtLeast, Reaches, form_reaches}
 
@@ -18,8 +18,8 @@ reach_over kind byte bytes behind further more e form =
     subst (λ left. has_form kind (byte ∷ (bytes ++ take more behind)) left ≡ true) back
     (subst (λ taken. has_form kind (byte ∷ taken) (drop further (bytes ++ behind)) ≡ true) front form)
 
-settled : (kind : Kind) (byte : ℕ) (bytes behind : List ℕ) (piece : Piece) → AtLeast kind (length bytes) piece → Sound byte (bytes ++ behind) piece → Longest kind (byte ∷ bytes) behind → piece ≡ Lexeme kind (length bytes)
-settled kind byte bytes behind (Lexeme other further) reaches sound longest =
+settled : (kind : Kind) (byte : ℕ) (bytes behind : List ℕ) (piece : Piece) → AtLeast kind (length bytes) piece → Sound byte (bytes ++ behind) piece → Longest kind (byte ∷ bytes) behind → piece ≡ Kept kind (length bytes)
+settled kind byte bytes behind (Kept other further) reaches sound longest =
     let k = further - length bytes in
     let within = reaches.1 in
     let fits = sound.1 in
@@ -32,13 +32,13 @@ settled kind byte bytes behind (Lexeme other further) reaches sound longest =
 settled kind byte bytes behind (Skipped further) reaches sound longest = absurd reaches
 settled kind byte bytes behind Nothing reaches sound longest = absurd reaches
 
-pub longest_is : (kind : Kind) (byte : ℕ) (bytes behind : List ℕ) → Longest kind (byte ∷ bytes) behind → piece_at byte (bytes ++ behind) ≡ Lexeme kind (length bytes)
+pub longest_is : (kind : Kind) (byte : ℕ) (bytes behind : List ℕ) → Longest kind (byte ∷ bytes) behind → piece_at byte (bytes ++ behind) ≡ Kept kind (length bytes)
 longest_is kind byte bytes behind longest = settled kind byte bytes behind (piece_at byte (bytes ++ behind)) (form_reaches kind (byte ∷ bytes) behind longest.has_it) (piece_sound byte (bytes ++ behind)) longest
 
-no_more : (kind other : Kind) (count further : ℕ) (piece : Piece) → piece ≡ Lexeme kind further → AtLeast other count piece → count ≤ further
+no_more : (kind other : Kind) (count further : ℕ) (piece : Piece) → piece ≡ Kept kind further → AtLeast other count piece → count ≤ further
 no_more kind other count further piece e reaches = (subst (AtLeast other count) e reaches).1
 
-pub piece_is_longest : (byte : ℕ) (rest : List ℕ) (kind : Kind) (further : ℕ) → piece_at byte rest ≡ Lexeme kind further → Longest kind (byte ∷ take further rest) (drop further rest)
+pub piece_is_longest : (byte : ℕ) (rest : List ℕ) (kind : Kind) (further : ℕ) → piece_at byte rest ≡ Kept kind further → Longest kind (byte ∷ take further rest) (drop further rest)
 piece_is_longest byte rest kind further e =
     let sound = subst (Sound byte rest) e (piece_sound byte rest) in
     record {

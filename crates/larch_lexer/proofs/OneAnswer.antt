@@ -6,9 +6,10 @@ use Rattle.std.proofs.lemmas.List.{take-append-drop, length-drop}
 use Rattle.larch_base.specs.Position.{start_of_text, advance, position_behind}
 use Rattle.larch_base.specs.declared.position.Pos.{Pos}
 use Rattle.larch_lexer.specs.TokenTable.{is_blank, Longest, BeginsNoToken, EndsLine, LexAnswer, with_tokens, Lexes, at_end, skips_blank, skips_comment, takes_token, no_token}
-use Rattle.larch_lexer.specs.Lexing.{passing, stands_in, piece_at, led_by, lexed, lexed_within}
+use Rattle.larch_lexer.specs.Pieces.{passing, stands_in, piece_at}
+use Rattle.larch_lexer.specs.Lexing.{led_by, lexed, lexed_within}
 use Rattle.larch_lexer.specs.declared.piece.Piece.{Piece}
-use Rattle.larch_lexer.specs.declared.piece.Piece.TheVariants.{Skipped, Lexeme, Nothing}
+use Rattle.larch_lexer.specs.declared.piece.Piece.TheVariants.{Skipped, Kept, Nothing}
 use Rattle.larch_lexer.specs.declared.piece.Stretch.TheVariants.{Comment}
 use Rattle.larch_lexer.specs.declared.token.Kind.{Kind}
 use Rattle.larch_lexer.proofs.Bytes.{each_of}
@@ -19,43 +20,43 @@ use Rattle.larch_lexer.proofs.Table.{Sound, piece_sound, form_reaches}
 
 -- texts of at most so many bytes have their computed answer
 abbrev pub HaveAnswer : ℕ → Type 0
-HaveAnswer count = (place : Pos) (text : List ℕ) → length text ≤ count → Lexes place text (lexed_within 0 place text)
+HaveAnswer count = (position : Pos) (text : List ℕ) → length text ≤ count → Lexes position text (lexed_within 0 position text)
 
-skipped_comment : (count : ℕ) → HaveAnswer count → (place : Pos) (rest : List ℕ) (further : ℕ) → length rest ≤ count → further ≡ passing (stands_in Comment) rest → Lexes place (37 ∷ rest) (lexed_within further (advance place 37) rest)
-skipped_comment count below place rest further h e =
+skipped_comment : (count : ℕ) → HaveAnswer count → (position : Pos) (rest : List ℕ) (further : ℕ) → length rest ≤ count → further ≡ passing (stands_in Comment) rest → Lexes position (37 ∷ rest) (lexed_within further (advance position 37) rest)
+skipped_comment count below position rest further h e =
     let words = take further rest in
     let left = drop further rest in
     let all = subst (λ n. All (λ byte. byte ≢ 10) (take n rest)) (sym e) (comment_words rest) in
     let ends = subst (λ n. EndsLine (drop n rest)) (sym e) (comment_ends rest) in
     let less : length left ≤ count = omega (arith, length-drop further rest) in
-    let whole = skips_comment words left all ends (below (position_behind place (37 ∷ words)) left less) in
-    subst (λ answer. Lexes place (37 ∷ rest) answer) (sym (lexed_behind further (advance place 37) rest))
-    (subst (λ bytes. Lexes place (37 ∷ bytes) (lexed_within 0 (position_behind place (37 ∷ words)) left)) (take-append-drop further rest) whole)
+    let whole = skips_comment words left all ends (below (position_behind position (37 ∷ words)) left less) in
+    subst (λ answer. Lexes position (37 ∷ rest) answer) (sym (lexed_behind further (advance position 37) rest))
+    (subst (λ bytes. Lexes position (37 ∷ bytes) (lexed_within 0 (position_behind position (37 ∷ words)) left)) (take-append-drop further rest) whole)
 
-taken_token : (count : ℕ) → HaveAnswer count → (place : Pos) (byte : ℕ) (rest : List ℕ) (kind : Kind) (further : ℕ) → length rest ≤ count → piece_at byte rest ≡ Lexeme kind further → Lexes place (byte ∷ rest) (with_tokens (record { kind = kind; text = take (further + 1) (byte ∷ rest); pos = place } ∷ []) (lexed_within further (advance place byte) rest))
-taken_token count below place byte rest kind further h e =
+taken_token : (count : ℕ) → HaveAnswer count → (position : Pos) (byte : ℕ) (rest : List ℕ) (kind : Kind) (further : ℕ) → length rest ≤ count → piece_at byte rest ≡ Kept kind further → Lexes position (byte ∷ rest) (with_tokens (record { kind = kind; text = take (further + 1) (byte ∷ rest); pos = position } ∷ []) (lexed_within further (advance position byte) rest))
+taken_token count below position byte rest kind further h e =
     let front = byte ∷ take further rest in
     let left = drop further rest in
     let less : length left ≤ count = omega (arith, length-drop further rest) in
-    let whole = takes_token kind front left (piece_is_longest byte rest kind further e) (below (position_behind place front) left less) in
-    subst (λ answer. Lexes place (byte ∷ rest) (with_tokens (record { kind = kind; text = take (further + 1) (byte ∷ rest); pos = place } ∷ []) answer)) (sym (lexed_behind further (advance place byte) rest))
-    (subst (λ n. Lexes place (byte ∷ rest) (with_tokens (record { kind = kind; text = take n (byte ∷ rest); pos = place } ∷ []) (lexed_within 0 (position_behind place front) left))) (sym (add-one further))
-    (subst (λ bytes. Lexes place (byte ∷ bytes) (with_tokens (record { kind = kind; text = front; pos = place } ∷ []) (lexed_within 0 (position_behind place front) left))) (take-append-drop further rest) whole))
+    let whole = takes_token kind front left (piece_is_longest byte rest kind further e) (below (position_behind position front) left less) in
+    subst (λ answer. Lexes position (byte ∷ rest) (with_tokens (record { kind = kind; text = take (further + 1) (byte ∷ rest); pos = position } ∷ []) answer)) (sym (lexed_behind further (advance position byte) rest))
+    (subst (λ n. Lexes position (byte ∷ rest) (with_tokens (record { kind = kind; text = take n (byte ∷ rest); pos = position } ∷ []) (lexed_within 0 (position_behind position front) left))) (sym (add-one further))
+    (subst (λ bytes. Lexes position (byte ∷ bytes) (with_tokens (record { kind = kind; text = front; pos = position } ∷ []) (lexed_within 0 (position_behind position front) left))) (take-append-drop further rest) whole))
 
-led : (count : ℕ) → HaveAnswer count → (place : Pos) (byte : ℕ) (rest : List ℕ) → length rest ≤ count → (piece : Piece) → piece_at byte rest ≡ piece → Sound byte rest piece → Lexes place (byte ∷ rest) (led_by piece place (byte ∷ rest) (λ inside. lexed_within inside (advance place byte) rest))
-led count below place byte rest h (Skipped further) e (inl same) = subst (λ n. Lexes place (byte ∷ rest) (lexed_within n (advance place byte) rest)) (sym same.1) (skips_blank same.0 (below (advance place byte) rest h))
-led count below place byte rest h (Skipped further) e (inr same) = subst (λ b. Lexes place (b ∷ rest) (lexed_within further (advance place b) rest)) (sym same.0) (skipped_comment count below place rest further h same.1)
-led count below place byte rest h (Lexeme kind further) e sound = taken_token count below place byte rest kind further h e
-led count below place byte rest h Nothing e sound = no_token place byte rest sound.0 (eqb-false byte 37 sound.1) (nothing_begins byte rest e)
+led : (count : ℕ) → HaveAnswer count → (position : Pos) (byte : ℕ) (rest : List ℕ) → length rest ≤ count → (piece : Piece) → piece_at byte rest ≡ piece → Sound byte rest piece → Lexes position (byte ∷ rest) (led_by piece position (byte ∷ rest) (λ inside. lexed_within inside (advance position byte) rest))
+led count below position byte rest h (Skipped further) e (inl same) = subst (λ n. Lexes position (byte ∷ rest) (lexed_within n (advance position byte) rest)) (sym same.1) (skips_blank same.0 (below (advance position byte) rest h))
+led count below position byte rest h (Skipped further) e (inr same) = subst (λ b. Lexes position (b ∷ rest) (lexed_within further (advance position b) rest)) (sym same.0) (skipped_comment count below position rest further h same.1)
+led count below position byte rest h (Kept kind further) e sound = taken_token count below position byte rest kind further h e
+led count below position byte rest h Nothing e sound = no_token position byte rest sound.0 (eqb-false byte 37 sound.1) (nothing_begins byte rest e)
 
 has_answer : (count : ℕ) → HaveAnswer count
-has_answer count place [] h = at_end place
-has_answer zero place (byte ∷ rest) h = absurd (omega arith)
-has_answer (suc count) place (byte ∷ rest) h = led count (has_answer count) place byte rest (omega arith) (piece_at byte rest) refl (piece_sound byte rest)
+has_answer count position [] h = at_end position
+has_answer zero position (byte ∷ rest) h = absurd (omega arith)
+has_answer (suc count) position (byte ∷ rest) h = led count (has_answer count) position byte rest (omega arith) (piece_at byte rest) refl (piece_sound byte rest)
 
 -- the relation holds of the computed answer
-pub lexes_computed : (place : Pos) (text : List ℕ) → Lexes place text (lexed_within 0 place text)
-lexes_computed place text = has_answer (length text) place text (omega arith)
+pub lexes_computed : (position : Pos) (text : List ℕ) → Lexes position text (lexed_within 0 position text)
+lexes_computed position text = has_answer (length text) position text (omega arith)
 
 pub lexes_given : (text : List ℕ) (answer : LexAnswer) → lexed text ≡ answer → Lexes start_of_text text answer
 unfolding lexed
@@ -66,52 +67,52 @@ blank_piece byte rest e = each_of (λ b. piece_at b rest ≡ Skipped 0) (9 ∷ 1
 
 -- how the text goes on behind its first byte
 onward : Pos → ℕ → List ℕ → ℕ → LexAnswer
-onward place byte rest inside = lexed_within inside (advance place byte) rest
+onward position byte rest inside = lexed_within inside (advance position byte) rest
 
 led_of : Pos → ℕ → List ℕ → Piece → LexAnswer
-led_of place byte rest piece = led_by piece place (byte ∷ rest) (onward place byte rest)
+led_of position byte rest piece = led_by piece position (byte ∷ rest) (onward position byte rest)
 
-on_blank : (place : Pos) (byte : ℕ) (rest : List ℕ) → is_blank byte ≡ true → lexed_within 0 place (byte ∷ rest) ≡ lexed_within 0 (advance place byte) rest
+on_blank : (position : Pos) (byte : ℕ) (rest : List ℕ) → is_blank byte ≡ true → lexed_within 0 position (byte ∷ rest) ≡ lexed_within 0 (advance position byte) rest
 unfolding onward led_of
-on_blank place byte rest e = ap (led_of place byte rest) (blank_piece byte rest e)
+on_blank position byte rest e = ap (led_of position byte rest) (blank_piece byte rest e)
 
-on_comment : (place : Pos) (words rest : List ℕ) → All (λ byte. byte ≢ 10) words → EndsLine rest → lexed_within 0 place (37 ∷ (words ++ rest)) ≡ lexed_within 0 (position_behind place (37 ∷ words)) rest
+on_comment : (position : Pos) (words rest : List ℕ) → All (λ byte. byte ≢ 10) words → EndsLine rest → lexed_within 0 position (37 ∷ (words ++ rest)) ≡ lexed_within 0 (position_behind position (37 ∷ words)) rest
 unfolding onward led_of
-on_comment place words rest all ends =
-    ap (onward place 37 (words ++ rest)) (comment_length words rest all ends)
-    ∙ (lexed_behind (length words) (advance place 37) (words ++ rest)
-    ∙ (ap (λ taken. lexed_within 0 (position_behind (advance place 37) taken) (drop (length words) (words ++ rest))) (take-append_seam words rest)
-    ∙ ap (λ left. lexed_within 0 (position_behind (advance place 37) words) left) (drop-append_seam words rest)))
+on_comment position words rest all ends =
+    ap (onward position 37 (words ++ rest)) (comment_length words rest all ends)
+    ∙ (lexed_behind (length words) (advance position 37) (words ++ rest)
+    ∙ (ap (λ taken. lexed_within 0 (position_behind (advance position 37) taken) (drop (length words) (words ++ rest))) (take-append_seam words rest)
+    ∙ ap (λ left. lexed_within 0 (position_behind (advance position 37) words) left) (drop-append_seam words rest)))
 
-on_token : (place : Pos) (kind : Kind) (front behind : List ℕ) → Longest kind front behind → lexed_within 0 place (front ++ behind) ≡ with_tokens (record { kind = kind; text = front; pos = place } ∷ []) (lexed_within 0 (position_behind place front) behind)
+on_token : (position : Pos) (kind : Kind) (front behind : List ℕ) → Longest kind front behind → lexed_within 0 position (front ++ behind) ≡ with_tokens (record { kind = kind; text = front; pos = position } ∷ []) (lexed_within 0 (position_behind position front) behind)
 unfolding onward led_of
-on_token place kind [] behind longest = absurd (form_reaches kind [] behind longest.has_it)
-on_token place kind (byte ∷ bytes) behind longest =
+on_token position kind [] behind longest = absurd (form_reaches kind [] behind longest.has_it)
+on_token position kind (byte ∷ bytes) behind longest =
     let text = bytes ++ behind in
     let n = length bytes in
-    ap (led_of place byte text) (longest_is kind byte bytes behind longest)
-    ∙ (ap (λ answer. with_tokens (record { kind = kind; text = take (n + 1) (byte ∷ text); pos = place } ∷ []) answer) (lexed_behind n (advance place byte) text)
-    ∙ (ap (λ count. with_tokens (record { kind = kind; text = take count (byte ∷ text); pos = place } ∷ []) (lexed_within 0 (position_behind (advance place byte) (take n text)) (drop n text))) (add-one n)
-    ∙ (ap (λ taken. with_tokens (record { kind = kind; text = byte ∷ taken; pos = place } ∷ []) (lexed_within 0 (position_behind (advance place byte) taken) (drop n text))) (take-append_seam bytes behind)
-    ∙ ap (λ left. with_tokens (record { kind = kind; text = byte ∷ bytes; pos = place } ∷ []) (lexed_within 0 (position_behind (advance place byte) bytes) left)) (drop-append_seam bytes behind))))
+    ap (led_of position byte text) (longest_is kind byte bytes behind longest)
+    ∙ (ap (λ answer. with_tokens (record { kind = kind; text = take (n + 1) (byte ∷ text); pos = position } ∷ []) answer) (lexed_behind n (advance position byte) text)
+    ∙ (ap (λ count. with_tokens (record { kind = kind; text = take count (byte ∷ text); pos = position } ∷ []) (lexed_within 0 (position_behind (advance position byte) (take n text)) (drop n text))) (add-one n)
+    ∙ (ap (λ taken. with_tokens (record { kind = kind; text = byte ∷ taken; pos = position } ∷ []) (lexed_within 0 (position_behind (advance position byte) taken) (drop n text))) (take-append_seam bytes behind)
+    ∙ ap (λ left. with_tokens (record { kind = kind; text = byte ∷ bytes; pos = position } ∷ []) (lexed_within 0 (position_behind (advance position byte) bytes) left)) (drop-append_seam bytes behind))))
 
 none_there : (byte : ℕ) (rest : List ℕ) (piece : Piece) → Sound byte rest piece → is_blank byte ≡ false → byte ≢ 37 → BeginsNoToken (byte ∷ rest) → piece ≡ Nothing
 none_there byte rest (Skipped further) (inl same) unblank percent none = absurd (true≢false (sym same.0 ∙ unblank))
 none_there byte rest (Skipped further) (inr same) unblank percent none = absurd (percent same.0)
-none_there byte rest (Lexeme kind further) sound unblank percent none = absurd (true≢false (sym sound.0 ∙ none kind (byte ∷ take further rest) (drop further rest) (ap (λ bytes. byte ∷ bytes) (sym (take-append-drop further rest)))))
+none_there byte rest (Kept kind further) sound unblank percent none = absurd (true≢false (sym sound.0 ∙ none kind (byte ∷ take further rest) (drop further rest) (ap (λ bytes. byte ∷ bytes) (sym (take-append-drop further rest)))))
 none_there byte rest Nothing sound unblank percent none = refl
 
-on_none : (place : Pos) (byte : ℕ) (rest : List ℕ) → is_blank byte ≡ false → byte ≢ 37 → BeginsNoToken (byte ∷ rest) → lexed_within 0 place (byte ∷ rest) ≡ Err place
+on_none : (position : Pos) (byte : ℕ) (rest : List ℕ) → is_blank byte ≡ false → byte ≢ 37 → BeginsNoToken (byte ∷ rest) → lexed_within 0 position (byte ∷ rest) ≡ Err position
 unfolding onward led_of
-on_none place byte rest unblank percent none = ap (led_of place byte rest) (none_there byte rest (piece_at byte rest) (piece_sound byte rest) unblank percent none)
+on_none position byte rest unblank percent none = ap (led_of position byte rest) (none_there byte rest (piece_at byte rest) (piece_sound byte rest) unblank percent none)
 
 -- the computed answer is the only one
-pub lexes_once : (place : Pos) (text : List ℕ) (answer : LexAnswer) → Lexes place text answer → lexed_within 0 place text ≡ answer
-lexes_once place text answer (at_end _) = refl
-lexes_once place text answer (skips_blank {byte = byte} {rest = rest} e more) = on_blank place byte rest e ∙ lexes_once (advance place byte) rest answer more
-lexes_once place text answer (skips_comment words rest all ends more) = on_comment place words rest all ends ∙ lexes_once (position_behind place (37 ∷ words)) rest answer more
-lexes_once place text answer (takes_token {answer = before} kind front behind longest more) = on_token place kind front behind longest ∙ ap (with_tokens (record { kind = kind; text = front; pos = place } ∷ [])) (lexes_once (position_behind place front) behind before more)
-lexes_once place text answer (no_token _ byte rest e percent none) = on_none place byte rest e percent none
+pub lexes_once : (position : Pos) (text : List ℕ) (answer : LexAnswer) → Lexes position text answer → lexed_within 0 position text ≡ answer
+lexes_once position text answer (at_end _) = refl
+lexes_once position text answer (skips_blank {byte = byte} {rest = rest} e more) = on_blank position byte rest e ∙ lexes_once (advance position byte) rest answer more
+lexes_once position text answer (skips_comment words rest all ends more) = on_comment position words rest all ends ∙ lexes_once (position_behind position (37 ∷ words)) rest answer more
+lexes_once position text answer (takes_token {answer = before} kind front behind longest more) = on_token position kind front behind longest ∙ ap (with_tokens (record { kind = kind; text = front; pos = position } ∷ [])) (lexes_once (position_behind position front) behind before more)
+lexes_once position text answer (no_token _ byte rest e percent none) = on_none position byte rest e percent none
 
 pub lexed_lexes : (text : List ℕ) → Lexes start_of_text text (lexed text)
 unfolding lexed

@@ -9,18 +9,18 @@ use Rattle.larch_lexer.specs.TokenTable.{LexAnswer, with_tokens, Lexes, at_end, 
 use Rattle.larch_lexer.specs.declared.token.Token.{Token}
 
 -- behind some bytes and then others
-pub behind_both : (place : Pos) (bytes more : List ℕ) → position_behind place (bytes ++ more) ≡ position_behind (position_behind place bytes) more
-behind_both place [] more = refl
-behind_both place (byte ∷ bytes) more = behind_both (advance place byte) bytes more
+pub behind_both : (position : Pos) (bytes more : List ℕ) → position_behind position (bytes ++ more) ≡ position_behind (position_behind position bytes) more
+behind_both position [] more = refl
+behind_both position (byte ∷ bytes) more = behind_both (advance position byte) bytes more
 
--- the text that is left of a whole, and the place where it begins
-record Left (whole : List ℕ) (place : Pos) (text : List ℕ) : Type 0 where
+-- the text that is left of a whole, and the position where it begins
+record Left (whole : List ℕ) (position : Pos) (text : List ℕ) : Type 0 where
   pub before : List ℕ
   pub cut : whole ≡ before ++ text
-  pub begins : place ≡ position_behind start_of_text before
+  pub begins : position ≡ position_behind start_of_text before
 
-left_behind : (whole : List ℕ) (place : Pos) (front rest : List ℕ) → Left whole place (front ++ rest) → Left whole (position_behind place front) rest
-left_behind whole place front rest left = record {
+left_behind : (whole : List ℕ) (position : Pos) (front rest : List ℕ) → Left whole position (front ++ rest) → Left whole (position_behind position front) rest
+left_behind whole position front rest left = record {
   before = left.before ++ front;
   cut = left.cut ∙ sym (append_assoc left.before front rest);
   begins = ap (λ p. position_behind p front) left.begins ∙ sym (behind_both start_of_text left.before front);
@@ -35,16 +35,16 @@ unfolding OfTokens
 of_one_more P token (Ok all) holds rest = All-cons P token all.tokens holds rest
 of_one_more P token (Err refusal) holds rest = rest
 
-slices : (whole : List ℕ) (place : Pos) (text : List ℕ) (answer : LexAnswer) → Lexes place text answer → Left whole place text → OfTokens (IsSliceOf whole) answer
+slices : (whole : List ℕ) (position : Pos) (text : List ℕ) (answer : LexAnswer) → Lexes position text answer → Left whole position text → OfTokens (IsSliceOf whole) answer
 unfolding OfTokens
-slices whole place text answer (at_end _) left = All-nil (IsSliceOf whole)
-slices whole place text answer (skips_blank {byte = byte} {rest = rest} e more) left = slices whole (advance place byte) rest answer more (left_behind whole place (byte ∷ []) rest left)
-slices whole place text answer (skips_comment words rest all ends more) left = slices whole (position_behind place (37 ∷ words)) rest answer more (left_behind whole place (37 ∷ words) rest left)
-slices whole place text answer (takes_token {answer = later} kind front behind longest more) left =
-    of_one_more (IsSliceOf whole) (record { kind = kind; text = front; pos = place }) later
+slices whole position text answer (at_end _) left = All-nil (IsSliceOf whole)
+slices whole position text answer (skips_blank {byte = byte} {rest = rest} e more) left = slices whole (advance position byte) rest answer more (left_behind whole position (byte ∷ []) rest left)
+slices whole position text answer (skips_comment words rest all ends more) left = slices whole (position_behind position (37 ∷ words)) rest answer more (left_behind whole position (37 ∷ words) rest left)
+slices whole position text answer (takes_token {answer = later} kind front behind longest more) left =
+    of_one_more (IsSliceOf whole) (record { kind = kind; text = front; pos = position }) later
     (record { before = left.before; behind = behind; cut = left.cut; begins = left.begins })
-    (slices whole (position_behind place front) behind later more (left_behind whole place front behind left))
-slices whole place text answer (no_token _ byte rest e percent none) left = tt
+    (slices whole (position_behind position front) behind later more (left_behind whole position front behind left))
+slices whole position text answer (no_token _ byte rest e percent none) left = tt
 
 pub tokens_are_slices : (text : List ℕ) (all : TokenList) → Lexes start_of_text text (Ok all) → All (IsSliceOf text) all.tokens
 unfolding OfTokens

@@ -6,7 +6,7 @@ use Rattle.std.proofs.lemmas.Bool.{cond_both, and_parts, and_from, or_left}
 use Rattle.std.proofs.lemmas.List.{take-append-drop}
 use Rattle.larch_base.specs.Word.{begins_alphanumeric, goes_on}
 use Rattle.larch_lexer.specs.TokenTable.{each_passes}
-use Rattle.larch_lexer.specs.Lexing.{passing, stands_in_word}
+use Rattle.larch_lexer.specs.Pieces.{passing, stands_in_word}
 
 -- a front that passes, and then more, where the first byte passes
 passing_more : (test : ℕ → List ℕ → Bool) (byte : ℕ) (rest : List ℕ) → test byte rest ≡ true → passing test (byte ∷ rest) ≡ suc (passing test rest)

@@ -8,9 +8,9 @@ use Rattle.std.proofs.lemmas.List.{take-append-drop}
 use Rattle.std.proofs.lemmas.Slice.Eq.{bytes_eq-Decides}
 use Rattle.larch_base.specs.Word.{goes_on}
 use Rattle.larch_lexer.specs.TokenTable.{is_blank, is_symbol, is_punctuation, begins_with, stands_in_run, each_passes, has_form}
-use Rattle.larch_lexer.specs.Lexing.{passing, stands_in_word, stands_in, piece_at, piece_at_underscore, piece_at_backslash, piece_at_symbol}
+use Rattle.larch_lexer.specs.Pieces.{passing, stands_in_word, stands_in, piece_at, piece_at_underscore, piece_at_backslash, piece_at_symbol}
 use Rattle.larch_lexer.specs.declared.piece.Piece.{Piece}
-use Rattle.larch_lexer.specs.declared.piece.Piece.TheVariants.{Skipped, Lexeme, Nothing}
+use Rattle.larch_lexer.specs.declared.piece.Piece.TheVariants.{Skipped, Kept, Nothing}
 use Rattle.larch_lexer.specs.declared.piece.Stretch.TheVariants.{Comment, Letters, Symbols}
 use Rattle.larch_lexer.specs.declared.token.Kind.{Kind}
 use Rattle.larch_lexer.specs.declared.token.Kind.TheVariants.{Word, Marker, Backslash, Connective, Run, Punctuation}
@@ -20,13 +20,13 @@ use Rattle.larch_lexer.proofs.Stretches.{passing_within, passing_passes, passing
 -- what a piece says of the byte that begins it and of the bytes behind
 abbrev pub Sound : ℕ → List ℕ → Piece → Type 0
 Sound byte rest (Skipped further) = ((is_blank byte ≡ true) × (further ≡ 0)) ⊎ ((byte ≡ 37) × (further ≡ passing (stands_in Comment) rest))
-Sound byte rest (Lexeme kind further) = (has_form kind (byte ∷ take further rest) (drop further rest) ≡ true) × (further ≤ length rest)
+Sound byte rest (Kept kind further) = (has_form kind (byte ∷ take further rest) (drop further rest) ≡ true) × (further ≤ length rest)
 Sound byte rest Nothing = (is_blank byte ≡ false) × ((byte == 37) ≡ false)
 
 sound_underscore : (byte : ℕ) (rest : List ℕ) → (byte == 95) ≡ true → is_blank byte ≡ false → (byte == 37) ≡ false → Sound byte rest (piece_at_underscore rest)
 sound_underscore byte [] e blank percent = (blank, percent)
 sound_underscore byte (other ∷ rest) e blank percent =
-    cond_both (other == 95) (Lexeme Marker 1) Nothing (Sound byte (other ∷ rest))
+    cond_both (other == 95) (Kept Marker 1) Nothing (Sound byte (other ∷ rest))
     (λ f. (and_from (byte == 95) ((other == 95) && true) e (and_from (other == 95) true f refl), omega arith))
     (λ _. (blank, percent))
 
@@ -34,26 +34,26 @@ sound_backslash : (byte : ℕ) (rest : List ℕ) → (byte == 92) ≡ true → i
 sound_backslash byte [] e blank percent = (blank, percent)
 sound_backslash byte (other ∷ rest) e blank percent =
     let m = passing (stands_in Letters) rest in
-    cond_both (is_ascii_alphabetic other) (m + 1) 0 (λ n. Sound byte (other ∷ rest) (cond (nat_lt 0 n) (Lexeme Backslash n) (cond (other == 47) (Lexeme Connective 1) Nothing)))
-    (λ letter. cond_both (nat_lt 0 (m + 1)) (Lexeme Backslash (m + 1)) (cond (other == 47) (Lexeme Connective 1) Nothing) (Sound byte (other ∷ rest))
+    cond_both (is_ascii_alphabetic other) (m + 1) 0 (λ n. Sound byte (other ∷ rest) (cond (nat_lt 0 n) (Kept Backslash n) (cond (other == 47) (Kept Connective 1) Nothing)))
+    (λ letter. cond_both (nat_lt 0 (m + 1)) (Kept Backslash (m + 1)) (cond (other == 47) (Kept Connective 1) Nothing) (Sound byte (other ∷ rest))
     (λ _. (
       rw (add-one m) (and_from (byte == 92) (is_ascii_alphabetic other && list_all is_ascii_alphabetic (take m rest)) e
           (and_from (is_ascii_alphabetic other) (list_all is_ascii_alphabetic (take m rest)) letter (sym (letters_pass (take m rest) (drop m rest)) ∙ passing_passes (stands_in Letters) rest))),
       omega (arith, passing_within (stands_in Letters) rest),
     ))
     (λ f. absurd (omega (arith, ltb-false 0 (m + 1) f))))
-    (λ _. cond_both (other == 47) (Lexeme Connective 1) Nothing (Sound byte (other ∷ rest))
+    (λ _. cond_both (other == 47) (Kept Connective 1) Nothing (Sound byte (other ∷ rest))
     (λ f. (or_right (bytes_eq (byte ∷ other ∷ []) (47 ∷ 92 ∷ [])) (bytes_eq (byte ∷ other ∷ []) (92 ∷ 47 ∷ [])) (and_from (byte == 92) ((other == 47) && true) e (and_from (other == 47) true f refl)), omega arith))
     (λ _. (blank, percent)))
 
-sound_slash : (byte : ℕ) (rest : List ℕ) → (byte == 47) ≡ true → begins_with 92 rest ≡ true → Sound byte rest (Lexeme Connective 1)
+sound_slash : (byte : ℕ) (rest : List ℕ) → (byte == 47) ≡ true → begins_with 92 rest ≡ true → Sound byte rest (Kept Connective 1)
 sound_slash byte [] e f = absurd cc
 sound_slash byte (other ∷ rest) e f = (or_left (bytes_eq (byte ∷ other ∷ []) (47 ∷ 92 ∷ [])) (bytes_eq (byte ∷ other ∷ []) (92 ∷ 47 ∷ [])) (and_from (byte == 47) ((other == 92) && true) e (and_from (other == 92) true f refl)), omega arith)
 
 sound_symbol : (byte : ℕ) (rest : List ℕ) → is_symbol byte ≡ true → Sound byte rest (piece_at_symbol byte rest)
 sound_symbol byte rest e =
     let n = passing (stands_in Symbols) rest in
-    cond_both ((byte == 47) && begins_with 92 rest) (Lexeme Connective 1) (Lexeme Run n) (Sound byte rest)
+    cond_both ((byte == 47) && begins_with 92 rest) (Kept Connective 1) (Kept Run n) (Sound byte rest)
     (λ f. let parts = and_parts (byte == 47) (begins_with 92 rest) f in sound_slash byte rest parts.0 parts.1)
     (λ f. (
       and_from (stands_in_run byte (take n rest ++ drop n rest)) (each_passes stands_in_run (take n rest) (drop n rest))
@@ -75,7 +75,7 @@ piece_sound byte rest =
 
 -- a piece that is a token of a kind, with at least so many bytes behind its first
 abbrev pub AtLeast : Kind → ℕ → Piece → Type 0
-AtLeast kind count (Lexeme other further) = (other ≡ kind) × (count ≤ further)
+AtLeast kind count (Kept other further) = (other ≡ kind) × (count ≤ further)
 AtLeast kind count (Skipped further) = ⊥
 AtLeast kind count Nothing = ⊥
 
@@ -88,8 +88,8 @@ symbol_piece : (byte : ℕ) (rest : List ℕ) → is_symbol byte ≡ true → pi
 symbol_piece byte rest e = each_of (λ b. piece_at b rest ≡ piece_at_symbol b rest) (codes "!#$&*+-/<=>?@^|~") byte e
     (refl, (refl, (refl, (refl, (refl, (refl, (refl, (refl, (refl, (refl, (refl, (refl, (refl, (refl, (refl, (refl, tt))))))))))))))))
 
-punctuation_piece : (byte : ℕ) (rest : List ℕ) → is_punctuation byte ≡ true → piece_at byte rest ≡ Lexeme Punctuation 0
-punctuation_piece byte rest e = each_of (λ b. piece_at b rest ≡ Lexeme Punctuation 0) (codes "()[]{},;:.") byte e
+punctuation_piece : (byte : ℕ) (rest : List ℕ) → is_punctuation byte ≡ true → piece_at byte rest ≡ Kept Punctuation 0
+punctuation_piece byte rest e = each_of (λ b. piece_at b rest ≡ Kept Punctuation 0) (codes "()[]{},;:.") byte e
     (refl, (refl, (refl, (refl, (refl, (refl, (refl, (refl, (refl, (refl, tt))))))))))
 
 reaches_letters : (letter : ℕ) (letters behind : List ℕ) → list_all is_ascii_alphabetic (letter ∷ letters) ≡ true → AtLeast Backslash (suc (length letters)) (piece_at_backslash (letter ∷ (letters ++ behind)))

@@ -4,7 +4,7 @@ use Rattle.larch_base.specs.Position.{start_of_text, position_behind}
 use Rattle.larch_base.specs.declared.position.Pos.{Pos}
 use Rattle.larch_lexer.specs.declared.token.Token.{Token}
 
--- the token's text is a slice of the whole, and the token's place is where the slice begins
+-- the token's text is a slice of the whole, and the token's position is where the slice begins
 pub record IsSliceOf (whole : List ℕ) (token : Token) : Type 0 where
   pub before : List ℕ
   pub behind : List ℕ

@@ -7,8 +7,6 @@ use Rattle.larch_base.specs.Position.{advance, position_behind}
 use Rattle.larch_base.specs.Word.{is_word}
 use Rattle.larch_base.specs.declared.position.Pos.{Pos}
 use Rattle.larch_lexer.specs.TokenList.{TokenList}
-use Rattle.larch_lexer.specs.declared.refusal.LexRefusal.{LexRefusal}
-use Rattle.larch_lexer.specs.declared.refusal.LexRefusal.TheVariants.{Lex, Memory}
 use Rattle.larch_lexer.specs.declared.token.Kind.{Kind}
 use Rattle.larch_lexer.specs.declared.token.Kind.TheVariants.{Word, Marker, Backslash, Connective, Run, Punctuation}
 use Rattle.larch_lexer.specs.declared.token.Token.{Token}
@@ -70,35 +68,38 @@ has_form Punctuation bytes behind = is_punctuation_mark bytes
 -- the front is a token, and no longer front of the same text is one of any kind
 pub record Longest (kind : Kind) (front behind : List ℕ) : Type 0 where
   pub has_it : IsTrue (has_form kind front behind)
-  pub none_longer : (other : Kind) (more rest : List ℕ) → behind ≡ more ++ rest → IsTrue (has_form other (front ++ more) rest) → more ≡ []
+  pub none_longer : (other : Kind) (more rest : List ℕ)
+      → behind ≡ more ++ rest → IsTrue (has_form other (front ++ more) rest) → more ≡ []
 
 -- no front of the text is a token
 abbrev pub BeginsNoToken : List ℕ → Type 0
-BeginsNoToken text = (kind : Kind) (front behind : List ℕ) → text ≡ front ++ behind → has_form kind front behind ≡ false
+BeginsNoToken text =
+    (kind : Kind) (front behind : List ℕ) → text ≡ front ++ behind → has_form kind front behind ≡ false
 
--- nothing, or a byte 10 and what stands behind it
+-- nothing, or a newline and what stands behind it
 abbrev pub EndsLine : List ℕ → Type 0
 EndsLine [] = Unit {0}
 EndsLine (byte ∷ bytes) = byte ≡ 10
 
--- the tokens of a text, or the place of the first byte that begins none
+-- the tokens of a text, or the position of the first byte that begins none
 abbrev pub LexAnswer : Type 0
 LexAnswer = Result TokenList Pos
-
--- a fact about the place that a refusal names; want of memory names none
-abbrev pub IfLex : LexRefusal → (Pos → Type 0) → Type 0
-IfLex (Lex place) P = P place
-IfLex Memory P = Unit {0}
 
 -- the answer with these tokens before its own
 abbrev pub with_tokens : List Token → LexAnswer → LexAnswer
 with_tokens tokens (Ok all) = Ok (record { tokens = tokens ++ all.tokens; end = all.end })
 with_tokens tokens (Err refusal) = Err refusal
 
--- the answer to a text that begins at a place: blanks and comments are passed over, the longest token is taken
+-- the answer to a text that begins at a position: blanks and comments are passed over, the longest token is taken
 pub data Lexes : Pos → List ℕ → LexAnswer → Type 0 where
-  at_end : (place : Pos) → Lexes place [] (Ok (record { tokens = []; end = place }))
-  skips_blank : {place : Pos} {byte : ℕ} {rest : List ℕ} {answer : LexAnswer} → IsTrue (is_blank byte) → Lexes (advance place byte) rest answer → Lexes place (byte ∷ rest) answer
-  skips_comment : {place : Pos} {answer : LexAnswer} (words rest : List ℕ) → All (λ byte. byte ≢ 10) words → EndsLine rest → Lexes (position_behind place (37 ∷ words)) rest answer → Lexes place (37 ∷ (words ++ rest)) answer
-  takes_token : {place : Pos} {answer : LexAnswer} (kind : Kind) (front behind : List ℕ) → Longest kind front behind → Lexes (position_behind place front) behind answer → Lexes place (front ++ behind) (with_tokens (record { kind = kind; text = front; pos = place } ∷ []) answer)
-  no_token : (place : Pos) (byte : ℕ) (rest : List ℕ) → is_blank byte ≡ false → byte ≢ 37 → BeginsNoToken (byte ∷ rest) → Lexes place (byte ∷ rest) (Err place)
+  at_end : (position : Pos) → Lexes position [] (Ok (record { tokens = []; end = position }))
+  skips_blank : {position : Pos} {byte : ℕ} {rest : List ℕ} {answer : LexAnswer}
+      → IsTrue (is_blank byte) → Lexes (advance position byte) rest answer → Lexes position (byte ∷ rest) answer
+  skips_comment : {position : Pos} {answer : LexAnswer} (words rest : List ℕ)
+      → All (λ byte. byte ≢ 10) words → EndsLine rest → Lexes (position_behind position (37 ∷ words)) rest answer
+      → Lexes position (37 ∷ (words ++ rest)) answer
+  takes_token : {position : Pos} {answer : LexAnswer} (kind : Kind) (front behind : List ℕ)
+      → Longest kind front behind → Lexes (position_behind position front) behind answer
+      → Lexes position (front ++ behind) (with_tokens (record { kind = kind; text = front; pos = position } ∷ []) answer)
+  no_token : (position : Pos) (byte : ℕ) (rest : List ℕ)
+      → is_blank byte ≡ false → byte ≢ 37 → BeginsNoToken (byte ∷ rest) → Lexes position (byte ∷ rest) (Err position)

@@ -1,8 +1,9 @@
-ghost use Rattle.std.specs.Prelude.{◌≡◌, ◌≤◌, ◌+◌, ◌<◌, ◌^◌, length, ◌++◌, IfErr, IfOk, OnOk, Ok, Err};
-ghost use Rattle.larch_base.specs.Position.{start_of_text, position_behind};
+ghost use Rattle.std.specs.Prelude.{◌≡◌, ◌≤◌, ◌+◌, ◌<◌, ◌^◌, length, ◌++◌, OnOk};
+ghost use Rattle.larch_base.specs.Position.{position_behind};
 ghost use Rattle.larch_base.specs.declared.limits.TheConstants.{MAX_FILE_BYTES};
+ghost use Rattle.larch_base.specs.Answering.{Answers};
 ghost use Rattle.larch_lexer.specs.Lexing.{lexed, tokens_of};
-ghost use Rattle.larch_lexer.specs.TokenTable.{IfLex, Lexes};
+ghost use Rattle.larch_lexer.specs.Refusals.{told};
 
 use crate::piece::{Piece, piece_at};
 use crate::refusal::LexRefusal;
@@ -11,14 +12,12 @@ use crate::tokens::Tokens;
 use larch_base::{Memory, Name, Pos, Sequence};
 use std::alloc::Global;
 
-/// The tokens of a text, or the first byte that begins none.
+/// The tokens of a text, or the position of the first byte that begins none. The law `one_lexing` says that this is
+/// the one answer of the token table.
 #[tactic(auto, unfolding(crate::specs::Lexing::lexed))]
 pub fn lex_lsl(alloc: Global, text: &[u8]) -> Result<Tokens, LexRefusal>
     requires { length text.now ≤ MAX_FILE_BYTES }
-    ensures tokens { IfOk result (λ all. lexed text.now ≡ Ok all) }
-    ensures refused { IfErr result (λ refusal. IfLex refusal (λ place. lexed text.now ≡ Err place)) }
-    ensures tokens_by_table { IfOk result (λ all. Lexes start_of_text text.now (Ok all)) }
-    ensures refused_by_table { IfErr result (λ refusal. IfLex refusal (λ place. Lexes start_of_text text.now (Err place))) }
+    ensures { Answers told result (lexed text.now) }
 {
     let mut tokens = Sequence::new(alloc);
     let mut pos = Pos::start();
@@ -29,7 +28,7 @@ pub fn lex_lsl(alloc: Global, text: &[u8]) -> Result<Tokens, LexRefusal>
             return Err(LexRefusal::Lex(pos));
         };
         let (taken, left) = rest.split_at(further + 1);
-        push_lexeme(alloc, &mut tokens, piece, taken, pos)?;
+        push_token(alloc, &mut tokens, piece, taken, pos)?;
         pos = pos_behind(pos, taken);
         rest = left;
     }
@@ -37,7 +36,7 @@ pub fn lex_lsl(alloc: Global, text: &[u8]) -> Result<Tokens, LexRefusal>
 }
 
 /// Adds the piece to the tokens, if it is a token and not passed over.
-fn push_lexeme(
+fn push_token(
     alloc: Global,
     tokens: &mut Sequence<Token>,
     piece: Piece,
@@ -46,22 +45,22 @@ fn push_lexeme(
 ) -> Result<(), Memory>
     ensures { OnOk result (tokens.new ≡ tokens.old ++ tokens_of piece taken.now pos) }
 {
-    if let Piece::Lexeme(kind, _further) = piece {
+    if let Piece::Kept(kind, _further) = piece {
         let text = Name::new(alloc, taken)?;
         tokens.push(Token { kind, text, pos })?;
     }
     Ok(())
 }
 
-/// The place behind these bytes, which begin at a place.
+/// The position behind these bytes, which begin at a position.
 fn pos_behind(pos: Pos, bytes: &[u8]) -> Pos
     requires line { pos.line + length bytes.now < 2 ^ 32 }
     requires column { pos.column + length bytes.now < 2 ^ 32 }
     ensures { result ≡ position_behind pos bytes.now }
 {
-    let mut place = pos;
+    let mut position = pos;
     for byte in bytes {
-        place = place.advance(*byte);
+        position = position.advance(*byte);
     }
-    place
+    position
 }

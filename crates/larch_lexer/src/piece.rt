@@ -1,5 +1,5 @@
 ghost use Rattle.std.specs.Prelude.{◌≡◌, ◌≤◌, length, IfSome};
-ghost use Rattle.larch_lexer.specs.Lexing.{further_of, stands_in, stands_in_word, stretch_length, piece_at, piece_at_underscore, piece_at_backslash, piece_at_symbol};
+ghost use Rattle.larch_lexer.specs.Pieces.{further_of, stands_in, stands_in_word, stretch_length, piece_at, piece_at_underscore, piece_at_backslash, piece_at_symbol};
 ghost use Rattle.larch_lexer.specs.TokenTable.{begins_with, is_blank, is_punctuation, is_symbol};
 
 use crate::token::Kind;
@@ -9,8 +9,8 @@ use crate::token::Kind;
 pub enum Piece {
     /// A blank or a comment.
     Skipped(usize),
-    /// The longest token.
-    Lexeme(Kind, usize),
+    /// The longest token, which is kept.
+    Kept(Kind, usize),
     /// No token begins there.
     Nothing,
 }
@@ -18,7 +18,7 @@ pub enum Piece {
 /// Bytes that go on as they began.
 #[derive(Clone, Copy)]
 pub enum Stretch {
-    /// The rest of a comment: up to the next byte 10.
+    /// The rest of a comment: up to the next newline.
     Comment,
     /// The rest of a word.
     Wordlike,
@@ -35,7 +35,7 @@ impl Piece {
     {
         match self {
             Piece::Skipped(further) => Some(further),
-            Piece::Lexeme(_kind, further) => Some(further),
+            Piece::Kept(_kind, further) => Some(further),
             Piece::Nothing => None,
         }
     }
@@ -51,11 +51,11 @@ pub fn piece_at(byte: u8, rest: &[u8]) -> Piece
         b'_' => piece_at_underscore(rest),
         b'\\' => piece_at_backslash(rest),
         _ if byte.is_ascii_alphanumeric() => {
-            Piece::Lexeme(Kind::Word, stretch_length(Stretch::Wordlike, rest))
+            Piece::Kept(Kind::Word, stretch_length(Stretch::Wordlike, rest))
         }
         _ if is_blank(byte) => Piece::Skipped(0),
         _ if is_symbol(byte) => piece_at_symbol(byte, rest),
-        _ if is_punctuation(byte) => Piece::Lexeme(Kind::Punctuation, 0),
+        _ if is_punctuation(byte) => Piece::Kept(Kind::Punctuation, 0),
         _ => Piece::Nothing,
     }
 }
@@ -65,7 +65,7 @@ fn piece_at_underscore(rest: &[u8]) -> Piece
     ensures within { IfSome (further_of result) (λ further. further ≤ length rest.now) }
 {
     match rest {
-        [b'_', ..] => Piece::Lexeme(Kind::Marker, 1),
+        [b'_', ..] => Piece::Kept(Kind::Marker, 1),
         _ => Piece::Nothing,
     }
 }
@@ -76,10 +76,10 @@ fn piece_at_backslash(rest: &[u8]) -> Piece
 {
     let letters = stretch_length(Stretch::Letters, rest);
     if letters > 0 {
-        return Piece::Lexeme(Kind::Backslash, letters);
+        return Piece::Kept(Kind::Backslash, letters);
     }
     match rest {
-        [b'/', ..] => Piece::Lexeme(Kind::Connective, 1),
+        [b'/', ..] => Piece::Kept(Kind::Connective, 1),
         _ => Piece::Nothing,
     }
 }
@@ -89,9 +89,9 @@ fn piece_at_symbol(byte: u8, rest: &[u8]) -> Piece
     ensures within { IfSome (further_of result) (λ further. further ≤ length rest.now) }
 {
     if byte == b'/' && begins_with(b'\\', rest) {
-        Piece::Lexeme(Kind::Connective, 1)
+        Piece::Kept(Kind::Connective, 1)
     } else {
-        Piece::Lexeme(Kind::Run, stretch_length(Stretch::Symbols, rest))
+        Piece::Kept(Kind::Run, stretch_length(Stretch::Symbols, rest))
     }
 }
 
@@ -158,22 +158,5 @@ fn is_punctuation(byte: u8) -> bool
 fn is_symbol(byte: u8) -> bool
     ensures { result ≡ is_symbol byte }
 {
-    matches!(
-        byte,
-        b'!' | b'#'
-            | b'$'
-            | b'&'
-            | b'*'
-            | b'+'
-            | b'-'
-            | b'/'
-            | b'<'
-            | b'='
-            | b'>'
-            | b'?'
-            | b'@'
-            | b'^'
-            | b'|'
-            | b'~'
-    )
+    b"!#$&*+-/<=>?@^|~".contains(&byte)
 }

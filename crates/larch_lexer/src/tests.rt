@@ -5,8 +5,8 @@ use larch_base::{Memory, Pos};
 use std::alloc::Global;
 
 fn write_place(alloc: Global, pos: Pos, out: &mut Vec<u8>) -> Result<(), Memory> {
-    let place = format!(in alloc; "{}:{}", pos.line, pos.column)?;
-    out.extend_from_slice(place.as_bytes())?;
+    let position = format!(in alloc; "{}:{}", pos.line, pos.column)?;
+    out.extend_from_slice(position.as_bytes())?;
     Ok(())
 }
 

@@ -17,7 +17,7 @@ pub enum Kind {
     Punctuation,
 }
 
-/// A token of a text: its slice of the text, and the place where it begins.
+/// A token of a text: its slice of the text, and the position where it begins.
 #[derive(Debug, Drop)]
 pub struct Token {
     pub kind: Kind,

@@ -4,7 +4,7 @@ use crate::token::Token;
 use larch_base::{Pos, Sequence};
 use std::marker::Model;
 
-/// The tokens of a text, and the place where its next byte would stand. Contracts see both.
+/// The tokens of a text, and the position where its next byte would stand. Contracts see both.
 #[derive(Debug, Drop)]
 pub struct Tokens {
     tokens: Sequence<Token>,
