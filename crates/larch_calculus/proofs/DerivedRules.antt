@@ -4,22 +4,22 @@ use Rattle.std.proofs.lemmas.List.Elements.{All-nil, All-cons, All-weaker, All-c
 use Rattle.std.proofs.lemmas.Slice.Eq.{bytes_eq-Decides}
 use Rattle.larch_base.proofs.Members.{contains_here, contains_later, contains_left, contains_right, contains_either}
 use Rattle.larch_term.specs.Operator.{PlainOperator}
-use Rattle.larch_term.specs.BuiltIn.{built_in}
-use Rattle.larch_term.specs.Truth.{bool_sort}
+use Rattle.larch_term.specs.BuiltIn.{built_in, bool_sort}
 use Rattle.larch_term.specs.Tree.{Tree, var}
-use Rattle.larch_term.specs.Sorts.{sort_of, WellSorted, IsOver, IsKnown}
+use Rattle.larch_term.specs.Sorts.{sort_of, WellSorted, IsOver, IsKnown, IsTermOver}
 use Rattle.larch_term.specs.Place.{at, put}
-use Rattle.larch_term.specs.Occurrence.{occurrences}
-use Rattle.larch_term.specs.Statement.{IsStatementOver, statement_zero}
+use Rattle.larch_term.specs.Variable.{occurrences}
+use Rattle.larch_term.specs.Statement.{IsStatementOver, statement_zero, IsWellSortedTheory}
 use Rattle.larch_term.specs.Substitution.{image, Fits}
 use Rattle.larch_term.specs.declared.built_in.BuiltIn.TheVariants.{Implies}
 use Rattle.larch_term.specs.declared.substitution.Entry.{Entry}
 use Rattle.larch_term.specs.declared.statement.Statement.{Statement}
 use Rattle.larch_term.specs.declared.statement.Statement.TheVariants.{Equation}
 use Rattle.larch_term.specs.declared.statement.Theory.{Theory}
-use Rattle.larch_calculus.specs.Formula.{truth, falsity, conjunction, implication, choice}
+use Rattle.larch_calculus.specs.Formula.{falsity, conjunction, implication, choice}
+use Rattle.larch_term.specs.Truth.{truth}
 use Rattle.larch_calculus.specs.Identity.{always, both, implied, propositional, chosen_first, chosen_second}
-use Rattle.larch_calculus.specs.Theories.{IsTermOver, IsWellSortedTheory, IsIncluded, IsPrefix, with_statements}
+use Rattle.larch_calculus.specs.Theories.{IsIncluded, IsPrefix, with_statements}
 use Rattle.larch_calculus.specs.Letters.{two, x_letter, y_letter}
 use Rattle.larch_calculus.specs.Derivable.{Derivable, axiom_, identity, reflexive, symmetric, replace, instance, weaken, cases}
 use Rattle.larch_calculus.proofs.Renamed.{statement_itself}

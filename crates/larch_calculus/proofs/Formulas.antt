@@ -2,19 +2,17 @@
 use Rattle.std.proofs.Common.{◌≡◌, ℕ, ◌==◌, Bool, true, false, ◌&&◌, cond, List, [], ◌∷◌, length, codes, bytes_eq, refl, sym, ap, subst, arith}
 use Rattle.std.proofs.lemmas.Slice.Eq.{bytes_eq-Decides}
 use Rattle.larch_base.proofs.Bools.{both_true}
-use Rattle.larch_term.specs.Operator.{OperatorName, PlainOperator, plain, boxed}
-use Rattle.larch_term.specs.BuiltIn.{built_in}
-use Rattle.larch_term.specs.Truth.{bool_sort}
+use Rattle.larch_term.specs.Operator.{OperatorName, PlainOperator, plain, boxed, name_bytes}
+use Rattle.larch_term.specs.BuiltIn.{built_in, bool_sort}
 use Rattle.larch_term.specs.Tree.{Tree, var, app, none, more}
-use Rattle.larch_term.specs.Sorts.{sort_of}
-use Rattle.larch_term.specs.Print.{is_truth, is_true, name_bytes}
+use Rattle.larch_term.specs.Sorts.{sort_of, IsTermOver}
+use Rattle.larch_term.specs.Truth.{is_truth, is_true, truth}
 use Rattle.larch_term.specs.declared.built_in.BuiltIn.TheVariants.{True, Iff}
 use Rattle.larch_term.specs.declared.statement.Statement.TheVariants.{Equation}
 use Rattle.larch_term.specs.declared.statement.Theory.{Theory}
-use Rattle.larch_calculus.specs.Formula.{truth, equivalence, equality, formula}
+use Rattle.larch_calculus.specs.Formula.{equivalence, equality, formula}
 use Rattle.larch_calculus.specs.Identity.{always, equivalent, equal, propositional, equal_itself, agree_itself}
 use Rattle.larch_calculus.specs.Letters.{two, x_letter, y_letter}
-use Rattle.larch_calculus.specs.Theories.{IsTermOver}
 use Rattle.larch_calculus.specs.Derivable as rule
 use Rattle.larch_calculus.specs.Derivable.{Derivable, identity, symmetric, instance}
 use Rattle.larch_calculus.proofs.DerivedRules.{transitive, replaced_left, image_x, two_fit, two_over}

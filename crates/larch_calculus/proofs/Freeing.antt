@@ -8,8 +8,8 @@ use Rattle.larch_base.proofs.Members.{contains_here, contains_later, contains_le
 use Rattle.larch_term.specs.Operator.{PlainOperator}
 use Rattle.larch_term.specs.Tree.{Tree, Forest, var, app, none, more}
 use Rattle.larch_term.specs.Sorts.{sort_of, WellSorted, IsOver, AllOver}
-use Rattle.larch_term.specs.Occurrence.{occurrences, occurrences_in}
-use Rattle.larch_term.specs.Statement.{IsStatementOver}
+use Rattle.larch_term.specs.Variable.{occurrences, occurrences_in}
+use Rattle.larch_term.specs.Statement.{IsStatementOver, IsWellSortedTheory}
 use Rattle.larch_term.specs.Substitution.{is_entry_of, image, substituted, substituted_all, Fits}
 use Rattle.larch_term.specs.declared.substitution.Entry.{Entry}
 use Rattle.larch_term.specs.declared.variable.Variable.{Variable}
@@ -18,7 +18,7 @@ use Rattle.larch_term.specs.declared.statement.Theory.{Theory}
 use Rattle.larch_term.proofs.SubstitutionLaws.{substituted_sort, substituted_well_sorted, substituted_over, substituted_nil}
 use Rattle.larch_calculus.specs.Formula.{constant}
 use Rattle.larch_calculus.specs.Freed.{freed, freed_all, constants_for}
-use Rattle.larch_calculus.specs.Theories.{IsTermOf, IsWellSortedTheory, AreNew, AreConstants, extended}
+use Rattle.larch_calculus.specs.Theories.{IsTermOf, AreNew, AreConstants, extended}
 use Rattle.larch_calculus.specs.Derivable.{Derivable, instance, weaken, fresh}
 use Rattle.larch_calculus.proofs.Extension.{known_not_placed, freed_sort, freed_well_sorted}
 use Rattle.larch_calculus.proofs.Names.{placed_at}

@@ -1,17 +1,17 @@
 -- Identities are well sorted, over any operators.
 use Rattle.std.proofs.Common.{◌≡◌, ℕ, inr, List, [], ◌∷◌, refl, sym, ◌∙◌, subst}
 use Rattle.larch_term.specs.Operator.{PlainOperator}
-use Rattle.larch_term.specs.BuiltIn.{built_in, built_in_domain, built_in_range}
-use Rattle.larch_term.specs.Truth.{bool_sort}
+use Rattle.larch_term.specs.BuiltIn.{built_in, built_in_domain, built_in_range, bool_sort}
 use Rattle.larch_term.specs.Tree.{Tree, Forest, var, app, none, more}
-use Rattle.larch_term.specs.Sorts.{sort_of, sorts_of, AllWellSorted, AllOver}
+use Rattle.larch_term.specs.Sorts.{sort_of, sorts_of, AllWellSorted, AllOver, IsTermOver}
 use Rattle.larch_term.specs.Statement.{IsStatementOver}
 use Rattle.larch_term.specs.declared.built_in.BuiltIn.{BuiltIn}
 use Rattle.larch_term.specs.declared.built_in.BuiltIn.TheVariants.{True, False, Not, And, Or, Implies, Iff, Equal, Unequal, If}
 use Rattle.larch_term.specs.declared.statement.Statement.TheVariants.{Equation}
-use Rattle.larch_calculus.specs.Formula.{truth, falsity, negation, equality, inequality, choice}
+use Rattle.larch_calculus.specs.Formula.{falsity, negation, equality, inequality, choice}
+use Rattle.larch_term.specs.Truth.{truth}
 use Rattle.larch_calculus.specs.Identity.{Proposition, letter, always, never, denied, both, either, implied, equivalent, equal, unequal, chosen, term_of, IsIdentity, propositional, equal_itself, equal_exchanged, unequal_denied, chosen_first, chosen_second, chosen_same}
-use Rattle.larch_calculus.specs.Theories.{IsTermOver, IsTermOf}
+use Rattle.larch_calculus.specs.Theories.{IsTermOf}
 
 -- a built-in operator over arguments of its domain's sorts
 built : (fs : List PlainOperator) (b : BuiltIn) (s : List ℕ) (ts : Forest) → sorts_of ts ≡ built_in_domain b s → AllWellSorted ts → AllOver fs ts

@@ -7,12 +7,12 @@ use Rattle.larch_base.proofs.Members.{contains_cases, contains_here, contains_la
 use Rattle.larch_base.proofs.Lists.{all_from}
 use Rattle.larch_term.specs.Operator.{PlainOperator}
 use Rattle.larch_term.specs.Tree.{Tree, var}
-use Rattle.larch_term.specs.Sorts.{sort_of, sorts_of, WellSorted, AllWellSorted, IsOver, AllOver, IsKnown}
+use Rattle.larch_term.specs.Sorts.{sort_of, sorts_of, WellSorted, AllWellSorted, IsOver, AllOver, IsKnown, IsTermOver}
 use Rattle.larch_term.specs.Statement.{IsStatementOver}
 use Rattle.larch_term.specs.declared.statement.Statement.TheVariants.{Equation, Partitioned}
 use Rattle.larch_term.specs.declared.statement.Theory.{Theory}
 use Rattle.larch_calculus.specs.Formula.{constant}
-use Rattle.larch_calculus.specs.Theories.{IsTermOver, IsTermOf, AreConstants}
+use Rattle.larch_calculus.specs.Theories.{IsTermOf, AreConstants}
 use Rattle.larch_calculus.specs.Observation.{Observation, arguments_with, observed, observations_of, observations, places_of_sort}
 use Rattle.larch_calculus.proofs.Sorted.{knows_more, statement_over_more}
 

@@ -8,15 +8,14 @@ use Rattle.larch_term.specs.Operator.{OperatorName, PlainOperator}
 use Rattle.larch_term.specs.BuiltIn.{built_in}
 use Rattle.larch_term.specs.Tree.{Tree, Forest, var, app, none, more}
 use Rattle.larch_term.specs.Place.{at, argument, put, put_in}
-use Rattle.larch_term.specs.Sorts.{sort_of, sorts_of, WellSorted, AllWellSorted, IsOver, AllOver, IsKnown}
-use Rattle.larch_term.specs.Occurrence.{occurrences, occurrences_in}
+use Rattle.larch_term.specs.Sorts.{sort_of, sorts_of, WellSorted, AllWellSorted, IsOver, AllOver, IsKnown, IsTermOver}
+use Rattle.larch_term.specs.Variable.{occurrences, occurrences_in}
 use Rattle.larch_term.specs.Statement.{IsStatementOver}
 use Rattle.larch_term.specs.Substitution.{is_entry_of, image, substituted, substituted_all, Fits}
 use Rattle.larch_term.specs.declared.built_in.BuiltIn.{BuiltIn}
 use Rattle.larch_term.specs.declared.substitution.Entry.{Entry}
 use Rattle.larch_term.specs.declared.statement.Statement.{Statement}
 use Rattle.larch_term.specs.declared.statement.Statement.TheVariants.{Equation, Generated, Partitioned}
-use Rattle.larch_calculus.specs.Theories.{IsTermOver}
 use Rattle.larch_calculus.specs.Renaming.{renamed_operator, renamed, renamed_all, renamed_statement, KeepsBuiltIn}
 
 pub renamed_sort : (new : OperatorName → OperatorName) (t : Tree) → sort_of (renamed new t) ≡ sort_of t

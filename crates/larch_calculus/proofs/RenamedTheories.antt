@@ -7,11 +7,11 @@ use Rattle.larch_base.proofs.Lists.{map_by}
 use Rattle.larch_term.specs.Operator.{OperatorName, PlainOperator, plain, boxed}
 use Rattle.larch_term.specs.BuiltIn.{built_in_name}
 use Rattle.larch_term.specs.Tree.{Tree, Forest, var, app, none, more}
-use Rattle.larch_term.specs.Statement.{IsStatementOver, statement_zero}
+use Rattle.larch_term.specs.Statement.{IsStatementOver, statement_zero, IsWellSortedTheory}
 use Rattle.larch_term.specs.declared.statement.Statement.{Statement}
 use Rattle.larch_term.specs.declared.statement.Statement.TheVariants.{Equation, Generated, Partitioned}
 use Rattle.larch_term.specs.declared.statement.Theory.{Theory}
-use Rattle.larch_calculus.specs.Theories.{IsWellSortedTheory, extended}
+use Rattle.larch_calculus.specs.Theories.{extended}
 use Rattle.larch_calculus.specs.Derivable.{Derivable, axiom_}
 use Rattle.larch_calculus.specs.Renaming.{renamed_operator, renamed, renamed_all, renamed_statement, renamed_theory, KeepsBuiltIn, RenamesBoxes, IsPlainName, HasPlainNames, IsTranslation}
 use Rattle.larch_calculus.proofs.Renamed.{Known, Same, renamed_statement_over, same_operator, statement_itself}

@@ -6,11 +6,10 @@ use Rattle.larch_base.proofs.Bools.{true_or_false}
 use Rattle.larch_base.proofs.Lists.{all_from}
 use Rattle.larch_base.proofs.Members.{contains_left, contains_right, contains_either}
 use Rattle.larch_term.specs.Operator.{PlainOperator}
-use Rattle.larch_term.specs.Truth.{bool_sort}
+use Rattle.larch_term.specs.BuiltIn.{bool_sort, built_in}
 use Rattle.larch_term.specs.Tree.{Tree, Forest, var, app, none, more}
-use Rattle.larch_term.specs.Sorts.{sort_of, sorts_of, WellSorted, AllWellSorted, IsOver, AllOver, IsKnown}
-use Rattle.larch_term.specs.BuiltIn.{built_in}
-use Rattle.larch_term.specs.Statement.{IsStatementOver, statement_zero}
+use Rattle.larch_term.specs.Sorts.{sort_of, sorts_of, WellSorted, AllWellSorted, IsOver, AllOver, IsKnown, IsTermOver}
+use Rattle.larch_term.specs.Statement.{IsStatementOver, statement_zero, IsWellSortedTheory}
 use Rattle.larch_term.specs.Substitution.{Fits}
 use Rattle.larch_term.specs.declared.built_in.BuiltIn.TheVariants.{True, False, And, Implies}
 use Rattle.larch_term.specs.declared.variable.Variable.{Variable}
@@ -18,8 +17,9 @@ use Rattle.larch_term.specs.declared.statement.Statement.{Statement}
 use Rattle.larch_term.specs.declared.statement.Statement.TheVariants.{Equation, Generated, Partitioned}
 use Rattle.larch_term.specs.declared.statement.Theory.{Theory}
 use Rattle.larch_term.proofs.SubstitutionLaws.{substituted_sort, substituted_well_sorted, substituted_over}
-use Rattle.larch_calculus.specs.Formula.{constant, applied, joined, truth, falsity, conjunction, implication}
-use Rattle.larch_calculus.specs.Theories.{IsTermOver, IsTermOf, IsWellSortedTheory, IsIncluded, AreConstants, extended, with_statements}
+use Rattle.larch_calculus.specs.Formula.{constant, applied, joined, falsity, conjunction, implication}
+use Rattle.larch_term.specs.Truth.{truth}
+use Rattle.larch_calculus.specs.Theories.{IsTermOf, IsIncluded, AreConstants, extended, with_statements}
 use Rattle.larch_calculus.specs.Generation.{variables_from, variable_terms, holding, conjoined, implied_by, generation_formula, generation_hypotheses, only, equation_at, induction_hypotheses}
 
 -- operators known among some are known among others

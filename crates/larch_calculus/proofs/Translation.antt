@@ -5,18 +5,19 @@ use Rattle.std.proofs.lemmas.List.Elements.{All-nil, All-cons, All-map, All-weak
 use Rattle.larch_base.proofs.Members.{contains_here, contains_later, contains_right, contains_either, contains_cases, contains_map, got_in_map, got_contains}
 use Rattle.larch_base.proofs.Lists.{map_map}
 use Rattle.larch_term.specs.Operator.{OperatorName, PlainOperator}
-use Rattle.larch_term.specs.Truth.{bool_sort}
+use Rattle.larch_term.specs.BuiltIn.{bool_sort}
 use Rattle.larch_term.specs.Tree.{Tree, var, app}
-use Rattle.larch_term.specs.Occurrence.{occurrences}
-use Rattle.larch_term.specs.Sorts.{sort_of, IsKnown}
-use Rattle.larch_term.specs.Statement.{IsStatementOver, statement_zero}
+use Rattle.larch_term.specs.Variable.{occurrences}
+use Rattle.larch_term.specs.Sorts.{sort_of, IsKnown, IsTermOver}
+use Rattle.larch_term.specs.Statement.{IsStatementOver, statement_zero, IsWellSortedTheory}
 use Rattle.larch_term.specs.declared.variable.Variable.{Variable}
 use Rattle.larch_term.specs.declared.statement.Statement.{Statement}
 use Rattle.larch_term.specs.declared.statement.Statement.TheVariants.{Equation, Generated, Partitioned}
 use Rattle.larch_term.specs.declared.statement.Theory.{Theory}
-use Rattle.larch_calculus.specs.Formula.{constant, applied, truth, falsity}
+use Rattle.larch_calculus.specs.Formula.{constant, applied, falsity}
+use Rattle.larch_term.specs.Truth.{truth}
 use Rattle.larch_calculus.specs.Identity.{IsIdentity}
-use Rattle.larch_calculus.specs.Theories.{IsTermOver, IsWellSortedTheory, IsIncluded, AreNew, AreConstants, extended, with_statements}
+use Rattle.larch_calculus.specs.Theories.{IsIncluded, AreNew, AreConstants, extended, with_statements}
 use Rattle.larch_calculus.specs.Observation.{Observation, observed, observations_of, observations, other_variables}
 use Rattle.larch_calculus.specs.Generation.{place_name, generation_hypotheses, constant_terms, equation_at, induction_hypotheses}
 use Rattle.larch_calculus.specs.Induction.{Derived, IsClosed, by_rules}

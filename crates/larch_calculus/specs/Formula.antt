@@ -2,11 +2,11 @@
 use Rattle.std.specs.Prelude.{ℕ, cond, List, bytes_eq}
 use Rattle.larch_term.specs.Operator.{PlainOperator}
 use Rattle.larch_term.specs.Tree.{Tree, app, none, more}
-use Rattle.larch_term.specs.Truth.{bool_sort}
+use Rattle.larch_term.specs.BuiltIn.{bool_sort, built_in}
 use Rattle.larch_term.specs.Sorts.{sort_of}
-use Rattle.larch_term.specs.Print.{is_truth}
-use Rattle.larch_term.specs.BuiltIn.{built_in}
+use Rattle.larch_term.specs.Truth.{is_truth}
 use Rattle.larch_term.specs.declared.built_in.BuiltIn.TheVariants.{True, False, Not, And, Or, Implies, Iff, Equal, Unequal, If}
+pub use Rattle.larch_term.specs.Truth.{truth}
 
 -- an operator without arguments
 abbrev pub constant : PlainOperator → Tree
@@ -19,9 +19,6 @@ applied f t = app f (more t none)
 -- an operator of two arguments
 abbrev pub joined : PlainOperator → Tree → Tree → Tree
 joined f t u = app f (more t (more u none))
-
-abbrev pub truth : Tree
-truth = constant (built_in True bool_sort)
 
 abbrev pub falsity : Tree
 falsity = constant (built_in False bool_sort)

@@ -8,7 +8,8 @@ use Rattle.larch_term.specs.declared.substitution.Entry.{Entry}
 use Rattle.larch_term.specs.declared.variable.Variable.{Variable}
 use Rattle.larch_term.specs.declared.statement.Statement.{Statement}
 use Rattle.larch_term.specs.declared.statement.Statement.TheVariants.{Equation}
-use Rattle.larch_calculus.specs.Formula.{constant, applied, truth, conjunction, implication}
+use Rattle.larch_calculus.specs.Formula.{constant, applied, conjunction, implication}
+use Rattle.larch_term.specs.Truth.{truth}
 
 -- x1, x2, ..
 abbrev pub place_name : ℕ → List ℕ

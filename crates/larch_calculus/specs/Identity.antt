@@ -1,8 +1,9 @@
 -- Identities: equations between built-in terms that hold by the meaning of the built-in operators alone.
 use Rattle.std.specs.Prelude.{◌≡◌, ℕ, Bool, true, false, not, ◌&&◌, ◌||◌, cond, if◌then◌else◌, List, refl}
 use Rattle.larch_term.specs.Tree.{Tree, var}
-use Rattle.larch_term.specs.Truth.{bool_sort}
-use Rattle.larch_calculus.specs.Formula.{truth, falsity, negation, conjunction, disjunction, implication, equivalence, equality, inequality, choice}
+use Rattle.larch_term.specs.BuiltIn.{bool_sort}
+use Rattle.larch_calculus.specs.Formula.{falsity, negation, conjunction, disjunction, implication, equivalence, equality, inequality, choice}
+use Rattle.larch_term.specs.Truth.{truth}
 
 -- a term whose variables are of sort Bool and whose operators are the built-in ones over Bool
 pub data Proposition : Type 0 where

@@ -3,20 +3,21 @@ use Rattle.std.specs.Prelude.{◌≡◌, ℕ, List, [], ◌∷◌, map, All, Con
 use Rattle.std.specs.List.{slice_get}
 use Rattle.larch_term.specs.Operator.{PlainOperator}
 use Rattle.larch_term.specs.Tree.{Tree, var, app}
-use Rattle.larch_term.specs.Truth.{bool_sort}
-use Rattle.larch_term.specs.Sorts.{sort_of, IsOver}
+use Rattle.larch_term.specs.BuiltIn.{bool_sort}
+use Rattle.larch_term.specs.Sorts.{sort_of, IsOver, IsTermOver}
 use Rattle.larch_term.specs.Place.{at, put}
-use Rattle.larch_term.specs.Occurrence.{occurrences}
+use Rattle.larch_term.specs.Variable.{occurrences}
 use Rattle.larch_term.specs.Substitution.{substituted, Fits}
-use Rattle.larch_term.specs.Statement.{IsStatementOver, statement_zero}
+use Rattle.larch_term.specs.Statement.{IsStatementOver, statement_zero, IsWellSortedTheory}
 use Rattle.larch_term.specs.declared.substitution.Entry.{Entry}
 use Rattle.larch_term.specs.declared.variable.Variable.{Variable}
 use Rattle.larch_term.specs.declared.statement.Statement.{Statement}
 use Rattle.larch_term.specs.declared.statement.Statement.TheVariants.{Equation, Generated, Partitioned}
 use Rattle.larch_term.specs.declared.statement.Theory.{Theory}
-use Rattle.larch_calculus.specs.Formula.{truth, falsity, constant, applied, equality}
+use Rattle.larch_calculus.specs.Formula.{falsity, constant, applied, equality}
+use Rattle.larch_term.specs.Truth.{truth}
 use Rattle.larch_calculus.specs.Identity.{IsIdentity}
-use Rattle.larch_calculus.specs.Theories.{IsTermOver, IsWellSortedTheory, with_statements, extended, IsIncluded, AreNew, AreConstants}
+use Rattle.larch_calculus.specs.Theories.{with_statements, extended, IsIncluded, AreNew, AreConstants}
 use Rattle.larch_calculus.specs.Observation.{Observation, observations_of, observed, other_variables, observations}
 use Rattle.larch_calculus.specs.Generation.{place_name, generation_hypotheses, constant_terms, equation_at, induction_hypotheses}
 use Rattle.larch_calculus.specs.Freed.{freed}

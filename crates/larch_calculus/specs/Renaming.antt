@@ -8,7 +8,7 @@ use Rattle.larch_term.specs.declared.statement.Statement.{Statement}
 use Rattle.larch_term.specs.declared.statement.Statement.TheVariants.{Equation, Generated, Partitioned}
 use Rattle.larch_term.specs.declared.statement.Theory.{Theory}
 use Rattle.larch_calculus.specs.Derivable.{Derivable}
-use Rattle.larch_calculus.specs.Theories.{IsWellSortedTheory}
+use Rattle.larch_term.specs.Statement.{IsWellSortedTheory}
 
 -- the operator with another name
 abbrev pub renamed_operator : (OperatorName → OperatorName) → PlainOperator → PlainOperator

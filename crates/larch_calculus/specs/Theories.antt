@@ -6,18 +6,12 @@ use Rattle.larch_term.specs.Sorts.{sort_of, WellSorted, IsOver, IsKnown}
 use Rattle.larch_term.specs.Statement.{IsStatementOver}
 use Rattle.larch_term.specs.declared.statement.Statement.{Statement}
 use Rattle.larch_term.specs.declared.statement.Theory.{Theory}
-
--- a well sorted term over operators
-abbrev pub IsTermOver : List PlainOperator → Tree → Type 0
-IsTermOver fs t = WellSorted t × IsOver fs t
+pub use Rattle.larch_term.specs.Sorts.{IsTermOver}
+pub use Rattle.larch_term.specs.Statement.{IsWellSortedTheory}
 
 -- a well sorted term of a sort
 abbrev pub IsTermOf : List PlainOperator → List ℕ → Tree → Type 0
 IsTermOf fs s t = IsTermOver fs t × (sort_of t ≡ s)
-
--- each statement of the theory is well sorted over its operators
-abbrev pub IsWellSortedTheory : Theory → Type 0
-IsWellSortedTheory t = All (IsStatementOver t.operators) t.statements
 
 -- the theory with more statements behind its own
 abbrev pub with_statements : Theory → List Statement → Theory

@@ -1,26 +1,27 @@
 //! What holds of all derivations, for crates above to cite. No function here does anything.
 ghost use Rattle.std.specs.Prelude.{◌≡◌, ◌↔◌, ◌<◌, ◌≤◌, ℕ, List, [], ◌∷◌, ◌++◌, map, All, Contains, Some};
 ghost use Rattle.larch_term.specs.Operator.{OperatorName, PlainOperator};
-ghost use Rattle.larch_term.specs.Occurrence.{occurrences};
+ghost use Rattle.larch_term.specs.Variable.{occurrences};
 ghost use Rattle.larch_term.specs.Place.{at, put};
-ghost use Rattle.larch_term.specs.Sorts.{sort_of, IsOver};
-ghost use Rattle.larch_term.specs.Statement.{IsStatementOver, IsTheory, statement_zero};
+ghost use Rattle.larch_term.specs.Sorts.{sort_of, IsOver, IsTermOver};
+ghost use Rattle.larch_term.specs.Statement.{IsStatementOver, IsTheory, statement_zero, IsWellSortedTheory};
 ghost use Rattle.larch_term.specs.Substitution.{substituted};
 ghost use Rattle.larch_term.specs.Tree.{Tree};
-ghost use Rattle.larch_term.specs.Truth.{bool_sort};
+ghost use Rattle.larch_term.specs.BuiltIn.{bool_sort};
 ghost use Rattle.larch_term.specs.declared.variable.Variable.{Variable};
 ghost use Rattle.larch_term.specs.declared.statement.Statement.{Statement};
 ghost use Rattle.larch_term.specs.declared.statement.Statement.TheVariants.{Equation, Generated, Partitioned};
 ghost use Rattle.larch_term.specs.declared.statement.Theory.{Theory};
 ghost use Rattle.larch_calculus.specs.Boxes.{constants_from, IsOlder};
 ghost use Rattle.larch_calculus.specs.Derivable.{Derivable, AreArguments};
-ghost use Rattle.larch_calculus.specs.Formula.{constant, applied, joined, truth, falsity, implication, formula};
+ghost use Rattle.larch_calculus.specs.Formula.{constant, applied, joined, falsity, implication, formula};
+ghost use Rattle.larch_term.specs.Truth.{truth};
 ghost use Rattle.larch_calculus.specs.Freed.{freed, constants_for};
 ghost use Rattle.larch_calculus.specs.Generation.{generation_hypotheses, induction_hypotheses};
 ghost use Rattle.larch_calculus.specs.Identity.{IsIdentity};
 ghost use Rattle.larch_calculus.specs.Observation.{observations};
 ghost use Rattle.larch_calculus.specs.Renaming.{renamed_operator, renamed_statement, renamed_theory, KeepsBuiltIn, RenamesBoxes, HasPlainNames, IsTranslation};
-ghost use Rattle.larch_calculus.specs.Theories.{IsTermOver, IsTermOf, IsWellSortedTheory, IsIncluded, IsPrefix, AreNew, AreConstants, with_statements, extended};
+ghost use Rattle.larch_calculus.specs.Theories.{IsTermOf, IsIncluded, IsPrefix, AreNew, AreConstants, with_statements, extended};
 
 /// An identity is well sorted, whatever the operators are.
 pub fn identity_is_well_sorted()

@@ -19,7 +19,7 @@ use Rattle.larch_term.specs.declared.statement.Statement.TheVariants.{Generated,
 use Rattle.larch_sorts.specs.Answers.{read_equation}
 use Rattle.larch_operators.specs.ExistingSorts.{exists_sort}
 use Rattle.larch_sorts.specs.Readings.{Variables}
-use Rattle.larch_operators.specs.Same.{same_operator}
+use Rattle.larch_term.specs.Equality.{same_operator}
 use Rattle.larch_sorts.specs.declared.refusal.ReadRefusal.{ReadRefusal}
 use Rattle.larch_sorts.specs.declared.refusal.ReadRefusal.TheVariants as read_
 use Rattle.larch_items.specs.Declarations.{Fault, fault_at, first_place, operator_of}

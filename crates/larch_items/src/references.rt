@@ -1,7 +1,7 @@
 ghost use Rattle.std.specs.Prelude.{◌≡◌, ◌&&◌, ◌||◌, not, Ok, IfErr, IfOk, find, option_map};
 ghost use Rattle.std.specs.List.{list_all};
 ghost use Rattle.std.specs.Option.{option_copied};
-ghost use Rattle.larch_operators.specs.Same.{same_operator};
+ghost use Rattle.larch_term.specs.Equality.{same_operator};
 ghost use Rattle.larch_items.specs.Clauses.{clause_code, suits};
 ghost use Rattle.larch_items.specs.Declarations.{operator_of};
 ghost use Rattle.larch_items.specs.Items.{names, only_operator, operators_named, takes};

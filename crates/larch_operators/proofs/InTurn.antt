@@ -1,8 +1,7 @@
 -- The built-in operators put in turn are all.
 use Rattle.std.proofs.Common.{◌≡◌, ℕ, List, ◌++◌, map, ap, ◌∙◌, append_assoc}
-use Rattle.larch_term.specs.BuiltIn.{built_in}
+use Rattle.larch_term.specs.BuiltIn.{built_in, bool_sort}
 use Rattle.larch_term.specs.Operator.{PlainOperator}
-use Rattle.larch_term.specs.Truth.{bool_sort}
 use Rattle.larch_term.specs.declared.built_in.BuiltIn.TheVariants.{Equal, Unequal, If}
 use Rattle.larch_operators.specs.BuiltIns.{built_ins_at, propositional}
 

@@ -1,3 +1,3 @@
-pub mod BuiltIns
+-- Lemmas.
 pub mod InTurn
 pub mod Same

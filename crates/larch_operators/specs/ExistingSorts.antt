@@ -2,7 +2,7 @@
 use Rattle.std.specs.Prelude.{ℕ, Bool, cond, List, [], ◌∷◌, ◌++◌, fold, bytes_eq}
 use Rattle.std.specs.List.{list_any, flat_map}
 use Rattle.larch_term.specs.Operator.{PlainOperator}
-use Rattle.larch_term.specs.Truth.{bool_sort}
+use Rattle.larch_term.specs.BuiltIn.{bool_sort}
 
 -- the sorts with one more behind them, unless it is there
 abbrev pub with_sort : List (List ℕ) → List ℕ → List (List ℕ)

@@ -1,6 +1,5 @@
 ghost use Rattle.std.specs.Prelude.{◌≡◌, ◌++◌, map, OnOk};
-ghost use Rattle.larch_term.specs.BuiltIn.{built_in};
-ghost use Rattle.larch_term.specs.Truth.{bool_sort};
+ghost use Rattle.larch_term.specs.BuiltIn.{built_in, bool_sort};
 ghost use Rattle.larch_operators.specs.BuiltIns.{built_ins_at, propositional};
 
 use larch_base::Memory;

@@ -3,7 +3,6 @@
 #![tactic(auto)]
 
 mod built_ins;
-pub mod laws;
 mod sorts;
 
 pub use built_ins::push_built_ins;

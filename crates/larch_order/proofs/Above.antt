@@ -7,10 +7,10 @@ use Rattle.larch_term.specs.Tree.{Tree, Forest, var, app, none, more, list_of, n
 use Rattle.larch_order.specs.declared.precedence.Ranked.{Ranked}
 use Rattle.larch_order.specs.declared.precedence.Way.{Way}
 use Rattle.larch_order.specs.declared.precedence.Way.TheVariants.{LeftToRight, RightToLeft, Multiset}
-use Rattle.larch_operators.specs.Same.{same_tree, same_operator}
+use Rattle.larch_term.specs.Equality.{same_tree, same_operator}
 use Rattle.larch_order.specs.Precedence.{above, status_of}
 use Rattle.larch_order.specs.Greater.{greater, count_of, remains, some_reaches, some_beats, first_greater, last_greater, multiset_greater, by_status, heads_beat}
-use Rattle.larch_operators.proofs.Same.{tree_Decides, operator_Decides}
+use Rattle.larch_term.proofs.Decided.{tree_Decides, operator_Decides}
 use Rattle.larch_order.proofs.Ordering.{reached_by}
 use Rattle.larch_order.proofs.OrderingLaws.{reaches_is, greater_than_application}
 use Rattle.larch_order.proofs.Multisets.{In, count_is, in_from_count, Remains, MultisetAbove}

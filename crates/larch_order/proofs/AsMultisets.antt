@@ -8,14 +8,13 @@ use Rattle.larch_term.specs.Tree.{Tree, app, forest_of}
 use Rattle.larch_order.specs.declared.precedence.Ranked.{Ranked}
 use Rattle.larch_order.specs.declared.precedence.Way.TheVariants.{Multiset}
 use Rattle.larch_order.specs.declared.greater.Comparison.TheVariants.{Above, Neither}
-use Rattle.larch_operators.specs.Same.{same_tree}
-use Rattle.larch_order.specs.Greater.{greater, comparison, multiset_greater, remains, count_of, some_reaches, some_beats}
+use Rattle.larch_term.specs.Equality.{same_tree}
+use Rattle.larch_order.specs.Greater.{greater, comparison, multiset_greater, remains, count_of, some_reaches, some_beats, OneHead}
 use Rattle.larch_order.proofs.Irreflexive.{transitive}
-use Rattle.larch_operators.proofs.Same.{tree_Decides}
+use Rattle.larch_term.proofs.Decided.{tree_Decides}
 use Rattle.larch_order.proofs.Bools.{and_left, and_right, and_both, and_not_left, and_not_right, or_left, or_right, or_known_left}
 use Rattle.larch_order.proofs.Below.{same_refl, below_is_other, arguments_below, reacher_above}
 use Rattle.larch_order.proofs.Comparing.{allowed, forbidden, beat, beat_multiset, stands}
-use Rattle.larch_order.specs.Greater.{OneHead}
 
 all_where : (p q : Tree → Bool) (xs : List Tree) → ((x : Tree) → p x ≡ true → q x ≡ true) → list_all p xs ≡ true → list_all q xs ≡ true
 all_where p q [] h e = refl

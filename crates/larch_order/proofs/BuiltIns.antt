@@ -3,13 +3,11 @@ use Rattle.std.proofs.Common.{◌≡◌, ℕ, suc, ◌+◌, ◌≤◌, ◌<◌, 
 use Rattle.std.specs.List.{list_any}
 use Rattle.std.proofs.lemmas.List.Folds.{list_any-append}
 use Rattle.std.proofs.lemmas.Bool.Decides.{same_from_decides}
-use Rattle.std.proofs.lemmas.List.{take_more, length-take-le}
+use Rattle.std.proofs.lemmas.List.{take_more, length-take-le, map-append}
 use Rattle.larch_term.specs.Operator.{PlainOperator}
-use Rattle.larch_term.specs.BuiltIn.{IsBuiltIn}
-use Rattle.std.proofs.lemmas.List.{map-append}
+use Rattle.larch_term.specs.BuiltIn.{IsBuiltIn, is_built_in}
 use Rattle.larch_order.specs.declared.precedence.Ranked.{Ranked}
-use Rattle.larch_operators.specs.BuiltIns.{is_built_in}
-use Rattle.larch_operators.proofs.BuiltIns.{is_built_in_Decides}
+use Rattle.larch_term.proofs.BuiltIns.{is_built_in_Decides}
 use Rattle.larch_order.specs.Precedence.{unranked, above_built_ins}
 
 or_true : (a b : Bool) → a ≡ true → (a || b) ≡ true

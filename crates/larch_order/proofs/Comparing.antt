@@ -13,9 +13,9 @@ use Rattle.larch_order.specs.declared.precedence.Way.TheVariants.{LeftToRight, R
 use Rattle.larch_order.specs.declared.greater.Comparison.{Comparison}
 use Rattle.larch_order.specs.declared.greater.Comparison.TheVariants.{Same, Above, Neither}
 use Rattle.larch_order.specs.Precedence.{above, status_of}
-use Rattle.larch_operators.specs.Same.{same_tree, same_operator}
+use Rattle.larch_term.specs.Equality.{same_tree, same_operator}
 use Rattle.larch_order.specs.Greater.{OneHead, greater, comparison, is_above, reaches, head_beats, heads_beat, multiset_greater, some_reaches, first_greater, last_greater, some_beats}
-use Rattle.larch_operators.proofs.Same.{tree_Decides, operator_Decides}
+use Rattle.larch_term.proofs.Decided.{tree_Decides, operator_Decides}
 use Rattle.larch_order.proofs.Ordering.{above_each, parts_fall}
 use Rattle.larch_order.proofs.Irreflexive.{irreflexive}
 use Rattle.larch_order.proofs.Bools.{agree, and_both, or_right}

@@ -10,9 +10,9 @@ use Rattle.larch_order.specs.declared.precedence.Ranked.{Ranked}
 use Rattle.larch_order.specs.declared.precedence.Way.TheVariants.{LeftToRight}
 use Rattle.larch_order.specs.declared.greater.Comparison.TheVariants.{Same, Above, Neither}
 use Rattle.larch_order.specs.Precedence.{status_of}
-use Rattle.larch_operators.specs.Same.{same_tree}
+use Rattle.larch_term.specs.Equality.{same_tree}
 use Rattle.std.proofs.lemmas.Bool.{false_from_ne_true, false≢true}
-use Rattle.larch_operators.proofs.Same.{tree_Decides}
+use Rattle.larch_term.proofs.Decided.{tree_Decides}
 use Rattle.larch_order.specs.Greater.{OneHead, greater, comparison, some_reaches, first_greater}
 use Rattle.larch_order.proofs.Irreflexive.{transitive}
 use Rattle.larch_order.proofs.Bools.{and_left, and_right, and_known_left, or_both, or_known_left, or_assoc}

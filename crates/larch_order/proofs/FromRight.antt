@@ -11,11 +11,11 @@ use Rattle.larch_order.specs.declared.precedence.Ranked.{Ranked}
 use Rattle.larch_order.specs.declared.precedence.Way.TheVariants.{RightToLeft}
 use Rattle.larch_order.specs.declared.greater.Comparison.TheVariants.{Same, Above, Neither}
 use Rattle.larch_order.specs.Precedence.{status_of}
-use Rattle.larch_operators.specs.Same.{same_tree}
+use Rattle.larch_term.specs.Equality.{same_tree}
 use Rattle.larch_order.specs.Greater.{OneHead, greater, comparison, some_reaches, last_greater}
 use Rattle.larch_order.proofs.Irreflexive.{transitive}
 use Rattle.larch_order.proofs.Ordering.{suc_inj, last_greater_cons, last_greater_unequal}
-use Rattle.larch_operators.proofs.Same.{tree_Decides}
+use Rattle.larch_term.proofs.Decided.{tree_Decides}
 use Rattle.larch_order.proofs.Bools.{and_right, and_both, and_not_right, and_known_right, or_both, or_known_right}
 use Rattle.larch_order.proofs.Below.{same_refl, none_reaches}
 use Rattle.larch_order.proofs.Comparing.{allowed, forbidden, beat_last, stands, stands_same, told_same, told_above, told_neither}

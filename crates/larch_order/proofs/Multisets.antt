@@ -4,9 +4,9 @@ use Rattle.std.proofs.lemmas.Bool.{cond-true, cond-false, cases_Bool, cases_lt, 
 use Rattle.std.proofs.lemmas.Bool.Decides.{not_from_Decides}
 use Rattle.std.proofs.lemmas.List.Recursion.{is_sum_by}
 use Rattle.larch_term.specs.Tree.{Tree}
-use Rattle.larch_operators.specs.Same.{same_tree}
+use Rattle.larch_term.specs.Equality.{same_tree}
 use Rattle.larch_order.specs.Greater.{count_of}
-use Rattle.larch_operators.proofs.Same.{tree_Decides}
+use Rattle.larch_term.proofs.Decided.{tree_Decides}
 
 -- whether a term stands in a list
 abbrev pub In : List Tree → Tree → Type 0

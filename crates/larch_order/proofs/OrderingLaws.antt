@@ -5,9 +5,9 @@ use Rattle.larch_term.specs.Operator.{PlainOperator}
 use Rattle.larch_term.specs.Tree.{Tree, Forest, var, app, none, more, list_of}
 use Rattle.larch_term.specs.Place.{at, argument}
 use Rattle.larch_order.specs.declared.precedence.Ranked.{Ranked}
-use Rattle.larch_operators.specs.Same.{same_tree}
+use Rattle.larch_term.specs.Equality.{same_tree}
 use Rattle.larch_order.specs.Greater.{greater, some_reaches, heads_beat}
-use Rattle.larch_operators.proofs.Same.{tree_Decides}
+use Rattle.larch_term.proofs.Decided.{tree_Decides}
 use Rattle.larch_order.proofs.Ordering.{reached_by, above_each}
 
 -- an application is greater than a term by one of three cases

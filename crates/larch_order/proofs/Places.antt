@@ -9,7 +9,7 @@ use Rattle.larch_term.specs.Operator.{PlainOperator}
 use Rattle.larch_order.specs.declared.precedence.Ranked.{Ranked}
 use Rattle.larch_order.specs.declared.precedence.Way.{Way}
 use Rattle.larch_order.specs.Precedence.{is_of, place_of, with_status, with_status_at}
-use Rattle.larch_operators.proofs.Same.{operator_Decides}
+use Rattle.larch_term.proofs.Decided.{operator_Decides}
 
 -- the operator at its place
 pub operator_at : (ranks : List Ranked) (f : PlainOperator) (i : ℕ) (r : Ranked) → Some i ≡ place_of ranks f → r ≡ get_or ranks i r → r.operator ≡ f

@@ -10,10 +10,10 @@ use Rattle.larch_term.proofs.TreeLists.{forest_of-list_of}
 use Rattle.larch_order.specs.declared.precedence.Ranked.{Ranked}
 use Rattle.larch_order.specs.declared.precedence.Way.{Way}
 use Rattle.larch_order.specs.declared.precedence.Way.TheVariants.{LeftToRight, RightToLeft, Multiset}
-use Rattle.larch_operators.specs.Same.{same_tree}
+use Rattle.larch_term.specs.Equality.{same_tree}
 use Rattle.larch_order.specs.Precedence.{above, place_of, is_higher, status_of}
 use Rattle.larch_order.specs.Greater.{greater, first_greater, last_greater, heads_beat}
-use Rattle.larch_operators.proofs.Same.{tree_Decides}
+use Rattle.larch_term.proofs.Decided.{tree_Decides}
 use Rattle.larch_order.proofs.Multisets.{In, multiset_transitive}
 use Rattle.larch_order.proofs.Above.{HeadCases, ListsAbove, above_by_argument, above_by_heads, above_cases, heads_cases, heads_from, argument_nodes}
 

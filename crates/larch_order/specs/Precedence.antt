@@ -2,9 +2,10 @@
 use Rattle.std.specs.Prelude.{ℕ, ◌+◌, Bool, false, cond, nat_lt, List, [], ◌∷◌, ◌++◌, map, get_or, set, Option, Some, None, is_some}
 use Rattle.std.specs.List.{list_any, position, insert, remove}
 use Rattle.larch_term.specs.Operator.{PlainOperator}
-use Rattle.larch_operators.specs.BuiltIns.{built_ins_at, is_built_in}
+use Rattle.larch_operators.specs.BuiltIns.{built_ins_at}
+use Rattle.larch_term.specs.BuiltIn.{is_built_in}
 use Rattle.larch_operators.specs.ExistingSorts.{existing_sorts}
-use Rattle.larch_operators.specs.Same.{same_operator}
+use Rattle.larch_term.specs.Equality.{same_operator}
 use Rattle.larch_order.specs.declared.precedence.Way.{Way}
 use Rattle.larch_order.specs.declared.precedence.Way.TheVariants.{LeftToRight}
 use Rattle.larch_order.specs.declared.precedence.Ranked.{Ranked}

@@ -1,7 +1,7 @@
 ghost use Rattle.std.specs.Prelude.{◌≡◌, cond};
 ghost use Rattle.std.specs.List.{list_any, list_all};
 ghost use Rattle.larch_term.specs.Tree.{forest_of};
-ghost use Rattle.larch_operators.specs.Same.{same_tree};
+ghost use Rattle.larch_term.specs.Equality.{same_tree};
 ghost use Rattle.larch_order.specs.Greater.{OneHead, greater, comparison, is_above, reaches, multiset_greater, some_reaches, some_beats, remains, count_of};
 
 use crate::precedence::{Precedence, Way, is_same};

@@ -7,7 +7,7 @@ ghost use Rattle.larch_term.specs.Substitution.{substituted};
 ghost use Rattle.larch_term.specs.Tree.{Tree, Forest, var, app, list_of};
 ghost use Rattle.larch_term.specs.declared.substitution.Entry.{Entry};
 ghost use Rattle.larch_order.specs.Greater.{greater, heads_beat};
-ghost use Rattle.larch_operators.specs.Same.{same_tree};
+ghost use Rattle.larch_term.specs.Equality.{same_tree};
 ghost use Rattle.larch_order.specs.declared.precedence.Ranked.{Ranked};
 
 /// The cases of the ordering: a variable is greater than nothing. An application is greater than a term where one

@@ -2,8 +2,8 @@ ghost use Rattle.std.specs.Prelude.{◌≡◌, ◌↔◌, ◌⊎◌, ◌≤◌, 
 ghost use Rattle.std.specs.List.{insert, remove};
 ghost use Rattle.larch_order.specs.declared.precedence.Ranked.{Ranked};
 ghost use Rattle.larch_order.specs.Precedence.{has, place_of, status_of, above, above_built_ins, with_constant, raised, with_status};
-ghost use Rattle.larch_operators.specs.BuiltIns.{is_built_in};
-ghost use Rattle.larch_operators.specs.Same.{same_operator};
+ghost use Rattle.larch_term.specs.BuiltIn.{is_built_in};
+ghost use Rattle.larch_term.specs.Equality.{same_operator};
 ghost use Rattle.larch_order.specs.declared.precedence.OrderRefusal.TheVariants.{Memory as wants_memory};
 
 use larch_base::Memory;
@@ -180,7 +180,7 @@ fn move_up(ranks: &mut [Ranked], from: usize, to: usize)
 }
 
 // Whether two operators are equal, as the definitions test it.
-#[tactic(auto, using(larch_operators::proofs::Same::operators_told))]
+#[tactic(auto, using(larch_term::proofs::Decided::operators_told))]
 pub(crate) fn is_same(left: &Operator, right: &Operator) -> bool
     ensures { result ≡ same_operator left.now right.now }
 {

@@ -14,8 +14,8 @@ use Rattle.larch_sorts.specs.declared.found.Found.TheVariants.{One, Several}
 use Rattle.larch_sorts.specs.declared.refusal.ReadRefusal.{ReadRefusal}
 use Rattle.larch_sorts.specs.declared.refusal.ReadRefusal.TheVariants.{UnknownSort, NoReading, Ambiguous, Memory}
 use Rattle.larch_sorts.proofs.Parts.{equation_parts, lone_parts, all_parts_have, first_part}
-use Rattle.larch_operators.specs.Same.{same_statement}
-use Rattle.larch_operators.proofs.Same.{statement_Decides}
+use Rattle.larch_term.specs.Equality.{same_statement}
+use Rattle.larch_term.proofs.Decided.{statement_Decides}
 use Rattle.larch_sorts.proofs.Answers.{decided, answer_found}
 use Rattle.larch_sorts.proofs.Listed.{equation_listed, equation_reads}
 use Rattle.larch_sorts.proofs.ReadAnswers.{equation_unknown, equation_unread, term_unknown, term_unread, term_found}

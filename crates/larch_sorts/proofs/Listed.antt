@@ -6,18 +6,19 @@ use Rattle.larch_base.specs.declared.position.Pos.{Pos}
 use Rattle.larch_raw.specs.RawTree.{RawTree, RawForest, apply, qualified, no_more, one_more}
 use Rattle.larch_raw.specs.declared.equation.RawRight.{RawRight}
 use Rattle.larch_raw.specs.declared.equation.RawEquation.{RawEquation}
-use Rattle.larch_term.specs.Truth.{bool_sort}
+use Rattle.larch_term.specs.BuiltIn.{bool_sort}
 use Rattle.larch_term.specs.declared.statement.Statement.{Statement}
 use Rattle.larch_term.specs.declared.statement.Statement.TheVariants.{Equation, Generated, Partitioned}
 use Rattle.larch_term.specs.Operator.{PlainOperator, plain}
 use Rattle.larch_term.specs.Sorts.{sort_of, sorts_of}
 use Rattle.larch_term.specs.Tree.{Tree, Forest, var, app, none, more}
 use Rattle.larch_sorts.specs.Operators.{taking_part}
-use Rattle.larch_sorts.specs.Readings.{Variables, variable_sort, Reads, a_variable, an_operator, of_sort, AllRead, all_read, one_read, ReadsRight, ReadsEquation, ReadsLone, truth}
+use Rattle.larch_sorts.specs.Readings.{Variables, variable_sort, Reads, a_variable, an_operator, of_sort, AllRead, all_read, one_read, ReadsRight, ReadsEquation, ReadsLone}
+use Rattle.larch_term.specs.Truth.{truth}
 use Rattle.larch_sorts.specs.ReadingLists.{readings, choices, applied, have_sorts, variable_or, right_readings, equation_readings, lone_readings}
-use Rattle.larch_operators.specs.Same.{same_name}
+use Rattle.larch_term.specs.Equality.{same_name}
 use Rattle.larch_sorts.proofs.Members.{contains_here, contains_one, contains_none, contains_map, contained_in_map, contains_flat_map, contained_in_flat_map, contains_filter, contained_in_filter}
-use Rattle.larch_operators.proofs.Same.{name_Decides, sorts_Decides}
+use Rattle.larch_term.proofs.Decided.{name_Decides, sorts_Decides}
 
 applied_to : (n : List ℕ) (us : List Forest) (f : PlainOperator) (ts : Forest) → f.name ≡ plain n → Contains us ts → sorts_of ts ≡ f.domain → Contains (applied n us f) (app f ts)
 applied_to n us f ts e c d =

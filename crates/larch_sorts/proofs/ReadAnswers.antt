@@ -12,7 +12,7 @@ use Rattle.larch_sorts.specs.Answers.{first_unread, read_equation, read_term, Re
 use Rattle.larch_sorts.specs.Places.{unknown_sort, Stands}
 use Rattle.larch_sorts.specs.Readings.{Variables, ReadsEquation, ReadsLone, IsOnly, IsNone}
 use Rattle.larch_sorts.specs.ReadingLists.{equation_readings, lone_readings}
-use Rattle.larch_operators.specs.Same.{same_tree, same_statement}
+use Rattle.larch_term.specs.Equality.{same_tree, same_statement}
 use Rattle.larch_sorts.specs.Tables.{Tells, Unread, ReadsSides}
 use Rattle.larch_sorts.specs.declared.found.Found.{Found}
 use Rattle.larch_sorts.specs.declared.found.Found.TheVariants.{One, Several}
@@ -21,7 +21,7 @@ use Rattle.larch_sorts.specs.declared.refusal.ReadRefusal.{ReadRefusal}
 use Rattle.larch_sorts.specs.declared.refusal.ReadRefusal.TheVariants.{UnknownSort, NoReading, Ambiguous, Memory}
 use Rattle.larch_sorts.proofs.Answers.{decided, answer_unknown, answer_unread, answer_found, answer_ok, answer_err}
 use Rattle.larch_sorts.proofs.Listed.{equation_listed, equation_reads, lone_listed, lone_reads}
-use Rattle.larch_operators.proofs.Same.{tree_Decides, statement_Decides}
+use Rattle.larch_term.proofs.Decided.{tree_Decides, statement_Decides}
 use Rattle.larch_sorts.proofs.Sorted.{well_sorted, in_scope, statement_over, statement_in_scope}
 
 -- sides as an equation

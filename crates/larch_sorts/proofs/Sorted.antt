@@ -4,13 +4,12 @@ use Rattle.std.proofs.lemmas.List.Elements.{All-nil, All-cons, All-append}
 use Rattle.larch_raw.specs.RawTree.{RawTree, RawForest, apply, qualified, no_more, one_more}
 use Rattle.larch_raw.specs.declared.equation.RawRight.{RawRight}
 use Rattle.larch_raw.specs.declared.equation.RawEquation.{RawEquation}
-use Rattle.larch_term.specs.BuiltIn.{IsBuiltIn, built_in}
-use Rattle.larch_term.specs.Occurrence.{occurrences, occurrences_in}
+use Rattle.larch_term.specs.BuiltIn.{IsBuiltIn, built_in, bool_sort}
+use Rattle.larch_term.specs.Variable.{occurrences, occurrences_in}
 use Rattle.larch_term.specs.Operator.{PlainOperator}
 use Rattle.larch_term.specs.Sorts.{sort_of, WellSorted, AllWellSorted, IsKnown, IsOver, AllOver}
 use Rattle.larch_term.specs.Statement.{IsStatementOver}
 use Rattle.larch_term.specs.Tree.{Tree, Forest, var, app, none, more}
-use Rattle.larch_term.specs.Truth.{bool_sort}
 use Rattle.larch_term.specs.declared.built_in.BuiltIn.{BuiltIn}
 use Rattle.larch_term.specs.declared.built_in.BuiltIn.TheVariants.{True, Equal, Unequal, If}
 use Rattle.larch_term.specs.declared.statement.Statement.{Statement}
@@ -19,7 +18,8 @@ use Rattle.larch_sorts.specs.Answers.{HasVariablesOf, IsInScope}
 use Rattle.larch_operators.specs.BuiltIns.{built_ins_at, propositional}
 use Rattle.larch_operators.specs.ExistingSorts.{existing_sorts}
 use Rattle.larch_sorts.specs.Operators.{taking_part}
-use Rattle.larch_sorts.specs.Readings.{Variables, sort_in, variable_sort, Reads, a_variable, an_operator, of_sort, AllRead, all_read, one_read, ReadsRight, ReadsEquation, truth}
+use Rattle.larch_sorts.specs.Readings.{Variables, sort_in, variable_sort, Reads, a_variable, an_operator, of_sort, AllRead, all_read, one_read, ReadsRight, ReadsEquation}
+use Rattle.larch_term.specs.Truth.{truth}
 use Rattle.larch_sorts.proofs.Members.{contains_either, contained_in_map}
 
 built_in_of_map : (b : BuiltIn) (sorts : List (List ℕ)) (f : PlainOperator) → Contains (map (built_in b) sorts) f → IsBuiltIn f

@@ -11,12 +11,12 @@ use Rattle.larch_term.specs.Tree.{Tree, var, app, forest_of, list_of}
 use Rattle.larch_term.proofs.TreeLists.{forest_of_inj, forest_of-list_of}
 use Rattle.larch_sorts.specs.Operators.{taking_part}
 use Rattle.larch_sorts.specs.Readings.{Variables, variable_sort, Reads, a_variable, an_operator, of_sort, AllRead, all_read, one_read}
-use Rattle.larch_operators.specs.Same.{same_name, same_tree}
+use Rattle.larch_term.specs.Equality.{same_name, same_tree}
 use Rattle.larch_sorts.specs.Tables.{Entries, reading_at, Tells, applied, TableTells, AllTell, with_argument, arguments_at, extended, with_operator, operators_at, named}
 use Rattle.larch_sorts.specs.declared.found.Found.{Found}
 use Rattle.larch_sorts.specs.declared.found.Found.TheVariants.{One, Several}
 use Rattle.larch_sorts.proofs.Members.{contains_here, contains_later, contains_cases, contains_none, contains_filter, contained_in_filter}
-use Rattle.larch_operators.proofs.Same.{name_Decides, tree_Decides}
+use Rattle.larch_term.proofs.Decided.{name_Decides, tree_Decides}
 use Rattle.larch_sorts.proofs.Telling.{tells_same, tells_joined, tells_applied}
 
 -- a list whose first thing has one property, and the further ones another

@@ -4,7 +4,7 @@ use Rattle.std.specs.List.{list_all}
 use Rattle.larch_base.specs.declared.position.Pos.{Pos}
 use Rattle.larch_raw.specs.RawTree.{RawTree}
 use Rattle.larch_raw.specs.declared.equation.RawEquation.{RawEquation}
-use Rattle.larch_term.specs.Occurrence.{occurrences}
+use Rattle.larch_term.specs.Variable.{occurrences}
 use Rattle.larch_term.specs.Operator.{PlainOperator}
 use Rattle.larch_term.specs.Tree.{Tree}
 use Rattle.larch_term.specs.declared.statement.Statement.{Statement}
@@ -12,7 +12,7 @@ use Rattle.larch_term.specs.declared.statement.Statement.TheVariants.{Equation, 
 use Rattle.larch_sorts.specs.Readings.{Variables, sort_in}
 use Rattle.larch_sorts.specs.ReadingLists.{readings, equation_readings, lone_readings}
 use Rattle.larch_sorts.specs.Places.{unknown_sort, parts, in_sides, sides, head_of, equation_head}
-use Rattle.larch_operators.specs.Same.{same_tree, same_statement}
+use Rattle.larch_term.specs.Equality.{same_tree, same_statement}
 use Rattle.larch_sorts.specs.declared.refusal.ReadRefusal.{ReadRefusal}
 use Rattle.larch_sorts.specs.declared.refusal.ReadRefusal.TheVariants.{UnknownSort, NoReading, Ambiguous, Memory}
 

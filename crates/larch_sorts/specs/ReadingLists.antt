@@ -8,12 +8,13 @@ use Rattle.larch_raw.specs.declared.equation.RawEquation.{RawEquation}
 use Rattle.larch_term.specs.Operator.{PlainOperator, plain}
 use Rattle.larch_term.specs.Sorts.{sort_of, sorts_of}
 use Rattle.larch_term.specs.Tree.{Tree, Forest, var, app, none, more}
-use Rattle.larch_term.specs.Truth.{bool_sort}
+use Rattle.larch_term.specs.BuiltIn.{bool_sort}
 use Rattle.larch_term.specs.declared.statement.Statement.{Statement}
 use Rattle.larch_term.specs.declared.statement.Statement.TheVariants.{Equation}
 use Rattle.larch_sorts.specs.Operators.{taking_part}
-use Rattle.larch_sorts.specs.Readings.{Variables, variable_sort, truth}
-use Rattle.larch_operators.specs.Same.{same_name}
+use Rattle.larch_sorts.specs.Readings.{Variables, variable_sort}
+use Rattle.larch_term.specs.Truth.{truth}
+use Rattle.larch_term.specs.Equality.{same_name}
 
 -- whether arguments have these sorts
 abbrev pub have_sorts : List (List ℕ) → Forest → Bool

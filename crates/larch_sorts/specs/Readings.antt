@@ -7,14 +7,14 @@ use Rattle.larch_raw.specs.declared.declared.RawWord.{RawWord}
 use Rattle.larch_raw.specs.declared.equation.RawRight.{RawRight}
 use Rattle.larch_raw.specs.declared.equation.RawEquation.{RawEquation}
 use Rattle.larch_term.specs.Operator.{PlainOperator, plain}
-use Rattle.larch_term.specs.BuiltIn.{built_in}
+use Rattle.larch_term.specs.BuiltIn.{built_in, bool_sort}
 use Rattle.larch_term.specs.Sorts.{sort_of, sorts_of}
 use Rattle.larch_term.specs.Tree.{Tree, Forest, var, app, none, more}
-use Rattle.larch_term.specs.Truth.{bool_sort}
 use Rattle.larch_term.specs.declared.built_in.BuiltIn.TheVariants.{True}
 use Rattle.larch_term.specs.declared.statement.Statement.{Statement}
 use Rattle.larch_term.specs.declared.statement.Statement.TheVariants.{Equation, Generated, Partitioned}
 use Rattle.larch_sorts.specs.Operators.{taking_part}
+pub use Rattle.larch_term.specs.Truth.{truth}
 
 -- variables in scope: names with their sorts, in order
 abbrev pub Variables : Type 0
@@ -44,10 +44,6 @@ mutual
   pub data AllRead (fs : List PlainOperator) (vs : Variables) : RawForest → Forest → Type 0 where
     all_read : AllRead fs vs no_more none
     one_read : {raw : RawTree} {raws : RawForest} {t : Tree} {ts : Forest} → Reads fs vs raw t → AllRead fs vs raws ts → AllRead fs vs (one_more raw raws) (more t ts)
-
--- the built-in constant true
-abbrev pub truth : Tree
-truth = app (built_in True bool_sort) none
 
 -- what stands right beside a left side: a reading of its sort; or true, beside a formula of sort Bool
 abbrev pub ReadsRight : List PlainOperator → Variables → Option RawRight → Tree → Tree → Type 0

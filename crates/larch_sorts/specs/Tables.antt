@@ -9,8 +9,9 @@ use Rattle.larch_term.specs.Operator.{PlainOperator, plain}
 use Rattle.larch_term.specs.Sorts.{sort_of}
 use Rattle.larch_term.specs.Tree.{Tree, app, forest_of}
 use Rattle.larch_sorts.specs.Places.{parts, parts_of}
-use Rattle.larch_sorts.specs.Readings.{Variables, Reads, ReadsEquation, truth, IsOnly, AreSeveral, IsNone}
-use Rattle.larch_operators.specs.Same.{same_name, same_tree}
+use Rattle.larch_sorts.specs.Readings.{Variables, Reads, ReadsEquation, IsOnly, AreSeveral, IsNone}
+use Rattle.larch_term.specs.Truth.{truth}
+use Rattle.larch_term.specs.Equality.{same_name, same_tree}
 use Rattle.larch_sorts.specs.declared.found.Found.{Found}
 use Rattle.larch_sorts.specs.declared.found.Found.TheVariants.{One, Several}
 use Rattle.larch_sorts.specs.declared.found.Sides.{Sides}

@@ -1,7 +1,7 @@
 ghost use Rattle.std.specs.Prelude.{◌≡◌, Some, None, IfOk};
-ghost use Rattle.larch_term.specs.Truth.{bool_sort};
-ghost use Rattle.larch_sorts.specs.Readings.{truth};
-ghost use Rattle.larch_operators.specs.Same.{same_tree};
+ghost use Rattle.larch_term.specs.BuiltIn.{bool_sort};
+ghost use Rattle.larch_term.specs.Truth.{truth};
+ghost use Rattle.larch_term.specs.Equality.{same_tree};
 ghost use Rattle.larch_sorts.specs.Tables.{reading_at, joined_by, with_found, found_anywhere, paired, same_sides, sides_found, formula_found};
 ghost use Rattle.larch_sorts.specs.declared.found.Found.TheVariants.{One};
 

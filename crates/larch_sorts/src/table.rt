@@ -1,6 +1,6 @@
 ghost use Rattle.std.specs.Prelude.{◌≡◌, ℕ, List, IfOk, OnOk, cond, bytes_eq, Some, None};
 ghost use Rattle.std.specs.Option.{option_copied};
-ghost use Rattle.larch_operators.specs.Same.{same_tree};
+ghost use Rattle.larch_term.specs.Equality.{same_tree};
 ghost use Rattle.larch_sorts.specs.declared.found.Found.TheVariants.{One};
 ghost use Rattle.larch_sorts.specs.Tables.{reading_at, joined, applied};
 

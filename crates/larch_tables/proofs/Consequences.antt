@@ -3,15 +3,15 @@ use Rattle.std.proofs.Common.{rules, sym, ◌≡◌, ℕ, ◌-◌, Bool, true, f
 use Rattle.std.proofs.lemmas.List.Elements.{All-nil, All-cons}
 use Rattle.larch_term.specs.Operator.{PlainOperator}
 use Rattle.larch_term.specs.Tree.{Tree}
-use Rattle.larch_term.specs.Truth.{bool_sort}
-use Rattle.larch_term.specs.BuiltIn.{built_in}
+use Rattle.larch_term.specs.BuiltIn.{bool_sort, built_in}
 use Rattle.larch_term.specs.declared.built_in.BuiltIn.TheVariants.{Not, And, Or, Implies, Iff}
 use Rattle.larch_term.specs.Substitution.{image, substituted}
 use Rattle.larch_term.specs.declared.substitution.Entry.{Entry}
 use Rattle.larch_term.specs.declared.statement.Statement.{Statement}
 use Rattle.larch_term.specs.declared.statement.Statement.TheVariants.{Equation}
 use Rattle.larch_term.specs.declared.statement.Theory.{Theory}
-use Rattle.larch_calculus.specs.Formula.{applied, joined, truth, falsity, negation, conjunction, disjunction, implication, equivalence, equality}
+use Rattle.larch_calculus.specs.Formula.{applied, joined, falsity, negation, conjunction, disjunction, implication, equivalence, equality}
+use Rattle.larch_term.specs.Truth.{truth}
 use Rattle.larch_calculus.specs.Identity.{Proposition, always, never, denied, both, either, implied, equivalent, chosen, term_of, agree_itself, value, propositional}
 use Rattle.larch_calculus.specs.Derivable.{Derivable, identity, replace, instance, equal}
 use Rattle.larch_calculus.specs.Letters.{two, x_letter, y_letter}

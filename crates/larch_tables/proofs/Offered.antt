@@ -4,7 +4,7 @@ use Rattle.std.specs.Option.{is_some, option_map, option_and_then, ok_or}
 use Rattle.std.specs.Result.{IfOk, IsErrOf}
 use Rattle.std.specs.List.{AllZip, slice_get}
 use Rattle.std.proofs.lemmas.Slice.Eq.{bytes_eq-Decides}
-use Rattle.larch_term.specs.Truth.{bool_sort}
+use Rattle.larch_term.specs.BuiltIn.{bool_sort}
 use Rattle.larch_term.specs.declared.statement.Statement.{Statement}
 use Rattle.larch_tables.specs.Rows.{PlainRow, built_in_rows, numbered, is_offered, offered}
 use Rattle.larch_tables.specs.Codes.{sort_for, equation_of, equations_of, row_of, IsRowAt, HasRows}

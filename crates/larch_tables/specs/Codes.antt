@@ -2,8 +2,7 @@
 use Rattle.std.specs.Prelude.{◌≡◌, ℕ, ◌-◌, cond, List, [], ◌∷◌, length, take, drop, Option, Some, None, option_map, option_and_then}
 use Rattle.std.specs.List.{AllZip, slice_get}
 use Rattle.larch_term.specs.Tree.{Tree, app, forest_of}
-use Rattle.larch_term.specs.Truth.{bool_sort}
-use Rattle.larch_term.specs.BuiltIn.{built_in, built_in_domain}
+use Rattle.larch_term.specs.BuiltIn.{bool_sort, built_in, built_in_domain}
 use Rattle.larch_term.specs.declared.built_in.BuiltIn.{BuiltIn}
 use Rattle.larch_term.specs.declared.built_in.BuiltIn.TheVariants.{True, False, Not, And, Or, Implies, Iff, Equal, Unequal, If}
 use Rattle.larch_term.specs.declared.statement.Statement.{Statement}

@@ -2,12 +2,13 @@
 use Rattle.std.specs.Prelude.{ℕ, ◌==◌, ◌-◌, ◌||◌, Bool, true, false, cond, List, [], ◌∷◌, bytes_eq, codes, Option, Some, None, option_and_then}
 use Rattle.std.specs.List.{slice_get}
 use Rattle.larch_term.specs.Tree.{Tree, var}
-use Rattle.larch_term.specs.Truth.{bool_sort}
+use Rattle.larch_term.specs.BuiltIn.{bool_sort}
 use Rattle.larch_term.specs.Substitution.{substituted}
 use Rattle.larch_term.specs.declared.substitution.Entry.{Entry}
 use Rattle.larch_term.specs.declared.statement.Statement.{Statement}
 use Rattle.larch_term.specs.declared.statement.Statement.TheVariants.{Equation, Generated, Partitioned}
-use Rattle.larch_calculus.specs.Formula.{truth, falsity, negation, conjunction, disjunction, implication, equivalence, equality, inequality, choice}
+use Rattle.larch_calculus.specs.Formula.{falsity, negation, conjunction, disjunction, implication, equivalence, equality, inequality, choice}
+use Rattle.larch_term.specs.Truth.{truth}
 use Rattle.larch_calculus.specs.Identity.{IsIdentity}
 
 -- a row at a sort: whether it is offered at every sort, its equation, and the equations that follow from that
@@ -126,9 +127,3 @@ abbrev pub IsIdentityStatement : Statement → Type 0
 IsIdentityStatement (Equation l r) = IsIdentity l r
 IsIdentityStatement (Generated s fs) = ⊥
 IsIdentityStatement (Partitioned s fs) = ⊥
-
--- the statement with terms in the places of variables, where it is an equation
-abbrev pub instance_of : List Entry → Statement → Statement
-instance_of es (Equation l r) = Equation (substituted es l) (substituted es r)
-instance_of es (Generated s fs) = Generated s fs
-instance_of es (Partitioned s fs) = Partitioned s fs

@@ -1,5 +1,5 @@
 ghost use Rattle.std.specs.Prelude.{◌≡◌, ◌||◌, bytes_eq, IfOk, IsErrOf, Some, None};
-ghost use Rattle.larch_term.specs.Truth.{bool_sort};
+ghost use Rattle.larch_term.specs.BuiltIn.{bool_sort};
 ghost use Rattle.larch_tables.specs.Rows.{offered, IsIdentityStatement};
 ghost use Rattle.larch_tables.specs.declared.statement.RowRefusal.TheVariants.{Memory as wants_memory};
 

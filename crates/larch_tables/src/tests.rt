@@ -1,6 +1,7 @@
 use super::*;
 use larch_base::{Bytes, Memory, Name};
-use larch_term::{Sort, print_statement};
+use larch_print::print_statement;
+use larch_term::Sort;
 use std::alloc::Global;
 
 const AT_BOOL: &str = r"~ true == false

@@ -1,27 +1,36 @@
 -- Built-in operators and the sorts that they are at.
-use Rattle.std.proofs.Common.{◌≡◌, ℕ, ◌-◌, List, [], ◌∷◌, length, Contains, get_or, refl, sym, ◌∙◌, ap, arith}
+use Rattle.std.proofs.Common.{◌≡◌, ℕ, ◌-◌, ◌<◌, ◌||◌, Bool, true, false, IsTrue, ◌↔◌, List, [], ◌∷◌, length, Contains, get_or, refl, sym, ◌∙◌, ap, subst, arith}
+use Rattle.std.specs.Bool.{Decides}
+use Rattle.std.specs.List.{list_any}
+use Rattle.std.proofs.lemmas.List.Elements.{Contains-get_or}
+use Rattle.std.proofs.lemmas.List.Folds.{list_any_at}
+use Rattle.std.proofs.lemmas.Bool.Decides.{same_from_decides}
 use Rattle.larch_term.specs.Operator.{PlainOperator}
-use Rattle.larch_term.specs.BuiltIn.{built_in, IsBuiltInAs}
+use Rattle.larch_term.specs.BuiltIn.{built_in, IsBuiltIn, IsBuiltInAs, built_ins, is_built_in, is_built_in_as}
 use Rattle.larch_term.specs.declared.built_in.BuiltIn.{BuiltIn}
 use Rattle.larch_term.specs.declared.built_in.BuiltIn.TheVariants.{True, False, Not, And, Or, Implies, Iff, Equal, Unequal, If}
 use Rattle.larch_term.specs.declared.built_in.TheConstants.{ALL}
+use Rattle.larch_term.proofs.Decided.{operator_Decides}
 
 -- the last sort of the domain
 abbrev pub last_sort : PlainOperator → List ℕ
 last_sort f = get_or f.domain (length f.domain - 1) []
 
--- each built-in operator is in the list of all
+-- each built-in operator has a place in the list of all
+place_of_each : (b : BuiltIn) → (i : ℕ) × (i < length built_ins) × (get_or built_ins i If ≡ b)
+place_of_each True = (0, omega arith, refl)
+place_of_each False = (1, omega arith, refl)
+place_of_each Not = (2, omega arith, refl)
+place_of_each And = (3, omega arith, refl)
+place_of_each Or = (4, omega arith, refl)
+place_of_each Implies = (5, omega arith, refl)
+place_of_each Iff = (6, omega arith, refl)
+place_of_each Equal = (7, omega arith, refl)
+place_of_each Unequal = (8, omega arith, refl)
+place_of_each If = (9, omega arith, refl)
+
 pub all_is_all : (b : BuiltIn) → Contains ALL b
-all_is_all True = (0, omega arith, refl)
-all_is_all False = (1, omega arith, refl)
-all_is_all Not = (2, omega arith, refl)
-all_is_all And = (3, omega arith, refl)
-all_is_all Or = (4, omega arith, refl)
-all_is_all Implies = (5, omega arith, refl)
-all_is_all Iff = (6, omega arith, refl)
-all_is_all Equal = (7, omega arith, refl)
-all_is_all Unequal = (8, omega arith, refl)
-all_is_all If = (9, omega arith, refl)
+all_is_all b = let p = place_of_each b in subst (Contains ALL) p.2 (Contains-get_or ALL p.0 If p.1)
 
 built_in_at_last : (b : BuiltIn) (s : List ℕ) → built_in b s ≡ built_in b (last_sort (built_in b s))
 built_in_at_last True s = refl
@@ -42,3 +51,28 @@ is_built_in_at_last b f h = h.1 ∙ built_in_at_last b h.0 ∙ ap (λ g. built_i
 pub empty_is_nil : (xs : List (List ℕ)) → length xs ≡ 0 → xs ≡ []
 empty_is_nil [] e = refl
 empty_is_nil (x ∷ xs) e = absurd (omega arith)
+
+as_Decides : (f : PlainOperator) (b : BuiltIn) → Decides (is_built_in_as f b) (IsBuiltInAs b f)
+as_Decides f b =
+    let d = operator_Decides f (built_in b (last_sort f)) in (λ e. (last_sort f, d.0 e), λ h. d.1 (is_built_in_at_last b f h))
+
+some_is : (f : PlainOperator) (b : BuiltIn) (bs : List BuiltIn) (r : Bool) → is_built_in_as f b ≡ r
+    → (list_any (is_built_in_as f) bs ≡ true → IsBuiltIn f) → (r || list_any (is_built_in_as f) bs) ≡ true → IsBuiltIn f
+some_is f b bs true e next h = (b, (as_Decides f b).0 e)
+some_is f b bs false e next h = next h
+
+any_is : (f : PlainOperator) (bs : List BuiltIn) → list_any (is_built_in_as f) bs ≡ true → IsBuiltIn f
+any_is f [] e = cc
+any_is f (b ∷ bs) e = some_is f b bs (is_built_in_as f b) refl (any_is f bs) e
+
+-- the test tells exactly which operators are built in
+pub is_built_in_Decides : (f : PlainOperator) → Decides (is_built_in f) (IsBuiltIn f)
+unfolding is_built_in
+is_built_in_Decides f = (
+  any_is f built_ins,
+  λ h. let p = place_of_each h.0 in
+    list_any_at (is_built_in_as f) built_ins p.0 If p.1 (ap (is_built_in_as f) p.2 ∙ (as_Decides f h.0).1 h.1),
+)
+
+pub built_in_told : (f : PlainOperator) (r : Bool) → IsTrue r ↔ IsBuiltIn f → r ≡ is_built_in f
+built_in_told f r h = same_from_decides r (is_built_in f) h (is_built_in_Decides f)

@@ -1,7 +1,8 @@
 -- Lemmas.
 pub mod BuiltIns
 pub mod Deepest
+pub mod Decided
 pub mod PlaceLaws
-pub mod Printing
 pub mod SubstitutionLaws
 pub mod TreeLists
+pub mod TruthTest

@@ -8,7 +8,7 @@ use Rattle.larch_term.specs.Operator.{PlainOperator}
 use Rattle.larch_term.specs.Tree.{Tree, Forest, var, app, none, more, nodes, nodes_all}
 use Rattle.larch_term.specs.Place.{at, argument, put, put_in}
 use Rattle.larch_term.specs.Sorts.{sort_of, sorts_of, WellSorted, AllWellSorted, IsOver, AllOver}
-use Rattle.larch_term.specs.Occurrence.{occurrences, occurrences_in}
+use Rattle.larch_term.specs.Variable.{occurrences, occurrences_in}
 use Rattle.larch_term.specs.Substitution.{is_entry_of, image, substituted, substituted_all, Fits, composed}
 use Rattle.larch_term.proofs.PlaceLaws.{at-append}
 use Rattle.larch_term.specs.declared.substitution.Entry.{Entry}

@@ -1,9 +1,14 @@
 -- The operators that every theory has.
-use Rattle.std.specs.Prelude.{◌≡◌, ℕ, List, [], ◌∷◌, codes}
+use Rattle.std.specs.Prelude.{◌≡◌, ℕ, ◌-◌, Bool, List, [], ◌∷◌, length, get_or, codes}
+use Rattle.std.specs.List.{list_any}
+use Rattle.larch_term.specs.OperatorKey.{same_operator}
 use Rattle.larch_term.specs.Operator.{PlainOperator, plain}
-use Rattle.larch_term.specs.Truth.{bool_sort}
 use Rattle.larch_term.specs.declared.built_in.BuiltIn.{BuiltIn}
 use Rattle.larch_term.specs.declared.built_in.BuiltIn.TheVariants.{True, False, Not, And, Or, Implies, Iff, Equal, Unequal, If}
+
+-- the sort of truth values
+abbrev pub bool_sort : List ℕ
+bool_sort = codes "Bool"
 
 -- the canonical name of a built-in operator
 abbrev pub built_in_name : BuiltIn → List ℕ
@@ -55,3 +60,15 @@ IsBuiltInAs b f = (s : List ℕ) × (f ≡ built_in b s)
 -- the operator is a built-in one
 abbrev pub IsBuiltIn : PlainOperator → Type 0
 IsBuiltIn f = (b : BuiltIn) × IsBuiltInAs b f
+
+-- the built-in operators, equality, inequality and choice standing for those at each sort
+abbrev pub built_ins : List BuiltIn
+built_ins = True ∷ False ∷ Not ∷ And ∷ Or ∷ Implies ∷ Iff ∷ Equal ∷ Unequal ∷ If ∷ []
+
+-- whether an operator is this built-in one; its sort could only be the last of its domain
+abbrev pub is_built_in_as : PlainOperator → BuiltIn → Bool
+is_built_in_as f b = same_operator f (built_in b (get_or f.domain (length f.domain - 1) []))
+
+-- whether an operator is a built-in one
+unfoldable pub is_built_in : PlainOperator → Bool
+is_built_in f = list_any (is_built_in_as f) built_ins

@@ -1,10 +1,10 @@
 pub mod BuiltIn
+pub mod Equality
 pub mod Occurrence
 pub mod Operator
 pub mod OperatorKey
 pub mod OperatorView
 pub mod Place
-pub mod Print
 pub mod Sorts
 pub mod Statement
 pub mod Substitution
@@ -14,3 +14,4 @@ pub mod Tree
 pub mod TreeCode
 pub mod TreeFalls
 pub mod Truth
+pub mod Variable

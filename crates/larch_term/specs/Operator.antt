@@ -1,5 +1,5 @@
 -- Operators as definitions see them.
-use Rattle.std.specs.Prelude.{◌≡◌, ℕ, List, ◌⊎◌, refl}
+use Rattle.std.specs.Prelude.{◌≡◌, ℕ, List, [], ◌⊎◌, refl}
 use Rattle.std.proofs.Common.{inl, inr}
 use Rattle.std.specs.Coded.{Coded, code_by, coded×, coded⊎, coded_ℕ, coded_list}
 
@@ -13,6 +13,11 @@ pub record PlainOperator : Type 0 where
   pub name : OperatorName
   pub domain : List (List ℕ)
   pub range : List ℕ
+
+-- the bytes of a name; a constant of a box has none, since it is never printed
+abbrev pub name_bytes : OperatorName → List ℕ
+name_bytes (plain n) = n
+name_bytes (boxed b k) = []
 
 abbrev name_parts : OperatorName → List ℕ ⊎ (ℕ × ℕ)
 name_parts (plain n) = inl n

@@ -37,3 +37,7 @@ abbrev mutual
   pub AllOver : List PlainOperator → Forest → Type 0
   AllOver fs none = Unit {0}
   AllOver fs (more t ts) = IsOver fs t × AllOver fs ts
+
+-- a well sorted term over operators
+abbrev pub IsTermOver : List PlainOperator → Tree → Type 0
+IsTermOver fs t = WellSorted t × IsOver fs t

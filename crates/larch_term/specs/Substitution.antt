@@ -4,6 +4,8 @@ use Rattle.std.specs.Coded.{Coded, code_by, coded×, coded_ℕ, coded_list}
 use Rattle.larch_term.specs.TreeCode.{coded_tree}
 use Rattle.larch_term.specs.Tree.{Tree, Forest, var, app, none, more}
 use Rattle.larch_term.specs.Sorts.{sort_of, WellSorted}
+use Rattle.larch_term.specs.declared.statement.Statement.{Statement}
+use Rattle.larch_term.specs.declared.statement.Statement.TheVariants.{Equation, Generated, Partitioned}
 use Rattle.larch_term.specs.declared.substitution.Entry.{Entry}
 
 -- entries are told apart by their parts
@@ -29,6 +31,12 @@ abbrev mutual
   pub substituted_all : List Entry → Forest → Forest
   substituted_all es none = none
   substituted_all es (more t ts) = more (substituted es t) (substituted_all es ts)
+
+-- the statement with all variables replaced at once, where it is an equation; the others have none
+abbrev pub substituted_statement : List Entry → Statement → Statement
+substituted_statement es (Equation l r) = Equation (substituted es l) (substituted es r)
+substituted_statement es (Generated s fs) = Generated s fs
+substituted_statement es (Partitioned s fs) = Partitioned s fs
 
 -- each entry's term is well sorted and has the sort of the entry's variable
 abbrev pub Fits : List Entry → Type 0

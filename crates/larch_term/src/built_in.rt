@@ -1,7 +1,6 @@
 ghost use Rattle.std.specs.Prelude.{◌≡◌, ◌↔◌, ◌-◌, ◌∷◌, [], IsTrue, IfOk, IfSome, IfNone, length, map};
 ghost use Rattle.std.specs.List.{slice_index_or};
-ghost use Rattle.larch_term.specs.BuiltIn.{IsBuiltIn, IsBuiltInAs, built_in_domain, built_in_range};
-ghost use Rattle.larch_term.specs.Truth.{bool_sort};
+ghost use Rattle.larch_term.specs.BuiltIn.{IsBuiltIn, IsBuiltInAs, built_in_domain, built_in_range, bool_sort};
 
 use crate::operator::{Operator, Sort, Sorts};
 use larch_base::{Memory, Name, Sequence};
@@ -37,7 +36,7 @@ const ALL: [BuiltIn; 10] = [
 
 impl BuiltIn {
     ghost use Rattle.std.specs.Prelude.{◌≡◌, IfOk};
-    ghost use Rattle.larch_term.specs.Truth.{bool_sort};
+    ghost use Rattle.larch_term.specs.BuiltIn.{bool_sort};
     ghost use Rattle.larch_term.specs.BuiltIn.{built_in, built_in_name, built_in_domain, built_in_range};
 
     /// Its canonical name.

@@ -1,11 +1,15 @@
 //! What holds of all terms, for crates above to cite. No function here does anything.
 ghost use Rattle.std.specs.Prelude.{◌≡◌, ℕ, ◌+◌, List, ◌++◌, length, sum_by, All, Some, option_and_then};
-ghost use Rattle.larch_term.specs.Occurrence.{occurrences};
-ghost use Rattle.larch_term.specs.Operator.{PlainOperator};
+ghost use Rattle.std.specs.Bool.{Decides};
+ghost use Rattle.larch_term.specs.BuiltIn.{IsBuiltIn, is_built_in};
+ghost use Rattle.larch_term.specs.Equality.{same_name, same_operator, same_statement, same_tree};
+ghost use Rattle.larch_term.specs.Variable.{occurrences};
+ghost use Rattle.larch_term.specs.Operator.{OperatorName, PlainOperator};
 ghost use Rattle.larch_term.specs.Place.{at, put};
 ghost use Rattle.larch_term.specs.Sorts.{sort_of, WellSorted, IsOver};
 ghost use Rattle.larch_term.specs.Substitution.{substituted, image, composed, Fits};
 ghost use Rattle.larch_term.specs.Tree.{Tree, nodes};
+ghost use Rattle.larch_term.specs.declared.statement.Statement.{Statement};
 ghost use Rattle.larch_term.specs.declared.substitution.Entry.{Entry};
 
 /// A substitution whose terms are well sorted and have the sorts of their variables keeps sorts.
@@ -55,4 +59,17 @@ pub fn replacement_keeps_sorts()
 pub fn replacement_keeps_operators()
     ensures subterm { (fs : List PlainOperator) (t : Tree) (p : List ℕ) (u : Tree) → at t p ≡ Some u → IsOver fs t → IsOver fs u }
     ensures whole { (fs : List PlainOperator) (t : Tree) (p : List ℕ) (v : Tree) → IsOver fs t → IsOver fs v → IsOver fs (put t p v) }
+{}
+
+/// What the tests of equality tell.
+pub fn equality_is_told()
+    ensures name { (n m : OperatorName) → Decides (same_name n m) (n ≡ m) }
+    ensures operator { (f g : PlainOperator) → Decides (same_operator f g) (f ≡ g) }
+    ensures term { (t u : Tree) → Decides (same_tree t u) (t ≡ u) }
+    ensures statement { (s z : Statement) → Decides (same_statement s z) (s ≡ z) }
+{}
+
+/// What the test for built-in operators tells.
+pub fn built_in_is_told()
+    ensures { (f : PlainOperator) → Decides (is_built_in f) (IsBuiltIn f) }
 {}

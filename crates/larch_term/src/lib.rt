@@ -1,8 +1,8 @@
-//! Terms, statements and theories, the operations on them, and their printed form.
+//! Terms, statements and theories, and the operations on them.
 //!
-//! `size`, `copy`, `substitute`, `replace_at`, `same_term`, `is_well_sorted`, `variables` and the printing of terms
-//! go down a term by recursion. A level takes below 400 bytes of stack, so a term that is 5,000 deep takes 2 MB at
-//! most. `at` and the drop of a term are loops, so terms of any depth are dropped.
+//! `size`, `copy`, `substitute`, `replace_at`, `same_term`, `is_well_sorted` and `variables` go down a term by
+//! recursion. A level takes below 400 bytes of stack, so a term that is 5,000 deep takes 2 MB at most. `at` and the
+//! drop of a term are loops, so terms of any depth are dropped.
 #![tactic(auto)]
 
 mod built_in;
@@ -13,13 +13,13 @@ pub mod laws;
 mod operator;
 mod operator_key;
 mod place;
-mod print;
 mod replacing;
-mod sorting;
+mod sorts;
 mod statement;
 mod substituting;
 mod substitution;
 mod term;
+mod truth;
 mod variable;
 
 pub use built_in::{BuiltIn, bool_sort, built_in_of, is_built_in};
@@ -28,16 +28,13 @@ pub use counting::size;
 pub use equality::{same_operators, same_statement, same_statements, same_term, same_theory};
 pub use operator::{Operator, Sort, Sorts, same_operator};
 pub use place::at;
-pub use print::{
-    print_operator, print_statement, print_term, write_operator, write_signature, write_statement,
-    write_term,
-};
 pub use replacing::{ReplaceRefusal, replace_at};
-pub use sorting::{is_well_sorted, sort_of};
+pub use sorts::{is_well_sorted, sort_of};
 pub use statement::{Operators, Statement, Statements, Theory};
 pub use substituting::substitute;
 pub use substitution::{Entry, Substitution};
 pub use term::{Node, Term, Terms};
+pub use truth::is_truth;
 pub use variable::{Variable, Variables, add_variables, variables};
 
 #[cfg(test)]

@@ -48,45 +48,6 @@ fn chain(alloc: Global, form: &[u8], depth: usize) -> Result<Term, Memory> {
     Ok(term)
 }
 
-fn nested_prints(
-    alloc: Global,
-    outer: &[u8],
-    inner: &[u8],
-    expected: &[u8],
-) -> Result<bool, Memory> {
-    let x = variable(alloc, b"x")?;
-    let y = variable(alloc, b"y")?;
-    let sum = two(alloc, inner, x, y)?;
-    let term = one(alloc, outer, sum)?;
-    prints(alloc, &term, expected)
-}
-
-fn prints(alloc: Global, term: &Term, expected: &[u8]) -> Result<bool, Memory> {
-    let text = print_term(alloc, term)?;
-    Ok(text.bytes() == expected)
-}
-
-#[test]
-fn prints_forms(rt: HostRuntime) -> Result<(), Memory> {
-    for (outer, inner, expected) in [
-        (
-            b"f".as_slice(),
-            b"__ + __".as_slice(),
-            b"f(x + y)".as_slice(),
-        ),
-        (b"- __", b"__ + __", b"- (x + y)"),
-        (b"__ !", b"__ + __", b"(x + y) !"),
-        (b"__.num", b"f", b"f(x, y).num"),
-        (b"__.num", b"__[__]", b"(x[y]).num"),
-        (b"__.num", b"[__, __]", b"[x, y].num"),
-        (b"{__}", b"__ \\in __", b"{x \\in y}"),
-    ] {
-        let fits = nested_prints(rt.alloc(), outer, inner, expected)?;
-        assert!(rt; fits);
-    }
-    Ok(())
-}
-
 // x by y, and y by x.
 fn exchange(alloc: Global) -> Result<Substitution, Memory> {
     let mut by = Substitution::new(alloc);
@@ -108,35 +69,35 @@ fn add_entry(alloc: Global, by: &mut Substitution, name: &[u8], term: Term) -> R
 
 #[test]
 fn substitutes_at_once(rt: HostRuntime) -> Result<(), Memory> {
-    let x = variable(rt.alloc(), b"x")?;
-    let y = variable(rt.alloc(), b"y")?;
-    let term = two(rt.alloc(), b"__ - __", x, y)?;
-    let fits = exchanged_prints(rt.alloc(), &term, b"y - x")?;
-    assert!(rt; fits);
+    let difference = difference(rt.alloc(), b"x", b"y")?;
+    let exchanged = exchanged(rt.alloc(), &difference)?;
+    let expected = self::difference(rt.alloc(), b"y", b"x")?;
+    assert!(rt; same_term(&exchanged, &expected));
     Ok(())
 }
 
-fn exchanged_prints(alloc: Global, term: &Term, expected: &[u8]) -> Result<bool, Memory> {
+fn difference(alloc: Global, first: &[u8], second: &[u8]) -> Result<Term, Memory> {
+    let first = variable(alloc, first)?;
+    let second = variable(alloc, second)?;
+    two(alloc, b"__ - __", first, second)
+}
+
+fn exchanged(alloc: Global, term: &Term) -> Result<Term, Memory> {
     let by = exchange(alloc)?;
-    let exchanged = substitute(alloc, term, &by)?;
-    prints(alloc, &exchanged, expected)
+    substitute(alloc, term, &by)
 }
 
 // The operations that go down by recursion, on a term that is as deep as terms of a proof can be.
 #[test]
 fn goes_deep(rt: HostRuntime) -> Result<(), Memory> {
     let term = chain(rt.alloc(), b"- __", 5_000)?;
-    let fits = copies_deep(rt.alloc(), &term)?;
-    assert!(rt; fits && size(&term) == 5_001);
+    assert_eq!(rt; size(&term), 5_001);
+    assert!(rt; is_well_sorted(&term));
+    let copied = copy(rt.alloc(), &term)?;
+    assert!(rt; same_term(&term, &copied));
+    let exchanged = exchanged(rt.alloc(), &term)?;
+    assert_eq!(rt; size(&exchanged), 5_001);
     Ok(())
-}
-
-fn copies_deep(alloc: Global, term: &Term) -> Result<bool, Memory> {
-    let by = exchange(alloc)?;
-    let copied = copy(alloc, term)?;
-    let exchanged = substitute(alloc, term, &by)?;
-    let text = print_term(alloc, &exchanged)?;
-    Ok(same_term(term, &copied) && text.bytes().len() == 19_999)
 }
 
 // A term much deeper than the stack is dropped.
@@ -161,32 +122,39 @@ fn formula(alloc: Global) -> Result<Statement, Memory> {
 }
 
 #[test]
-fn prints_statements(rt: HostRuntime) -> Result<(), Memory> {
-    let statement = formula(rt.alloc())?;
-    let text = print_statement(rt.alloc(), &statement)?;
-    assert!(rt; text.bytes() == b"isEmpty(x)".as_slice());
-    let field = operator(rt.alloc(), b"__.flag", &[b"U"], b"Bool")?;
-    let line = print_operator(rt.alloc(), &field)?;
-    assert!(rt; line.bytes() == b"op __.flag: U -> Bool".as_slice());
+fn knows_truth(rt: HostRuntime) -> Result<(), Memory> {
+    let truth = truth(rt.alloc())?;
+    let other = variable(rt.alloc(), b"true")?;
+    assert!(rt; is_truth(&truth));
+    assert!(rt; !is_truth(&other));
     Ok(())
 }
 
 #[test]
 fn replaces_and_finds(rt: HostRuntime) -> Result<(), Memory> {
     let term = chain(rt.alloc(), b"f", 3)?;
-    let fits = replaced_prints(rt.alloc(), &term)?;
-    assert!(rt; fits);
-    let found = variables(rt.alloc(), &term)?;
-    assert!(rt; found.as_slice().len() == 1);
+    let replaced = replaced(rt.alloc(), &term)?;
+    assert_eq!(rt; size(&replaced), 3);
+    assert!(rt; at(&replaced, &[1, 1]).is_some());
+    assert!(rt; at(&replaced, &[1, 1, 1]).is_none());
     Ok(())
 }
 
-fn replaced_prints(alloc: Global, term: &Term) -> Result<bool, Memory> {
+// The term with the variable y below its second application.
+fn replaced(alloc: Global, term: &Term) -> Result<Term, Memory> {
     let y = variable(alloc, b"y")?;
     match replace_at(alloc, term, &[1, 1], &y) {
-        Ok(replaced) => prints(alloc, &replaced, b"f(f(y))"),
-        Err(_refusal) => Ok(false),
+        Ok(replaced) => Ok(replaced),
+        Err(_refusal) => Err(Memory),
     }
+}
+
+#[test]
+fn lists_variables_once(rt: HostRuntime) -> Result<(), Memory> {
+    let difference = difference(rt.alloc(), b"x", b"x")?;
+    let found = variables(rt.alloc(), &difference)?;
+    assert_eq!(rt; found.as_slice().len(), 1);
+    Ok(())
 }
 
 // An operator, by which its sort is generated and partitioned.
@@ -224,6 +192,6 @@ fn copies_theories(rt: HostRuntime) -> Result<(), Memory> {
     let theory = theory(rt.alloc())?;
     let copied = copy_theory(rt.alloc(), &theory)?;
     assert!(rt; same_theory(&theory, &copied));
-    assert!(rt; copied.statements.as_slice().len() == 3);
+    assert_eq!(rt; copied.statements.as_slice().len(), 3);
     Ok(())
 }

@@ -1,6 +1,6 @@
 ghost use Rattle.std.specs.Prelude.{◌≡◌, fold, IfOk, OnOk};
 ghost use Rattle.std.specs.List.{list_any};
-ghost use Rattle.larch_term.specs.Occurrence.{occurrences, occurrences_in, same_variable, with_variable, variables_of};
+ghost use Rattle.larch_term.specs.Variable.{occurrences, occurrences_in, same_variable, with_variable, variables_of};
 ghost use Rattle.larch_term.specs.Tree.{forest_of};
 
 use crate::operator::Sort;

@@ -1,7 +1,6 @@
 use larch_base::{Bytes, Memory, Name, Sequence};
-use larch_term::{
-    Operator, Operators, Sorts, Statement, Term, Terms, print_operator, print_statement, print_term,
-};
+use larch_print::{print_operator, print_statement, print_term};
+use larch_term::{Operator, Operators, Sorts, Statement, Term, Terms};
 use std::alloc::Global;
 
 /// What a line prints, if it prints anything. Terms are put behind the others and taken from there.

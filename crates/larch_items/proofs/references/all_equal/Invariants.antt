@@ -1,6 +1,6 @@
 use Rattle.std.proofs.Common.{◌≡◌, ◌&&◌, ◌||◌, not, drop}
 use Rattle.std.specs.List.{list_all}
-use Rattle.larch_operators.specs.Same.{same_operator}
+use Rattle.larch_term.specs.Equality.{same_operator}
 use Rattle.larch_items.specs.Clauses.{suits}
 use Rattle.larch_items.specs.Items.{names}
 use Rattle.larch_items.proofs.references.all_equal.Given as goal

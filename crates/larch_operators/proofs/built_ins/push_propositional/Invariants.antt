@@ -1,6 +1,5 @@
 use Rattle.std.proofs.Common.{◌≡◌, ◌++◌, take, map}
-use Rattle.larch_term.specs.BuiltIn.{built_in}
-use Rattle.larch_term.specs.Truth.{bool_sort}
+use Rattle.larch_term.specs.BuiltIn.{built_in, bool_sort}
 use Rattle.larch_operators.specs.BuiltIns.{propositional}
 use Rattle.larch_operators.proofs.built_ins.push_propositional.Given as goal
 

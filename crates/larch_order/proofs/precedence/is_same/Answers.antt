@@ -1,4 +1,4 @@
-use Rattle.larch_operators.proofs.Same.{operators_told}
+use Rattle.larch_term.proofs.Decided.{operators_told}
 use Rattle.larch_order.proofs.precedence.is_same.Goals as goal
 
 pub returns : goal.returns

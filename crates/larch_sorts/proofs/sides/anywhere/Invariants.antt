@@ -1,6 +1,6 @@
 use Rattle.std.proofs.Common.{◌≡◌}
 use Rattle.std.specs.List.{fold}
-use Rattle.larch_operators.specs.Same.{same_tree}
+use Rattle.larch_term.specs.Equality.{same_tree}
 use Rattle.larch_sorts.specs.Tables.{reading_at, with_found, found_anywhere}
 use Rattle.larch_sorts.proofs.sides.anywhere.Given as goal
 

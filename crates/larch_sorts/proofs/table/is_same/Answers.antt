@@ -1,4 +1,4 @@
-use Rattle.larch_operators.proofs.Same.{trees_told}
+use Rattle.larch_term.proofs.Decided.{trees_told}
 use Rattle.larch_sorts.proofs.table.is_same.Goals as goal
 
 pub returns : goal.returns

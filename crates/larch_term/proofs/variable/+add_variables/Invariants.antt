@@ -1,5 +1,5 @@
 use Rattle.std.proofs.Common.{◌≡◌, drop, fold}
-use Rattle.larch_term.specs.Occurrence.{occurrences_in, with_variable}
+use Rattle.larch_term.specs.Variable.{occurrences_in, with_variable}
 use Rattle.larch_term.specs.Tree.{forest_of}
 use Rattle.larch_term.proofs.variable.+add_variables.Given as goal
 

@@ -2,7 +2,8 @@
 use Rattle.std.proofs.Common.{◌≡◌, ℕ, ◌<◌, ◌==◌, Bool, true, false, List, [], ◌∷◌, ◌++◌, take, drop, length, get_or, zero, suc, ◌+◌, ◌≤◌, add-one, drop-cons, drop-drop, length-drop, append_assoc, refl, arith}
 use Rattle.larch_term.specs.Operator.{PlainOperator}
 use Rattle.larch_term.specs.Tree.{Tree, app, forest_of}
-use Rattle.larch_term.specs.Print.{Piece, pieces_of, filled, first_placed, inside_after, begins_with_marker, is_truth}
+use Rattle.larch_print.specs.Print.{Piece, pieces_of, filled, first_placed, inside_after, begins_with_marker}
+use Rattle.larch_term.specs.Truth.{is_truth}
 
 -- a marker gives way to the first argument
 pub filled_marker : (inside : Bool) (bytes : List ℕ) (pieces : List Piece) → begins_with_marker bytes ≡ true
@@ -50,7 +51,3 @@ byte_step inside name pieces at h l =
 -- what is left to write is written in part
 pub went_on : (text new all part left whole : List ℕ) → new ≡ text ++ part → whole ≡ part ++ left → text ++ whole ≡ all → new ++ left ≡ all
 went_on text new all part left whole a b h = rw (a, append_assoc, ← b) h
-
-pub not_truth : (f : PlainOperator) (ts : List Tree) → (length ts == 0) ≡ false → is_truth (app f (forest_of ts)) ≡ false
-not_truth f [] h = cc
-not_truth f (t ∷ ts) h = refl

@@ -1,7 +1,7 @@
 use Rattle.std.proofs.Common.{◌≡◌, ◌↔◌, drop}
 use Rattle.larch_term.specs.Sorts.{sorts_of}
 use Rattle.larch_term.specs.Tree.{forest_of}
-use Rattle.larch_term.proofs.sorting.have_sorts.Given as goal
+use Rattle.larch_term.proofs.sorts.have_sorts.Given as goal
 
 -- all terms have all sorts exactly where those that are left have those that are left
 abbrev pub invariant-loop-i : goal.invariant-loop-i

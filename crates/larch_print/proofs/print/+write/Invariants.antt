@@ -1,8 +1,8 @@
-use Rattle.std.proofs.Common.{◌≡◌, ◌++◌, ◌≤◌, ◌-◌, ◌==◌, cond, drop, length, codes, false}
+use Rattle.std.proofs.Common.{◌≡◌, ◌+◌, ◌*◌, ◌++◌, ◌≤◌, ◌-◌, ◌==◌, cond, drop, length, codes, false, sum_by}
 use Rattle.std.specs.List.{flat_map, join_by}
-use Rattle.larch_term.specs.Print.{filled, pieces_of}
-use Rattle.larch_term.specs.Tree.{forest_of}
-use Rattle.larch_term.proofs.print.+write.Given as goal
+use Rattle.larch_print.specs.Print.{filled, pieces_of}
+use Rattle.larch_term.specs.Tree.{forest_of, nodes}
+use Rattle.larch_print.proofs.print.+write.Given as goal
 
 -- what is written and what is left to write are all
 abbrev pub invariant-write_filled-loop-at : goal.invariant-write_filled-loop-at
@@ -19,3 +19,16 @@ invariant-write_list-loop-i l =
 
 abbrev pub decreases-write_filled-loop-at : goal.decreases-write_filled-loop-at
 decreases-write_filled-loop-at l = length l.name - l.at
+
+-- a term has more nodes than its arguments together
+abbrev pub decreases-write_term : goal.decreases-write_term
+decreases-write_term l = 4 * nodes l.term.now
+
+abbrev pub decreases-write_list : goal.decreases-write_list
+decreases-write_list l = 4 * sum_by nodes l.arguments.now + 3
+
+abbrev pub decreases-write_filled : goal.decreases-write_filled
+decreases-write_filled l = 4 * sum_by nodes l.arguments.now + 3
+
+abbrev pub decreases-write_placed : goal.decreases-write_placed
+decreases-write_placed l = 4 * sum_by nodes l.arguments.now + 2

@@ -1,7 +1,7 @@
 use Rattle.std.proofs.Common.{◌≡◌, ◌++◌, ◌==◌, cond, drop, codes}
 use Rattle.std.specs.List.{flat_map, join_by}
-use Rattle.larch_term.specs.Print.{name_bytes}
-use Rattle.larch_term.proofs.print.write_names.Given as goal
+use Rattle.larch_term.specs.Operator.{name_bytes}
+use Rattle.larch_print.proofs.print.write_names.Given as goal
 
 -- what is written and what is left to write are all
 abbrev pub invariant-loop-i : goal.invariant-loop-i

@@ -1,12 +1,13 @@
 ghost use Rattle.std.specs.Prelude.{◌≡◌, ◌++◌, ◌<◌, IfOk, OnOk, length, drop, false, codes};
 ghost use Rattle.std.specs.List.{join_by};
-ghost use Rattle.larch_term.specs.Print.{printed, printed_statement, operator_line, signature_text, domain_text, filled, first_placed, pieces_of, argument_list, stands_alone, begins_with_bracket, begins_with_marker, inside_after, name_bytes, is_true, is_truth, opens_bracket, closes_bracket};
+ghost use Rattle.larch_term.specs.Operator.{name_bytes};
 ghost use Rattle.larch_term.specs.Tree.{forest_of};
+ghost use Rattle.larch_print.specs.Print.{printed, printed_statement, operator_line, signature_text, domain_text};
+ghost use Rattle.larch_print.specs.Print.{filled, first_placed, pieces_of, argument_list, stands_alone};
+ghost use Rattle.larch_print.specs.Print.{begins_with_bracket, begins_with_marker, inside_after, opens_bracket, closes_bracket};
 
-use crate::operator::{Operator, Sort};
-use crate::statement::Statement;
-use crate::term::{Node, Term, Terms};
 use larch_base::{Bytes, Memory, is_word};
+use larch_term::{Node, Operator, Sort, Statement, Term, Terms, is_truth};
 use std::alloc::Global;
 
 /// The text of a term.
@@ -20,10 +21,11 @@ pub fn print_term(alloc: Global, term: &Term) -> Result<Bytes, Memory>
 
 /// Puts the text of a term behind others.
 #[cycle(write)]
+#[tactic(auto, using(larch_term::specs::Tree::nodes_all_is_sum))]
 pub fn write_term(text: &mut Bytes, term: &Term) -> Result<(), Memory>
     ensures { OnOk result (text.new ≡ text.old ++ printed term.now) }
 {
-    match &term.node {
+    match term.node() {
         Node::Var(name, _) => {
             text.append(name.bytes())?;
         }
@@ -42,14 +44,15 @@ pub fn write_term(text: &mut Bytes, term: &Term) -> Result<(), Memory>
 
 // The arguments of a word: nothing, or all in parentheses.
 #[cycle(write)]
+#[tactic(auto, using(larch_term::specs::Tree::nodes_all_is_sum))]
 fn write_list(text: &mut Bytes, arguments: &Terms) -> Result<(), Memory>
     ensures { OnOk result (text.new ≡ text.old ++ argument_list (pieces_of (forest_of arguments.now))) }
 {
-    if arguments.items.is_empty() {
+    if arguments.as_slice().is_empty() {
         return Ok(());
     }
     text.append(b"(")?;
-    for (i, argument) in arguments.items.iter().enumerate() {
+    for (i, argument) in arguments.as_slice().iter().enumerate() {
         if i > 0 {
             text.append(b", ")?;
         }
@@ -61,7 +64,7 @@ fn write_list(text: &mut Bytes, arguments: &Terms) -> Result<(), Memory>
 
 // A name with the arguments in the markers' places.
 #[cycle(write)]
-#[tactic(auto, using(crate::proofs::Printing::marker_step, crate::proofs::Printing::marker_within, crate::proofs::Printing::byte_step))]
+#[tactic(auto, using(crate::proofs::Printing::marker_step, crate::proofs::Printing::marker_within, crate::proofs::Printing::byte_step, larch_term::specs::Tree::nodes_all_is_sum))]
 fn write_filled(text: &mut Bytes, name: &[u8], arguments: &Terms) -> Result<(), Memory>
     ensures { OnOk result (text.new ≡ text.old ++ filled false name.now (pieces_of (forest_of arguments.now))) }
 {
@@ -84,6 +87,7 @@ fn write_filled(text: &mut Bytes, name: &[u8], arguments: &Terms) -> Result<(), 
 
 // What stands in a marker's place: an argument as it is or in parentheses, or the marker where there is none.
 #[cycle(write)]
+#[tactic(auto, using(larch_term::specs::Tree::nodes_all_is_sum))]
 fn write_placed(
     text: &mut Bytes,
     arguments: &Terms,
@@ -92,11 +96,11 @@ fn write_placed(
 ) -> Result<(), Memory>
     ensures { OnOk result (text.new ≡ text.old ++ first_placed inside (pieces_of (forest_of (drop next arguments.now)))) }
 {
-    if next >= arguments.items.len() {
+    if next >= arguments.as_slice().len() {
         text.append(b"__")?;
         return Ok(());
     }
-    let argument = &arguments.items[next];
+    let argument = &arguments.as_slice()[next];
     if inside || stands_alone(argument) {
         write_term(text, argument)?;
         return Ok(());
@@ -110,7 +114,7 @@ fn write_placed(
 fn stands_alone(term: &Term) -> bool
     ensures { result ≡ stands_alone term.now }
 {
-    match &term.node {
+    match term.node() {
         Node::Var(_, _) => true,
         Node::App(operator, _) => {
             let name = name_of(operator);
@@ -197,25 +201,6 @@ fn write_equation(text: &mut Bytes, left: &Term, right: &Term) -> Result<(), Mem
         write_term(text, right)?;
     }
     Ok(())
-}
-
-// Whether the term is the built-in constant true.
-#[tactic(auto, using(crate::proofs::Printing::not_truth))]
-fn is_truth(term: &Term) -> bool
-    ensures { result ≡ is_truth term.now }
-{
-    match &term.node {
-        Node::App(operator, arguments) => arguments.items.is_empty() && is_true(operator),
-        Node::Var(_, _) => false,
-    }
-}
-
-fn is_true(operator: &Operator) -> bool
-    ensures { result ≡ is_true operator.now }
-{
-    name_of(operator) == b"true".as_slice()
-        && operator.domain().is_empty()
-        && operator.range().bytes() == b"Bool".as_slice()
 }
 
 // The names of operators, with commas between them.

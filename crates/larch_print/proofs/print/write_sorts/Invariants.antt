@@ -1,6 +1,6 @@
 use Rattle.std.proofs.Common.{◌≡◌, ◌++◌, ◌==◌, cond, drop, codes}
 use Rattle.std.specs.List.{flat_map, join_by}
-use Rattle.larch_term.proofs.print.write_sorts.Given as goal
+use Rattle.larch_print.proofs.print.write_sorts.Given as goal
 
 -- what is written and what is left to write are all
 abbrev pub invariant-loop-i : goal.invariant-loop-i

@@ -2,16 +2,11 @@
 use Rattle.std.specs.Prelude.{ℕ, ◌==◌, ◌&&◌, ◌||◌, cond, Bool, true, false, List, [], ◌∷◌, ◌++◌, drop, length, codes, bytes_eq}
 use Rattle.std.specs.List.{join_by}
 use Rattle.larch_base.specs.Word.{is_word}
-use Rattle.larch_term.specs.Operator.{OperatorName, PlainOperator, plain, boxed}
+use Rattle.larch_term.specs.Operator.{PlainOperator, name_bytes}
 use Rattle.larch_term.specs.Tree.{Tree, Forest, var, app, none, more}
-use Rattle.larch_term.specs.Truth.{bool_sort}
+use Rattle.larch_term.specs.Truth.{is_truth}
 use Rattle.larch_term.specs.declared.statement.Statement.{Statement}
 use Rattle.larch_term.specs.declared.statement.Statement.TheVariants.{Equation, Generated, Partitioned}
-
--- the bytes of a name; a constant of a box has none, since it is never printed
-abbrev pub name_bytes : OperatorName → List ℕ
-name_bytes (plain n) = n
-name_bytes (boxed b k) = []
 
 -- the text of an argument, and whether it stands without parentheses wherever it stands
 pub record Piece : Type 0 where
@@ -80,16 +75,6 @@ abbrev mutual
   pub pieces_of : Forest → List Piece
   pieces_of none = []
   pieces_of (more t ts) = record { text = printed t; alone = stands_alone t } ∷ pieces_of ts
-
--- the operator is the built-in constant true
-abbrev pub is_true : PlainOperator → Bool
-is_true f = bytes_eq (name_bytes f.name) (codes "true") && ((length f.domain == 0) && bytes_eq f.range bool_sort)
-
--- the term is the built-in constant true
-abbrev pub is_truth : Tree → Bool
-is_truth (var n s) = false
-is_truth (app f none) = is_true f
-is_truth (app f (more t ts)) = false
 
 -- the text of a statement: an equation with the right side true is its left side alone
 abbrev pub printed_statement : Statement → List ℕ

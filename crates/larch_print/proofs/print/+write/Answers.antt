@@ -2,9 +2,9 @@
 use Rattle.std.proofs.Common.{◌≡◌, ◌+◌, ◌∷◌, [], true, false, drop, get_or, sym, ◌∙◌, arith}
 use Rattle.std.proofs.lemmas.List.{take_rest}
 use Rattle.larch_term.specs.Tree.{forest_of}
-use Rattle.larch_term.specs.Print.{begins_with_marker, filled, first_placed, pieces_of}
-use Rattle.larch_term.proofs.Printing.{marker_step, marker_within, byte_step, went_on}
-use Rattle.larch_term.proofs.print.+write.Goals as goal
+use Rattle.larch_print.specs.Print.{begins_with_marker, filled, first_placed, pieces_of}
+use Rattle.larch_print.proofs.Printing.{marker_step, marker_within, byte_step, went_on}
+use Rattle.larch_print.proofs.print.+write.Goals as goal
 
 pub write_filled-loop-at-preserved-then-begins_with_marker : goal.write_filled-loop-at-preserved-then-begins_with_marker
 write_filled-loop-at-preserved-then-begins_with_marker t c =

@@ -1,5 +1,0 @@
-use Rattle.larch_operators.proofs.BuiltIns.{is_built_in_Decides}
-use Rattle.larch_operators.proofs.laws.built_in_is_told.Goals as goal
-
-pub returns : goal.returns
-returns c = is_built_in_Decides
