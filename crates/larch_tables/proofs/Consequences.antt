@@ -5,7 +5,7 @@ use Rattle.larch_term.specs.Operator.{PlainOperator}
 use Rattle.larch_term.specs.Tree.{Tree}
 use Rattle.larch_term.specs.BuiltIn.{bool_sort, built_in}
 use Rattle.larch_term.specs.declared.built_in.BuiltIn.TheVariants.{Not, And, Or, Implies, Iff}
-use Rattle.larch_term.specs.Substitution.{image, substituted}
+use Rattle.larch_term.specs.Substitution.{image, substituted, substituted_statement}
 use Rattle.larch_term.specs.declared.substitution.Entry.{Entry}
 use Rattle.larch_term.specs.declared.statement.Statement.{Statement}
 use Rattle.larch_term.specs.declared.statement.Statement.TheVariants.{Equation}
@@ -19,7 +19,7 @@ use Rattle.larch_calculus.specs.Theories.{IsTermOf}
 use Rattle.larch_calculus.proofs.DerivedRules.{two_fit, two_over, transitive}
 use Rattle.larch_calculus.proofs.Sorted.{side_over, sides_over}
 use Rattle.larch_calculus.proofs.WellSorted.{well_sorted}
-use Rattle.larch_tables.specs.Rows.{PlainRow, x, y, a, b, deduction_rows, numbered, instance_of}
+use Rattle.larch_tables.specs.Rows.{PlainRow, x, y, a, b, deduction_rows, numbered}
 use Rattle.larch_tables.proofs.Identities.{assigned, Every, every_at, at_place}
 
 -- the proposition as a term, with terms in the places of x and y
@@ -79,7 +79,7 @@ both_of P c d p q = All-cons P c (d ∷ []) p (one P d q)
 
 -- an instance of the statement is derivable
 abbrev instance_is : Theory → List Entry → Statement → Type 0
-instance_is t es c = Derivable t (instance_of es c)
+instance_is t es c = Derivable t (substituted_statement es c)
 
 from_conjunction : (t : Theory) (es : List Entry) → instance_is t es (Equation (conjunction x y) truth) → All (instance_is t es) (Equation x truth ∷ Equation y truth ∷ [])
 from_conjunction t es d =
