@@ -26,7 +26,7 @@ def long_examples():
 
 def without_part(text):
     """The codes of the program that have no part or several, and the parts that are of no code."""
-    codes = re.findall(r'Code::\w+ => b?"([A-Z-]+)"', (TOP / "crates/larch_base/src/code.rt").read_text())
+    codes = re.findall(r'"([A-Z]+(?:-[A-Z]+)*)"', (TOP / "crates/larch_base/src/code.rt").read_text())
     parts = re.findall(r"^### ([A-Z-]+)$", text, re.M)
     wrong = [code for code in codes if parts.count(code) != 1] + [part for part in parts if part not in codes]
     return wrong if codes else ["no code found in crates/larch_base/src/code.rt"]

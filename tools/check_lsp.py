@@ -1,0 +1,251 @@
+#!/usr/bin/env python3
+"""Tests the language server: python3 tools/check_lsp.py [PROGRAM]
+
+A small client speaks to editors/larch-lsp over its standard input and output, as an editor does, and looks at what is
+published and answered. Without PROGRAM the checkout's ./larch is taken. What needs composition of traits is tried
+where the program reads `includes`, and named where it doesn't."""
+import json
+import os
+import pathlib
+import queue
+import signal
+import subprocess
+import sys
+import tempfile
+import threading
+import time
+import unittest
+
+from desk import TOP, server
+
+PROGRAM = str(TOP / "larch")
+RIGHT = "T: trait\n  introduces\n    c: -> S\n"
+WRONG = "T: trait\n  introduces\n    c -> S\n"
+
+
+def reads_includes():
+    """Whether the program reads references to other traits."""
+    session = server.Session(PROGRAM)
+    found = session.report({"A.lsl": b"A: trait", "B.lsl": b"B: trait includes A"})
+    session.close()
+    return found["B.lsl"] is None
+
+
+class Client:
+    """An editor: sends messages, and keeps the published diagnostics by the file's name."""
+
+    def __init__(self, program=None, **environment):
+        self.process = subprocess.Popen(
+            [sys.executable, str(TOP / "editors/larch-lsp"), *(["--larch", program] if program else [])],
+            stdin=subprocess.PIPE, stdout=subprocess.PIPE, env={**os.environ, **environment})
+        self.answers, self.notes, self.last = queue.Queue(), queue.Queue(), 0
+        threading.Thread(target=self.listen, daemon=True).start()
+        self.skills = self.request("initialize", {"processId": None, "rootUri": None, "capabilities": {}})
+        self.notify("initialized", {})
+
+    def listen(self):
+        out = self.process.stdout
+        for line in iter(out.readline, b""):
+            length = int(line.split(b":")[1])
+            out.readline()
+            message = json.loads(out.read(length))
+            (self.answers if "id" in message else self.notes).put(message)
+
+    def send(self, message):
+        body = json.dumps({"jsonrpc": "2.0", **message}).encode()
+        self.process.stdin.write(b"Content-Length: %d\r\n\r\n" % len(body) + body)
+        self.process.stdin.flush()
+
+    def notify(self, method, params):
+        self.send({"method": method, "params": params})
+
+    def request(self, method, params):
+        self.last += 1
+        self.send({"id": self.last, "method": method, "params": params})
+        answer = self.answers.get(timeout=20)
+        assert answer["id"] == self.last, answer
+        return answer.get("result", answer.get("error"))
+
+    def published(self, name, wanted, seconds=30):
+        """Waits until the codes published for a file are the wanted ones; the diagnostics."""
+        end = time.monotonic() + seconds
+        while True:
+            note = self.notes.get(timeout=max(0.01, end - time.monotonic()))
+            if note["method"] == "textDocument/publishDiagnostics" and note["params"]["uri"].endswith("/" + name):
+                found = note["params"]["diagnostics"]
+                if [diagnostic.get("code") for diagnostic in found] == wanted:
+                    return found
+
+    def open(self, path, text):
+        self.notify("textDocument/didOpen", {"textDocument": {
+            "uri": path.as_uri(), "languageId": "lsl", "version": 1, "text": text}})
+
+    def change(self, path, text, version=2):
+        self.notify("textDocument/didChange", {"textDocument": {"uri": path.as_uri(), "version": version},
+                                               "contentChanges": [{"text": text}]})
+
+    def close(self, path):
+        self.notify("textDocument/didClose", {"textDocument": {"uri": path.as_uri()}})
+
+    def at(self, method, path, line, character):
+        return self.request("textDocument/" + method, {"textDocument": {"uri": path.as_uri()},
+                                                       "position": {"line": line, "character": character}})
+
+    def end(self):
+        self.request("shutdown", None)
+        self.notify("exit", None)
+        status = self.process.wait(10)
+        self.process.stdin.close()
+        self.process.stdout.close()
+        return status
+
+
+class Served(unittest.TestCase):
+    def setUp(self):
+        self.place = tempfile.TemporaryDirectory()
+        self.folder = pathlib.Path(self.place.name)
+        self.client = Client(PROGRAM)
+
+    def tearDown(self):
+        if self.client.process.poll() is None:
+            self.client.end()
+        self.place.cleanup()
+
+    def write(self, name, text):
+        (self.folder / name).write_bytes(text if isinstance(text, bytes) else text.encode())
+        return self.folder / name
+
+    def test_error_comes_and_goes(self):
+        path = self.write("T.lsl", RIGHT)
+        self.client.open(path, WRONG)
+        found = self.client.published("T.lsl", ["SYNTAX"])[0]
+        self.assertEqual(found["range"], {"start": {"line": 2, "character": 6}, "end": {"line": 2, "character": 8}})
+        self.assertEqual(found["message"], server.sentence("SYNTAX", server.code_parts()))
+        self.assertIn("a `;` or `,` may be missing", found["message"])
+        self.client.change(path, RIGHT)
+        self.assertEqual(self.client.published("T.lsl", []), [])
+
+    def test_columns_are_counted_in_16_bit_pieces(self):
+        path = self.write("T.lsl", RIGHT)
+        self.client.open(path, "T: trait % é\n  introduces c: -> S \U0001f600 d\r\n")
+        found = self.client.published("T.lsl", ["LEX"])[0]
+        self.assertEqual(found["range"]["start"], {"line": 1, "character": 21})
+        self.client.change(path, "T: trait\r\n  introduces\r\n    c -> S\r\n")
+        self.assertEqual(self.client.published("T.lsl", ["SYNTAX"])[0]["range"]["start"], {"line": 2, "character": 6})
+
+    def test_end_of_file(self):
+        path = self.write("T.lsl", "")
+        self.client.open(path, "")
+        found = self.client.published("T.lsl", ["SYNTAX"])[0]
+        self.assertEqual(found["range"], server.AT_START)
+
+    def test_files_of_the_folder_and_closing(self):
+        path = self.write("T.lsl", RIGHT)
+        self.write("U.lsl", "U: trait\n  introduces\n    c -> S\n")
+        self.client.open(path, WRONG)
+        self.client.published("U.lsl", ["SYNTAX"])
+        self.client.close(path)
+        self.client.published("T.lsl", [])
+        self.write("U.lsl", "U: trait")
+        self.client.open(path, RIGHT)
+        self.client.published("U.lsl", [])
+
+    def test_closed_file_that_was_never_saved(self):
+        self.write("U.lsl", "U: trait")
+        path = self.folder / "T.lsl"
+        self.client.open(path, WRONG)
+        self.client.published("T.lsl", ["SYNTAX"])
+        self.client.close(path)
+        self.client.published("T.lsl", [])
+
+    def test_hover_and_symbols(self):
+        path = self.write("T.lsl", RIGHT)
+        self.client.open(path, "T: trait introduces a, [__, __]: M, N -> N\n  asserts )\n  implies a(x, y) ==\n"
+                               "    [x, y]; b\n")
+        self.client.published("T.lsl", ["SYNTAX"])
+        shown = self.client.at("hover", path, 1, 10)
+        self.assertEqual(shown["contents"]["value"], "**SYNTAX** " + server.code_parts()["SYNTAX"])
+        self.assertIn("```lsl\nT: trait", shown["contents"]["value"])
+        self.assertIsNone(self.client.at("hover", path, 0, 0))
+        symbols = self.client.request("textDocument/documentSymbol", {"textDocument": {"uri": path.as_uri()}})
+        self.assertEqual([(symbol["name"], symbol["detail"]) for symbol in symbols],
+                         [("a", "M, N -> N"), ("[__, __]", "M, N -> N"), ("a(x, y) == [x, y]", "implied"),
+                          ("b", "implied")])
+
+    def test_definition(self):
+        other = self.write("Other.lsl", "Other: trait")
+        text = "T: trait % Other\n  includes One,\n    Other (a for b)\n  implies Other\n"
+        path = self.write("T.lsl", text)
+        self.client.open(path, text)
+        for line, character in ((2, 4), (2, 9), (3, 11)):
+            self.assertEqual(self.client.at("definition", path, line, character)["uri"], other.as_uri())
+        for line, character in ((0, 12), (1, 12), (2, 11)):
+            self.assertIsNone(self.client.at("definition", path, line, character))
+
+    def test_session_is_started_anew(self):
+        path = self.write("T.lsl", RIGHT)
+        self.client.open(path, WRONG)
+        self.client.published("T.lsl", ["SYNTAX"])
+        children = subprocess.run(["ps", "-o", "pid=", "--ppid", str(self.client.process.pid)], capture_output=True)
+        for child in children.stdout.split():
+            os.kill(int(child), signal.SIGKILL)
+        self.client.change(path, RIGHT)
+        self.client.published("T.lsl", [])
+
+    def test_what_a_session_does_not_take(self):
+        long = self.write("Long.lsl", b"Long: trait" + b" " * server.MOST_BYTES)
+        path = self.write("T.lsl", RIGHT)
+        odd = self.write("a-b.lsl", "")
+        self.client.open(path, WRONG)
+        for name in (long.name, path.name, odd.name):
+            self.client.published(name, ["SYNTAX"] if name == "T.lsl" else [None])
+
+    def test_more_input_than_a_session_takes(self):
+        path = self.write("T.lsl", RIGHT)
+        self.client.open(path, WRONG)
+        self.client.published("T.lsl", ["SYNTAX"])
+        for count in range(68):
+            self.client.change(path, RIGHT + " " * (server.MOST_BYTES - 100), 2 * count)
+            self.client.published("T.lsl", [])
+            if count % 17 == 16:
+                self.client.change(path, WRONG, 2 * count + 1)
+                self.client.published("T.lsl", ["SYNTAX"])
+            else:
+                self.client.notes.put({"method": "textDocument/publishDiagnostics", "params": {
+                    "uri": "/T.lsl", "diagnostics": []}})
+
+    def test_program_that_is_not_there(self):
+        for client in (Client("/nowhere/larch"), Client(None, LARCH="/nowhere/larch"), Client("/bin/false")):
+            client.open(self.folder / "T.lsl", RIGHT)
+            note = client.notes.get(timeout=20)
+            self.assertEqual(note["method"], "window/showMessage")
+            self.assertIn("/bin/false ended" if "false" in str(note) else "/nowhere/larch", note["params"]["message"])
+            self.assertEqual(client.end(), 0)
+
+    def test_protocol(self):
+        self.assertEqual(self.client.skills["capabilities"]["textDocumentSync"]["change"], 1)
+        self.assertEqual(self.client.request("no/such", {})["code"], -32601)
+        self.assertEqual(self.client.request("textDocument/hover", {})["code"], -32602)
+        self.client.notify("$/setTrace", {"value": "off"})
+        self.client.open(pathlib.Path("/"), "")
+        untitled = {"textDocument": {"uri": "untitled:1", "version": 1, "languageId": "lsl", "text": WRONG}}
+        self.client.notify("textDocument/didOpen", untitled)
+        self.assertEqual(self.client.request("textDocument/documentSymbol", untitled), [])
+        self.assertEqual(self.client.end(), 0)
+
+    def test_fault_in_an_included_file(self):
+        if not reads_includes():
+            self.skipTest("the program doesn't read `includes` yet")
+        self.write("Base.lsl", "Base: trait\n  introduces\n    c -> S\n")
+        path = self.write("T.lsl", "T: trait\n  includes Base\n")
+        self.client.open(path, path.read_text())
+        self.client.published("T.lsl", ["BAD-REFERENCE"])
+        self.write("Base.lsl", "Base: trait\n  introduces\n    c: -> S\n")
+        self.client.notify("textDocument/didSave", {"textDocument": {"uri": path.as_uri()}})
+        self.client.published("T.lsl", [])
+
+
+if __name__ == "__main__":
+    if sys.argv[1:] and not sys.argv[1].startswith("-"):
+        PROGRAM = str(pathlib.Path(sys.argv.pop(1)).resolve())
+    unittest.main()
