@@ -2,4 +2,4 @@
 //! laws. No function here does anything.
 #![tactic(auto)]
 
-
+pub mod laws;

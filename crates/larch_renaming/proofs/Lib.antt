@@ -1,0 +1,4 @@
+-- Lemmas.
+pub mod Renamed
+pub mod RenamedStatements
+pub mod RenamedSubstitutions
