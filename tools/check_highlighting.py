@@ -1,0 +1,132 @@
+#!/usr/bin/env python3
+"""Tests what editors colour: python3 tools/check_highlighting.py [--write]
+
+The table of words has the reserved words and fixed symbols of the program's own definitions; the editors' files are
+those that tools/make_highlighting.py makes of it; and Vim, Emacs and the TextMate grammar colour the examples and
+editors/samples as editors/expected.txt says. An editor that isn't installed is named and left out. With --write the
+kept file is written anew, from the TextMate grammar, which Python reads."""
+import json
+import os
+import pathlib
+import re
+import shutil
+import subprocess
+import sys
+import tempfile
+import unittest
+
+import make_highlighting
+from desk import TOP
+
+KEPT = TOP / "editors/expected.txt"
+FILES = sorted(str(path.relative_to(TOP)) for folder in ("examples", "editors/samples")
+               for path in (TOP / folder).iterdir() if path.suffix in (".lsl", ".lp"))
+
+
+def definitions():
+    """The texts in the definitions that say what each token is to the grammar: the specs that name `partitioned`."""
+    specs = [path.read_text() for path in (TOP / "crates").glob("*/specs/**/*.antt")]
+    return {text.replace("\\\\", "\\") for spec in specs if 'codes "partitioned"' in spec
+            for text in re.findall(r'codes "([^"]+)"', spec)}
+
+
+def textmate(path):
+    """The dump of a file as a reader of TextMate grammars without nesting makes it."""
+    grammar = json.loads((TOP / f"editors/vscode/syntaxes/{pathlib.Path(path).suffix[1:]}.tmLanguage.json").read_text())
+    rules = [(re.compile(rule["match"]), rule) for rule in grammar["patterns"]]
+    lines = [f"== {path}"]
+    for number, line in enumerate((TOP / path).read_text().splitlines(), 1):
+        kinds, at = [None] * len(line), 0
+        while at < len(line):
+            found = [(match.start(), place, match, rule) for place, (pattern, rule) in enumerate(rules)
+                     for match in [pattern.search(line, at)] if match]
+            if not found:
+                break
+            _, _, match, rule = min(found, key=lambda entry: entry[:2])
+            named = rule.get("captures", {"0": rule})
+            for group, name in named.items():
+                for place in range(*match.span(int(group))):
+                    kinds[place] = name["name"].split(".")[-2].replace("percentage", "comment")
+            at = match.end()
+        start = 0
+        for place in range(1, len(line) + 1):
+            if place == len(line) or kinds[place] != kinds[start]:
+                if kinds[start]:
+                    lines.append(f"{number}:{start + 1} {kinds[start]} {line[start:place]}")
+                start = place
+    return lines
+
+
+class Coloured(unittest.TestCase):
+    maxDiff = None
+
+    def kept(self):
+        return KEPT.read_text().splitlines()
+
+    def installed(self, editor):
+        if not shutil.which(editor):
+            self.skipTest(f"{editor} is not installed")
+
+    def test_words_are_the_programs(self):
+        table, found = make_highlighting.words(), definitions()
+        reserved = {word for kind in ("part", "clause", "choice") for word in table[kind]}
+        self.assertEqual(reserved, {text for text in found if re.fullmatch("[a-z]+", text)})
+        # The two connectives of slashes are given there by their bytes.
+        fixed = set(table["fixed"] + table["quantifier"]) - {"/\\", "\\/"}
+        self.assertEqual(fixed, {text for text in found if re.fullmatch(r"[!#$&*+/<>=?@^|~-]+|\\[a-z]+", text)})
+
+    def test_files_are_made_of_the_table(self):
+        for path, text in make_highlighting.files().items():
+            self.assertEqual((TOP / path).read_text(), text, path)
+
+    def test_manifest(self):
+        folder = TOP / "editors/vscode"
+        manifest = json.loads((folder / "package.json").read_text())
+        contributed = manifest["contributes"]
+        named = [manifest["main"], *(grammar["path"] for grammar in contributed["grammars"]),
+                 *(language["configuration"] for language in contributed["languages"])]
+        for name in named:
+            self.assertTrue((folder / name).is_file(), name)
+        self.assertEqual([grammar["scopeName"] for grammar in contributed["grammars"]], ["source.lsl", "source.lp"])
+
+    def test_textmate(self):
+        self.assertEqual([line for path in FILES for line in textmate(path)], self.kept())
+
+    def test_vim(self):
+        self.installed("vim")
+        with tempfile.TemporaryDirectory() as place:
+            subprocess.run(["vim", "-es", "-u", "NONE", "-N", "-i", "NONE", "-S", "editors/vim/dump.vim"], cwd=TOP,
+                           env={**os.environ, "FILES": " ".join(FILES), "DUMP": f"{place}/dump"}, timeout=60,
+                           stdin=subprocess.DEVNULL, stdout=subprocess.DEVNULL)
+            self.assertEqual(pathlib.Path(place, "dump").read_text().splitlines(), self.kept())
+
+    def emacs(self, *words):
+        self.installed("emacs")
+        done = subprocess.run(["emacs", "--batch", "-Q", "-L", "editors/emacs", *words], cwd=TOP, timeout=60,
+                              capture_output=True, text=True)
+        self.assertEqual(done.returncode, 0, done.stderr)
+        return done.stdout
+
+    def test_emacs(self):
+        self.assertEqual(self.emacs("-l", "editors/emacs/dump.el", *FILES).splitlines(), self.kept())
+
+    def test_emacs_indents_and_comments(self):
+        for name in FILES:
+            text = (TOP / name).read_text()
+            flat = re.sub("(?m)^ +", "", text)
+            with tempfile.TemporaryDirectory() as place:
+                path = pathlib.Path(place, pathlib.Path(name).name)
+                path.write_text(flat)
+                self.emacs("-l", "larch-mode", "--eval", f'(progn (find-file "{path}") '
+                           '(let ((inhibit-message t)) (indent-region (point-min) (point-max)) (save-buffer)))')
+                self.assertEqual(path.read_text(), text)
+                self.emacs("-l", "larch-mode", "--eval", f'(progn (find-file "{path}") (let ((inhibit-message t)) '
+                           '(comment-region (point-min) (point-max)) (save-buffer)))')
+                self.assertTrue(all(line.lstrip().startswith("%") for line in path.read_text().splitlines()))
+
+
+if __name__ == "__main__":
+    if sys.argv[1:] == ["--write"]:
+        KEPT.write_text("".join(line + "\n" for path in FILES for line in textmate(path)))
+    else:
+        unittest.main()
