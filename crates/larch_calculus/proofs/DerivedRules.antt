@@ -6,7 +6,7 @@ use Rattle.larch_base.proofs.Members.{contains_here, contains_later, contains_le
 use Rattle.larch_term.specs.Operator.{PlainOperator}
 use Rattle.larch_term.specs.BuiltIn.{built_in, bool_sort}
 use Rattle.larch_term.specs.Tree.{Tree, var}
-use Rattle.larch_term.specs.Sorts.{sort_of, WellSorted, IsOver, IsKnown, IsTermOver}
+use Rattle.larch_term.specs.Sorts.{sort_of, WellSorted, IsOver, IsTermOver}
 use Rattle.larch_term.specs.Place.{at, put}
 use Rattle.larch_term.specs.Variable.{occurrences}
 use Rattle.larch_term.specs.Statement.{IsStatementOver, statement_zero, IsWellSortedTheory}
@@ -16,13 +16,14 @@ use Rattle.larch_term.specs.declared.substitution.Entry.{Entry}
 use Rattle.larch_term.specs.declared.statement.Statement.{Statement}
 use Rattle.larch_term.specs.declared.statement.Statement.TheVariants.{Equation}
 use Rattle.larch_term.specs.declared.statement.Theory.{Theory}
+use Rattle.larch_renaming.specs.Renaming.{unchanged}
 use Rattle.larch_calculus.specs.Formula.{falsity, conjunction, implication, choice}
 use Rattle.larch_term.specs.Truth.{truth}
 use Rattle.larch_calculus.specs.Identity.{always, both, implied, propositional, chosen_first, chosen_second}
 use Rattle.larch_calculus.specs.Theories.{IsIncluded, IsPrefix, with_statements}
 use Rattle.larch_calculus.specs.Letters.{two, x_letter, y_letter}
 use Rattle.larch_calculus.specs.Derivable.{Derivable, axiom_, identity, reflexive, symmetric, replace, instance, weaken, cases}
-use Rattle.larch_calculus.proofs.Renamed.{statement_itself}
+use Rattle.larch_renaming.proofs.RenamedStatements.{by_name_fits, statement_unchanged}
 use Rattle.larch_calculus.proofs.Sorted.{truth_over, falsity_over, sides_over, included_with, with_statements_well_sorted}
 use Rattle.larch_calculus.proofs.Translation.{translated}
 use Rattle.larch_calculus.proofs.WellSorted.{well_sorted}
@@ -166,18 +167,18 @@ prefix_included t u p =
 pub cut_theory : {t u : Theory} {s : Statement} → IsWellSortedTheory t → IsWellSortedTheory u → ((f : PlainOperator) → Contains t.operators f → Contains u.operators f)
     → ((r : Statement) → Contains t.statements r → Derivable u r) → Derivable t s → Derivable u s
 cut_theory {t} {u} {s} wt wu fs rs d =
-    subst (Derivable u) (statement_itself s)
-    (translated d (λ n. n) u (record {
+    subst (Derivable u) (statement_unchanged s)
+    (translated d unchanged u (record {
       source = wt;
       target = wu;
-      built_in = λ f b. refl;
-      operators = known t u fs;
-      statements = λ r c. subst (Derivable u) (sym (statement_itself r)) (rs r c);
+      faithful = record {
+        signatures = record { domain = (by_name_fits (λ n. n)).domain; range = λ f. refl };
+        built_in = record { truth_values = refl; operators = λ b s. refl };
+        apart = λ s q e. e;
+      };
+      operators = λ f k. elim k [ inl c ↦ inl (fs f c) | inr b ↦ inr b ];
+      statements = λ r c. subst (Derivable u) (sym (statement_unchanged r)) (rs r c);
     }))
-  where
-    known : (t u : Theory) → ((f : PlainOperator) → Contains t.operators f → Contains u.operators f) → (f : PlainOperator) → IsKnown t.operators f → IsKnown u.operators f
-    known t u fs f (inl c) = inl (fs f c)
-    known t u fs f (inr b) = inr b
 
 pub cut_statements : {t : Theory} (ss : List Statement) {s : Statement} → IsWellSortedTheory t → All (Derivable t) ss → Derivable (with_statements t ss) s → Derivable t s
 cut_statements {t} ss w h d =

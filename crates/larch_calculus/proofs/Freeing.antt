@@ -1,13 +1,13 @@
 -- Constants in the places of variables, and variables in theirs again.
-use Rattle.std.proofs.Common.{◌≡◌, ℕ, suc, ◌⊎◌, inl, inr, true, bytes_eq, cond, List, [], ◌∷◌, ◌++◌, map, Some, option_map, option_and_then, unwrap_or, All, Contains, refl, sym, ◌∙◌, ap}
+use Rattle.std.proofs.Common.{◌≡◌, ◌≢◌, ℕ, suc, ◌⊎◌, inl, inr, true, bytes_eq, cond, List, [], ◌∷◌, ◌++◌, map, Some, option_map, option_and_then, unwrap_or, All, Contains, refl, sym, ◌∙◌, ap, Option, None, subst}
 use Rattle.std.specs.List.{slice_get}
-use Rattle.std.proofs.lemmas.List.Elements.{All-nil, All-cons, All-head, All-tail, All-contains}
+use Rattle.std.proofs.lemmas.List.Elements.{All-nil, All-cons, All-head, All-tail, All-weaker, All-contains}
 use Rattle.std.proofs.lemmas.Slice.Eq.{bytes_eq-Decides}
 use Rattle.larch_base.proofs.Bools.{true_or_false, both_true, and_both}
 use Rattle.larch_base.proofs.Members.{contains_here, contains_later, contains_left, contains_right, contains_cases, contains_none}
 use Rattle.larch_term.specs.Operator.{PlainOperator}
 use Rattle.larch_term.specs.Tree.{Tree, Forest, var, app, none, more}
-use Rattle.larch_term.specs.Sorts.{sort_of, WellSorted, IsOver, AllOver}
+use Rattle.larch_term.specs.Sorts.{sort_of, WellSorted, IsOver, AllOver, IsKnown, sorts_of, AllWellSorted}
 use Rattle.larch_term.specs.Variable.{occurrences, occurrences_in}
 use Rattle.larch_term.specs.Statement.{IsStatementOver, IsWellSortedTheory}
 use Rattle.larch_term.specs.Substitution.{is_entry_of, image, substituted, substituted_all, Fits}
@@ -17,12 +17,11 @@ use Rattle.larch_term.specs.declared.statement.Statement.TheVariants.{Equation}
 use Rattle.larch_term.specs.declared.statement.Theory.{Theory}
 use Rattle.larch_term.proofs.SubstitutionLaws.{substituted_sort, substituted_well_sorted, substituted_over, substituted_nil}
 use Rattle.larch_calculus.specs.Formula.{constant}
-use Rattle.larch_calculus.specs.Freed.{freed, freed_all, constants_for}
-use Rattle.larch_calculus.specs.Theories.{IsTermOf, AreNew, AreConstants, extended}
+use Rattle.larch_calculus.specs.Freed.{freed, freed_all, constants_for, place_of}
+use Rattle.larch_calculus.specs.Theories.{IsTermOf, IsNewName, AreNew, AreConstants, extended}
 use Rattle.larch_calculus.specs.Derivable.{Derivable, instance, weaken, fresh}
-use Rattle.larch_calculus.proofs.Extension.{known_not_placed, freed_sort, freed_well_sorted}
-use Rattle.larch_calculus.proofs.Names.{placed_at}
-use Rattle.larch_calculus.proofs.Sorted.{knows_more, over_more, included_more}
+use Rattle.larch_calculus.proofs.Names.{not_placed, placed_at, has_variable}
+use Rattle.larch_calculus.proofs.Sorted.{knows_more, known_cases, over_more, included_more}
 
 -- the variable is there already
 abbrev Named : Variable → List ℕ → List ℕ → Type 0
@@ -32,6 +31,53 @@ is_named : (n s : List ℕ) (e : Entry) → is_entry_of n s e ≡ true → (e.na
 is_named n s e h =
     let p = both_true (bytes_eq e.name n) (bytes_eq e.sort s) h in
     ((bytes_eq-Decides e.name n).0 p.0, (bytes_eq-Decides e.sort s).0 p.1)
+
+known_apart : (t : Theory) (cs : List PlainOperator) → AreNew t cs → (f : PlainOperator) → IsKnown t.operators f → All (λ c. c.name ≢ f.name) cs
+known_apart t cs n f k = All-weaker (λ c. IsNewName t c.name) (λ c. c.name ≢ f.name) (λ c h e. h f k (sym e)) cs n.names
+
+-- what a theory knows is none of the new constants
+pub known_not_placed : (t : Theory) (cs : List PlainOperator) → AreNew t cs → (f : PlainOperator) → IsKnown t.operators f → place_of cs f.name ≡ None
+known_not_placed t cs n f k = not_placed cs f.name (known_apart t cs n f k)
+
+-- what is freed keeps its sort, and is over the operators without the constants
+pub freed_sort : (t : Theory) (cs : List PlainOperator) (vs : List Variable) → AreNew t cs → map (λ c. c.range) cs ≡ map (λ v. v.sort) vs → (a : Tree)
+    → IsOver (t.operators ++ cs) a → sort_of (freed cs vs a) ≡ sort_of a
+freed_sort t cs vs n e (var m s) o = refl
+freed_sort t cs vs n e (app f ts) o =
+    elim (known_cases t.operators cs f o.0) [
+      | inl k ↦ ap (λ q. sort_of (unwrap_or (option_map (λ v. var v.name v.sort) q) (app f (freed_all cs vs ts)))) (ap (option_and_then (slice_get vs)) (known_not_placed t cs n f k))
+      | inr h ↦
+          let v = has_variable cs vs f n.different e h in
+          ap (λ q. sort_of (unwrap_or (option_map (λ v. var v.name v.sort) q) (app f (freed_all cs vs ts)))) v.1 ∙ v.2
+    ]
+
+pub freed_sorts : (t : Theory) (cs : List PlainOperator) (vs : List Variable) → AreNew t cs → map (λ c. c.range) cs ≡ map (λ v. v.sort) vs → (ls : Forest)
+    → AllOver (t.operators ++ cs) ls → sorts_of (freed_all cs vs ls) ≡ sorts_of ls
+freed_sorts t cs vs n e none o = refl
+freed_sorts t cs vs n e (more a ls) o = λ i. freed_sort t cs vs n e a o.0 i ∷ freed_sorts t cs vs n e ls o.1 i
+
+mutual
+  pub freed_well_sorted : (t : Theory) (cs : List PlainOperator) (vs : List Variable) → AreNew t cs → map (λ c. c.range) cs ≡ map (λ v. v.sort) vs → (a : Tree)
+      → IsOver (t.operators ++ cs) a → WellSorted a → WellSorted (freed cs vs a) × IsOver t.operators (freed cs vs a)
+  freed_well_sorted t cs vs n e (var m s) o w = (tt, tt)
+  freed_well_sorted t cs vs n e (app f ts) o w =
+      let Good : Option Variable → Type 0 = λ q.
+      WellSorted (unwrap_or (option_map (λ v. var v.name v.sort) q) (app f (freed_all cs vs ts)))
+      × IsOver t.operators (unwrap_or (option_map (λ v. var v.name v.sort) q) (app f (freed_all cs vs ts))) in
+      let rest = freed_all_well_sorted t cs vs n e ts o.1 w.1 in
+      elim (known_cases t.operators cs f o.0) [
+        | inl k ↦ subst Good (sym (ap (option_and_then (slice_get vs)) (known_not_placed t cs n f k)))
+            ((freed_sorts t cs vs n e ts o.1 ∙ w.0, rest.0), (k, rest.1))
+        | inr h ↦ subst Good (sym (has_variable cs vs f n.different e h).1) (tt, tt)
+      ]
+
+  pub freed_all_well_sorted : (t : Theory) (cs : List PlainOperator) (vs : List Variable) → AreNew t cs → map (λ c. c.range) cs ≡ map (λ v. v.sort) vs → (ls : Forest)
+      → AllOver (t.operators ++ cs) ls → AllWellSorted ls → AllWellSorted (freed_all cs vs ls) × AllOver t.operators (freed_all cs vs ls)
+  freed_all_well_sorted t cs vs n e none o w = (tt, tt)
+  freed_all_well_sorted t cs vs n e (more a ls) o w =
+      let p = freed_well_sorted t cs vs n e a o.0 w.0 in
+      let q = freed_all_well_sorted t cs vs n e ls o.1 w.1 in
+      ((p.0, q.0), (p.1, q.1))
 
 -- what a variable becomes: itself, or the constant that stands where the variable does
 pub image_is : (vs : List Variable) (cs : List PlainOperator) (n s : List ℕ)

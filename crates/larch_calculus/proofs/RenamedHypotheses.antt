@@ -1,178 +1,211 @@
--- Built-in terms, identities, observations and hypotheses by other names.
-use Rattle.std.proofs.Common.{◌≡◌, ℕ, suc, ◌==◌, List, [], ◌∷◌, ◌++◌, map, bytes_eq, refl, sym, ◌∙◌, ap}
+-- Built-in terms, identities, observations and hypotheses by a renaming.
+use Rattle.std.proofs.Common.{◌≡◌, ℕ, suc, ◌==◌, cond, List, [], ◌∷◌, ◌++◌, map, bytes_eq, refl, sym, ◌∙◌, ap}
 use Rattle.std.proofs.lemmas.List.{map-append}
 use Rattle.larch_base.proofs.Lists.{map_map, map_by}
 use Rattle.larch_base.proofs.Options.{map_cond, cond_by}
-use Rattle.larch_term.specs.Operator.{OperatorName, PlainOperator}
-use Rattle.larch_term.specs.BuiltIn.{bool_sort}
+use Rattle.larch_term.specs.Operator.{PlainOperator}
 use Rattle.larch_term.specs.Tree.{Tree, var, app, none, more}
-use Rattle.larch_term.specs.Statement.{statement_zero}
+use Rattle.larch_term.specs.Truth.{truth}
 use Rattle.larch_term.specs.declared.built_in.BuiltIn.TheVariants.{True, False, Not, And, Or, Implies, Iff, Equal, Unequal, If}
 use Rattle.larch_term.specs.declared.variable.Variable.{Variable}
 use Rattle.larch_term.specs.declared.statement.Statement.{Statement}
-use Rattle.larch_term.specs.declared.statement.Statement.TheVariants.{Equation, Generated}
-use Rattle.larch_calculus.specs.Formula.{constant, applied, joined, falsity, negation, conjunction, equality, inequality, choice}
-use Rattle.larch_term.specs.Truth.{truth}
+use Rattle.larch_term.specs.declared.statement.Statement.TheVariants.{Equation}
+use Rattle.larch_renaming.specs.Renaming.{Renaming, renamed, renamed_all, renamed_variable, renamed_statement, FitsSignatures, KeepsBuiltIns}
+use Rattle.larch_calculus.specs.Formula.{constant, applied, joined, falsity, conjunction, equality}
 use Rattle.larch_calculus.specs.Identity.{Proposition, letter, always, never, denied, both, either, implied, equivalent, equal, unequal, chosen, term_of, IsIdentity, propositional, equal_itself, equal_exchanged, unequal_denied, chosen_first, chosen_second, chosen_same}
-use Rattle.larch_calculus.specs.Observation.{Observation, arguments_with, observed, observations_of, observations, places_of_sort}
-use Rattle.larch_calculus.specs.Generation.{variables_from, variable_terms, holding, conjoined, implied_by, generation_formula, generation_hypotheses, only, constant_terms, equation_at, induction_hypotheses}
-use Rattle.larch_calculus.specs.Renaming.{renamed_operator, renamed, renamed_all, renamed_statement, KeepsBuiltIn}
-use Rattle.larch_calculus.proofs.Renamed.{renamed_built_in, renamed_substituted}
+use Rattle.larch_calculus.specs.Observation.{Observation, arguments_with, observed, observations_of, observations, other_variables, variables_beside, places_of_sort}
+use Rattle.larch_calculus.specs.Generation.{place_name, variables_from, variable_terms, holding, conjoined, implied_by, generation_formula, generation_hypotheses, only, constant_terms, equation_at, induction_hypotheses}
+use Rattle.larch_calculus.specs.Renaming.{KeepsSortsApart, IsFaithful}
+use Rattle.larch_calculus.proofs.Renamed.{built_in_kept, renamed_substituted, sort_test}
 
-pub truth_renamed : (new : OperatorName → OperatorName) → KeepsBuiltIn new → renamed new truth ≡ truth
-truth_renamed new k = λ i. constant (renamed_built_in new k True bool_sort i)
+pub truth_renamed : (r : Renaming) → KeepsBuiltIns r → renamed r truth ≡ truth
+truth_renamed r k = λ i. constant (built_in_kept r k True i)
 
-pub falsity_renamed : (new : OperatorName → OperatorName) → KeepsBuiltIn new → renamed new falsity ≡ falsity
-falsity_renamed new k = λ i. constant (renamed_built_in new k False bool_sort i)
+pub falsity_renamed : (r : Renaming) → KeepsBuiltIns r → renamed r falsity ≡ falsity
+falsity_renamed r k = λ i. constant (built_in_kept r k False i)
 
-pub equality_renamed : (new : OperatorName → OperatorName) → KeepsBuiltIn new → (s : List ℕ) (t u : Tree) → renamed new (equality s t u) ≡ equality s (renamed new t) (renamed new u)
-equality_renamed new k s t u = λ i. joined (renamed_built_in new k Equal s i) (renamed new t) (renamed new u)
+pub equality_renamed : (r : Renaming) → KeepsBuiltIns r → (s : List ℕ) (t u : Tree)
+    → renamed r (equality s t u) ≡ equality (r.sort s) (renamed r t) (renamed r u)
+equality_renamed r k s t u = λ i. joined (k.operators Equal s i) (renamed r t) (renamed r u)
 
-pub zero_renamed : (new : OperatorName → OperatorName) → KeepsBuiltIn new → renamed_statement new statement_zero ≡ statement_zero
-zero_renamed new k = λ i. Generated bool_sort (renamed_built_in new k True bool_sort i ∷ renamed_built_in new k False bool_sort i ∷ [])
+proposition_renamed : (r : Renaming) → KeepsBuiltIns r → (p : Proposition) → renamed r (term_of p) ≡ term_of p
+proposition_renamed r k (letter n) = ap (var n) k.truth_values
+proposition_renamed r k always = truth_renamed r k
+proposition_renamed r k never = falsity_renamed r k
+proposition_renamed r k (denied p) = λ i. applied (built_in_kept r k Not i) (proposition_renamed r k p i)
+proposition_renamed r k (both p q) =
+    λ i. joined (built_in_kept r k And i) (proposition_renamed r k p i) (proposition_renamed r k q i)
+proposition_renamed r k (either p q) =
+    λ i. joined (built_in_kept r k Or i) (proposition_renamed r k p i) (proposition_renamed r k q i)
+proposition_renamed r k (implied p q) =
+    λ i. joined (built_in_kept r k Implies i) (proposition_renamed r k p i) (proposition_renamed r k q i)
+proposition_renamed r k (equivalent p q) =
+    λ i. joined (built_in_kept r k Iff i) (proposition_renamed r k p i) (proposition_renamed r k q i)
+proposition_renamed r k (equal p q) =
+    λ i. joined (built_in_kept r k Equal i) (proposition_renamed r k p i) (proposition_renamed r k q i)
+proposition_renamed r k (unequal p q) =
+    λ i. joined (built_in_kept r k Unequal i) (proposition_renamed r k p i) (proposition_renamed r k q i)
+proposition_renamed r k (chosen p q o) =
+    λ i. app (built_in_kept r k If i)
+    (more (proposition_renamed r k p i) (more (proposition_renamed r k q i) (more (proposition_renamed r k o i) none)))
 
-proposition_renamed : (new : OperatorName → OperatorName) → KeepsBuiltIn new → (p : Proposition) → renamed new (term_of p) ≡ term_of p
-proposition_renamed new k (letter n) = refl
-proposition_renamed new k always = truth_renamed new k
-proposition_renamed new k never = falsity_renamed new k
-proposition_renamed new k (denied p) = λ i. applied (renamed_built_in new k Not bool_sort i) (proposition_renamed new k p i)
-proposition_renamed new k (both p q) = λ i. joined (renamed_built_in new k And bool_sort i) (proposition_renamed new k p i) (proposition_renamed new k q i)
-proposition_renamed new k (either p q) = λ i. joined (renamed_built_in new k Or bool_sort i) (proposition_renamed new k p i) (proposition_renamed new k q i)
-proposition_renamed new k (implied p q) = λ i. joined (renamed_built_in new k Implies bool_sort i) (proposition_renamed new k p i) (proposition_renamed new k q i)
-proposition_renamed new k (equivalent p q) = λ i. joined (renamed_built_in new k Iff bool_sort i) (proposition_renamed new k p i) (proposition_renamed new k q i)
-proposition_renamed new k (equal p q) = λ i. joined (renamed_built_in new k Equal bool_sort i) (proposition_renamed new k p i) (proposition_renamed new k q i)
-proposition_renamed new k (unequal p q) = λ i. joined (renamed_built_in new k Unequal bool_sort i) (proposition_renamed new k p i) (proposition_renamed new k q i)
-proposition_renamed new k (chosen p q r) =
-    λ i. app (renamed_built_in new k If bool_sort i) (more (proposition_renamed new k p i) (more (proposition_renamed new k q i) (more (proposition_renamed new k r i) none)))
+-- an identity is one at the other sorts
+pub identity_renamed : (r : Renaming) → KeepsBuiltIns r → {a b : Tree} → IsIdentity a b → IsIdentity (renamed r a) (renamed r b)
+identity_renamed r k (propositional p q e f v) =
+    propositional p q (ap (renamed r) e ∙ proposition_renamed r k p) (ap (renamed r) f ∙ proposition_renamed r k q) v
+identity_renamed r k (equal_itself s x e f) =
+    equal_itself (r.sort s) x (ap (renamed r) e ∙ equality_renamed r k s (var x s) (var x s)) (ap (renamed r) f ∙ truth_renamed r k)
+identity_renamed r k (equal_exchanged s x y e f) =
+    equal_exchanged (r.sort s) x y (ap (renamed r) e ∙ equality_renamed r k s (var x s) (var y s))
+    (ap (renamed r) f ∙ equality_renamed r k s (var y s) (var x s))
+identity_renamed r k (unequal_denied s x y e f) =
+    unequal_denied (r.sort s) x y
+    (ap (renamed r) e ∙ (λ i. joined (k.operators Unequal s i) (var x (r.sort s)) (var y (r.sort s))))
+    (ap (renamed r) f ∙ (λ i. applied (built_in_kept r k Not i) (equality_renamed r k s (var x s) (var y s) i)))
+identity_renamed r k (chosen_first s x y e f) =
+    chosen_first (r.sort s) x y
+    (ap (renamed r) e ∙ (λ i. app (k.operators If s i) (more (truth_renamed r k i) (more (var x (r.sort s)) (more (var y (r.sort s)) none)))))
+    (ap (renamed r) f)
+identity_renamed r k (chosen_second s x y e f) =
+    chosen_second (r.sort s) x y
+    (ap (renamed r) e ∙ (λ i. app (k.operators If s i) (more (falsity_renamed r k i) (more (var x (r.sort s)) (more (var y (r.sort s)) none)))))
+    (ap (renamed r) f)
+identity_renamed r k (chosen_same s c x e f) =
+    chosen_same (r.sort s) c x
+    (ap (renamed r) e
+    ∙ (λ i. app (k.operators If s i) (more (var c (k.truth_values i)) (more (var x (r.sort s)) (more (var x (r.sort s)) none)))))
+    (ap (renamed r) f)
 
-unchanged : (new : OperatorName → OperatorName) (a b : Tree) → a ≡ b → renamed new b ≡ b → renamed new a ≡ a
-unchanged new a b e h = ap (renamed new) e ∙ h ∙ sym e
+-- the observation of the observer as it becomes
+abbrev pub renamed_observation : Renaming → Observation → Observation
+renamed_observation r w = record { observer = r.operator w.observer; place = w.place }
 
--- the sides of an identity have built-in operators alone
-pub identity_renamed : (new : OperatorName → OperatorName) → KeepsBuiltIn new → {a b : Tree} → IsIdentity a b → (renamed new a ≡ a) × (renamed new b ≡ b)
-identity_renamed new k {a} {b} (propositional p q l r v) =
-    (unchanged new a (term_of p) l (proposition_renamed new k p), unchanged new b (term_of q) r (proposition_renamed new k q))
-identity_renamed new k {a} {b} (equal_itself s x l r) =
-    (unchanged new a (equality s (var x s) (var x s)) l (equality_renamed new k s (var x s) (var x s)), unchanged new b truth r (truth_renamed new k))
-identity_renamed new k {a} {b} (equal_exchanged s x y l r) = (
-  unchanged new a (equality s (var x s) (var y s)) l (equality_renamed new k s (var x s) (var y s)),
-  unchanged new b (equality s (var y s) (var x s)) r (equality_renamed new k s (var y s) (var x s)),
-)
-identity_renamed new k {a} {b} (unequal_denied s x y l r) = (
-  unchanged new a (inequality s (var x s) (var y s)) l (λ i. joined (renamed_built_in new k Unequal s i) (var x s) (var y s)),
-  unchanged new b (negation (equality s (var x s) (var y s))) r
-      (λ i. applied (renamed_built_in new k Not bool_sort i) (equality_renamed new k s (var x s) (var y s) i)),
-)
-identity_renamed new k {a} {b} (chosen_first s x y l r) = (
-  unchanged new a (choice s truth (var x s) (var y s)) l
-      (λ i. app (renamed_built_in new k If s i) (more (truth_renamed new k i) (more (var x s) (more (var y s) none)))),
-  unchanged new b (var x s) r refl,
-)
-identity_renamed new k {a} {b} (chosen_second s x y l r) = (
-  unchanged new a (choice s falsity (var x s) (var y s)) l
-      (λ i. app (renamed_built_in new k If s i) (more (falsity_renamed new k i) (more (var x s) (more (var y s) none)))),
-  unchanged new b (var y s) r refl,
-)
-identity_renamed new k {a} {b} (chosen_same s c x l r) = (
-  unchanged new a (choice s (var c bool_sort) (var x s) (var x s)) l
-      (λ i. app (renamed_built_in new k If s i) (more (var c bool_sort) (more (var x s) (more (var x s) none)))),
-  unchanged new b (var x s) r refl,
-)
+arguments_renamed : (r : Renaming) (names : ℕ → List ℕ) (place : ℕ) (t : Tree) (k : ℕ) (ss : List (List ℕ))
+    → renamed_all r (arguments_with names place t k ss) ≡ arguments_with names place (renamed r t) k (map r.sort ss)
+arguments_renamed r names place t k [] = refl
+arguments_renamed r names place t k (s ∷ ss) =
+    λ i. more (map_cond (renamed r) (k == place) t (var (names k) s) i) (arguments_renamed r names place t (suc k) ss i)
 
--- the observation of the observer by its new name
-abbrev pub renamed_observation : (OperatorName → OperatorName) → Observation → Observation
-renamed_observation new w = record { observer = renamed_operator new w.observer; place = w.place }
+pub observed_renamed : (r : Renaming) → FitsSignatures r → (names : ℕ → List ℕ) (w : Observation) (t : Tree)
+    → renamed r (observed names w t) ≡ observed names (renamed_observation r w) (renamed r t)
+observed_renamed r h names w t =
+    ap (app (r.operator w.observer))
+    (arguments_renamed r names w.place t 1 w.observer.domain
+    ∙ ap (arguments_with names w.place (renamed r t) 1) (sym (h.domain w.observer)))
 
-arguments_renamed : (new : OperatorName → OperatorName) (names : ℕ → List ℕ) (place : ℕ) (t : Tree) (k : ℕ) (ss : List (List ℕ))
-    → renamed_all new (arguments_with names place t k ss) ≡ arguments_with names place (renamed new t) k ss
-arguments_renamed new names place t k [] = refl
-arguments_renamed new names place t k (r ∷ rs) =
-    λ i. more (map_cond (renamed new) (k == place) t (var (names k) r) i) (arguments_renamed new names place t (suc k) rs i)
+beside_renamed : (r : Renaming) (names : ℕ → List ℕ) (place k : ℕ) (ss : List (List ℕ))
+    → variables_beside names place k (map r.sort ss) ≡ map (renamed_variable r) (variables_beside names place k ss)
+beside_renamed r names place k [] = refl
+beside_renamed r names place k (s ∷ ss) =
+    let v : Variable = record { name = names k; sort = s } in
+    let vs = variables_beside names place (suc k) ss in
+    let rest = beside_renamed r names place (suc k) ss in
+    cond_by (k == place) (variables_beside names place (suc k) (map r.sort ss))
+    (renamed_variable r v ∷ variables_beside names place (suc k) (map r.sort ss)) (map (renamed_variable r) vs) (map (renamed_variable r) (v ∷ vs))
+    rest (ap (λ us. renamed_variable r v ∷ us) rest)
+    ∙ sym (map_cond (map (renamed_variable r)) (k == place) vs (v ∷ vs))
 
-pub observed_renamed : (new : OperatorName → OperatorName) (names : ℕ → List ℕ) (w : Observation) (t : Tree)
-    → renamed new (observed names w t) ≡ observed names (renamed_observation new w) (renamed new t)
-observed_renamed new names w t = ap (app (renamed_operator new w.observer)) (arguments_renamed new names w.place t 1 w.observer.domain)
+-- the other arguments of an observation, at the other sorts
+pub others_renamed : (r : Renaming) → FitsSignatures r → (names : ℕ → List ℕ) (w : Observation)
+    → other_variables names (renamed_observation r w) ≡ map (renamed_variable r) (other_variables names w)
+others_renamed r h names w =
+    ap (variables_beside names w.place 1) (h.domain w.observer) ∙ beside_renamed r names w.place 1 w.observer.domain
 
-pub observations_of_renamed : (new : OperatorName → OperatorName) (s : List ℕ) (os : List PlainOperator)
-    → observations_of s (map (renamed_operator new) os) ≡ map (renamed_observation new) (observations_of s os)
-observations_of_renamed new s [] = refl
-observations_of_renamed new s (o ∷ os) =
+places_renamed : (r : Renaming) → KeepsSortsApart r → (s : List ℕ) (k : ℕ) (ss : List (List ℕ))
+    → places_of_sort (r.sort s) k (map r.sort ss) ≡ places_of_sort s k ss
+places_renamed r a s k [] = refl
+places_renamed r a s k (q ∷ ss) =
+    λ i. cond (sort_test r a q s i) (k ∷ places_renamed r a s (suc k) ss i) (places_renamed r a s (suc k) ss i)
+
+pub observations_of_renamed : (r : Renaming) → IsFaithful r → (s : List ℕ) (os : List PlainOperator)
+    → observations_of (r.sort s) (map r.operator os) ≡ map (renamed_observation r) (observations_of s os)
+observations_of_renamed r h s [] = refl
+observations_of_renamed r h s (o ∷ os) =
     let ks = places_of_sort s 1 o.domain in
     let at_old : ℕ → Observation = λ k. record { observer = o; place = k } in
-    let at_new : ℕ → Observation = λ k. record { observer = renamed_operator new o; place = k } in
-    ap (λ ws. map at_new ks ++ ws) (observations_of_renamed new s os)
-    ∙ ap (λ ws. ws ++ map (renamed_observation new) (observations_of s os)) (sym (map_map (renamed_observation new) at_old ks))
-    ∙ sym (map-append (renamed_observation new) (map at_old ks) (observations_of s os))
+    let at_new : ℕ → Observation = λ k. record { observer = r.operator o; place = k } in
+    let places : places_of_sort (r.sort s) 1 (r.operator o).domain ≡ ks =
+    ap (places_of_sort (r.sort s) 1) (h.signatures.domain o) ∙ places_renamed r h.apart s 1 o.domain in
+    (λ i. map at_new (places i) ++ observations_of_renamed r h s os i)
+    ∙ ap (λ ws. ws ++ map (renamed_observation r) (observations_of s os)) (sym (map_map (renamed_observation r) at_old ks))
+    ∙ sym (map-append (renamed_observation r) (map at_old ks) (observations_of s os))
 
-pub observations_renamed : (new : OperatorName → OperatorName) (names : ℕ → List ℕ) (s : List ℕ) (os : List PlainOperator) (t u : Tree)
-    → map (renamed_statement new) (observations names s os t u) ≡ observations names s (map (renamed_operator new) os) (renamed new t) (renamed new u)
-observations_renamed new names s os t u =
+pub observations_renamed : (r : Renaming) → IsFaithful r → (names : ℕ → List ℕ) (s : List ℕ) (os : List PlainOperator) (t u : Tree)
+    → map (renamed_statement r) (observations names s os t u)
+    ≡ observations names (r.sort s) (map r.operator os) (renamed r t) (renamed r u)
+observations_renamed r h names s os t u =
     let before : Observation → Statement = λ w. Equation (observed names w t) (observed names w u) in
-    let behind : Observation → Statement = λ w. Equation (observed names w (renamed new t)) (observed names w (renamed new u)) in
-    map_map (renamed_statement new) before (observations_of s os)
-    ∙ map_by (λ w. renamed_statement new (before w)) (λ w. behind (renamed_observation new w)) (observations_of s os)
-    (λ w c i. Equation (observed_renamed new names w t i) (observed_renamed new names w u i))
-    ∙ sym (map_map behind (renamed_observation new) (observations_of s os))
-    ∙ ap (map behind) (sym (observations_of_renamed new s os))
+    let behind : Observation → Statement = λ w. Equation (observed names w (renamed r t)) (observed names w (renamed r u)) in
+    map_map (renamed_statement r) before (observations_of s os)
+    ∙ map_by (λ w. renamed_statement r (before w)) (λ w. behind (renamed_observation r w)) (observations_of s os)
+    (λ w c i. Equation (observed_renamed r h.signatures names w t i) (observed_renamed r h.signatures names w u i))
+    ∙ sym (map_map behind (renamed_observation r) (observations_of s os))
+    ∙ ap (map behind) (sym (observations_of_renamed r h s os))
 
-holding_renamed : (new : OperatorName → OperatorName) (p : PlainOperator) (s : List ℕ) (vs : List Variable)
-    → map (renamed new) (holding p s vs) ≡ holding (renamed_operator new p) s vs
-holding_renamed new p s [] = refl
-holding_renamed new p s (v ∷ vs) =
-    map_cond (map (renamed new)) (bytes_eq v.sort s) (applied p (var v.name v.sort) ∷ holding p s vs) (holding p s vs)
-    ∙ cond_by (bytes_eq v.sort s) (map (renamed new) (applied p (var v.name v.sort) ∷ holding p s vs)) (map (renamed new) (holding p s vs))
-    (applied (renamed_operator new p) (var v.name v.sort) ∷ holding (renamed_operator new p) s vs) (holding (renamed_operator new p) s vs)
-    (ap (λ ts. applied (renamed_operator new p) (var v.name v.sort) ∷ ts) (holding_renamed new p s vs)) (holding_renamed new p s vs)
+holding_renamed : (r : Renaming) → KeepsSortsApart r → (p : PlainOperator) (s : List ℕ) (vs : List Variable)
+    → map (renamed r) (holding p s vs) ≡ holding (r.operator p) (r.sort s) (map (renamed_variable r) vs)
+holding_renamed r a p s [] = refl
+holding_renamed r a p s (v ∷ vs) =
+    let rest = holding_renamed r a p s vs in
+    map_cond (map (renamed r)) (bytes_eq v.sort s) (applied p (var v.name v.sort) ∷ holding p s vs) (holding p s vs)
+    ∙ (λ i. cond (sym (sort_test r a v.sort s) i) (applied (r.operator p) (var v.name (r.sort v.sort)) ∷ rest i) (rest i))
 
-conjoined_renamed : (new : OperatorName → OperatorName) → KeepsBuiltIn new → (t : Tree) (us : List Tree) → renamed new (conjoined t us) ≡ conjoined (renamed new t) (map (renamed new) us)
-conjoined_renamed new k t [] = refl
-conjoined_renamed new k t (u ∷ us) =
-    conjoined_renamed new k (conjunction t u) us
-    ∙ ap (λ x. conjoined x (map (renamed new) us)) (λ i. joined (renamed_built_in new k And bool_sort i) (renamed new t) (renamed new u))
+conjoined_renamed : (r : Renaming) → KeepsBuiltIns r → (t : Tree) (us : List Tree)
+    → renamed r (conjoined t us) ≡ conjoined (renamed r t) (map (renamed r) us)
+conjoined_renamed r k t [] = refl
+conjoined_renamed r k t (u ∷ us) =
+    conjoined_renamed r k (conjunction t u) us
+    ∙ ap (λ x. conjoined x (map (renamed r) us)) (λ i. joined (built_in_kept r k And i) (renamed r t) (renamed r u))
 
-implied_renamed : (new : OperatorName → OperatorName) → KeepsBuiltIn new → (us : List Tree) (t : Tree) → renamed new (implied_by us t) ≡ implied_by (map (renamed new) us) (renamed new t)
-implied_renamed new k [] t = refl
-implied_renamed new k (u ∷ us) t = λ i. joined (renamed_built_in new k Implies bool_sort i) (conjoined_renamed new k u us i) (renamed new t)
+implied_renamed : (r : Renaming) → KeepsBuiltIns r → (us : List Tree) (t : Tree)
+    → renamed r (implied_by us t) ≡ implied_by (map (renamed r) us) (renamed r t)
+implied_renamed r k [] t = refl
+implied_renamed r k (u ∷ us) t = λ i. joined (built_in_kept r k Implies i) (conjoined_renamed r k u us i) (renamed r t)
 
-variables_renamed : (new : OperatorName → OperatorName) (vs : List Variable) → renamed_all new (variable_terms vs) ≡ variable_terms vs
-variables_renamed new [] = refl
-variables_renamed new (v ∷ vs) = ap (more (var v.name v.sort)) (variables_renamed new vs)
+variables_renamed : (r : Renaming) (vs : List Variable) → renamed_all r (variable_terms vs) ≡ variable_terms (map (renamed_variable r) vs)
+variables_renamed r [] = refl
+variables_renamed r (v ∷ vs) = ap (more (var v.name (r.sort v.sort))) (variables_renamed r vs)
 
-formula_renamed : (new : OperatorName → OperatorName) → KeepsBuiltIn new → (p : PlainOperator) (s : List ℕ) (f : PlainOperator)
-    → renamed new (generation_formula p s f) ≡ generation_formula (renamed_operator new p) s (renamed_operator new f)
-formula_renamed new k p s f =
+numbered_renamed : (r : Renaming) (k : ℕ) (ss : List (List ℕ)) → variables_from k (map r.sort ss) ≡ map (renamed_variable r) (variables_from k ss)
+numbered_renamed r k [] = refl
+numbered_renamed r k (s ∷ ss) = ap (λ vs. record { name = place_name k; sort = r.sort s } ∷ vs) (numbered_renamed r (suc k) ss)
+
+formula_renamed : (r : Renaming) → IsFaithful r → (p : PlainOperator) (s : List ℕ) (f : PlainOperator)
+    → renamed r (generation_formula p s f) ≡ generation_formula (r.operator p) (r.sort s) (r.operator f)
+formula_renamed r h p s f =
     let vs = variables_from 1 f.domain in
-    implied_renamed new k (holding p s vs) (applied p (app f (variable_terms vs)))
-    ∙ (λ i. implied_by (holding_renamed new p s vs i) (applied (renamed_operator new p) (app (renamed_operator new f) (variables_renamed new vs i))))
+    let us : map (renamed_variable r) vs ≡ variables_from 1 (r.operator f).domain =
+    sym (ap (variables_from 1) (h.signatures.domain f) ∙ numbered_renamed r 1 f.domain) in
+    implied_renamed r h.built_in (holding p s vs) (applied p (app f (variable_terms vs)))
+    ∙ (λ i. implied_by (holding_renamed r h.apart p s vs i) (applied (r.operator p) (app (r.operator f) (variables_renamed r vs i))))
+    ∙ ap (λ ws. implied_by (holding (r.operator p) (r.sort s) ws) (applied (r.operator p) (app (r.operator f) (variable_terms ws)))) us
 
-pub generation_renamed : (new : OperatorName → OperatorName) → KeepsBuiltIn new → (p : PlainOperator) (s : List ℕ) (fs : List PlainOperator)
-    → map (renamed_statement new) (generation_hypotheses p s fs) ≡ generation_hypotheses (renamed_operator new p) s (map (renamed_operator new) fs)
-generation_renamed new k p s fs =
+pub generation_renamed : (r : Renaming) → IsFaithful r → (p : PlainOperator) (s : List ℕ) (fs : List PlainOperator)
+    → map (renamed_statement r) (generation_hypotheses p s fs) ≡ generation_hypotheses (r.operator p) (r.sort s) (map r.operator fs)
+generation_renamed r h p s fs =
     let before : PlainOperator → Statement = λ f. Equation (generation_formula p s f) truth in
-    let behind : PlainOperator → Statement = λ f. Equation (generation_formula (renamed_operator new p) s f) truth in
-    map_map (renamed_statement new) before fs
-    ∙ map_by (λ f. renamed_statement new (before f)) (λ f. behind (renamed_operator new f)) fs
-    (λ f c i. Equation (formula_renamed new k p s f i) (truth_renamed new k i))
-    ∙ sym (map_map behind (renamed_operator new) fs)
+    let behind : PlainOperator → Statement = λ f. Equation (generation_formula (r.operator p) (r.sort s) f) truth in
+    map_map (renamed_statement r) before fs
+    ∙ map_by (λ f. renamed_statement r (before f)) (λ f. behind (r.operator f)) fs
+    (λ f c i. Equation (formula_renamed r h p s f i) (truth_renamed r h.built_in i))
+    ∙ sym (map_map behind r.operator fs)
 
-pub constants_renamed : (new : OperatorName → OperatorName) (cs : List PlainOperator) → renamed_all new (constant_terms cs) ≡ constant_terms (map (renamed_operator new) cs)
-constants_renamed new [] = refl
-constants_renamed new (c ∷ cs) = ap (more (constant (renamed_operator new c))) (constants_renamed new cs)
+pub constants_renamed : (r : Renaming) (cs : List PlainOperator) → renamed_all r (constant_terms cs) ≡ constant_terms (map r.operator cs)
+constants_renamed r [] = refl
+constants_renamed r (c ∷ cs) = ap (more (constant (r.operator c))) (constants_renamed r cs)
 
-pub equation_renamed : (new : OperatorName → OperatorName) (x s : List ℕ) (l r t : Tree)
-    → renamed_statement new (equation_at x s l r t) ≡ equation_at x s (renamed new l) (renamed new r) (renamed new t)
-equation_renamed new x s l r t = λ i. Equation (renamed_substituted new (only x s t) l i) (renamed_substituted new (only x s t) r i)
+pub equation_renamed : (r : Renaming) → KeepsSortsApart r → (x s : List ℕ) (a b t : Tree)
+    → renamed_statement r (equation_at x s a b t) ≡ equation_at x (r.sort s) (renamed r a) (renamed r b) (renamed r t)
+equation_renamed r k x s a b t = λ i. Equation (renamed_substituted r k (only x s t) a i) (renamed_substituted r k (only x s t) b i)
 
-pub induction_renamed : (new : OperatorName → OperatorName) (x s : List ℕ) (l r : Tree) (cs : List PlainOperator)
-    → map (renamed_statement new) (induction_hypotheses x s l r cs) ≡ induction_hypotheses x s (renamed new l) (renamed new r) (map (renamed_operator new) cs)
-induction_renamed new x s l r [] = refl
-induction_renamed new x s l r (c ∷ cs) =
-    let rest = induction_renamed new x s l r cs in
-    map_cond (map (renamed_statement new)) (bytes_eq c.range s) (equation_at x s l r (constant c) ∷ induction_hypotheses x s l r cs) (induction_hypotheses x s l r cs)
-    ∙ cond_by (bytes_eq c.range s)
-    (map (renamed_statement new) (equation_at x s l r (constant c) ∷ induction_hypotheses x s l r cs))
-    (map (renamed_statement new) (induction_hypotheses x s l r cs))
-    (equation_at x s (renamed new l) (renamed new r) (constant (renamed_operator new c))
-    ∷ induction_hypotheses x s (renamed new l) (renamed new r) (map (renamed_operator new) cs))
-    (induction_hypotheses x s (renamed new l) (renamed new r) (map (renamed_operator new) cs))
-    (λ i. equation_renamed new x s l r (constant c) i ∷ rest i) rest
+pub induction_renamed : (r : Renaming) → IsFaithful r → (x s : List ℕ) (a b : Tree) (cs : List PlainOperator)
+    → map (renamed_statement r) (induction_hypotheses x s a b cs)
+    ≡ induction_hypotheses x (r.sort s) (renamed r a) (renamed r b) (map r.operator cs)
+induction_renamed r h x s a b [] = refl
+induction_renamed r h x s a b (c ∷ cs) =
+    let rest = induction_renamed r h x s a b cs in
+    let test : bytes_eq c.range s ≡ bytes_eq (r.operator c).range (r.sort s) =
+    sym (ap (λ q. bytes_eq q (r.sort s)) (h.signatures.range c) ∙ sort_test r h.apart c.range s) in
+    map_cond (map (renamed_statement r)) (bytes_eq c.range s)
+    (equation_at x s a b (constant c) ∷ induction_hypotheses x s a b cs) (induction_hypotheses x s a b cs)
+    ∙ (λ i. cond (test i) (equation_renamed r h.apart x s a b (constant c) i ∷ rest i) (rest i))

@@ -16,7 +16,7 @@ use Rattle.larch_calculus.specs.Induction.{IsClosed, by_rules}
 use Rattle.larch_calculus.specs.Freed.{freed}
 use Rattle.larch_calculus.proofs.Identities.{identity_over}
 use Rattle.larch_calculus.proofs.Sorted.{statement_over_more, knows_included, sides_over}
-use Rattle.larch_calculus.proofs.Extension.{freed_sort, freed_well_sorted}
+use Rattle.larch_calculus.proofs.Freeing.{freed_sort, freed_well_sorted}
 
 abbrev Equates : List PlainOperator → Tree → Tree → Type 0
 Equates fs a b = IsStatementOver fs (Equation a b)

@@ -5,7 +5,7 @@ use Rattle.larch_term.specs.Tree.{Tree, app, none, more}
 use Rattle.larch_term.specs.BuiltIn.{bool_sort, built_in}
 use Rattle.larch_term.specs.Sorts.{sort_of}
 use Rattle.larch_term.specs.Truth.{is_truth}
-use Rattle.larch_term.specs.declared.built_in.BuiltIn.TheVariants.{True, False, Not, And, Or, Implies, Iff, Equal, Unequal, If}
+use Rattle.larch_term.specs.declared.built_in.BuiltIn.TheVariants.{False, Not, And, Or, Implies, Iff, Equal, Unequal, If}
 pub use Rattle.larch_term.specs.Truth.{truth}
 
 -- an operator without arguments

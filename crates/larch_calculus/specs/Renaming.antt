@@ -1,37 +1,35 @@
--- Terms, statements and theories with other names for their operators.
-use Rattle.std.specs.Prelude.{◌≡◌, ℕ, List, map, All, Contains}
-use Rattle.larch_term.specs.Operator.{OperatorName, PlainOperator, plain, boxed}
+-- Derivability with other sorts and operators in the places of a theory's own.
+use Rattle.std.specs.Prelude.{◌≡◌, ℕ, List, All, Contains}
 use Rattle.larch_term.specs.BuiltIn.{IsBuiltIn}
-use Rattle.larch_term.specs.Sorts.{IsKnown}
-use Rattle.larch_term.specs.Tree.{Tree, Forest, var, app, none, more}
-use Rattle.larch_term.specs.declared.statement.Statement.{Statement}
-use Rattle.larch_term.specs.declared.statement.Statement.TheVariants.{Equation, Generated, Partitioned}
-use Rattle.larch_term.specs.declared.statement.Theory.{Theory}
-use Rattle.larch_calculus.specs.Derivable.{Derivable}
+use Rattle.larch_term.specs.Operator.{OperatorName, PlainOperator, plain, boxed}
 use Rattle.larch_term.specs.Statement.{IsWellSortedTheory}
+use Rattle.larch_term.specs.declared.statement.Statement.{Statement}
+use Rattle.larch_term.specs.declared.statement.Theory.{Theory}
+use Rattle.larch_renaming.specs.Renaming.{Renaming, unchanged, after, renamed_statement, FitsSignatures, KeepsBuiltIns, Carries, AreAlike}
+use Rattle.larch_calculus.specs.Derivable.{Derivable}
 
--- the operator with another name
-abbrev pub renamed_operator : (OperatorName → OperatorName) → PlainOperator → PlainOperator
-renamed_operator new f = record { name = new f.name; domain = f.domain; range = f.range }
+-- no two sorts become one
+abbrev pub KeepsSortsApart : Renaming → Type 0
+KeepsSortsApart r = (s q : List ℕ) → r.sort s ≡ r.sort q → s ≡ q
 
-abbrev mutual
-  -- the term with another name for each operator
-  pub renamed : (OperatorName → OperatorName) → Tree → Tree
-  renamed new (var n s) = var n s
-  renamed new (app f ts) = app (renamed_operator new f) (renamed_all new ts)
+-- operators have the signatures of those in whose places they stand, built-in ones stay, and no two sorts become one
+pub record IsFaithful (r : Renaming) : Type 0 where
+  pub signatures : FitsSignatures r
+  pub built_in : KeepsBuiltIns r
+  pub apart : KeepsSortsApart r
 
-  pub renamed_all : (OperatorName → OperatorName) → Forest → Forest
-  renamed_all new none = none
-  renamed_all new (more t ts) = more (renamed new t) (renamed_all new ts)
+-- the first renaming takes the second one back
+abbrev pub TakesBack : Renaming → Renaming → Type 0
+TakesBack q r = AreAlike (after q r) unchanged
 
-abbrev pub renamed_statement : (OperatorName → OperatorName) → Statement → Statement
-renamed_statement new (Equation l r) = Equation (renamed new l) (renamed new r)
-renamed_statement new (Generated s fs) = Generated s (map (renamed_operator new) fs)
-renamed_statement new (Partitioned s fs) = Partitioned s (map (renamed_operator new) fs)
-
-abbrev pub renamed_theory : (OperatorName → OperatorName) → Theory → Theory
-renamed_theory new t =
-    record { operators = map (renamed_operator new) t.operators; statements = map (renamed_statement new) t.statements }
+-- both theories are well sorted; the first one's operators, as they become, are known in the second, and its
+-- statements are derivable there
+pub record IsTranslation (r : Renaming) (t u : Theory) : Type 0 where
+  pub source : IsWellSortedTheory t
+  pub target : IsWellSortedTheory u
+  pub faithful : IsFaithful r
+  pub operators : Carries r t.operators u.operators
+  pub statements : (s : Statement) → Contains t.statements s → Derivable u (renamed_statement r s)
 
 -- built-in operators keep their names
 abbrev pub KeepsBuiltIn : (OperatorName → OperatorName) → Type 0
@@ -49,12 +47,3 @@ IsPlainName (boxed b k) = ⊥
 -- the theory's operators have plain names: no constant of a box is among them
 abbrev pub HasPlainNames : Theory → Type 0
 HasPlainNames t = All (λ f. IsPlainName f.name) t.operators
-
--- both theories are well sorted; the first one's operators, by their new names, are known in the second, and its
--- statements are derivable there
-pub record IsTranslation (new : OperatorName → OperatorName) (t u : Theory) : Type 0 where
-  pub source : IsWellSortedTheory t
-  pub target : IsWellSortedTheory u
-  pub built_in : KeepsBuiltIn new
-  pub operators : (f : PlainOperator) → IsKnown t.operators f → IsKnown u.operators (renamed_operator new f)
-  pub statements : (s : Statement) → Contains t.statements s → Derivable u (renamed_statement new s)

@@ -2,8 +2,7 @@
 use Rattle.std.specs.Prelude.{◌≡◌, ◌≢◌, ℕ, List, [], ◌++◌, All, AllPairs, Contains}
 use Rattle.larch_term.specs.Operator.{OperatorName, PlainOperator}
 use Rattle.larch_term.specs.Tree.{Tree}
-use Rattle.larch_term.specs.Sorts.{sort_of, WellSorted, IsOver, IsKnown}
-use Rattle.larch_term.specs.Statement.{IsStatementOver}
+use Rattle.larch_term.specs.Sorts.{sort_of, IsKnown}
 use Rattle.larch_term.specs.declared.statement.Statement.{Statement}
 use Rattle.larch_term.specs.declared.statement.Theory.{Theory}
 pub use Rattle.larch_term.specs.Sorts.{IsTermOver}

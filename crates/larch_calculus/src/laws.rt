@@ -20,7 +20,8 @@ ghost use Rattle.larch_calculus.specs.Freed.{freed, constants_for};
 ghost use Rattle.larch_calculus.specs.Generation.{generation_hypotheses, induction_hypotheses};
 ghost use Rattle.larch_calculus.specs.Identity.{IsIdentity};
 ghost use Rattle.larch_calculus.specs.Observation.{observations};
-ghost use Rattle.larch_calculus.specs.Renaming.{renamed_operator, renamed_statement, renamed_theory, KeepsBuiltIn, RenamesBoxes, HasPlainNames, IsTranslation};
+ghost use Rattle.larch_calculus.specs.Renaming.{IsFaithful, TakesBack, KeepsBuiltIn, RenamesBoxes, HasPlainNames, IsTranslation};
+ghost use Rattle.larch_renaming.specs.Renaming.{Renaming, by_name, renamed_statement, renamed_theory};
 ghost use Rattle.larch_calculus.specs.Theories.{IsTermOf, IsIncluded, IsPrefix, AreNew, AreConstants, with_statements, extended};
 
 /// An identity is well sorted, whatever the operators are.
@@ -47,14 +48,32 @@ pub fn cut()
     ensures theory { (t u : Theory) (s : Statement) → IsWellSortedTheory t → IsWellSortedTheory u → ((f : PlainOperator) → Contains t.operators f → Contains u.operators f) → All (Derivable u) t.statements → Derivable t s → Derivable u s }
 {}
 
-/// What is derivable is derivable by other names too. Other names that can be taken back change nothing of what is
-/// derivable. Other names for constants of boxes leave a theory that has plain names alone.
+/// What is derivable from a theory is derivable, as a renaming makes it, from each theory that the first is translated
+/// to, and so from what the theory becomes. A renaming that is taken back by another one changes nothing of what is
+/// derivable. Other names are a renaming where they keep those of the built-in operators; and other names for constants
+/// of boxes leave a theory that has plain names alone.
 pub fn renaming()
-    ensures translation { (new : OperatorName → OperatorName) (t u : Theory) (s : Statement) → IsTranslation new t u → Derivable t s → Derivable u (renamed_statement new s) }
-    ensures theory { (new : OperatorName → OperatorName) (t : Theory) (s : Statement) → KeepsBuiltIn new → IsWellSortedTheory t → Derivable t s → Derivable (renamed_theory new t) (renamed_statement new s) }
-    ensures both_ways { (new old : OperatorName → OperatorName) (t : Theory) (s : Statement) → KeepsBuiltIn new → KeepsBuiltIn old → ((n : OperatorName) → old (new n) ≡ n) → IsWellSortedTheory t → (Derivable t s ↔ Derivable (renamed_theory new t) (renamed_statement new s)) }
-    ensures boxes { (new : OperatorName → OperatorName) (t : Theory) (cs : List PlainOperator) (hs : List Statement) (s : Statement) → RenamesBoxes new → HasPlainNames t → IsWellSortedTheory t → All (IsStatementOver (extended t cs hs).operators) hs → Derivable (extended t cs hs) s → Derivable (extended t (map (renamed_operator new) cs) (map (renamed_statement new) hs)) (renamed_statement new s) }
-    ensures boxes_both_ways { (new old : OperatorName → OperatorName) (t : Theory) (cs : List PlainOperator) (hs : List Statement) (s : Statement) → RenamesBoxes new → RenamesBoxes old → ((n : OperatorName) → old (new n) ≡ n) → HasPlainNames t → IsWellSortedTheory t → All (IsStatementOver (extended t cs hs).operators) hs → (Derivable (extended t cs hs) s ↔ Derivable (extended t (map (renamed_operator new) cs) (map (renamed_statement new) hs)) (renamed_statement new s)) }
+    ensures translation { (r : Renaming) (t u : Theory) (s : Statement) → IsTranslation r t u → Derivable t s
+        → Derivable u (renamed_statement r s) }
+    ensures theory { (r : Renaming) (t : Theory) (s : Statement) → IsFaithful r → IsWellSortedTheory t → Derivable t s
+        → Derivable (renamed_theory r t) (renamed_statement r s) }
+    ensures both_ways { (r q : Renaming) (t : Theory) (s : Statement) → IsFaithful r → IsFaithful q → TakesBack q r
+        → IsWellSortedTheory t → (Derivable t s ↔ Derivable (renamed_theory r t) (renamed_statement r s)) }
+    ensures names { (new : OperatorName → OperatorName) → KeepsBuiltIn new → IsFaithful (by_name new) }
+    ensures names_back { (new old : OperatorName → OperatorName) → ((n : OperatorName) → old (new n) ≡ n)
+        → TakesBack (by_name old) (by_name new) }
+    ensures boxes { (new : OperatorName → OperatorName) (t : Theory) (cs : List PlainOperator) (hs : List Statement)
+        (s : Statement) → RenamesBoxes new → HasPlainNames t → IsWellSortedTheory t
+        → All (IsStatementOver (extended t cs hs).operators) hs → Derivable (extended t cs hs) s
+        → Derivable (extended t (map (by_name new).operator cs) (map (renamed_statement (by_name new)) hs))
+        (renamed_statement (by_name new) s) }
+    ensures boxes_both_ways { (new old : OperatorName → OperatorName) (t : Theory) (cs : List PlainOperator)
+        (hs : List Statement) (s : Statement) → RenamesBoxes new → RenamesBoxes old
+        → ((n : OperatorName) → old (new n) ≡ n) → HasPlainNames t → IsWellSortedTheory t
+        → All (IsStatementOver (extended t cs hs).operators) hs
+        → (Derivable (extended t cs hs) s
+        ↔ Derivable (extended t (map (by_name new).operator cs) (map (renamed_statement (by_name new)) hs))
+        (renamed_statement (by_name new) s)) }
 {}
 
 /// Equality goes on from term to term.
