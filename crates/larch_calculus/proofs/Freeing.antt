@@ -15,7 +15,7 @@ use Rattle.larch_term.specs.declared.substitution.Entry.{Entry}
 use Rattle.larch_term.specs.declared.variable.Variable.{Variable}
 use Rattle.larch_term.specs.declared.statement.Statement.TheVariants.{Equation}
 use Rattle.larch_term.specs.declared.statement.Theory.{Theory}
-use Rattle.larch_term.proofs.SubstitutionLaws.{substituted_sort, substituted_well_sorted, substituted_over, substituted_nil}
+use Rattle.larch_term_laws.proofs.Substitutions.{substituted_sort, substituted_well_sorted, substituted_over, substituted_nil}
 use Rattle.larch_calculus.specs.Formula.{constant}
 use Rattle.larch_calculus.specs.Freed.{freed, freed_all, constants_for, place_of}
 use Rattle.larch_calculus.specs.Theories.{IsTermOf, IsNewName, AreNew, AreConstants, extended}

@@ -16,7 +16,7 @@ use Rattle.larch_term.specs.declared.variable.Variable.{Variable}
 use Rattle.larch_term.specs.declared.statement.Statement.{Statement}
 use Rattle.larch_term.specs.declared.statement.Statement.TheVariants.{Equation, Generated, Partitioned}
 use Rattle.larch_term.specs.declared.statement.Theory.{Theory}
-use Rattle.larch_term.proofs.SubstitutionLaws.{substituted_sort, substituted_well_sorted, substituted_over}
+use Rattle.larch_term_laws.proofs.Substitutions.{substituted_sort, substituted_well_sorted, substituted_over}
 use Rattle.larch_calculus.specs.Formula.{constant, applied, joined, falsity, conjunction, implication}
 use Rattle.larch_term.specs.Truth.{truth}
 use Rattle.larch_calculus.specs.Theories.{IsTermOf, IsIncluded, AreConstants, extended, with_statements}

@@ -9,8 +9,8 @@ use Rattle.larch_term.specs.Statement.{IsStatementOver}
 use Rattle.larch_term.specs.declared.statement.Statement.{Statement}
 use Rattle.larch_term.specs.declared.statement.Statement.TheVariants.{Equation}
 use Rattle.larch_term.specs.declared.statement.Theory.{Theory}
-use Rattle.larch_term.proofs.SubstitutionLaws.{substituted_sort, substituted_well_sorted, substituted_over}
-use Rattle.larch_term.proofs.PlaceLaws.{put_sort, put_well_sorted, put_over}
+use Rattle.larch_term_laws.proofs.Substitutions.{substituted_sort, substituted_well_sorted, substituted_over}
+use Rattle.larch_term_laws.proofs.Places.{put_sort, put_well_sorted, put_over}
 use Rattle.larch_calculus.specs.Derivable.{Derivable}
 use Rattle.larch_calculus.specs.Induction.{IsClosed, by_rules}
 use Rattle.larch_calculus.specs.Freed.{freed}

@@ -71,7 +71,7 @@ unfolding is_built_in
 is_built_in_Decides f = (
   any_is f built_ins,
   λ h. let p = place_of_each h.0 in
-    list_any_at (is_built_in_as f) built_ins p.0 If p.1 (ap (is_built_in_as f) p.2 ∙ (as_Decides f h.0).1 h.1),
+      list_any_at (is_built_in_as f) built_ins p.0 If p.1 (ap (is_built_in_as f) p.2 ∙ (as_Decides f h.0).1 h.1),
 )
 
 pub built_in_told : (f : PlainOperator) (r : Bool) → IsTrue r ↔ IsBuiltIn f → r ≡ is_built_in f

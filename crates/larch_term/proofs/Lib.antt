@@ -1,8 +1,6 @@
 -- Lemmas.
 pub mod BuiltIns
-pub mod Deepest
 pub mod Decided
-pub mod PlaceLaws
-pub mod SubstitutionLaws
+pub mod Deepest
 pub mod TreeLists
 pub mod TruthTest

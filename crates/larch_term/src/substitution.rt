@@ -1,9 +1,10 @@
-ghost use Rattle.std.specs.Prelude.{◌≡◌, ◌++◌, ◌∷◌, [], OnOk, OnErr, false};
+ghost use Rattle.std.specs.Prelude.{◌≡◌, ◌++◌, ◌∷◌, [], IfOk, OnOk, OnErr, false, map};
 ghost use Rattle.std.specs.List.{list_any};
-ghost use Rattle.larch_term.specs.Substitution.{is_entry_of};
+ghost use Rattle.larch_term.specs.Substitution.{is_entry_of, image, substituted};
 
+use crate::copying::copy;
 use crate::operator::Sort;
-use crate::term::Term;
+use crate::term::{Node, Term, Terms};
 use larch_base::{Memory, Name};
 use std::alloc::Global;
 use std::marker::Model;
@@ -45,7 +46,7 @@ impl Substitution {
         }
     }
 
-    /// Adds an entry for a variable that has none. Where memory is wanting nothing changes.
+    /// Adds an entry for a variable that has none. Out of memory, it changes nothing.
     pub fn push(&mut self, name: Name, sort: Sort, term: Term) -> Result<(), Memory>
         requires { list_any (is_entry_of name sort) self.old ≡ false }
         ensures ok { OnOk result (self.new ≡ self.old ++ record { name = name; sort = sort; term = term } ∷ []) }
@@ -70,4 +71,57 @@ impl Substitution {
     {
         self.entries.as_slice()
     }
+}
+
+/// The term with all variables replaced at once.
+pub fn substitute(alloc: Global, term: &Term, by: &Substitution) -> Result<Term, Memory>
+    ensures { IfOk result (λ t. t ≡ substituted by.now term.now) }
+{
+    let substituted = substitute_by(alloc, term, by.as_slice())?;
+    Ok(substituted)
+}
+
+#[cycle(substitute)]
+#[tactic(auto, using(crate::proofs::TreeLists::substituted_all_forest))]
+fn substitute_by(alloc: Global, term: &Term, by: &[Entry]) -> Result<Term, Memory>
+    ensures { IfOk result (λ t. t ≡ substituted by.now term.now) }
+{
+    match &term.node {
+        Node::Var(name, sort) => {
+            let image = image(alloc, by, name, sort)?;
+            Ok(image)
+        }
+        Node::App(operator, arguments) => {
+            let arguments = substitute_all(alloc, arguments, by)?;
+            let operator = operator.copy()?;
+            Ok(Term::app(operator, arguments))
+        }
+    }
+}
+
+#[cycle(substitute)]
+fn substitute_all(alloc: Global, terms: &Terms, by: &[Entry]) -> Result<Terms, Memory>
+    ensures { IfOk result (λ ts. ts ≡ map (substituted by.now) terms.now) }
+{
+    let mut items = Vec::with_capacity(alloc, terms.items.len())?;
+    for term in &terms.items {
+        let substituted = substitute_by(alloc, term, by)?;
+        items.push(substituted)?;
+    }
+    Ok(Terms::from_vec(items))
+}
+
+// What takes the place of a variable.
+fn image(alloc: Global, by: &[Entry], name: &Name, sort: &Sort) -> Result<Term, Memory>
+    ensures { IfOk result (λ t. t ≡ image by.now name.now sort.now) }
+{
+    for entry in by {
+        if entry.name == *name && entry.sort == *sort {
+            let image = copy(alloc, &entry.term)?;
+            return Ok(image);
+        }
+    }
+    let name = name.copy()?;
+    let sort = sort.copy()?;
+    Ok(Term::var(name, sort))
 }

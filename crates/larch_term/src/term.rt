@@ -121,8 +121,8 @@ impl Terms {
     }
 }
 
-// Takes the terms apart one by one, so that a term of any depth can be dropped. Only where memory is wanting
-// the arguments of a term are dropped by recursion.
+// Takes the terms apart one by one, so that a term of any depth can be dropped. Only out of memory
+// are the arguments of a term dropped by recursion.
 impl Drop for Terms {
     #[cycle(drops)]
     #[tactic(auto, using(crate::proofs::Deepest::most_joined, crate::proofs::Deepest::most_below, crate::proofs::Deepest::size_term, crate::proofs::Deepest::size_terms))]

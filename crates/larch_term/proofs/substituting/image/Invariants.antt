@@ -1,7 +1,0 @@
-use Rattle.std.proofs.Common.{◌≡◌, drop}
-use Rattle.larch_term.specs.Substitution.{image}
-use Rattle.larch_term.proofs.substituting.image.Given as goal
-
--- no entry so far is the variable's
-abbrev pub invariant-loop-entry : goal.invariant-loop-entry
-invariant-loop-entry l = image (drop l.entry-index l.by) l.name l.sort ≡ image l.by l.name l.sort
