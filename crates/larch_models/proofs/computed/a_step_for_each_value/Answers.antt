@@ -1,0 +1,5 @@
+use Rattle.std.proofs.Common.{refl}
+use Rattle.larch_models.proofs.computed.a_step_for_each_value.Goals as goal
+
+pub returns : goal.returns
+returns c = refl

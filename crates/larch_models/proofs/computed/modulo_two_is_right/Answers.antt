@@ -1,0 +1,5 @@
+use Rattle.std.proofs.Common.{refl}
+use Rattle.larch_models.proofs.computed.modulo_two_is_right.Goals as goal
+
+pub returns : goal.returns
+returns c = record { theory = refl; from_nought = refl; from_successor = refl }

@@ -1,0 +1,5 @@
+use Rattle.std.proofs.Common.{refl}
+use Rattle.larch_models.proofs.computed.observers_show_each_place.Goals as goal
+
+pub returns : goal.returns
+returns c = refl

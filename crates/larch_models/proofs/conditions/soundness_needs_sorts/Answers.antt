@@ -1,0 +1,15 @@
+use Rattle.std.proofs.Common.{[], refl}
+use Rattle.larch_models.specs.Counterexamples.{no_tables, ill_sorted}
+use Rattle.larch_models.specs.Examples.{two_values}
+use Rattle.larch_models.proofs.Computing.{model_so}
+use Rattle.larch_models.proofs.IllSorted.{ill_sorted_derives}
+use Rattle.larch_models.proofs.Standards.{standard_interprets}
+use Rattle.larch_models.proofs.conditions.soundness_needs_sorts.Goals as goal
+
+pub returns : goal.returns
+returns c =
+    record {
+      derivable = ill_sorted_derives;
+      model = model_so (standard_interprets two_values no_tables ill_sorted.operators) refl;
+      fails = refl;
+    }

@@ -1,0 +1,55 @@
+-- Interpretations from any tables for the operators that aren't built in.
+use Rattle.std.specs.Prelude.{◌&&◌, ℕ, min, Bool, true, false, if◌then◌else◌, List, [], ◌∷◌, bytes_eq, Option, Some, None}
+use Rattle.larch_term.specs.Operator.{PlainOperator, plain}
+use Rattle.larch_term.specs.Truth.{bool_sort}
+use Rattle.larch_term.specs.BuiltIn.{built_in}
+use Rattle.larch_term.specs.declared.built_in.BuiltIn.{BuiltIn}
+use Rattle.larch_term.specs.declared.built_in.BuiltIn.TheVariants.{True, False, Not, And, Or, Implies, Iff, Equal, Unequal, If}
+use Rattle.larch_calculus.specs.Freed.{same_name}
+use Rattle.larch_models.specs.Interpretation.{Interpretation, meaning}
+
+-- whether two lists of sorts are one
+abbrev pub same_sorts : List (List ℕ) → List (List ℕ) → Bool
+same_sorts [] [] = true
+same_sorts [] (s ∷ ss) = false
+same_sorts (r ∷ rs) [] = false
+same_sorts (r ∷ rs) (s ∷ ss) = bytes_eq r s && same_sorts rs ss
+
+-- whether two operators are one
+abbrev pub same_operator : PlainOperator → PlainOperator → Bool
+same_operator f g = same_name f.name g.name && (same_sorts f.domain g.domain && bytes_eq f.range g.range)
+
+-- the last sort of a domain: that at which a built-in operator is taken, if it is there for each sort
+abbrev pub last_sort : List (List ℕ) → List ℕ
+last_sort [] = []
+last_sort (s ∷ []) = s
+last_sort (s ∷ r ∷ rs) = last_sort (r ∷ rs)
+
+-- the built-in operators
+abbrev pub every_built_in : List BuiltIn
+every_built_in = True ∷ False ∷ Not ∷ And ∷ Or ∷ Implies ∷ Iff ∷ Equal ∷ Unequal ∷ If ∷ []
+
+-- the first of these built-in operators that an operator is
+abbrev pub built_in_among : PlainOperator → List BuiltIn → Option BuiltIn
+built_in_among f [] = None
+built_in_among f (b ∷ bs) = if same_operator f (built_in b (last_sort f.domain)) then Some b else built_in_among f bs
+
+-- Bool has two values
+abbrev pub standard_last : (List ℕ → ℕ) → List ℕ → ℕ
+standard_last last s = if bytes_eq s bool_sort then 1 else last s
+
+-- the meaning of a built-in operator, and else a value, or the last of its sort where that is less
+abbrev pub standard_value : Option BuiltIn → ℕ → ℕ → List ℕ → ℕ
+standard_value None n v vs = min n v
+standard_value (Some b) n v vs = meaning b vs
+
+-- these last values and these tables, but for what every interpretation has
+abbrev pub standard : (List ℕ → ℕ) → (PlainOperator → List ℕ → ℕ) → Interpretation
+standard last tables = record {
+  last = standard_last last;
+  table = λ f vs. standard_value (built_in_among f every_built_in) (standard_last last f.range) (tables f vs) vs;
+}
+
+-- whether an operator has this name
+abbrev pub is_named : PlainOperator → List ℕ → Bool
+is_named f n = same_name f.name (plain n)
