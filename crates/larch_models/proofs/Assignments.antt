@@ -1,10 +1,10 @@
 -- Assignments with other values for some variables, and the truth of what is so under all of them.
-use Rattle.std.proofs.Common.{◌≡◌, ◌≢◌, ◌≤◌, ◌==◌, ◌&&◌, ℕ, zero, suc, inl, inr, ◌⊎◌, Bool, true, false, cond, List, [], ◌∷◌, ◌++◌, Contains, bytes_eq, refl, sym, ◌∙◌, ap, subst, arith}
+use Rattle.std.proofs.Common.{◌≡◌, ◌≢◌, ◌≤◌, ◌==◌, ◌&&◌, ℕ, zero, suc, inl, inr, ◌⊎◌, Bool, true, false, cond, List, [], ◌∷◌, ◌++◌, bytes_eq, refl, sym, ◌∙◌, ap, subst, arith}
 use Rattle.std.proofs.lemmas.Slice.Eq.{bytes_eq-Decides}
 use Rattle.larch_base.proofs.Bools.{and_left, and_right, and_both}
 use Rattle.larch_base.proofs.Members.{contains_none, contains_cases, contains_left, contains_right}
 use Rattle.larch_term.specs.Tree.{Tree}
-use Rattle.larch_term.specs.Occurrence.{occurrences}
+use Rattle.larch_term.specs.Variable.{occurrences}
 use Rattle.larch_term.specs.declared.variable.Variable.{Variable}
 use Rattle.larch_models.specs.Interpretation.{Interpretation, Assignment, value_of, InRange}
 use Rattle.larch_models.specs.Computed.{all_up_to, updated, all_assignments, zeros}
@@ -15,9 +15,10 @@ abbrev pub is_variable : List ℕ → List ℕ → List ℕ → List ℕ → Boo
 is_variable x s n r = bytes_eq x n && bytes_eq s r
 
 pub variable_is : (x s n r : List ℕ) → is_variable x s n r ≡ true → (x ≡ n) × (s ≡ r)
-variable_is x s n r e =
-    ((bytes_eq-Decides x n).0 (and_left (bytes_eq x n) (bytes_eq s r) e),
-      (bytes_eq-Decides s r).0 (and_right (bytes_eq x n) (bytes_eq s r) e))
+variable_is x s n r e = (
+  (bytes_eq-Decides x n).0 (and_left (bytes_eq x n) (bytes_eq s r) e),
+  (bytes_eq-Decides s r).0 (and_right (bytes_eq x n) (bytes_eq s r) e),
+)
 
 is_itself : (x s : List ℕ) → is_variable x s x s ≡ true
 is_itself x s = and_both (bytes_eq x x) (bytes_eq s s) ((bytes_eq-Decides x x).1 refl) ((bytes_eq-Decides s s).1 refl)

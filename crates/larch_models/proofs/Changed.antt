@@ -1,23 +1,22 @@
 -- Interpretations with new tables for new names, and the one lemma on them: a model stays one.
-use Rattle.std.proofs.Common.{◌≡◌, ◌≢◌, ◌≤◌, ℕ, zero, suc, inl, inr, cond, List, [], ◌∷◌, ◌++◌, map, Option, Some, None, option_map, option_and_then, Contains, refl, sym, ◌∙◌, ap, subst}
+use Rattle.std.proofs.Common.{◌≡◌, ◌≢◌, ◌≤◌, ℕ, zero, suc, inl, inr, List, [], ◌∷◌, map, Option, Some, None, option_map, option_and_then, Contains, refl, sym, ◌∙◌, ap, subst}
 use Rattle.std.specs.List.{slice_get, AllPairs}
 use Rattle.std.proofs.lemmas.List.Elements.{All-contains}
-use Rattle.larch_base.proofs.Lists.{pairs_head, pairs_tail}
-use Rattle.larch_base.proofs.Members.{contains_either, contains_got, got_contains}
+use Rattle.larch_base.proofs.Members.{contains_either, contains_got}
 use Rattle.larch_base.proofs.Options.{some_inj}
 use Rattle.larch_term.specs.Operator.{OperatorName, PlainOperator}
 use Rattle.larch_term.specs.BuiltIn.{built_in}
 use Rattle.larch_term.specs.Sorts.{IsKnown}
-use Rattle.larch_term.specs.Statement.{IsStatementOver}
+use Rattle.larch_term.specs.Statement.{IsStatementOver, IsWellSortedTheory}
 use Rattle.larch_term.specs.declared.statement.Statement.{Statement}
 use Rattle.larch_term.specs.declared.statement.Statement.TheVariants.{Equation, Generated, Partitioned}
 use Rattle.larch_term.specs.declared.statement.Theory.{Theory}
 use Rattle.larch_calculus.specs.Freed.{place_of}
 use Rattle.larch_calculus.specs.Generation.{constant_terms}
 use Rattle.larch_calculus.specs.Observation.{Observation, observations_of}
-use Rattle.larch_calculus.specs.Theories.{IsWellSortedTheory, extended, AreNew}
+use Rattle.larch_calculus.specs.Theories.{extended, AreNew}
 use Rattle.larch_calculus.proofs.Extension.{known_not_placed}
-use Rattle.larch_calculus.proofs.Names.{names_same, names_apart}
+use Rattle.larch_calculus.proofs.Names.{placed_at}
 use Rattle.larch_calculus.proofs.Observed.{observation_is}
 use Rattle.larch_models.specs.Interpretation.{Interpretation, Assignment, values_of, Within}
 use Rattle.larch_models.specs.Models.{with_value, Holds, IsModel}
@@ -76,7 +75,7 @@ holds_changed new m fs h s w k =
 pub extended_model : (new : OperatorName → Option (List ℕ → ℕ)) (m : Interpretation) (t : Theory)
     (cs : List PlainOperator) (hs : List Statement) → IsWellSortedTheory t → IsModel m t → Spares new t.operators
     → ((c : PlainOperator) → Contains cs c → (vs : List ℕ) → Within m.last c.domain vs
-        → (changed new m).table c vs ≤ m.last c.range)
+    → (changed new m).table c vs ≤ m.last c.range)
     → ((s : Statement) → Contains hs s → Holds (changed new m) s) → IsModel (changed new m) (extended t cs hs)
 extended_model new m t cs hs w k h r d =
     let i = k.interpretation in
@@ -110,17 +109,6 @@ given_spares t cs xs n f k = ap (λ o. option_map always (option_and_then (slice
 -- the constants have different names
 abbrev pub DifferentNames : List PlainOperator → Type 0
 DifferentNames cs = AllPairs (λ f g. f.name ≢ g.name) cs
-
-placed_at : (cs : List PlainOperator) (k : ℕ) (c : PlainOperator) → DifferentNames cs → slice_get cs k ≡ Some c
-    → place_of cs c.name ≡ Some k
-placed_at [] k c d e = cc
-placed_at (b ∷ cs) zero c d e =
-    ap (λ z. cond z (Some 0) (option_map suc (place_of cs c.name))) (names_same b.name c.name (ap (λ g. g.name) (some_inj e)))
-placed_at (b ∷ cs) (suc k) c d e =
-    let apart : b.name ≢ c.name =
-    All-contains (λ g. b.name ≢ g.name) cs c (pairs_head (λ f g. f.name ≢ g.name) b cs d) (got_contains cs k c e) in
-    ap (λ z. cond z (Some 0) (option_map suc (place_of cs c.name))) (names_apart b.name c.name apart)
-    ∙ ap (option_map suc) (placed_at cs k c (pairs_tail (λ f g. f.name ≢ g.name) b cs d) e)
 
 given_table : (m : Interpretation) (cs : List PlainOperator) (xs : List ℕ) (k : ℕ) (c : PlainOperator) (x : ℕ) (vs : List ℕ)
     → DifferentNames cs → slice_get cs k ≡ Some c → slice_get xs k ≡ Some x → (changed (given_by cs xs) m).table c vs ≡ x

@@ -1,15 +1,14 @@
 -- Computed truth is truth.
-use Rattle.std.proofs.Common.{◌≡◌, ◌≤◌, ◌==◌, ◌||◌, not, ℕ, Bool, true, List, Contains, sym, subst}
+use Rattle.std.proofs.Common.{◌≡◌, ◌≤◌, ◌==◌, ◌||◌, not, ℕ, Bool, true, List, subst}
 use Rattle.std.specs.List.{list_all}
 use Rattle.std.proofs.lemmas.List.Elements.{All-contains}
 use Rattle.larch_term.specs.Operator.{PlainOperator}
 use Rattle.larch_term.specs.Sorts.{IsKnown}
-use Rattle.larch_term.specs.Statement.{IsStatementOver}
+use Rattle.larch_term.specs.Statement.{IsStatementOver, IsWellSortedTheory}
 use Rattle.larch_term.specs.declared.statement.Statement.{Statement}
 use Rattle.larch_term.specs.declared.statement.Statement.TheVariants.{Equation, Generated, Partitioned}
 use Rattle.larch_term.specs.declared.statement.Theory.{Theory}
 use Rattle.larch_calculus.specs.Observation.{Observation, observations_of}
-use Rattle.larch_calculus.specs.Theories.{IsWellSortedTheory}
 use Rattle.larch_models.specs.Interpretation.{Interpretation, IsInterpretation}
 use Rattle.larch_models.specs.Models.{with_value, ShowsSame, Holds, IsModel}
 use Rattle.larch_models.specs.Computed.{all_up_to, shows_same, holds_partitioned, holds, all_hold}

@@ -1,18 +1,17 @@
 -- What the counterexamples share.
-use Rattle.std.proofs.Common.{◌≡◌, ◌≢◌, ℕ, zero, suc, inl, inr, true, false, List, [], ◌∷◌, All, Contains, Some, refl, sym, arith}
+use Rattle.std.proofs.Common.{◌≡◌, ◌≢◌, ℕ, zero, suc, inl, true, false, List, [], ◌∷◌, All, Contains, Some, refl, sym, arith}
 use Rattle.std.specs.List.{slice_get, AllPairs}
 use Rattle.std.proofs.lemmas.List.Elements.{All-nil, All-cons}
 use Rattle.larch_base.proofs.Options.{some_inj}
-use Rattle.larch_term.specs.Operator.{PlainOperator, plain, boxed}
+use Rattle.larch_term.specs.Operator.{PlainOperator}
+use Rattle.larch_term.specs.OperatorKey.{name_Decides}
 use Rattle.larch_term.specs.Sorts.{IsKnown}
-use Rattle.larch_term.specs.Statement.{IsStatementOver}
+use Rattle.larch_term.specs.Statement.{IsStatementOver, IsWellSortedTheory}
 use Rattle.larch_term.specs.declared.statement.Statement.{Statement}
 use Rattle.larch_term.specs.declared.statement.Statement.TheVariants.{Equation, Partitioned}
 use Rattle.larch_term.specs.declared.statement.Theory.{Theory}
 use Rattle.larch_calculus.specs.Example.{number_sort, nought, successor, plus, numbers_generated, sum_with_nought, sum_with_successor, numbers}
 use Rattle.larch_calculus.specs.Formula.{constant}
-use Rattle.larch_calculus.specs.Theories.{IsWellSortedTheory}
-use Rattle.larch_calculus.proofs.Names.{names_same}
 use Rattle.larch_models.specs.Computed.{holds, all_hold}
 use Rattle.larch_models.specs.Conditions.{Refutes}
 use Rattle.larch_models.specs.Counterexamples.{sort_n, constant_a, constant_b, predicate, alike}
@@ -48,7 +47,7 @@ pub no_pairs : {X : Type 0} (R : X → X → Type 0) (x : X) → AllPairs R (x �
 no_pairs R x i j d lt within = absurd (omega arith)
 
 pub names_differ : constant_a.name ≢ constant_b.name
-names_differ e = let same : false ≡ true = names_same constant_a.name constant_b.name e in cc
+names_differ e = let same : false ≡ true = (name_Decides constant_a.name constant_b.name).1 e in cc
 
 pub has_nought : IsKnown numbers.operators nought
 has_nought = inl (0, omega arith, refl)
@@ -66,8 +65,7 @@ numbers_well_sorted =
     All-cons own numbers_generated (sum_with_nought ∷ sum_with_successor ∷ [])
     (both (λ g. IsKnown numbers.operators g × (g.range ≡ number_sort)) nought successor (has_nought, refl) (has_successor, refl))
     (both own sum_with_nought sum_with_successor
-    (((refl, (tt, ((refl, tt), tt))), (has_plus, (tt, ((has_nought, tt), tt)))), (tt, tt), refl)
-    (
+    (((refl, (tt, ((refl, tt), tt))), (has_plus, (tt, ((has_nought, tt), tt)))), (tt, tt), refl) (
       ((refl, (tt, ((refl, (tt, tt)), tt))), (has_plus, (tt, ((has_successor, (tt, tt)), tt)))),
       ((refl, ((refl, (tt, (tt, tt))), tt)), (has_successor, ((has_plus, (tt, (tt, tt))), tt))),
       refl,

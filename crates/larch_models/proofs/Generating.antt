@@ -4,12 +4,13 @@ use Rattle.std.proofs.lemmas.Slice.Eq.{bytes_eq-Decides}
 use Rattle.larch_base.proofs.Bools.{true_or_false, and_left, and_right}
 use Rattle.larch_term.specs.Operator.{OperatorName, PlainOperator}
 use Rattle.larch_term.specs.Tree.{Tree, var, app}
-use Rattle.larch_term.specs.Truth.{bool_sort}
+use Rattle.larch_term.specs.BuiltIn.{bool_sort}
 use Rattle.larch_term.specs.declared.built_in.BuiltIn.TheVariants.{True, And, Implies}
 use Rattle.larch_term.specs.declared.variable.Variable.{Variable}
 use Rattle.larch_term.specs.declared.statement.Statement.TheVariants.{Equation}
-use Rattle.larch_calculus.specs.Formula.{truth, applied, conjunction}
-use Rattle.larch_calculus.specs.Freed.{same_name}
+use Rattle.larch_term.specs.Truth.{truth}
+use Rattle.larch_term.specs.OperatorKey.{same_name}
+use Rattle.larch_calculus.specs.Formula.{applied, conjunction}
 use Rattle.larch_calculus.specs.Generation.{variables_from, variable_terms, holding, conjoined, implied_by, generation_formula}
 use Rattle.larch_models.specs.Interpretation.{Interpretation, Assignment, value_of, values_of, bit, is_one, first, Within, IsInterpretation}
 use Rattle.larch_models.specs.Models.{ArgumentsIn, Holds}
@@ -65,9 +66,9 @@ holding_in m a q p e s (v ∷ vs) h =
           let g : AllTrue m a (t ∷ rest) = subst (λ c. AllTrue m a (cond c (t ∷ rest) rest)) i h in
           (λ j. one g.0, holding_in m a q p e s vs g.1)
       | inr i ↦ (
-          λ j. let apart : true ≡ false = sym ((bytes_eq-Decides v.sort s).1 j) ∙ i in cc,
-          holding_in m a q p e s vs (subst (λ c. AllTrue m a (cond c (t ∷ rest) rest)) i h),
-        )
+        λ j. let apart : true ≡ false = sym ((bytes_eq-Decides v.sort s).1 j) ∙ i in cc,
+        holding_in m a q p e s vs (subst (λ c. AllTrue m a (cond c (t ∷ rest) rest)) i h),
+      )
     ]
 
 variable_sorts : (k : ℕ) (ss : List (List ℕ)) → map (λ v. v.sort) (variables_from k ss) ≡ ss

@@ -1,7 +1,6 @@
 -- A theory without operators that states an equation of two constants derives that all values are equal.
-use Rattle.std.proofs.Common.{◌≡◌, ◌≢◌, ℕ, zero, suc, [], ◌∷◌, refl, arith}
+use Rattle.std.proofs.Common.{◌≡◌, ◌≢◌, zero, suc, [], ◌∷◌, refl, arith}
 use Rattle.std.specs.List.{AllPairs}
-use Rattle.larch_term.specs.Operator.{PlainOperator}
 use Rattle.larch_term.specs.declared.statement.Statement.TheVariants.{Equation}
 use Rattle.larch_calculus.specs.Derivable.{Derivable, axiom_, fresh}
 use Rattle.larch_calculus.specs.Theories.{AreNew, IsNewName}

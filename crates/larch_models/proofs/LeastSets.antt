@@ -8,7 +8,7 @@ use Rattle.larch_term.specs.Operator.{PlainOperator}
 use Rattle.larch_term.specs.declared.statement.Statement.TheVariants.{Generated}
 use Rattle.larch_models.specs.Interpretation.{Interpretation, bit, Within}
 use Rattle.larch_models.specs.Models.{ArgumentsIn, IsClosedUnder, Holds}
-use Rattle.larch_models.specs.Computed.{all_up_to, all_arguments, arguments_in, is_unmade, made_in, steps_for, holds_generated}
+use Rattle.larch_models.specs.Computed.{all_arguments, arguments_in, is_unmade, made_in, steps_for, holds_generated}
 use Rattle.larch_models.proofs.Assignments.{last_or_before, up_to_at, up_to_if}
 use Rattle.larch_models.proofs.Values.{bit_within, same_numbers, numbers_same}
 
@@ -76,9 +76,10 @@ arguments_in_so p s [] vs h = tt
 arguments_in_so p s (r ∷ rs) [] h = tt
 arguments_in_so p s (r ∷ rs) (v ∷ vs) h =
     let one = not (bytes_eq r s) || p v in
-    let rest = arguments_in p s rs vs in
-    (λ e. implied_so (bytes_eq r s) (p v) (and_left one rest h) ((bytes_eq-Decides r s).1 e),
-      arguments_in_so p s rs vs (and_right one rest h))
+    let rest = arguments_in p s rs vs in (
+      λ e. implied_so (bytes_eq r s) (p v) (and_left one rest h) ((bytes_eq-Decides r s).1 e),
+      arguments_in_so p s rs vs (and_right one rest h),
+    )
 
 arguments_in_if : (p : ℕ → Bool) (s : List ℕ) (rs : List (List ℕ)) (vs : List ℕ) → ArgumentsIn p s rs vs
     → arguments_in p s rs vs ≡ true
@@ -120,9 +121,9 @@ made_in_closed m s fs p c (suc n) v h =
     elim (true_or_false (p v)) [
       | inl e ↦ e
       | inr e ↦ elim (or_cases (q v) (not (is_unmade m s fs q v)) h) [
-          | inl i ↦ made_in_closed m s fs p c n v i
-          | inr i ↦ not_so (is_unmade m s fs q v) i (unmade_outside m s fs p q c (made_in_closed m s fs p c n) v e)
-        ]
+        | inl i ↦ made_in_closed m s fs p c n v i
+        | inr i ↦ not_so (is_unmade m s fs q v) i (unmade_outside m s fs p q c (made_in_closed m s fs p c n) v e)
+      ]
     ]
 
 pub generated_so : (m : Interpretation) (s : List ℕ) (fs : List PlainOperator) → holds_generated m s fs ≡ true

@@ -5,7 +5,7 @@ use Rattle.larch_base.proofs.Bools.{true_or_false}
 use Rattle.larch_base.proofs.Lists.{pairs_head, pairs_tail}
 use Rattle.larch_base.proofs.Options.{map_cond}
 use Rattle.larch_term.specs.Tree.{Tree, var}
-use Rattle.larch_term.specs.Occurrence.{occurrences}
+use Rattle.larch_term.specs.Variable.{occurrences}
 use Rattle.larch_term.specs.declared.variable.Variable.{Variable}
 use Rattle.larch_term.specs.declared.statement.Statement.TheVariants.{Equation}
 use Rattle.larch_calculus.specs.Derivable.{AreApart}
@@ -41,7 +41,7 @@ observation_holds m n names w a b u v f e p q h x r =
     let rs = w.observer.domain in
     let vs = named_values x names 1 rs in
     let side : (t : Tree) (z : ℕ) → value_of n x t ≡ z
-        → n.table w.observer (values_of n x (arguments_with names w.place t 1 rs)) ≡ m.table w.observer (with_value w.place z 1 vs) =
+    → n.table w.observer (values_of n x (arguments_with names w.place t 1 rs)) ≡ m.table w.observer (with_value w.place z 1 vs) =
     λ t z g. e (values_of n x (arguments_with names w.place t 1 rs))
     ∙ ap (m.table w.observer) (arguments_values n x names w.place t 1 rs ∙ ap (λ z. with_value w.place z 1 vs) g) in
     side a u (p x) ∙ h vs (named_within m.last x (subst (λ l. InRange l x) f r) names 1 rs) ∙ sym (side b v (q x))
@@ -90,9 +90,9 @@ have_updated b names place x u k (r ∷ rs) (v ∷ vs) d h =
     let P : Variable → Type 0 = λ w. x ≢ w in
     elim (true_or_false (k == place)) [
       | inl e ↦ (
-          λ f. not_both (k == place) e f,
-          have_updated b names place x u (suc k) rs vs (subst (λ c. All P (cond c rest (w ∷ rest))) e d) h.1,
-        )
+        λ f. not_both (k == place) e f,
+        have_updated b names place x u (suc k) rs vs (subst (λ c. All P (cond c rest (w ∷ rest))) e d) h.1,
+      )
       | inr e ↦
           let q : All P (w ∷ rest) = subst (λ c. All P (cond c rest (w ∷ rest))) e d in (
             λ f. updated_elsewhere b x w u (All-head P w rest q) ∙ h.0 f,
@@ -110,15 +110,15 @@ spread_has names place k (r ∷ rs) (v ∷ vs) a d =
     let b = spread names place (suc k) rs vs a in
     elim (true_or_false (k == place)) [
       | inl e ↦ subst (λ c. Have (spread_one c (names k) r v b) names place k (r ∷ rs) (v ∷ vs)) (sym e) (
-          λ f. not_both (k == place) e f,
-          spread_has names place (suc k) rs vs a (subst (λ c. AreDifferent (cond c rest (w ∷ rest))) e d),
-        )
+        λ f. not_both (k == place) e f,
+        spread_has names place (suc k) rs vs a (subst (λ c. AreDifferent (cond c rest (w ∷ rest))) e d),
+      )
       | inr e ↦
           let q : AreDifferent (w ∷ rest) = subst (λ c. AreDifferent (cond c rest (w ∷ rest))) e d in
           subst (λ c. Have (spread_one c (names k) r v b) names place k (r ∷ rs) (v ∷ vs)) (sym e) (
             λ f. updated_here b (names k) r v,
             have_updated b names place w v (suc k) rs vs (pairs_head (λ v w. v ≢ w) w rest q)
-            (spread_has names place (suc k) rs vs a (pairs_tail (λ v w. v ≢ w) w rest q)),
+                (spread_has names place (suc k) rs vs a (pairs_tail (λ v w. v ≢ w) w rest q)),
           )
     ]
 
@@ -164,7 +164,7 @@ values_show_same m names w a b apart h x r vs d =
     let y = spread names w.place 1 rs vs x in
     let have = spread_has names w.place 1 rs vs x apart.different in
     let side : (t : Tree) → Alike y x (occurrences t)
-        → values_of m y (arguments_with names w.place t 1 rs) ≡ with_value w.place (value_of m x t) 1 vs =
+    → values_of m y (arguments_with names w.place t 1 rs) ≡ with_value w.place (value_of m x t) 1 vs =
     λ t l. arguments_values m y names w.place t 1 rs
     ∙ have_arguments m.last y names w.place (value_of m y t) 1 rs vs d have
     ∙ ap (λ v. with_value w.place v 1 vs) (value_alike m y x t l) in

@@ -2,15 +2,15 @@
 use Rattle.std.proofs.Common.{◌≡◌, ◌≢◌, ◌≤◌, ◌==◌, ℕ, zero, suc, inl, inr, ◌⊎◌, Bool, true, cond, List, [], ◌∷◌, ◌++◌, map, Some, None, All, Contains, refl, sym, ◌∙◌, ap, subst, arith}
 use Rattle.std.specs.List.{slice_get}
 use Rattle.std.proofs.lemmas.List.Elements.{All-nil, All-cons, All-head, All-contains}
-use Rattle.larch_base.proofs.Lists.{all_from}
-use Rattle.larch_base.proofs.Members.{contains_none, contains_one, contains_cases, contains_here, contains_later, contains_right, contains_either, contained_in_map, contains_got, got_contains}
+use Rattle.larch_base.proofs.Members.{contains_none, contains_one, contains_cases, contains_here, contains_later, contains_either, contained_in_map, contains_got}
 use Rattle.larch_term.specs.Operator.{PlainOperator}
+use Rattle.larch_term.specs.OperatorKey.{name_Decides}
 use Rattle.larch_term.specs.Tree.{Tree, var, app}
-use Rattle.larch_term.specs.Truth.{bool_sort}
-use Rattle.larch_term.specs.BuiltIn.{built_in}
-use Rattle.larch_term.specs.Sorts.{sort_of, IsKnown, IsOver}
-use Rattle.larch_term.specs.Occurrence.{occurrences}
-use Rattle.larch_term.specs.Statement.{IsStatementOver, statement_zero}
+use Rattle.larch_term.specs.BuiltIn.{bool_sort, built_in}
+use Rattle.larch_term.specs.Place.{at, put}
+use Rattle.larch_term.specs.Sorts.{sort_of, IsKnown, IsOver, IsTermOver}
+use Rattle.larch_term.specs.Variable.{occurrences}
+use Rattle.larch_term.specs.Statement.{IsStatementOver, statement_zero, IsWellSortedTheory}
 use Rattle.larch_term.specs.Substitution.{image, substituted, Fits}
 use Rattle.larch_term.specs.declared.substitution.Entry.{Entry}
 use Rattle.larch_term.specs.declared.variable.Variable.{Variable}
@@ -19,16 +19,17 @@ use Rattle.larch_term.specs.declared.statement.Statement.{Statement}
 use Rattle.larch_term.specs.declared.statement.Statement.TheVariants.{Equation, Generated, Partitioned}
 use Rattle.larch_term.specs.declared.statement.Theory.{Theory}
 use Rattle.larch_term.proofs.SubstitutionLaws.{image_sort, image_well_sorted, substituted_over}
-use Rattle.larch_calculus.specs.Derivable.{Derivable, AreArguments, AreApart, axiom_, identity, reflexive, symmetric, replace, instance, equal, weaken, fresh, cases, induct, observe, generated, partitioned}
-use Rattle.larch_calculus.specs.Formula.{truth, falsity, constant, applied, equality}
+use Rattle.larch_term.specs.Truth.{truth}
+use Rattle.larch_calculus.specs.Derivable.{Derivable, AreArguments, AreApart}
+use Rattle.larch_calculus.specs.Induction.{IsClosed, by_rules}
+use Rattle.larch_calculus.specs.Formula.{falsity, constant, applied, equality}
 use Rattle.larch_calculus.specs.Freed.{freed}
 use Rattle.larch_calculus.specs.Generation.{place_name, generation_hypotheses, generation_formula, constant_terms, equation_at, induction_hypotheses}
 use Rattle.larch_calculus.specs.Observation.{Observation, observations_of, observed, other_variables, observations}
-use Rattle.larch_calculus.specs.Theories.{IsTermOver, IsWellSortedTheory, with_statements, extended, AreNew, AreConstants}
-use Rattle.larch_calculus.proofs.Names.{names_apart, same_name_itself}
-use Rattle.larch_calculus.proofs.Observed.{observation_is, observations_over}
-use Rattle.larch_calculus.proofs.Sorted.{truth_over, statement_over_more, knows_more, extended_well_sorted, with_statements_well_sorted, generation_over, induction_over}
-use Rattle.larch_calculus.proofs.Translation.{falsity_over}
+use Rattle.larch_calculus.specs.Theories.{with_statements, extended, IsIncluded, AreNew, AreConstants}
+use Rattle.larch_calculus.proofs.Names.{names_apart}
+use Rattle.larch_calculus.proofs.Observed.{partition_over}
+use Rattle.larch_calculus.proofs.Sorted.{truth_over, falsity_over, extended_well_sorted, with_statements_well_sorted, generation_over, suppositions_over}
 use Rattle.larch_calculus.proofs.WellSorted.{well_sorted}
 use Rattle.larch_models.specs.Interpretation.{Interpretation, Assignment, value_of, values_of, bit, is_one, first, Within, InRange, IsInterpretation}
 use Rattle.larch_models.specs.Models.{ArgumentsIn, IsClosedUnder, Holds, IsModel}
@@ -93,7 +94,7 @@ fresh_valid t a b c d cs vs n e v p q m g k y r =
     let new = given_by cs xs in
     let w : Within m.last (map (λ c. c.range) cs) xs = subst (λ ss. Within m.last ss xs) (sym e) (of_variables_within m.last y r vs) in
     let model = extended_model new m t cs [] g k (given_spares t cs xs n) (given_within m cs xs n.different w)
-        (λ s c. absurd (contains_none s c)) in
+    (λ s c. absurd (contains_none s c)) in
     ap (value_of m y) p ∙ freed_value m y cs vs a
     ∙ v (changed new m) (extended_well_sorted t cs [] g (All-nil (IsStatementOver (t.operators ++ cs)))) model y r
     ∙ sym (freed_value m y cs vs b) ∙ sym (ap (value_of m y) q)
@@ -124,18 +125,9 @@ cases_valid t a b f w s o u v m g k y r =
     elim (one_or_none (value_of m y f) le) [
       | inl h ↦ supposed_valid t (Equation a b) (Equation f truth) (w, (truth_over t.operators).0, s) u m g k
           (λ z x. one z ∙ h ∙ sym (i.meanings True bool_sort [])) y r
-      | inr h ↦ supposed_valid t (Equation a b) (Equation f falsity) (w, falsity_over t.operators, s) v m g k
+      | inr h ↦ supposed_valid t (Equation a b) (Equation f falsity) (w, (falsity_over t.operators).0, s) v m g k
           (λ z x. one z ∙ h ∙ sym (i.meanings False bool_sort [])) y r
     ]
-
-suppositions_over : (t : Theory) (x s : List ℕ) (a b : Tree) (cs : List PlainOperator)
-    → IsStatementOver t.operators (Equation a b) → AreConstants cs
-    → All (IsStatementOver (t.operators ++ cs)) (induction_hypotheses x s a b cs)
-suppositions_over t x s a b cs w k =
-    let fs = t.operators ++ cs in
-    induction_over fs x s a b cs (statement_over_more t.operators fs (knows_more t.operators cs) (Equation a b) w)
-    (all_from (λ c. Contains fs c × (c.domain ≡ [])) cs
-    (λ c h. (contains_right t.operators cs c h, All-contains (λ c. c.domain ≡ []) cs c k h)))
 
 -- the values at which the equation holds are closed under a generator, if the equation with what the generator makes of
 -- new constants is valid
@@ -155,11 +147,11 @@ case_valid t a b x s f cs w known args v m g k p decided vs i q y r =
     let gives = given_gives m cs vs args.new.different in
     let same = same_tables new m t.operators spares in
     let model = extended_model new m t cs hs g k spares (given_within m cs vs args.new.different within)
-        (hypotheses_hold m n t.operators x s a b same refl w p decided cs vs gives within inside) in
+    (hypotheses_hold m n t.operators x s a b same refl w p decided cs vs gives within inside) in
     let value : value_of n y made ≡ m.table f vs =
     same f known (values_of n y (constant_terms cs)) ∙ ap (m.table f) (constant_values n y cs vs within gives) in
     let side : (l : Tree) → IsOver t.operators l
-        → value_of n (updated x s (value_of n y made) y) l ≡ value_of m (updated x s (m.table f vs) y) l =
+    → value_of n (updated x s (value_of n y made) y) l ≡ value_of m (updated x s (m.table f vs) y) l =
     λ l o. ap (λ z. value_of n (updated x s z y) l) value
     ∙ value_same n m t.operators same (updated x s (m.table f vs) y) l o in
     sym (side a w.0.1) ∙ sym (only_value n y x s made a)
@@ -170,7 +162,7 @@ induct_valid : (t : Theory) (a b : Tree) (x s : List ℕ) (fs : List PlainOperat
     → IsStatementOver t.operators (Generated s fs) → IsValid t (Generated s fs) → IsStatementOver t.operators (Equation a b)
     → ((i : ℕ) (f : PlainOperator) → slice_get fs i ≡ Some f → AreArguments t f (cs i))
     → ((i : ℕ) (f : PlainOperator) → slice_get fs i ≡ Some f
-        → IsValid (extended t (cs i) (induction_hypotheses x s a b (cs i))) (equation_at x s a b (app f (constant_terms (cs i)))))
+    → IsValid (extended t (cs i) (induction_hypotheses x s a b (cs i))) (equation_at x s a b (app f (constant_terms (cs i)))))
     → IsValid t (Equation a b)
 induct_valid t a b x s fs cs o d w k h m g j y r =
     let p : ℕ → Bool = λ v. agree m (updated x s v) a b in
@@ -189,7 +181,7 @@ observe_valid : (t : Theory) (a b : Tree) (s : List ℕ) (os : List PlainOperato
     → IsValid t (Partitioned s os) → IsStatementOver t.operators (Equation a b) → sort_of a ≡ s
     → ((i : ℕ) (w : Observation) → slice_get (observations_of s os) i ≡ Some w → AreApart (other_variables (names i) w) a b)
     → ((i : ℕ) (w : Observation) → slice_get (observations_of s os) i ≡ Some w
-        → IsValid t (Equation (observed (names i) w a) (observed (names i) w b)))
+    → IsValid t (Equation (observed (names i) w a) (observed (names i) w b)))
     → IsValid t (Equation a b)
 observe_valid t a b s os names d w e k h m g j y r =
     let i = j.interpretation in
@@ -215,7 +207,7 @@ generated_valid t s fs q x w n d r v m g k p closed u le =
     let spares : Spares new t.operators =
     λ f c. ap (λ o. cond o (Some (set_table p)) None) (names_apart q.name f.name (apart f c)) in
     let here : (vs : List ℕ) → z.table q vs ≡ set_table p vs =
-    λ vs. ap (λ o. taken (cond o (Some (set_table p)) None) (m.table q) vs) (same_name_itself q.name) in
+    λ vs. ap (λ o. taken (cond o (Some (set_table p)) None) (m.table q) vs) ((name_Decides q.name q.name).1 refl) in
     let same = same_tables new m t.operators spares in
     let within : (c : PlainOperator) → Contains cs c → (vs : List ℕ) → Within m.last c.domain vs → z.table c vs ≤ m.last c.range =
     λ c o vs _. subst (λ c. z.table c vs ≤ m.last c.range) (contains_one q c o)
@@ -236,7 +228,7 @@ generated_valid t s fs q x w n d r v m g k p closed u le =
     let model = extended_model new m t cs hs g k spares within hold in
     let y = updated x s u zeros in
     let e = v z (extended_well_sorted t cs hs g (generation_over t q s fs w d r)) model y
-        (updated_in_range m.last zeros x s u le (zeros_in_range m.last)) in
+    (updated_in_range m.last zeros x s u le (zeros_in_range m.last)) in
     let at : y x s ≡ u = updated_here zeros x s u in
     sym (is_one_bit (p u))
     ∙ ap is_one (sym (ap (λ l. bit (p l)) at) ∙ sym (here (y x s ∷ [])) ∙ e ∙ model.interpretation.meanings True bool_sort [])
@@ -249,7 +241,6 @@ partitioned_valid : (t : Theory) (s : List ℕ) (os : List PlainOperator) (c d :
 partitioned_valid t s os c d w n k e f h m g j u v lu lv shows =
     let cs = c ∷ d ∷ [] in
     let xs = u ∷ v ∷ [] in
-    let fs = t.operators ++ cs in
     let hs = observations place_name s os (constant c) (constant d) in
     let new = given_by cs xs in
     let z = changed new m in
@@ -258,15 +249,11 @@ partitioned_valid t s os c d w n k e f h m g j u v lu lv shows =
     let within : Within m.last (map (λ c. c.range) cs) xs =
     (subst (λ r. u ≤ m.last r) (sym e) lu, (subst (λ r. v ≤ m.last r) (sym f) lv, tt)) in
     let gives = given_gives m cs xs n.different in
-    let over : (o : PlainOperator) → Contains cs o → IsTermOver fs (constant o) =
-    λ o i. ((sym (All-contains (λ g. g.domain ≡ []) cs o k i), tt), (inl (contains_right t.operators cs o i), tt)) in
-    let sorted = observations_over fs place_name s os (constant c) (constant d)
-        (λ o i. knows_more t.operators cs o (All-contains (λ g. IsKnown t.operators g × Contains g.domain s) os o w i).0)
-        (over c (contains_here c (d ∷ []))) e (over d (contains_later c d (d ∷ []) (contains_here d []))) f in
+    let sorted = partition_over t place_name s os c d w k e f in
     let hold : (a : Statement) → Contains hs a → Holds z a =
     λ a i.
     let o = contained_in_map (λ w. Equation (observed place_name w (constant c)) (observed place_name w (constant d)))
-        (observations_of s os) a i in
+    (observations_of s os) a i in
     subst (Holds z) o.2
     (observation_holds m z place_name o.0 (constant c) (constant d) u v refl
     (same o.0.observer (known_observer t.operators s os w o.0 o.1))
@@ -276,23 +263,22 @@ partitioned_valid t s os c d w n k e f h m g j u v lu lv shows =
     ∙ h z (extended_well_sorted t cs hs g sorted) model zeros (zeros_in_range m.last)
     ∙ gives 1 d v refl refl
 
--- what is derivable holds in each model of the theory
-pub sound : {t : Theory} {s : Statement} → Derivable t s → IsValid t s
-sound {t} {s} (axiom_ c w) m g k =
+axiom_valid : (t : Theory) (s : Statement) → Contains (statement_zero ∷ t.statements) s → IsValid t s
+axiom_valid t s c m g k =
     elim (contains_cases statement_zero s t.statements c) [
       | inl e ↦ subst (Holds m) e (zero_holds k.interpretation)
       | inr d ↦ k.statements s d
     ]
-sound (identity i) m g k = λ y r. identity_holds k.interpretation y r i
-sound (reflexive w) m g k = λ y r. refl
-sound (symmetric d) m g k = λ y r. sym (sound d m g k y r)
-sound (replace {a} {b} {c} {u} {v} p d e h q) m g k =
-    λ y r. sound d m g k y r ∙ sym (value_put m y b p u v h (sound e m g k y r)) ∙ sym (ap (value_of m y) q)
-sound {t} (instance {a} {b} {c} {d} es f o x p q) m g k = instance_valid t a b c d es f o (sound x) p q m g k
-sound {t} (equal {a} {b} s d) m g k = equal_valid t a b s (sound d) m g k
-sound (weaken w i d) m g k =
+
+replace_valid : (t : Theory) (a b c u v : Tree) (p : List ℕ) → IsValid t (Equation a b) → IsValid t (Equation u v)
+    → at b p ≡ Some u → c ≡ put b p v → IsValid t (Equation a c)
+replace_valid t a b c u v p d e h q m g k y r =
+    d m g k y r ∙ sym (value_put m y b p u v h (e m g k y r)) ∙ sym (ap (value_of m y) q)
+
+weaken_valid : (t u : Theory) (s : Statement) → IsWellSortedTheory u → IsIncluded u t → IsValid u s → IsValid t s
+weaken_valid t u s w i v m g k =
     let j = k.interpretation in
-    sound d m w (record {
+    v m w (record {
       interpretation = record {
         two_truth_values = j.two_truth_values;
         meanings = j.meanings;
@@ -300,14 +286,30 @@ sound (weaken w i d) m g k =
       };
       statements = λ s c. k.statements s (i.statements s c);
     })
-sound {t} (fresh {a} {b} {c} {d} cs vs n _ e x p q) m g k = fresh_valid t a b c d cs vs n e (sound x) p q m g k
-sound {t} (cases {a} {b} f w s o d e) m g k = cases_valid t a b f w s o (sound d) (sound e) m g k
-sound {t} (induct {a} {b} x s fs cs d w k h) m g j =
-    induct_valid t a b x s fs cs (well_sorted d) (sound d) w k (λ i f e. sound (h i f e)) m g j
-sound {t} (observe {a} {b} s os names d w e k h) m g j =
-    observe_valid t a b s os names (sound d) w e k (λ i o q. sound (h i o q)) m g j
-sound {t} (generated {s} {fs} q x w n d r h) m g k = generated_valid t s fs q x w n d r (sound h) m g k
-sound {t} (partitioned {s} {os} c d w n k e f h) m g j = partitioned_valid t s os c d w n k e f (sound h) m g j
+
+-- each rule leads from what is valid to what is
+rules_valid : IsClosed IsValid
+rules_valid =
+    record {
+      axiom_ = λ t s c w. axiom_valid t s c;
+      identity = λ t a b i m g k y r. identity_holds k.interpretation y r i;
+      reflexive = λ t a w m g k y r. refl;
+      symmetric = λ t a b d m g k y r. sym (d.1 m g k y r);
+      replace = λ t a b c u v p d e h q. replace_valid t a b c u v p d.1 e.1 h q;
+      instance = λ t a b c d es f o x p q. instance_valid t a b c d es f o x.1 p q;
+      equal = λ t a b s d. equal_valid t a b s d.1;
+      weaken = λ t u s w i d. weaken_valid t u s w i d.1;
+      fresh = λ t a b c d cs vs n k e x p q. fresh_valid t a b c d cs vs n e x.1 p q;
+      cases = λ t a b f w s o d e. cases_valid t a b f w s o d.1 e.1;
+      induct = λ t a b x s fs cs d w k h. induct_valid t a b x s fs cs (well_sorted d.0) d.1 w k (λ i f e. (h i f e).1);
+      observe = λ t a b s os names d w e k h. observe_valid t a b s os names d.1 w e k (λ i o q. (h i o q).1);
+      generated = λ t s fs q x w n d r h. generated_valid t s fs q x w n d r h.1;
+      partitioned = λ t s os c d w n k e f h. partitioned_valid t s os c d w n k e f h.1;
+    }
+
+-- what is derivable holds in each model of the theory
+pub sound : {t : Theory} {s : Statement} → Derivable t s → IsValid t s
+sound d = by_rules IsValid rules_valid d
 
 -- true is false in no model
 pub distinct_truths : {fs : List PlainOperator} {m : Interpretation} → IsInterpretation fs m → Holds m (Equation truth falsity) → ⊥

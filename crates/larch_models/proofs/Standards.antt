@@ -1,48 +1,17 @@
 -- Standard interpretations are interpretations, whatever the tables.
-use Rattle.std.proofs.Common.{◌≡◌, ◌≤◌, ◌&&◌, ℕ, min, inl, inr, Bool, true, false, cond, List, [], ◌∷◌, Option, Some, None, bytes_eq, refl, sym, ◌∙◌, ap, subst}
+use Rattle.std.proofs.Common.{◌≡◌, ◌≤◌, ℕ, inl, inr, Bool, true, cond, List, [], ◌∷◌, Option, Some, None, refl, sym, ◌∙◌, ap, subst}
 use Rattle.std.proofs.Math.Nat.{min-le_left, min-eq_right}
-use Rattle.std.proofs.lemmas.Slice.Eq.{bytes_eq-Decides}
-use Rattle.larch_base.proofs.Bools.{true_or_false, and_left, and_right, and_both}
+use Rattle.larch_base.proofs.Bools.{true_or_false}
 use Rattle.larch_base.proofs.Members.{contains_none}
 use Rattle.larch_base.proofs.Options.{some_inj}
 use Rattle.larch_term.specs.Operator.{PlainOperator}
 use Rattle.larch_term.specs.BuiltIn.{built_in, IsBuiltIn}
 use Rattle.larch_term.specs.declared.built_in.BuiltIn.{BuiltIn}
 use Rattle.larch_term.specs.declared.built_in.BuiltIn.TheVariants.{True, False, Not, And, Or, Implies, Iff, Equal, Unequal, If}
-use Rattle.larch_calculus.specs.Freed.{same_name}
-use Rattle.larch_calculus.proofs.Names.{same_name_is, same_name_itself}
+use Rattle.larch_term.specs.OperatorKey.{same_operator, operator_Decides}
 use Rattle.larch_models.specs.Interpretation.{Interpretation, meaning, Within, IsInterpretation}
-use Rattle.larch_models.specs.Standard.{same_sorts, same_operator, last_sort, built_in_among, every_built_in, standard_last, standard_value, standard}
+use Rattle.larch_models.specs.Standard.{last_sort, built_in_among, every_built_in, standard_last, standard_value, standard}
 use Rattle.larch_models.proofs.Values.{meaning_within}
-
-sorts_are : (rs ss : List (List ℕ)) → same_sorts rs ss ≡ true → rs ≡ ss
-sorts_are [] [] h = refl
-sorts_are [] (s ∷ ss) h = cc
-sorts_are (r ∷ rs) [] h = cc
-sorts_are (r ∷ rs) (s ∷ ss) h =
-    let a = (bytes_eq-Decides r s).0 (and_left (bytes_eq r s) (same_sorts rs ss) h) in
-    let b = sorts_are rs ss (and_right (bytes_eq r s) (same_sorts rs ss) h) in
-    λ i. a i ∷ b i
-
-sorts_themselves : (rs : List (List ℕ)) → same_sorts rs rs ≡ true
-sorts_themselves [] = refl
-sorts_themselves (r ∷ rs) = and_both (bytes_eq r r) (same_sorts rs rs) ((bytes_eq-Decides r r).1 refl) (sorts_themselves rs)
-
-operator_is : (f g : PlainOperator) → same_operator f g ≡ true → f ≡ g
-operator_is f g h =
-    let p = same_name f.name g.name in
-    let q = same_sorts f.domain g.domain in
-    let r = bytes_eq f.range g.range in
-    let a = same_name_is f.name g.name (and_left p (q && r) h) in
-    let b = sorts_are f.domain g.domain (and_left q r (and_right p (q && r) h)) in
-    let c = (bytes_eq-Decides f.range g.range).0 (and_right q r (and_right p (q && r) h)) in
-    λ i. record { name = a i; domain = b i; range = c i }
-
-operator_itself : (f : PlainOperator) → same_operator f f ≡ true
-operator_itself f =
-    and_both (same_name f.name f.name) (same_sorts f.domain f.domain && bytes_eq f.range f.range) (same_name_itself f.name)
-    (and_both (same_sorts f.domain f.domain) (bytes_eq f.range f.range) (sorts_themselves f.domain)
-    ((bytes_eq-Decides f.range f.range).1 refl))
 
 among_is : (f : PlainOperator) (bs : List BuiltIn) (b : BuiltIn) → built_in_among f bs ≡ Some b → f ≡ built_in b (last_sort f.domain)
 among_is f [] b h = cc
@@ -50,7 +19,7 @@ among_is f (c ∷ bs) b h =
     let g = built_in c (last_sort f.domain) in
     let P : Bool → Type 0 = λ q. cond q (Some c) (built_in_among f bs) ≡ Some b in
     elim (true_or_false (same_operator f g)) [
-      | inl e ↦ operator_is f g e ∙ ap (λ z. built_in z (last_sort f.domain)) (some_inj (subst P e h))
+      | inl e ↦ (operator_Decides f g).0 e ∙ ap (λ z. built_in z (last_sort f.domain)) (some_inj (subst P e h))
       | inr e ↦ among_is f bs b (subst P e h)
     ]
 
@@ -59,6 +28,7 @@ found : (f : PlainOperator) (b : BuiltIn) (bs : List BuiltIn) → same_operator 
 found f b bs e = ap (λ c. cond c (Some b) (built_in_among f bs)) e
 
 is_among : (b : BuiltIn) (s : List ℕ) → built_in_among (built_in b s) every_built_in ≡ Some b
+unfolding same_operator
 is_among True s = refl
 is_among False s = refl
 is_among Not s = refl
@@ -66,9 +36,9 @@ is_among And s = refl
 is_among Or s = refl
 is_among Implies s = refl
 is_among Iff s = refl
-is_among Equal s = found (built_in Equal s) Equal (Unequal ∷ If ∷ []) (operator_itself (built_in Equal s))
-is_among Unequal s = found (built_in Unequal s) Unequal (If ∷ []) (operator_itself (built_in Unequal s))
-is_among If s = found (built_in If s) If [] (operator_itself (built_in If s))
+is_among Equal s = found (built_in Equal s) Equal (Unequal ∷ If ∷ []) ((operator_Decides (built_in Equal s) (built_in Equal s)).1 refl)
+is_among Unequal s = found (built_in Unequal s) Unequal (If ∷ []) ((operator_Decides (built_in Unequal s) (built_in Unequal s)).1 refl)
+is_among If s = found (built_in If s) If [] ((operator_Decides (built_in If s) (built_in If s)).1 refl)
 
 knows : (last : List ℕ → ℕ) (tables : PlainOperator → List ℕ → ℕ) (b : BuiltIn) (s vs : List ℕ)
     → (standard last tables).table (built_in b s) vs ≡ meaning b vs

@@ -3,19 +3,20 @@ use Rattle.std.specs.Prelude.{◌≡◌, ℕ, false, List, [], ◌∷◌, map, A
 use Rattle.std.specs.List.{slice_get}
 use Rattle.larch_term.specs.Operator.{PlainOperator}
 use Rattle.larch_term.specs.Tree.{Tree, var, app}
-use Rattle.larch_term.specs.Truth.{bool_sort}
-use Rattle.larch_term.specs.Occurrence.{occurrences}
-use Rattle.larch_term.specs.Sorts.{sort_of}
-use Rattle.larch_term.specs.Statement.{IsStatementOver}
+use Rattle.larch_term.specs.BuiltIn.{bool_sort}
+use Rattle.larch_term.specs.Variable.{occurrences}
+use Rattle.larch_term.specs.Sorts.{sort_of, IsTermOver}
+use Rattle.larch_term.specs.Statement.{IsStatementOver, IsWellSortedTheory}
 use Rattle.larch_term.specs.declared.variable.Variable.{Variable}
 use Rattle.larch_term.specs.declared.statement.Statement.{Statement}
 use Rattle.larch_term.specs.declared.statement.Statement.TheVariants.{Equation, Generated, Partitioned}
 use Rattle.larch_term.specs.declared.statement.Theory.{Theory}
+use Rattle.larch_term.specs.Truth.{truth}
 use Rattle.larch_calculus.specs.Derivable.{Derivable}
-use Rattle.larch_calculus.specs.Formula.{truth, falsity, constant, applied}
+use Rattle.larch_calculus.specs.Formula.{falsity, constant, applied}
 use Rattle.larch_calculus.specs.Generation.{place_name, generation_hypotheses, constant_terms, equation_at, induction_hypotheses}
-use Rattle.larch_calculus.specs.Observation.{Observation, observations_of, observed, other_variables, observations}
-use Rattle.larch_calculus.specs.Theories.{IsTermOver, IsWellSortedTheory, IsIncluded, IsNewName, AreConstants, with_statements, extended}
+use Rattle.larch_calculus.specs.Observation.{Observation, observations_of, observed, observations}
+use Rattle.larch_calculus.specs.Theories.{IsIncluded, IsNewName, AreConstants, with_statements, extended}
 use Rattle.larch_models.specs.Computed.{holds}
 use Rattle.larch_models.specs.Interpretation.{Interpretation}
 use Rattle.larch_models.specs.Models.{IsModel}

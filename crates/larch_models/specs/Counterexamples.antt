@@ -2,14 +2,14 @@
 use Rattle.std.specs.Prelude.{◌==◌, ◌&&◌, not, ℕ, zero, suc, if◌then◌else◌, List, [], ◌∷◌, codes}
 use Rattle.larch_term.specs.Operator.{PlainOperator, plain, boxed}
 use Rattle.larch_term.specs.Tree.{Tree, var, app, none, more}
-use Rattle.larch_term.specs.Truth.{bool_sort}
+use Rattle.larch_term.specs.BuiltIn.{bool_sort}
 use Rattle.larch_term.specs.declared.statement.Statement.{Statement}
 use Rattle.larch_term.specs.declared.statement.Statement.TheVariants.{Equation, Generated, Partitioned}
 use Rattle.larch_term.specs.declared.statement.Theory.{Theory}
 use Rattle.larch_term.specs.declared.variable.Variable.{Variable}
+use Rattle.larch_term.specs.Truth.{truth}
 use Rattle.larch_calculus.specs.Example.{number_sort, nought, x_number}
-use Rattle.larch_calculus.specs.Formula.{constant, applied, joined, truth, equality}
-use Rattle.larch_calculus.specs.Observation.{Observation}
+use Rattle.larch_calculus.specs.Formula.{constant, applied, joined, equality}
 use Rattle.larch_models.specs.Examples.{two_values}
 use Rattle.larch_models.specs.Interpretation.{Interpretation, first, others, bit, is_one}
 use Rattle.larch_models.specs.Standard.{standard, is_named}

@@ -1,23 +1,11 @@
 -- Interpretations from any tables for the operators that aren't built in.
-use Rattle.std.specs.Prelude.{◌&&◌, ℕ, min, Bool, true, false, if◌then◌else◌, List, [], ◌∷◌, bytes_eq, Option, Some, None}
+use Rattle.std.specs.Prelude.{ℕ, min, Bool, if◌then◌else◌, List, [], ◌∷◌, bytes_eq, Option, Some, None}
 use Rattle.larch_term.specs.Operator.{PlainOperator, plain}
-use Rattle.larch_term.specs.Truth.{bool_sort}
-use Rattle.larch_term.specs.BuiltIn.{built_in}
+use Rattle.larch_term.specs.BuiltIn.{bool_sort, built_in}
 use Rattle.larch_term.specs.declared.built_in.BuiltIn.{BuiltIn}
 use Rattle.larch_term.specs.declared.built_in.BuiltIn.TheVariants.{True, False, Not, And, Or, Implies, Iff, Equal, Unequal, If}
-use Rattle.larch_calculus.specs.Freed.{same_name}
+use Rattle.larch_term.specs.OperatorKey.{same_name, same_operator}
 use Rattle.larch_models.specs.Interpretation.{Interpretation, meaning}
-
--- whether two lists of sorts are one
-abbrev pub same_sorts : List (List ℕ) → List (List ℕ) → Bool
-same_sorts [] [] = true
-same_sorts [] (s ∷ ss) = false
-same_sorts (r ∷ rs) [] = false
-same_sorts (r ∷ rs) (s ∷ ss) = bytes_eq r s && same_sorts rs ss
-
--- whether two operators are one
-abbrev pub same_operator : PlainOperator → PlainOperator → Bool
-same_operator f g = same_name f.name g.name && (same_sorts f.domain g.domain && bytes_eq f.range g.range)
 
 -- the last sort of a domain: that at which a built-in operator is taken, if it is there for each sort
 abbrev pub last_sort : List (List ℕ) → List ℕ

@@ -1,9 +1,8 @@
 //! Statements in small interpretations, computed. No function here does anything.
 ghost use Rattle.std.specs.Prelude.{◌≡◌, ℕ, List, [], ◌∷◌, true, false};
-ghost use Rattle.larch_term.specs.BuiltIn.{built_in};
+ghost use Rattle.larch_term.specs.BuiltIn.{built_in, bool_sort};
 ghost use Rattle.larch_term.specs.Operator.{PlainOperator};
 ghost use Rattle.larch_term.specs.Statement.{statement_zero};
-ghost use Rattle.larch_term.specs.Truth.{bool_sort};
 ghost use Rattle.larch_term.specs.declared.built_in.BuiltIn.TheVariants.{True, False};
 ghost use Rattle.larch_term.specs.declared.statement.Statement.TheVariants.{Generated};
 ghost use Rattle.larch_calculus.specs.Example.{numbers, numbers_generated, sum_from_nought};
@@ -40,27 +39,17 @@ pub fn observers_show_each_place()
 
 /// In a standard interpretation Bool has two values: `true` and `false` generate it, and neither does alone.
 pub fn two_truth_values()
-    ensures both {
-        (last : List ℕ → ℕ) (tables : PlainOperator → List ℕ → ℕ) → holds (standard last tables) statement_zero ≡ true
-    }
-    ensures true_alone {
-        (last : List ℕ → ℕ) (tables : PlainOperator → List ℕ → ℕ)
-        → holds (standard last tables) (Generated bool_sort (built_in True bool_sort ∷ [])) ≡ false
-    }
-    ensures false_alone {
-        (last : List ℕ → ℕ) (tables : PlainOperator → List ℕ → ℕ)
-        → holds (standard last tables) (Generated bool_sort (built_in False bool_sort ∷ [])) ≡ false
-    }
+    ensures both { (last : List ℕ → ℕ) (tables : PlainOperator → List ℕ → ℕ) → holds (standard last tables) statement_zero ≡ true }
+    ensures true_alone { (last : List ℕ → ℕ) (tables : PlainOperator → List ℕ → ℕ)
+        → holds (standard last tables) (Generated bool_sort (built_in True bool_sort ∷ [])) ≡ false }
+    ensures false_alone { (last : List ℕ → ℕ) (tables : PlainOperator → List ℕ → ℕ)
+        → holds (standard last tables) (Generated bool_sort (built_in False bool_sort ∷ [])) ≡ false }
 {}
 
 /// In a standard interpretation built-in operators have their meaning: `(p => q) == (~p \/ q)` holds, and so does
 /// `(if p then q else r) == ((p => q) /\ (~p => r))`.
 pub fn meanings_of_operators()
-    ensures implication {
-        (last : List ℕ → ℕ) (tables : PlainOperator → List ℕ → ℕ)
-        → holds (standard last tables) implication_by_denial ≡ true
-    }
-    ensures choice {
-        (last : List ℕ → ℕ) (tables : PlainOperator → List ℕ → ℕ) → holds (standard last tables) choice_by_parts ≡ true
-    }
+    ensures implication { (last : List ℕ → ℕ) (tables : PlainOperator → List ℕ → ℕ)
+        → holds (standard last tables) implication_by_denial ≡ true }
+    ensures choice { (last : List ℕ → ℕ) (tables : PlainOperator → List ℕ → ℕ) → holds (standard last tables) choice_by_parts ≡ true }
 {}

@@ -1,19 +1,18 @@
-use Rattle.std.proofs.Common.{◌≡◌, inr, List, [], ◌∷◌, All, codes, refl, arith}
-use Rattle.larch_term.specs.Operator.{PlainOperator}
-use Rattle.larch_term.specs.Sorts.{sort_of, IsOver}
-use Rattle.larch_term.specs.Tree.{Tree}
+use Rattle.std.proofs.Common.{inr, [], ◌∷◌, All, codes, refl, arith}
+use Rattle.larch_term.specs.OperatorKey.{same_operator}
+use Rattle.larch_term.specs.Sorts.{IsOver, IsTermOver}
 use Rattle.larch_term.specs.declared.built_in.BuiltIn.TheVariants.{Equal}
 use Rattle.larch_term.specs.declared.substitution.Entry.{Entry}
 use Rattle.larch_term.specs.declared.statement.Statement.TheVariants.{Equation}
+use Rattle.larch_term.specs.Truth.{truth}
 use Rattle.larch_calculus.specs.Derivable.{Derivable, axiom_, identity, equal, instance, symmetric}
 use Rattle.larch_calculus.specs.Example.{number_sort, numbers, nought, x_number}
-use Rattle.larch_calculus.specs.Formula.{truth, falsity, constant, equality}
+use Rattle.larch_calculus.specs.Formula.{falsity, constant, equality}
 use Rattle.larch_calculus.specs.Generation.{only}
 use Rattle.larch_calculus.specs.Identity.{equal_itself}
-use Rattle.larch_calculus.specs.Theories.{IsTermOver, with_statements}
+use Rattle.larch_calculus.specs.Theories.{with_statements}
 use Rattle.larch_calculus.proofs.DerivedRules.{transitive, all_equal}
-use Rattle.larch_calculus.proofs.Sorted.{truth_over, only_fits}
-use Rattle.larch_calculus.proofs.Translation.{falsity_over}
+use Rattle.larch_calculus.proofs.Sorted.{truth_over, falsity_over, only_fits}
 use Rattle.larch_models.specs.Counterexamples.{x_is_nought}
 use Rattle.larch_models.specs.Examples.{two_values, bits, sum_of_bits}
 use Rattle.larch_models.proofs.Counterexamples.{refutes, one, has_nought, numbers_well_sorted}
@@ -35,12 +34,13 @@ if_false =
     let over : All (λ e. IsOver t.operators e.term) es = one (λ e. IsOver t.operators e.term) entry nought_over.1 in
     let same = equality number_sort (constant nought) (constant nought) in
     let no : Derivable t (Equation same falsity) =
-    instance es fits over (axiom_ (4, omega arith, refl) (formula_over, falsity_over numbers.operators, refl)) refl refl in
+    instance es fits over (axiom_ (4, omega arith, refl) (formula_over, (falsity_over numbers.operators).0, refl)) refl refl in
     let yes : Derivable t (Equation same truth) =
     instance es fits over (identity (equal_itself number_sort (codes "x") refl refl)) refl refl in
     all_equal (transitive (symmetric yes) no) ((tt, tt), nought_over, refl)
 
 pub returns : goal.returns
+unfolding same_operator
 returns c =
     record {
       premises = record {

@@ -1,4 +1,5 @@
 use Rattle.std.proofs.Common.{◌≡◌, [], ◌∷◌, refl, arith}
+use Rattle.larch_term.specs.OperatorKey.{same_operator}
 use Rattle.larch_term.specs.Operator.{PlainOperator}
 use Rattle.larch_term.specs.Tree.{Tree}
 use Rattle.larch_term.specs.Statement.{IsStatementOver}
@@ -13,6 +14,7 @@ use Rattle.larch_models.proofs.Counterexamples.{refutes, one, constants_over}
 use Rattle.larch_models.proofs.conditions.fresh_needs_newness.Goals as goal
 
 pub returns : goal.returns
+unfolding same_operator
 returns c =
     let t = equal_constants in
     let u = extended t (constant_a ∷ []) [] in

@@ -1,10 +1,12 @@
-use Rattle.std.proofs.Common.{◌≡◌, ℕ, inl, List, [], ◌∷◌, Contains, refl, arith}
+use Rattle.std.proofs.Common.{◌≡◌, inl, List, [], ◌∷◌, Contains, refl, arith}
+use Rattle.larch_term.specs.OperatorKey.{same_operator}
 use Rattle.larch_term.specs.Operator.{PlainOperator}
 use Rattle.larch_term.specs.Sorts.{IsKnown}
 use Rattle.larch_term.specs.Statement.{IsStatementOver}
 use Rattle.larch_term.specs.declared.statement.Statement.TheVariants.{Equation, Generated}
+use Rattle.larch_term.specs.Truth.{truth}
 use Rattle.larch_calculus.specs.Derivable.{axiom_}
-use Rattle.larch_calculus.specs.Formula.{truth, applied}
+use Rattle.larch_calculus.specs.Formula.{applied}
 use Rattle.larch_calculus.specs.Generation.{generation_hypotheses}
 use Rattle.larch_calculus.specs.Theories.{extended}
 use Rattle.larch_calculus.proofs.Sorted.{truth_over}
@@ -17,6 +19,7 @@ stated_over : (fs : List PlainOperator) → Contains fs predicate → IsStatemen
 stated_over fs o = (((refl, (tt, tt)), (inl o, (tt, tt))), (truth_over fs).0, refl)
 
 pub returns : goal.returns
+unfolding same_operator
 returns c =
     let t = holding_everywhere in
     let u = extended t (predicate ∷ []) (generation_hypotheses predicate sort_n (constant_a ∷ [])) in

@@ -1,9 +1,10 @@
-use Rattle.std.proofs.Common.{◌≡◌, ℕ, zero, suc, inl, List, [], ◌∷◌, ◌++◌, map, All, Contains, codes, Some, refl, sym, ap, subst, arith}
+use Rattle.std.proofs.Common.{◌≡◌, ℕ, zero, suc, inl, List, [], ◌∷◌, ◌++◌, map, All, codes, Some, refl, ap, subst, arith}
+use Rattle.larch_term.specs.OperatorKey.{same_operator}
 use Rattle.std.specs.List.{slice_get}
 use Rattle.std.proofs.lemmas.List.Elements.{All-nil, All-cons}
 use Rattle.larch_base.proofs.Options.{some_inj}
 use Rattle.larch_term.specs.Operator.{PlainOperator}
-use Rattle.larch_term.specs.Sorts.{sort_of, IsKnown, IsOver}
+use Rattle.larch_term.specs.Sorts.{sort_of, IsKnown, IsOver, IsTermOver}
 use Rattle.larch_term.specs.Statement.{IsStatementOver}
 use Rattle.larch_term.specs.Tree.{Tree, app}
 use Rattle.larch_term.specs.declared.substitution.Entry.{Entry}
@@ -11,7 +12,7 @@ use Rattle.larch_term.specs.declared.statement.Statement.TheVariants.{Generated}
 use Rattle.larch_calculus.specs.Derivable.{Derivable, axiom_, instance}
 use Rattle.larch_calculus.specs.Formula.{constant, applied, joined}
 use Rattle.larch_calculus.specs.Generation.{only, constant_terms, equation_at, induction_hypotheses}
-use Rattle.larch_calculus.specs.Theories.{IsTermOver, IsNewName, AreConstants, extended}
+use Rattle.larch_calculus.specs.Theories.{IsNewName, AreConstants, extended}
 use Rattle.larch_calculus.proofs.Names.{box_is_new}
 use Rattle.larch_calculus.proofs.Sorted.{only_fits}
 use Rattle.larch_models.specs.Counterexamples.{sort_n, constant_a, constant_b, term_x, operator_p, operator_q, sent_to_a, equal_pairs, pair_tables, box_constant, one_twice}
@@ -84,6 +85,7 @@ derived (suc (suc zero)) f e = subst (Case (box_constant 0 ∷ box_constant 0 �
 derived (suc (suc (suc i))) f e = cc
 
 pub returns : goal.returns
+unfolding same_operator
 returns c =
     let P = IsStatementOver own in
     record {

@@ -1,14 +1,14 @@
 use Rattle.std.proofs.Common.{◌≡◌, ◌≢◌, ℕ, inl, List, [], ◌∷◌, Contains, codes, Some, refl, arith, subst}
+use Rattle.larch_term.specs.OperatorKey.{same_operator}
 use Rattle.std.specs.List.{slice_get}
 use Rattle.larch_term.specs.Operator.{PlainOperator}
-use Rattle.larch_term.specs.Sorts.{sort_of, IsKnown}
+use Rattle.larch_term.specs.Sorts.{sort_of, IsKnown, IsTermOver}
 use Rattle.larch_term.specs.Statement.{IsStatementOver}
 use Rattle.larch_term.specs.Tree.{Tree}
 use Rattle.larch_term.specs.declared.statement.Statement.TheVariants.{Equation, Partitioned}
 use Rattle.larch_calculus.specs.Derivable.{Derivable, axiom_}
 use Rattle.larch_calculus.specs.Formula.{applied, joined}
 use Rattle.larch_calculus.specs.Observation.{Observation, observations_of, observed, other_variables, AreDifferent}
-use Rattle.larch_calculus.specs.Theories.{IsTermOver}
 use Rattle.larch_models.specs.Counterexamples.{sort_n, sort_m, term_z, named_z, operator_f, operator_g, observer_of_pairs, observed_with_own, own_tables}
 use Rattle.larch_models.specs.Examples.{two_values}
 use Rattle.larch_models.proofs.Counterexamples.{refutes, one, both, got_one, no_pairs}
@@ -43,6 +43,7 @@ derived i w e =
     (got_one observation w i e) (axiom_ (2, omega arith, refl) stated_over)
 
 pub returns : goal.returns
+unfolding same_operator
 returns c =
     record {
       premises = record {

@@ -1,17 +1,17 @@
 use Rattle.std.proofs.Common.{◌≡◌, ℕ, inl, List, [], ◌∷◌, Contains, Some, refl, arith, subst}
+use Rattle.larch_term.specs.OperatorKey.{same_operator}
 use Rattle.std.specs.List.{slice_get}
 use Rattle.larch_base.proofs.Lists.{all_from}
 use Rattle.larch_base.proofs.Members.{contains_none}
 use Rattle.larch_term.specs.Operator.{PlainOperator}
-use Rattle.larch_term.specs.Occurrence.{occurrences}
-use Rattle.larch_term.specs.Sorts.{IsKnown}
+use Rattle.larch_term.specs.Variable.{occurrences}
+use Rattle.larch_term.specs.Sorts.{IsKnown, IsTermOver}
 use Rattle.larch_term.specs.Statement.{IsStatementOver}
 use Rattle.larch_term.specs.declared.statement.Statement.TheVariants.{Equation, Partitioned}
 use Rattle.larch_term.specs.declared.variable.Variable.{Variable}
 use Rattle.larch_calculus.specs.Derivable.{Derivable, axiom_}
 use Rattle.larch_calculus.specs.Formula.{constant}
 use Rattle.larch_calculus.specs.Observation.{Observation, observations_of, observed, other_variables}
-use Rattle.larch_calculus.specs.Theories.{IsTermOver}
 use Rattle.larch_models.specs.Conditions.{OccursNot}
 use Rattle.larch_models.specs.Counterexamples.{sort_n, sort_m, constant_a, constant_b, named_z, observer_of_triples, observed_twice, observed_with_one, one_tables}
 use Rattle.larch_models.specs.Examples.{two_values}
@@ -51,6 +51,7 @@ occurs_not : (vs : List Variable) (d : PlainOperator) → OccursNot vs (constant
 occurs_not vs d = all_from (λ v. Contains (occurrences (constant d)) v → ⊥) vs (λ v c o. contains_none v o)
 
 pub returns : goal.returns
+unfolding same_operator
 returns c =
     record {
       premises = record {

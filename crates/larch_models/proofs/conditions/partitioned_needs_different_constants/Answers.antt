@@ -1,4 +1,5 @@
 use Rattle.std.proofs.Common.{◌≡◌, inl, [], ◌∷◌, refl, arith}
+use Rattle.larch_term.specs.OperatorKey.{same_operator}
 use Rattle.larch_term.specs.declared.statement.Statement.TheVariants.{Partitioned}
 use Rattle.larch_calculus.specs.Derivable.{reflexive}
 use Rattle.larch_calculus.specs.Theories.{IsNewName}
@@ -9,6 +10,7 @@ use Rattle.larch_models.proofs.Counterexamples.{refutes, both, alike_well_sorted
 use Rattle.larch_models.proofs.conditions.partitioned_needs_different_constants.Goals as goal
 
 pub returns : goal.returns
+unfolding same_operator
 returns c =
     let d = box_constant 0 in
     record {

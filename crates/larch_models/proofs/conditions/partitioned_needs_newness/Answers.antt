@@ -1,4 +1,5 @@
 use Rattle.std.proofs.Common.{◌≡◌, [], ◌∷◌, refl, arith}
+use Rattle.larch_term.specs.OperatorKey.{same_operator}
 use Rattle.larch_term.specs.declared.statement.Statement.TheVariants.{Partitioned}
 use Rattle.larch_calculus.specs.Derivable.{axiom_}
 use Rattle.larch_calculus.specs.Formula.{constant}
@@ -11,6 +12,7 @@ use Rattle.larch_models.proofs.Counterexamples.{refutes, both, constants_over, n
 use Rattle.larch_models.proofs.conditions.partitioned_needs_newness.Goals as goal
 
 pub returns : goal.returns
+unfolding same_operator
 returns c =
     let cs = constant_a ∷ constant_b ∷ [] in
     let u = extended alike cs (observations place_name sort_n (predicate ∷ []) (constant constant_a) (constant constant_b)) in

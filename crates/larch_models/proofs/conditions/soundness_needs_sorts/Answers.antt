@@ -1,4 +1,5 @@
-use Rattle.std.proofs.Common.{[], refl}
+use Rattle.std.proofs.Common.{refl}
+use Rattle.larch_term.specs.OperatorKey.{same_operator}
 use Rattle.larch_models.specs.Counterexamples.{no_tables, ill_sorted}
 use Rattle.larch_models.specs.Examples.{two_values}
 use Rattle.larch_models.proofs.Computing.{model_so}
@@ -7,6 +8,7 @@ use Rattle.larch_models.proofs.Standards.{standard_interprets}
 use Rattle.larch_models.proofs.conditions.soundness_needs_sorts.Goals as goal
 
 pub returns : goal.returns
+unfolding same_operator
 returns c =
     record {
       derivable = ill_sorted_derives;

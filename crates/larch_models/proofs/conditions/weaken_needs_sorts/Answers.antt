@@ -1,4 +1,5 @@
-use Rattle.std.proofs.Common.{◌≡◌, [], ◌∷◌, refl, arith}
+use Rattle.std.proofs.Common.{refl, arith}
+use Rattle.larch_term.specs.OperatorKey.{same_operator}
 use Rattle.larch_base.proofs.Members.{contains_none}
 use Rattle.larch_term.specs.Statement.{IsStatementOver}
 use Rattle.larch_term.specs.declared.statement.Statement.TheVariants.{Equation}
@@ -10,6 +11,7 @@ use Rattle.larch_models.proofs.IllSorted.{ill_sorted_derives}
 use Rattle.larch_models.proofs.conditions.weaken_needs_sorts.Goals as goal
 
 pub returns : goal.returns
+unfolding same_operator
 returns c =
     let t = sorted_again in
     record {

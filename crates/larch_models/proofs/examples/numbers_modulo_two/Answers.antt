@@ -1,4 +1,5 @@
 use Rattle.std.proofs.Common.{refl}
+use Rattle.larch_term.specs.OperatorKey.{same_operator}
 use Rattle.larch_calculus.specs.Example.{numbers}
 use Rattle.larch_models.specs.Examples.{two_values, bits, sum_of_bits}
 use Rattle.larch_models.proofs.Computing.{model_so}
@@ -6,4 +7,5 @@ use Rattle.larch_models.proofs.Standards.{standard_interprets}
 use Rattle.larch_models.proofs.examples.numbers_modulo_two.Goals as goal
 
 pub returns : goal.returns
+unfolding same_operator
 returns c = model_so (standard_interprets two_values (bits sum_of_bits) numbers.operators) refl

@@ -1,10 +1,11 @@
-use Rattle.std.proofs.Common.{◌≡◌, ◌==◌, ℕ, inl, inr, Bool, true, false, List, [], ◌∷◌, Contains, refl, subst, arith}
+use Rattle.std.proofs.Common.{◌≡◌, ◌==◌, ℕ, inl, inr, Bool, true, false, List, [], ◌∷◌, refl, sym, subst, arith}
 use Rattle.larch_base.proofs.Members.{contains_one, contains_cases}
-use Rattle.larch_term.specs.Operator.{PlainOperator}
+use Rattle.larch_term.specs.OperatorKey.{same_operator}
 use Rattle.larch_calculus.specs.Example.{number_sort, nought, plus}
 use Rattle.larch_models.specs.Interpretation.{Within}
 use Rattle.larch_models.specs.Models.{ArgumentsIn, IsClosedUnder}
 use Rattle.larch_models.specs.Examples.{second_taken}
+use Rattle.larch_models.proofs.Values.{same_numbers}
 use Rattle.larch_models.proofs.examples.sets_that_are_closed.Goals as goal
 
 -- the set of 0
@@ -13,17 +14,20 @@ none_but_nought v = v == 0
 
 sums_in : (vs : List ℕ) → Within second_taken.last plus.domain vs → ArgumentsIn none_but_nought number_sort plus.domain vs
     → none_but_nought (second_taken.table plus vs) ≡ true
+unfolding same_operator
 sums_in [] w d = absurd w
 sums_in (u ∷ []) w d = absurd w.1
-sums_in (u ∷ v ∷ vs) w d = ?
+sums_in (u ∷ v ∷ vs) w d =
+    subst (λ x. none_but_nought (second_taken.table plus (u ∷ x ∷ vs)) ≡ true) (sym (same_numbers v 0 (d.1.0 refl))) refl
 
 closed : IsClosedUnder second_taken number_sort (nought ∷ plus ∷ []) none_but_nought
+unfolding same_operator
 closed f c vs w d =
     elim (contains_cases nought f (plus ∷ []) c) [
       | inl e ↦ subst (λ f. none_but_nought (second_taken.table f vs) ≡ true) e refl
       | inr o ↦
           subst (λ f. Within second_taken.last f.domain vs → ArgumentsIn none_but_nought number_sort f.domain vs
-              → none_but_nought (second_taken.table f vs) ≡ true) (contains_one plus f o) (sums_in vs) w d
+          → none_but_nought (second_taken.table f vs) ≡ true) (contains_one plus f o) (sums_in vs) w d
     ]
 
 pub returns : goal.returns
