@@ -15,7 +15,7 @@ use Rattle.larch_calculus.specs.Freed.{place_of}
 use Rattle.larch_calculus.specs.Generation.{constant_terms}
 use Rattle.larch_calculus.specs.Observation.{Observation, observations_of}
 use Rattle.larch_calculus.specs.Theories.{extended, AreNew}
-use Rattle.larch_calculus.proofs.Extension.{known_not_placed}
+use Rattle.larch_calculus.proofs.Freeing.{known_not_placed}
 use Rattle.larch_calculus.proofs.Names.{placed_at}
 use Rattle.larch_calculus.proofs.Observed.{observation_is}
 use Rattle.larch_models.specs.Interpretation.{Interpretation, Assignment, values_of, Within}

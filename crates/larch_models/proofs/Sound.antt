@@ -18,7 +18,7 @@ use Rattle.larch_term.specs.declared.built_in.BuiltIn.TheVariants.{True, False, 
 use Rattle.larch_term.specs.declared.statement.Statement.{Statement}
 use Rattle.larch_term.specs.declared.statement.Statement.TheVariants.{Equation, Generated, Partitioned}
 use Rattle.larch_term.specs.declared.statement.Theory.{Theory}
-use Rattle.larch_term.proofs.SubstitutionLaws.{image_sort, image_well_sorted, substituted_over}
+use Rattle.larch_term_laws.proofs.Substitutions.{image_sort, image_well_sorted, substituted_over}
 use Rattle.larch_term.specs.Truth.{truth}
 use Rattle.larch_calculus.specs.Derivable.{Derivable, AreArguments, AreApart}
 use Rattle.larch_calculus.specs.Induction.{IsClosed, by_rules}
