@@ -10,7 +10,7 @@ use Rattle.larch_term.specs.Sorts.{sort_of, WellSorted, IsOver, IsTermOver}
 use Rattle.larch_term.specs.Place.{at, put}
 use Rattle.larch_term.specs.Variable.{occurrences}
 use Rattle.larch_term.specs.Statement.{IsStatementOver, statement_zero, IsWellSortedTheory}
-use Rattle.larch_term.specs.Substitution.{image, Fits}
+use Rattle.larch_term.specs.Substitution.{image, substituted, Fits}
 use Rattle.larch_term.specs.declared.built_in.BuiltIn.TheVariants.{Implies}
 use Rattle.larch_term.specs.declared.substitution.Entry.{Entry}
 use Rattle.larch_term.specs.declared.statement.Statement.{Statement}
@@ -19,8 +19,8 @@ use Rattle.larch_term.specs.declared.statement.Theory.{Theory}
 use Rattle.larch_renaming.specs.Renaming.{unchanged}
 use Rattle.larch_calculus.specs.Formula.{falsity, conjunction, implication, choice}
 use Rattle.larch_term.specs.Truth.{truth}
-use Rattle.larch_calculus.specs.Identity.{always, both, implied, propositional, chosen_first, chosen_second}
-use Rattle.larch_calculus.specs.Theories.{IsIncluded, IsPrefix, with_statements}
+use Rattle.larch_calculus.specs.Identity.{IsIdentity, always, both, implied, propositional, chosen_first, chosen_second}
+use Rattle.larch_calculus.specs.Theories.{IsTermOf, IsIncluded, IsPrefix, with_statements}
 use Rattle.larch_calculus.specs.Letters.{two, x_letter, y_letter}
 use Rattle.larch_calculus.specs.Derivable.{Derivable, axiom_, identity, reflexive, symmetric, replace, instance, weaken, cases}
 use Rattle.larch_renaming.proofs.RenamedStatements.{by_name_fits, statement_unchanged}
@@ -58,6 +58,12 @@ two_over fs s a b oa ob =
     All-cons P (record { name = codes "x"; sort = s; term = a }) (record { name = codes "y"; sort = s; term = b } ∷ []) oa
     (All-cons P (record { name = codes "y"; sort = s; term = b }) [] ob (All-nil P))
 
+-- an identity with terms for x and y
+pub identity_instance : {t : Theory} (s : List ℕ) (a b : Tree) {c d : Tree} → IsTermOf t.operators s a → IsTermOf t.operators s b → IsIdentity c d
+    → Derivable t (Equation (substituted (two s a b) c) (substituted (two s a b) d))
+identity_instance {t} s a b p q i =
+    instance (two s a b) (two_fit s a b p.0.0 p.1 q.0.0 q.1) (two_over t.operators s a b p.0.1 q.0.1) (identity i) refl refl
+
 pub chosen_true : {t : Theory} (s : List ℕ) (a b : Tree) → IsTermOver t.operators a → sort_of a ≡ s → IsTermOver t.operators b → sort_of b ≡ s
     → Derivable t (Equation (choice s truth a b) a)
 chosen_true {t} s a b wa ea wb eb =
@@ -91,16 +97,16 @@ both_ways false false = refl
 -- a /\ true == a
 pub with_truth : {t : Theory} (a : Tree) → IsTermOver t.operators a → sort_of a ≡ bool_sort → Derivable t (Equation (conjunction a truth) a)
 with_truth {t} a wa ea =
-    instance (two bool_sort a a) (two_fit bool_sort a a wa.0 ea wa.0 ea) (two_over t.operators bool_sort a a wa.1 wa.1)
-    (identity (propositional (both x_letter always) x_letter refl refl (λ given. and_true (given (codes "x"))))) refl refl
+    identity_instance bool_sort a a (wa, ea) (wa, ea)
+    (propositional (both x_letter always) x_letter refl refl (λ given. and_true (given (codes "x"))))
 
 -- (a /\ (a => b)) == (b /\ (b => a))
 pub exchanged : {t : Theory} (a b : Tree) → IsTermOver t.operators a → sort_of a ≡ bool_sort → IsTermOver t.operators b → sort_of b ≡ bool_sort
     → Derivable t (Equation (conjunction a (implication a b)) (conjunction b (implication b a)))
 exchanged {t} a b wa ea wb eb =
-    instance (two bool_sort a b) (two_fit bool_sort a b wa.0 ea wb.0 eb) (two_over t.operators bool_sort a b wa.1 wb.1)
-    (identity (propositional (both x_letter (implied x_letter y_letter)) (both y_letter (implied y_letter x_letter)) refl refl
-    (λ given. both_ways (given (codes "x")) (given (codes "y"))))) refl refl
+    identity_instance bool_sort a b (wa, ea) (wb, eb)
+    (propositional (both x_letter (implied x_letter y_letter)) (both y_letter (implied y_letter x_letter)) refl refl
+    (λ given. both_ways (given (codes "x")) (given (codes "y"))))
 
 -- formulas that imply each other are equal
 pub equal_by_implications : {t : Theory} {a b : Tree} → Derivable t (Equation (implication a b) truth) → Derivable t (Equation (implication b a) truth) → Derivable t (Equation a b)

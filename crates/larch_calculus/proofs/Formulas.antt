@@ -15,7 +15,7 @@ use Rattle.larch_calculus.specs.Identity.{always, equivalent, equal, proposition
 use Rattle.larch_calculus.specs.Letters.{two, x_letter, y_letter}
 use Rattle.larch_calculus.specs.Derivable as rule
 use Rattle.larch_calculus.specs.Derivable.{Derivable, identity, symmetric, instance}
-use Rattle.larch_calculus.proofs.DerivedRules.{transitive, replaced_left, image_x, two_fit, two_over}
+use Rattle.larch_calculus.proofs.DerivedRules.{transitive, replaced_left, identity_instance, image_x, two_fit, two_over}
 use Rattle.larch_calculus.proofs.Sorted.{sides_over}
 use Rattle.larch_calculus.proofs.WellSorted.{well_sorted}
 
@@ -49,15 +49,15 @@ equals_itself {t} a w =
 -- (a <=> a) == true
 equivalent_itself : {t : Theory} (a : Tree) → IsTermOver t.operators a → sort_of a ≡ bool_sort → Derivable t (Equation (equivalence a a) truth)
 equivalent_itself {t} a w e =
-    instance (two bool_sort a a) (two_fit bool_sort a a w.0 e w.0 e) (two_over t.operators bool_sort a a w.1 w.1)
-    (identity (propositional (equivalent x_letter x_letter) always refl refl (λ given. agree_itself (given (codes "x"))))) refl refl
+    identity_instance bool_sort a a (w, e) (w, e)
+    (propositional (equivalent x_letter x_letter) always refl refl (λ given. agree_itself (given (codes "x"))))
 
 -- (a = b) == (a <=> b)
 equal_is_equivalent : {t : Theory} (a b : Tree) → IsTermOver t.operators a → sort_of a ≡ bool_sort → IsTermOver t.operators b → sort_of b ≡ bool_sort
     → Derivable t (Equation (equality bool_sort a b) (equivalence a b))
 equal_is_equivalent {t} a b wa ea wb eb =
-    instance (two bool_sort a b) (two_fit bool_sort a b wa.0 ea wb.0 eb) (two_over t.operators bool_sort a b wa.1 wb.1)
-    (identity (propositional (equal x_letter y_letter) (equivalent x_letter y_letter) refl refl (λ given. refl))) refl refl
+    identity_instance bool_sort a b (wa, ea) (wb, eb)
+    (propositional (equal x_letter y_letter) (equivalent x_letter y_letter) refl refl (λ given. refl))
 
 -- the four cases of a formula, each with what is known in it
 formula_is : (P : Tree → Type 0) (a b : Tree) → (b ≡ truth → P a) → (a ≡ truth → P b) → (sort_of a ≡ bool_sort → P (equivalence a b)) → P (equality (sort_of a) a b) → P (formula a b)

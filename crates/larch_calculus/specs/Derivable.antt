@@ -37,7 +37,8 @@ pub record AreApart (vs : List Variable) (t u : Tree) : Type 0 where
 -- a statement is derivable from a theory: the least relation with these fourteen rules
 pub data Derivable : Theory → Statement → Type 0 where
   -- what the theory states, and what every theory states of the truth values
-  axiom_ : {t : Theory} {s : Statement} → Contains (statement_zero ∷ t.statements) s → IsStatementOver t.operators s → Derivable t s
+  axiom_ : {t : Theory} {s : Statement} → Contains (statement_zero ∷ t.statements) s → IsStatementOver t.operators s
+      → Derivable t s
   identity : {t : Theory} {a b : Tree} → IsIdentity a b → Derivable t (Equation a b)
   reflexive : {t : Theory} {a : Tree} → IsTermOver t.operators a → Derivable t (Equation a a)
   symmetric : {t : Theory} {a b : Tree} → Derivable t (Equation a b) → Derivable t (Equation b a)
@@ -48,7 +49,8 @@ pub data Derivable : Theory → Statement → Type 0 where
   instance : {t : Theory} {a b c d : Tree} (es : List Entry) → Fits es → All (λ e. IsOver t.operators e.term) es
       → Derivable t (Equation a b) → c ≡ substituted es a → d ≡ substituted es b → Derivable t (Equation c d)
   -- terms whose equality is true are equal
-  equal : {t : Theory} {a b : Tree} (s : List ℕ) → Derivable t (Equation (equality s a b) truth) → Derivable t (Equation a b)
+  equal : {t : Theory} {a b : Tree} (s : List ℕ) → Derivable t (Equation (equality s a b) truth)
+      → Derivable t (Equation a b)
   -- what is derivable from a well sorted theory is so from one that has all its operators and statements
   weaken : {t u : Theory} {s : Statement} → IsWellSortedTheory u → IsIncluded u t → Derivable u s → Derivable t s
   -- what is derivable of new constants holds of all values
@@ -64,13 +66,17 @@ pub data Derivable : Theory → Statement → Type 0 where
   induct : {t : Theory} {a b : Tree} (x s : List ℕ) (fs : List PlainOperator) (cs : ℕ → List PlainOperator)
       → Derivable t (Generated s fs) → IsStatementOver t.operators (Equation a b)
       → ((i : ℕ) (f : PlainOperator) → slice_get fs i ≡ Some f → AreArguments t f (cs i))
-      → ((i : ℕ) (f : PlainOperator) → slice_get fs i ≡ Some f → Derivable (extended t (cs i) (induction_hypotheses x s a b (cs i))) (equation_at x s a b (app f (constant_terms (cs i)))))
+      → ((i : ℕ) (f : PlainOperator) → slice_get fs i ≡ Some f
+      → Derivable (extended t (cs i) (induction_hypotheses x s a b (cs i)))
+      (equation_at x s a b (app f (constant_terms (cs i)))))
       → Derivable t (Equation a b)
   -- two terms of a partitioned sort are equal if all observers show the same of them
   observe : {t : Theory} {a b : Tree} (s : List ℕ) (os : List PlainOperator) (names : ℕ → ℕ → List ℕ)
       → Derivable t (Partitioned s os) → IsStatementOver t.operators (Equation a b) → sort_of a ≡ s
-      → ((i : ℕ) (w : Observation) → slice_get (observations_of s os) i ≡ Some w → AreApart (other_variables (names i) w) a b)
-      → ((i : ℕ) (w : Observation) → slice_get (observations_of s os) i ≡ Some w → Derivable t (Equation (observed (names i) w a) (observed (names i) w b)))
+      → ((i : ℕ) (w : Observation) → slice_get (observations_of s os) i ≡ Some w
+      → AreApart (other_variables (names i) w) a b)
+      → ((i : ℕ) (w : Observation) → slice_get (observations_of s os) i ≡ Some w
+      → Derivable t (Equation (observed (names i) w a) (observed (names i) w b)))
       → Derivable t (Equation a b)
   -- the operators generate the sort if a new predicate that their values inherit holds of all values
   generated : {t : Theory} {s : List ℕ} {fs : List PlainOperator} (p : PlainOperator) (x : List ℕ)
@@ -81,5 +87,6 @@ pub data Derivable : Theory → Statement → Type 0 where
   partitioned : {t : Theory} {s : List ℕ} {os : List PlainOperator} (c d : PlainOperator)
       → IsStatementOver t.operators (Partitioned s os) → AreNew t (c ∷ d ∷ []) → AreConstants (c ∷ d ∷ [])
       → c.range ≡ s → d.range ≡ s
-      → Derivable (extended t (c ∷ d ∷ []) (observations place_name s os (constant c) (constant d))) (Equation (constant c) (constant d))
+      → Derivable (extended t (c ∷ d ∷ []) (observations place_name s os (constant c) (constant d)))
+      (Equation (constant c) (constant d))
       → Derivable t (Partitioned s os)

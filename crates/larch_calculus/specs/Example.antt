@@ -37,7 +37,8 @@ sum_with_nought = Equation (joined plus x_number (constant nought)) x_number
 
 -- x + s(y) == s(x + y)
 abbrev pub sum_with_successor : Statement
-sum_with_successor = Equation (joined plus x_number (applied successor y_number)) (applied successor (joined plus x_number y_number))
+sum_with_successor =
+    Equation (joined plus x_number (applied successor y_number)) (applied successor (joined plus x_number y_number))
 
 abbrev pub numbers : Theory
 numbers = record {

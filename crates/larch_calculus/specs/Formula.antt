@@ -1,5 +1,5 @@
 -- Terms with built-in operators at their heads, and the formula of an equation.
-use Rattle.std.specs.Prelude.{ℕ, cond, List, bytes_eq}
+use Rattle.std.specs.Prelude.{ℕ, if◌then◌else◌, List, bytes_eq}
 use Rattle.larch_term.specs.Operator.{PlainOperator}
 use Rattle.larch_term.specs.Tree.{Tree, app, none, more}
 use Rattle.larch_term.specs.BuiltIn.{bool_sort, built_in}
@@ -53,4 +53,7 @@ choice s c t u = app (built_in If s) (more c (more t (more u none)))
 -- the formula of an equation: the other side where one is true, the right one first; else the equivalence of truth
 -- values, or the equality at the sides' sort
 abbrev pub formula : Tree → Tree → Tree
-formula l r = cond (is_truth r) l (cond (is_truth l) r (cond (bytes_eq (sort_of l) bool_sort) (equivalence l r) (equality (sort_of l) l r)))
+formula l r =
+    if is_truth r then l else
+    if is_truth l then r else
+    if bytes_eq (sort_of l) bool_sort then equivalence l r else equality (sort_of l) l r

@@ -21,7 +21,8 @@ abbrev mutual
   -- the term with these variables in the places of these constants, in order
   pub freed : List PlainOperator → List Variable → Tree → Tree
   freed cs vs (var n s) = var n s
-  freed cs vs (app f ts) = unwrap_or (option_map (λ v. var v.name v.sort) (variable_for cs vs f.name)) (app f (freed_all cs vs ts))
+  freed cs vs (app f ts) =
+      unwrap_or (option_map (λ v. var v.name v.sort) (variable_for cs vs f.name)) (app f (freed_all cs vs ts))
 
   pub freed_all : List PlainOperator → List Variable → Forest → Forest
   freed_all cs vs none = none

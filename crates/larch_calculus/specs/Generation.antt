@@ -1,5 +1,5 @@
 -- What is supposed where a generation clause is used or shown.
-use Rattle.std.specs.Prelude.{ℕ, suc, cond, List, [], ◌∷◌, ◌++◌, map, bytes_eq, codes}
+use Rattle.std.specs.Prelude.{ℕ, suc, if◌then◌else◌, List, [], ◌∷◌, ◌++◌, map, bytes_eq, codes}
 use Rattle.std.specs.Fmt.{decimal}
 use Rattle.larch_term.specs.Operator.{PlainOperator}
 use Rattle.larch_term.specs.Tree.{Tree, Forest, var, app, none, more}
@@ -28,7 +28,8 @@ variable_terms (v ∷ vs) = more (var v.name v.sort) (variable_terms vs)
 -- the predicate of each variable of the sort
 abbrev pub holding : PlainOperator → List ℕ → List Variable → List Tree
 holding p s [] = []
-holding p s (v ∷ vs) = cond (bytes_eq v.sort s) (applied p (var v.name v.sort) ∷ holding p s vs) (holding p s vs)
+holding p s (v ∷ vs) =
+    if bytes_eq v.sort s then applied p (var v.name v.sort) ∷ holding p s vs else holding p s vs
 
 -- a term and further ones, joined from the left
 abbrev pub conjoined : Tree → List Tree → Tree
@@ -43,7 +44,8 @@ implied_by (u ∷ us) t = implication (conjoined u us) t
 -- a predicate on the sort holds of what the generator makes, if it holds of the arguments of the sort
 abbrev pub generation_formula : PlainOperator → List ℕ → PlainOperator → Tree
 generation_formula p s f =
-    implied_by (holding p s (variables_from 1 f.domain)) (applied p (app f (variable_terms (variables_from 1 f.domain))))
+    implied_by (holding p s (variables_from 1 f.domain))
+    (applied p (app f (variable_terms (variables_from 1 f.domain))))
 
 -- the hypotheses of a generation clause, one for each generator
 abbrev pub generation_hypotheses : PlainOperator → List ℕ → List PlainOperator → List Statement
@@ -66,4 +68,5 @@ equation_at x s l r t = Equation (substituted (only x s t) l) (substituted (only
 abbrev pub induction_hypotheses : List ℕ → List ℕ → Tree → Tree → List PlainOperator → List Statement
 induction_hypotheses x s l r [] = []
 induction_hypotheses x s l r (c ∷ cs) =
-    cond (bytes_eq c.range s) (equation_at x s l r (constant c) ∷ induction_hypotheses x s l r cs) (induction_hypotheses x s l r cs)
+    if bytes_eq c.range s then equation_at x s l r (constant c) ∷ induction_hypotheses x s l r cs
+    else induction_hypotheses x s l r cs

@@ -1,5 +1,5 @@
 -- Identities: equations between built-in terms that hold by the meaning of the built-in operators alone.
-use Rattle.std.specs.Prelude.{◌≡◌, ℕ, Bool, true, false, not, ◌&&◌, ◌||◌, cond, if◌then◌else◌, List, refl}
+use Rattle.std.specs.Prelude.{◌≡◌, ℕ, Bool, true, false, not, ◌&&◌, ◌||◌, if◌then◌else◌, List, refl}
 use Rattle.larch_term.specs.Tree.{Tree, var}
 use Rattle.larch_term.specs.BuiltIn.{bool_sort}
 use Rattle.larch_calculus.specs.Formula.{falsity, negation, conjunction, disjunction, implication, equivalence, equality, inequality, choice}
@@ -53,7 +53,7 @@ value given (implied p q) = not (value given p) || value given q
 value given (equivalent p q) = agree (value given p) (value given q)
 value given (equal p q) = agree (value given p) (value given q)
 value given (unequal p q) = not (agree (value given p) (value given q))
-value given (chosen p q r) = cond (value given p) (value given q) (value given r)
+value given (chosen p q r) = if value given p then value given q else value given r
 
 -- both sides agree under each assignment of truth values, or the equation has one of six forms at some sort
 pub data IsIdentity : Tree → Tree → Type 0 where
@@ -63,12 +63,17 @@ pub data IsIdentity : Tree → Tree → Type 0 where
   -- (x = x) == true
   equal_itself : {l r : Tree} (s x : List ℕ) → l ≡ equality s (var x s) (var x s) → r ≡ truth → IsIdentity l r
   -- (x = y) == (y = x)
-  equal_exchanged : {l r : Tree} (s x y : List ℕ) → l ≡ equality s (var x s) (var y s) → r ≡ equality s (var y s) (var x s) → IsIdentity l r
+  equal_exchanged : {l r : Tree} (s x y : List ℕ) → l ≡ equality s (var x s) (var y s)
+      → r ≡ equality s (var y s) (var x s) → IsIdentity l r
   -- (x ~= y) == ~(x = y)
-  unequal_denied : {l r : Tree} (s x y : List ℕ) → l ≡ inequality s (var x s) (var y s) → r ≡ negation (equality s (var x s) (var y s)) → IsIdentity l r
+  unequal_denied : {l r : Tree} (s x y : List ℕ) → l ≡ inequality s (var x s) (var y s)
+      → r ≡ negation (equality s (var x s) (var y s)) → IsIdentity l r
   -- (if true then x else y) == x
-  chosen_first : {l r : Tree} (s x y : List ℕ) → l ≡ choice s truth (var x s) (var y s) → r ≡ var x s → IsIdentity l r
+  chosen_first : {l r : Tree} (s x y : List ℕ) → l ≡ choice s truth (var x s) (var y s) → r ≡ var x s
+      → IsIdentity l r
   -- (if false then x else y) == y
-  chosen_second : {l r : Tree} (s x y : List ℕ) → l ≡ choice s falsity (var x s) (var y s) → r ≡ var y s → IsIdentity l r
+  chosen_second : {l r : Tree} (s x y : List ℕ) → l ≡ choice s falsity (var x s) (var y s) → r ≡ var y s
+      → IsIdentity l r
   -- (if b then x else x) == x
-  chosen_same : {l r : Tree} (s b x : List ℕ) → l ≡ choice s (var b bool_sort) (var x s) (var x s) → r ≡ var x s → IsIdentity l r
+  chosen_same : {l r : Tree} (s b x : List ℕ) → l ≡ choice s (var b bool_sort) (var x s) (var x s)
+      → r ≡ var x s → IsIdentity l r

@@ -19,6 +19,7 @@ ghost use Rattle.larch_term.specs.Truth.{truth};
 ghost use Rattle.larch_calculus.specs.Freed.{freed, constants_for};
 ghost use Rattle.larch_calculus.specs.Generation.{generation_hypotheses, induction_hypotheses};
 ghost use Rattle.larch_calculus.specs.Identity.{IsIdentity};
+ghost use Rattle.larch_calculus.specs.Letters.{two};
 ghost use Rattle.larch_calculus.specs.Observation.{observations};
 ghost use Rattle.larch_calculus.specs.Renaming.{IsFaithful, TakesBack, KeepsBuiltIn, RenamesBoxes, HasPlainNames, IsTranslation};
 ghost use Rattle.larch_renaming.specs.Renaming.{Renaming, by_name, renamed_statement, renamed_theory};
@@ -29,6 +30,12 @@ pub fn identity_is_well_sorted()
     ensures { (fs : List PlainOperator) (a b : Tree) → IsIdentity a b → IsStatementOver fs (Equation a b) }
 {}
 
+/// An identity is derivable with any two terms of a sort for the variables x and y of that sort.
+pub fn identity_with_terms()
+    ensures { (t : Theory) (s : List ℕ) (a b c d : Tree) → IsTermOf t.operators s a → IsTermOf t.operators s b
+        → IsIdentity c d → Derivable t (Equation (substituted (two s a b) c) (substituted (two s a b) d)) }
+{}
+
 /// What is derivable from a theory is well sorted over its operators.
 pub fn derivable_is_well_sorted()
     ensures { (t : Theory) (s : Statement) → Derivable t s → IsStatementOver t.operators s }
@@ -37,15 +44,20 @@ pub fn derivable_is_well_sorted()
 /// What is derivable from a theory is derivable from one that has all its operators and statements, as one has that
 /// begins with them.
 pub fn weakening()
-    ensures included { (t u : Theory) (s : Statement) → IsWellSortedTheory t → IsIncluded t u → Derivable t s → Derivable u s }
-    ensures prefix { (t u : Theory) (s : Statement) → IsWellSortedTheory t → IsPrefix t u → Derivable t s → Derivable u s }
+    ensures included { (t u : Theory) (s : Statement) → IsWellSortedTheory t → IsIncluded t u → Derivable t s
+        → Derivable u s }
+    ensures prefix { (t u : Theory) (s : Statement) → IsWellSortedTheory t → IsPrefix t u → Derivable t s
+        → Derivable u s }
 {}
 
 /// What is derivable with derivable statements added is derivable without them; and so is what is derivable from a
 /// theory whose statements are derivable from another one with its operators.
 pub fn cut()
-    ensures added { (t : Theory) (ss : List Statement) (s : Statement) → IsWellSortedTheory t → All (Derivable t) ss → Derivable (with_statements t ss) s → Derivable t s }
-    ensures theory { (t u : Theory) (s : Statement) → IsWellSortedTheory t → IsWellSortedTheory u → ((f : PlainOperator) → Contains t.operators f → Contains u.operators f) → All (Derivable u) t.statements → Derivable t s → Derivable u s }
+    ensures added { (t : Theory) (ss : List Statement) (s : Statement) → IsWellSortedTheory t → All (Derivable t) ss
+        → Derivable (with_statements t ss) s → Derivable t s }
+    ensures theory { (t u : Theory) (s : Statement) → IsWellSortedTheory t → IsWellSortedTheory u
+        → ((f : PlainOperator) → Contains t.operators f → Contains u.operators f) → All (Derivable u) t.statements
+        → Derivable t s → Derivable u s }
 {}
 
 /// What is derivable from a theory is derivable, as a renaming makes it, from each theory that the first is translated
@@ -78,20 +90,29 @@ pub fn renaming()
 
 /// Equality goes on from term to term.
 pub fn transitivity()
-    ensures { (t : Theory) (a b c : Tree) → Derivable t (Equation a b) → Derivable t (Equation b c) → Derivable t (Equation a c) }
+    ensures { (t : Theory) (a b c : Tree) → Derivable t (Equation a b) → Derivable t (Equation b c)
+        → Derivable t (Equation a c) }
 {}
 
 /// Equals take each other's place on the right side of an equation, on its left side, and in any term.
 pub fn replacing()
-    ensures right { (t : Theory) (a b u v : Tree) (p : List ℕ) → at b p ≡ Some u → Derivable t (Equation a b) → Derivable t (Equation u v) → Derivable t (Equation a (put b p v)) }
-    ensures left { (t : Theory) (a b u v : Tree) (p : List ℕ) → at a p ≡ Some u → Derivable t (Equation a b) → Derivable t (Equation u v) → Derivable t (Equation (put a p v) b) }
-    ensures inside { (t : Theory) (a u v : Tree) (p : List ℕ) → IsTermOver t.operators a → at a p ≡ Some u → Derivable t (Equation u v) → Derivable t (Equation a (put a p v)) }
+    ensures right { (t : Theory) (a b u v : Tree) (p : List ℕ) → at b p ≡ Some u → Derivable t (Equation a b)
+        → Derivable t (Equation u v) → Derivable t (Equation a (put b p v)) }
+    ensures left { (t : Theory) (a b u v : Tree) (p : List ℕ) → at a p ≡ Some u → Derivable t (Equation a b)
+        → Derivable t (Equation u v) → Derivable t (Equation (put a p v) b) }
+    ensures inside { (t : Theory) (a u v : Tree) (p : List ℕ) → IsTermOver t.operators a → at a p ≡ Some u
+        → Derivable t (Equation u v) → Derivable t (Equation a (put a p v)) }
 {}
 
 /// Formulas are equal that imply each other, and formulas without variables that follow from each other.
 pub fn equal_formulas()
-    ensures implications { (t : Theory) (a b : Tree) → Derivable t (Equation (implication a b) truth) → Derivable t (Equation (implication b a) truth) → Derivable t (Equation a b) }
-    ensures suppositions { (t : Theory) (a b : Tree) → IsWellSortedTheory t → IsTermOver t.operators a → sort_of a ≡ bool_sort → occurrences a ≡ [] → IsTermOver t.operators b → sort_of b ≡ bool_sort → occurrences b ≡ [] → Derivable (with_statements t (Equation a truth ∷ [])) (Equation b truth) → Derivable (with_statements t (Equation b truth ∷ [])) (Equation a truth) → Derivable t (Equation a b) }
+    ensures implications { (t : Theory) (a b : Tree) → Derivable t (Equation (implication a b) truth)
+        → Derivable t (Equation (implication b a) truth) → Derivable t (Equation a b) }
+    ensures suppositions { (t : Theory) (a b : Tree) → IsWellSortedTheory t → IsTermOver t.operators a
+        → sort_of a ≡ bool_sort → occurrences a ≡ []
+        → IsTermOver t.operators b → sort_of b ≡ bool_sort → occurrences b ≡ []
+        → Derivable (with_statements t (Equation a truth ∷ [])) (Equation b truth)
+        → Derivable (with_statements t (Equation b truth ∷ [])) (Equation a truth) → Derivable t (Equation a b) }
 {}
 
 /// An equation and its formula are derivable from each other.
@@ -101,7 +122,8 @@ pub fn formula_line()
 
 /// Where true equals false, each two terms of one sort are equal.
 pub fn contradiction()
-    ensures { (t : Theory) (a b : Tree) → Derivable t (Equation truth falsity) → IsStatementOver t.operators (Equation a b) → Derivable t (Equation a b) }
+    ensures { (t : Theory) (a b : Tree) → Derivable t (Equation truth falsity)
+        → IsStatementOver t.operators (Equation a b) → Derivable t (Equation a b) }
 {}
 
 /// A theory with no more operators is one with more statements alone, and with neither it is itself. What extends an
@@ -124,17 +146,18 @@ pub fn extensions()
 /// What is supposed where a generation clause is shown, in an induction, and where a partition clause is shown, is well
 /// sorted over the theory with the new operators.
 pub fn suppositions()
-    ensures generation { (t : Theory) (p : PlainOperator) (s : List ℕ) (fs : List PlainOperator) → p.domain ≡ s ∷ [] → p.range ≡ bool_sort
-        → IsStatementOver t.operators (Generated s fs)
+    ensures generation { (t : Theory) (p : PlainOperator) (s : List ℕ) (fs : List PlainOperator) → p.domain ≡ s ∷ []
+        → p.range ≡ bool_sort → IsStatementOver t.operators (Generated s fs)
         → All (IsStatementOver (extended t (p ∷ []) []).operators) (generation_hypotheses p s fs) }
     ensures induction { (t : Theory) (x s : List ℕ) (a b : Tree) (cs : List PlainOperator) → AreConstants cs
         → IsStatementOver t.operators (Equation a b)
         → All (IsStatementOver (extended t cs []).operators) (induction_hypotheses x s a b cs) }
     ensures partition { (t : Theory) (names : ℕ → List ℕ) (s : List ℕ) (os : List PlainOperator) (c d : PlainOperator)
         → AreConstants (c ∷ d ∷ []) → c.range ≡ s → d.range ≡ s → IsStatementOver t.operators (Partitioned s os)
-        → All (IsStatementOver (extended t (c ∷ d ∷ []) []).operators) (observations names s os (constant c) (constant d)) }
-    ensures observation { (fs : List PlainOperator) (names : ℕ → List ℕ) (s : List ℕ) (os : List PlainOperator) (a b : Tree)
-        → IsStatementOver fs (Partitioned s os) → IsTermOf fs s a → IsTermOf fs s b
+        → All (IsStatementOver (extended t (c ∷ d ∷ []) []).operators) (observations names s os
+        (constant c) (constant d)) }
+    ensures observation { (fs : List PlainOperator) (names : ℕ → List ℕ) (s : List ℕ) (os : List PlainOperator)
+        (a b : Tree) → IsStatementOver fs (Partitioned s os) → IsTermOf fs s a → IsTermOf fs s b
         → All (IsStatementOver fs) (observations names s os a b) }
 {}
 
@@ -144,38 +167,45 @@ pub fn suppositions()
 pub fn boxes()
     ensures constants { (b k : ℕ) (ss : List (List ℕ)) → AreConstants (constants_from b k ss) }
     ensures sorts { (b k : ℕ) (ss : List (List ℕ)) → map (λ c. c.range) (constants_from b k ss) ≡ ss }
-    ensures new { (b c k : ℕ) (ss : List (List ℕ)) (t : Theory) → IsOlder b t → b < c → AreNew t (constants_from c k ss) }
-    ensures arguments { (b c k : ℕ) (f : PlainOperator) (t : Theory) → IsOlder b t → b < c → AreArguments t f (constants_from c k f.domain) }
+    ensures new { (b c k : ℕ) (ss : List (List ℕ)) (t : Theory) → IsOlder b t → b < c
+        → AreNew t (constants_from c k ss) }
+    ensures arguments { (b c k : ℕ) (f : PlainOperator) (t : Theory) → IsOlder b t → b < c
+        → AreArguments t f (constants_from c k f.domain) }
     ensures plain { (b : ℕ) (t : Theory) → HasPlainNames t → IsOlder b t }
     ensures later { (b c : ℕ) (t : Theory) → IsOlder b t → b ≤ c → IsOlder c t }
     ensures opened { (b c k : ℕ) (ss : List (List ℕ)) (hs : List Statement) (t : Theory) → IsOlder b t → b ≤ c
         → IsOlder c (extended t (constants_from c k ss) hs) }
-    ensures left { (b : ℕ) (cs : List PlainOperator) (hs : List Statement) (t : Theory) → IsOlder b (extended t cs hs) → IsOlder b t }
+    ensures left { (b : ℕ) (cs : List PlainOperator) (hs : List Statement) (t : Theory) → IsOlder b (extended t cs hs)
+        → IsOlder b t }
 {}
 
 /// Variables that became constants become variables again, and a term without the constants stays as it is. A term
 /// whose variables all became constants is closed. Both ways keep terms well sorted. So what holds of new constants
 /// holds of all values, and the other way round.
 pub fn freeing()
-    ensures undone { (t : Theory) (cs : List PlainOperator) (vs : List Variable) (a : Tree) → AreNew t cs → IsOver t.operators a
-        → freed cs vs (substituted (constants_for vs cs) a) ≡ a }
-    ensures unchanged { (t : Theory) (cs : List PlainOperator) (vs : List Variable) (a : Tree) → AreNew t cs → IsOver t.operators a
-        → freed cs vs a ≡ a }
-    ensures closed { (cs : List PlainOperator) (vs : List Variable) (a : Tree) → map (λ c. c.range) cs ≡ map (λ v. v.sort) vs
-        → All (Contains vs) (occurrences a) → occurrences (substituted (constants_for vs cs) a) ≡ [] }
-    ensures over { (t : Theory) (cs : List PlainOperator) (vs : List Variable) (s : List ℕ) (a : Tree) → AreConstants cs
-        → map (λ c. c.range) cs ≡ map (λ v. v.sort) vs → IsTermOf t.operators s a
+    ensures undone { (t : Theory) (cs : List PlainOperator) (vs : List Variable) (a : Tree) → AreNew t cs
+        → IsOver t.operators a → freed cs vs (substituted (constants_for vs cs) a) ≡ a }
+    ensures unchanged { (t : Theory) (cs : List PlainOperator) (vs : List Variable) (a : Tree) → AreNew t cs
+        → IsOver t.operators a → freed cs vs a ≡ a }
+    ensures closed { (cs : List PlainOperator) (vs : List Variable) (a : Tree)
+        → map (λ c. c.range) cs ≡ map (λ v. v.sort) vs → All (Contains vs) (occurrences a)
+        → occurrences (substituted (constants_for vs cs) a) ≡ [] }
+    ensures over { (t : Theory) (cs : List PlainOperator) (vs : List Variable) (s : List ℕ) (a : Tree)
+        → AreConstants cs → map (λ c. c.range) cs ≡ map (λ v. v.sort) vs → IsTermOf t.operators s a
         → IsTermOf (extended t cs []).operators s (substituted (constants_for vs cs) a) }
     ensures back { (t : Theory) (cs : List PlainOperator) (vs : List Variable) (s : List ℕ) (a : Tree) → AreNew t cs
         → map (λ c. c.range) cs ≡ map (λ v. v.sort) vs → IsTermOf (extended t cs []).operators s a
         → IsTermOf t.operators s (freed cs vs a) }
-    ensures generalised { (t : Theory) (cs : List PlainOperator) (vs : List Variable) (a b : Tree) → AreNew t cs → AreConstants cs
-        → map (λ c. c.range) cs ≡ map (λ v. v.sort) vs → IsStatementOver t.operators (Equation a b)
-        → Derivable (extended t cs []) (Equation (substituted (constants_for vs cs) a) (substituted (constants_for vs cs) b))
+    ensures generalised { (t : Theory) (cs : List PlainOperator) (vs : List Variable) (a b : Tree) → AreNew t cs
+        → AreConstants cs → map (λ c. c.range) cs ≡ map (λ v. v.sort) vs → IsStatementOver t.operators (Equation a b)
+        → Derivable (extended t cs [])
+        (Equation (substituted (constants_for vs cs) a) (substituted (constants_for vs cs) b))
         → Derivable t (Equation a b) }
-    ensures specialised { (t : Theory) (cs : List PlainOperator) (vs : List Variable) (a b : Tree) → IsWellSortedTheory t → AreConstants cs
-        → map (λ c. c.range) cs ≡ map (λ v. v.sort) vs → Derivable t (Equation a b)
-        → Derivable (extended t cs []) (Equation (substituted (constants_for vs cs) a) (substituted (constants_for vs cs) b)) }
+    ensures specialised { (t : Theory) (cs : List PlainOperator) (vs : List Variable) (a b : Tree)
+        → IsWellSortedTheory t → AreConstants cs → map (λ c. c.range) cs ≡ map (λ v. v.sort) vs
+        → Derivable t (Equation a b)
+        → Derivable (extended t cs [])
+        (Equation (substituted (constants_for vs cs) a) (substituted (constants_for vs cs) b)) }
 {}
 
 /// What a well sorted theory states is derivable from it, and so is what every theory states of the truth values.

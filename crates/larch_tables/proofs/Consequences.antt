@@ -13,10 +13,10 @@ use Rattle.larch_term.specs.declared.statement.Theory.{Theory}
 use Rattle.larch_calculus.specs.Formula.{applied, joined, falsity, negation, conjunction, disjunction, implication, equivalence, equality}
 use Rattle.larch_term.specs.Truth.{truth}
 use Rattle.larch_calculus.specs.Identity.{Proposition, always, never, denied, both, either, implied, equivalent, chosen, term_of, agree_itself, value, propositional}
-use Rattle.larch_calculus.specs.Derivable.{Derivable, identity, replace, instance, equal}
+use Rattle.larch_calculus.specs.Derivable.{Derivable, replace, equal}
 use Rattle.larch_calculus.specs.Letters.{two, x_letter, y_letter}
 use Rattle.larch_calculus.specs.Theories.{IsTermOf}
-use Rattle.larch_calculus.proofs.DerivedRules.{two_fit, two_over, transitive}
+use Rattle.larch_calculus.proofs.DerivedRules.{identity_instance, transitive}
 use Rattle.larch_calculus.proofs.Sorted.{side_over, sides_over}
 use Rattle.larch_calculus.proofs.WellSorted.{well_sorted}
 use Rattle.larch_tables.specs.Rows.{PlainRow, x, y, a, b, deduction_rows, numbered}
@@ -29,8 +29,7 @@ under a b p = substituted (two bool_sort a b) (term_of p)
 identical : {t : Theory} (a b : Tree) → IsTermOf t.operators bool_sort a → IsTermOf t.operators bool_sort b → (p q : Proposition)
     → ((given : List ℕ → Bool) → value given p ≡ value given q) → Derivable t (Equation (under a b p) (under a b q))
 identical {t} a b wa wb p q h =
-    instance (two bool_sort a b) (two_fit bool_sort a b wa.0.0 wa.1 wb.0.0 wb.1) (two_over t.operators bool_sort a b wa.0.1 wb.0.1)
-    (identity (propositional p q refl refl h)) refl refl
+    identity_instance bool_sort a b wa wb (propositional p q refl refl h)
 
 -- the second proposition where two others agree, and else the first
 abbrev so : Proposition → Proposition → Proposition → Proposition → Proposition

@@ -3,8 +3,6 @@ use Rattle.std.specs.Prelude.{ℕ, ◌==◌, ◌-◌, ◌||◌, Bool, true, fals
 use Rattle.std.specs.List.{slice_get}
 use Rattle.larch_term.specs.Tree.{Tree, var}
 use Rattle.larch_term.specs.BuiltIn.{bool_sort}
-use Rattle.larch_term.specs.Substitution.{substituted}
-use Rattle.larch_term.specs.declared.substitution.Entry.{Entry}
 use Rattle.larch_term.specs.declared.statement.Statement.{Statement}
 use Rattle.larch_term.specs.declared.statement.Statement.TheVariants.{Equation, Generated, Partitioned}
 use Rattle.larch_calculus.specs.Formula.{falsity, negation, conjunction, disjunction, implication, equivalence, equality, inequality, choice}
