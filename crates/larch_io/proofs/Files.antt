@@ -5,7 +5,7 @@ use Rattle.std.specs.Map.{lookup}
 use Rattle.std.specs.Ordering.{nat_cmp, is_eq}
 use Rattle.std.specs.Str.{bytes_eq}
 use Rattle.std.proofs.lemmas.Map.Text.{is_eq-slice_cmp}
-use Rattle.larch_io.specs.FileMap.{file_of}
+use Rattle.larch_io.specs.Folder.{file_of}
 
 -- what is found by comparing names is the file of the name
 pub file_of_found : (files : List (List ℕ × List ℕ)) (name : List ℕ) → lookup (λ other. is_eq (slice_cmp nat_cmp name other)) files ≡ file_of files name

@@ -6,11 +6,11 @@ use Rattle.std.proofs.lemmas.List.Elements.{All-take}
 use Rattle.std.proofs.KnownBytes.{Consumes-nil, Consumes-trans, Consumes-kept}
 use Rattle.std.specs.Io.{StartsWith, appended_bytes}
 use Rattle.std.specs.Io.KnownBytes.{Consumes, Keeps, IsAtEnd}
-use Rattle.larch_io.specs.Filling.{LineStands}
-use Rattle.larch_io.specs.Taking.{Taken, Reads, Takes, IsLine, TakesLine}
+use Rattle.larch_io.specs.Reader.{Taken, Reads, Takes}
+use Rattle.larch_io.specs.Take.{HasNoNewline, IsLine, LineStands, TakesLine}
 
 -- what no byte of a front is, no byte of a shorter front is
-pub none_in_front : (bytes : List ℕ) (few many : ℕ) → few ≤ many → All (λ byte. byte ≢ 10) (take many bytes) → All (λ byte. byte ≢ 10) (take few bytes)
+pub none_in_front : (bytes : List ℕ) (few many : ℕ) → few ≤ many → HasNoNewline (take many bytes) → HasNoNewline (take few bytes)
 none_in_front bytes few many le none = subst (All (λ byte. byte ≢ 10)) (take-take few many bytes le) (All-take (λ byte. byte ≢ 10) few (take many bytes) none)
 
 -- nothing was read and nothing taken
@@ -103,7 +103,7 @@ front_kept start kept xs ys same within front =
     ap (drop start) (as_appended xs ys front) ∙ drop-append-le start xs (drop (length xs) ys) within ∙ ap (λ front. front ++ drop (length xs) ys) (sym same) in
     ap (take (length kept)) grown ∙ take_at kept (drop (length xs) ys) (length kept) refl
 
--- a line with its byte 10 is taken from the front
+-- a line with its newline is taken from the front
 takes_ended_line : (old mid new : Taken) (before after : Option (List ℕ)) (given ending : ℕ) (line : List ℕ) → Takes old mid before after [] → line ≡ take given mid.kept
     → new.kept ≡ drop (given + ending) mid.kept → new.count ≡ mid.count + (given + ending) → new.ended ≡ mid.ended
     → ending ≡ 1 → mid.kept ≡ take given mid.kept ++ 10 ∷ drop (given + 1) mid.kept → Takes old new before after (line ++ 10 ∷ [])
@@ -113,7 +113,7 @@ takes_ended_line old mid new before after given ending line none is rest more en
     let long : length line ≡ given = omega (arith, ap length is, length-take given mid.kept, ap length stands, length-append (take given mid.kept) (10 ∷ drop (given + 1) mid.kept), length-drop (given + 1) mid.kept) in
     takes_kept old mid new before after (line ++ 10 ∷ []) none (split ∙ sym (append_assoc line (10 ∷ []) new.kept)) (omega (arith, length-append line (10 ∷ []))) ended
 
--- the last line lacks its byte 10
+-- the last line lacks its newline
 takes_last_line : (old mid new : Taken) (before after : Option (List ℕ)) (given ending : ℕ) (line : List ℕ) → Takes old mid before after [] → line ≡ take given mid.kept
     → new.kept ≡ drop (given + ending) mid.kept → new.count ≡ mid.count + (given + ending) → new.ended ≡ mid.ended
     → ending ≡ 0 → 0 < given → given ≡ length mid.kept → mid.ended ≡ true → Takes old new before after line × (0 < length line) × (new.kept ≡ []) × (new.ended ≡ true)

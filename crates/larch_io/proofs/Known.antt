@@ -3,7 +3,7 @@ use Rattle.std.proofs.Common.{◌<◌, ◌+◌, ◌∙◌, ℕ, List, ◌++◌, 
 use lib.Seq.{take-add}
 use Rattle.std.proofs.KnownBytes.{Appends-kept}
 use Rattle.std.specs.Io.KnownBytes.{Keeps, Appends}
-use Rattle.larch_io.specs.Putting.{PutsFront}
+use Rattle.larch_io.specs.Put.{PutsFront}
 
 -- nothing was appended yet
 pub front_of_none : (held : Option (List ℕ)) (bytes : List ℕ) → Appends held held (take 0 bytes)

@@ -1,6 +1,7 @@
+pub mod Calls
 pub mod Faults
-pub mod FileMap
-pub mod Filling
-pub mod InMemory
-pub mod Putting
-pub mod Taking
+pub mod Folder
+pub mod Put
+pub mod Reader
+pub mod Refusals
+pub mod Take

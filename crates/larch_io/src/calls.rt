@@ -1,5 +1,6 @@
-ghost use Rattle.std.specs.Prelude.{◌≡◌, ◌↔◌, ◌<◌, ◌+◌, ◌-◌, ◌^◌, min, Contains, IsTrue, IsErr, IfOk, OnOk, OnErr};
-ghost use Rattle.larch_io.specs.InMemory.{IsNextCall};
+ghost use Rattle.std.specs.Prelude.{◌≡◌, ◌↔◌, ◌<◌, Contains, IsTrue, IsErr, IfOk, OnOk, OnErr};
+ghost use Rattle.larch_io.specs.Faults.{one_more};
+ghost use Rattle.larch_io.specs.Calls.{IsNextCall, no_calls};
 
 use crate::refusal::Failed;
 use larch_base::Memory;
@@ -18,11 +19,17 @@ pub(crate) struct Calls {
 
 impl Model for Calls {
     ghost use Rattle.std.specs.Prelude.{◌<◌};
-    ghost use Rattle.larch_io.specs.InMemory.{CallCounts};
+    ghost use Rattle.larch_io.specs.Faults.{one_more};
+    ghost use Rattle.larch_io.specs.Calls.{CallCounts};
 
     ghost Value = { CallCounts };
 
-    ghost view = { λ calls. record { failing = calls.failing.items; most = calls.most; made = calls.made; faults = calls.faults } };
+    ghost view = { λ calls. record {
+      failing = calls.failing.items;
+      most = calls.most;
+      made = calls.made;
+      faults = calls.faults;
+    } };
 
     ghost invariant = { λ calls. 0 < calls.most };
 }
@@ -31,7 +38,7 @@ impl Calls {
     /// No calls yet.
     pub(crate) fn new(alloc: Global, failing: &[u64], most: usize) -> Result<Calls, Memory>
         requires { 0 < most }
-        ensures { IfOk result (λ calls. calls ≡ record { failing = failing.now; most = most; made = 0; faults = 0 }) }
+        ensures { IfOk result (λ calls. calls ≡ no_calls failing.now most) }
     {
         let failing = Vec::from_slice(alloc, failing)?;
         Ok(Calls {
@@ -55,7 +62,7 @@ impl Calls {
         ensures next { IsNextCall self.old self.new }
         ensures fails { IsErr result ↔ Contains self.new.failing self.new.made }
         ensures fine { OnOk result (self.new.faults ≡ self.old.faults) }
-        ensures failed { OnErr result (self.new.faults ≡ min (self.old.faults + 1) (2 ^ 64 - 1)) }
+        ensures failed { OnErr result (self.new.faults ≡ one_more self.old.faults) }
     {
         self.made = self.made.saturating_add(1);
         if is_listed(&self.failing, self.made) {

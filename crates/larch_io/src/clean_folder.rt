@@ -1,8 +1,7 @@
-ghost use Rattle.std.specs.Prelude.{◌≡◌, ◌≤◌, ℕ, List, [], Some, vec_len, cond, IfOk, IfErr, OnOk, OnErr};
+ghost use Rattle.std.specs.Prelude.{◌≡◌, ◌≤◌, [], Some, vec_len, IfOk, IfErr, OnOk, OnErr};
 ghost use Rattle.std.specs.Option.{option_copied};
-ghost use Rattle.std.specs.Str.{bytes_eq};
-ghost use Rattle.larch_io.specs.Faults.{FolderFaults};
-ghost use Rattle.larch_io.specs.FileMap.{IsFile, FileRefused, file_of};
+ghost use Rattle.larch_io.specs.Refusals.{FileRefused, FolderFaults};
+ghost use Rattle.larch_io.specs.Folder.{IsFile, PutsFile, file_of};
 
 use crate::folder::Folder;
 use crate::refusal::FolderRefusal;
@@ -19,9 +18,9 @@ pub struct CleanFolder {
 }
 
 impl Model for CleanFolder {
-    ghost use Rattle.std.specs.Prelude.{List, ℕ};
+    ghost use Rattle.larch_io.specs.Folder.{FileMap};
 
-    ghost Value = { List (List ℕ × List ℕ) };
+    ghost Value = { FileMap };
 
     ghost view = { λ folder. folder.files.entries };
 }
@@ -36,9 +35,9 @@ impl CleanFolder {
         }
     }
 
-    /// Puts a file in, in the place of the one that had its name. Where memory is wanting nothing changes.
+    /// Puts a file in, in the place of the one that had its name. Where memory runs out nothing changes.
     pub fn insert(&mut self, name: Name, bytes: Bytes) -> Result<(), Memory>
-        ensures ok { OnOk result ((other : List ℕ) → file_of self.new other ≡ cond (bytes_eq name other) (Some bytes) (file_of self.old other)) }
+        ensures ok { OnOk result (PutsFile self.old self.new name bytes) }
         ensures err { OnErr result (self.new ≡ self.old) }
     {
         self.files.insert(name, bytes)?;

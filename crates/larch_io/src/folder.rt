@@ -1,6 +1,7 @@
 ghost use Rattle.std.specs.Prelude.{◌≡◌, ◌≤◌, ℕ, List, Option, IfOk, IfErr, OnOk, vec_len};
-ghost use Rattle.larch_io.specs.Faults.{FolderFaults};
-ghost use Rattle.larch_io.specs.FileMap.{IsFile, FileRefused};
+ghost use Rattle.larch_io.specs.Refusals.{FileRefused, FolderFaults};
+ghost use Rattle.larch_base.specs.Limits.{max_file_bytes};
+ghost use Rattle.larch_io.specs.Folder.{FileMap, IsFile};
 
 use crate::refusal::FolderRefusal;
 use std::alloc::Global;
@@ -8,14 +9,14 @@ use std::alloc::Global;
 /// What files are read from.
 pub trait Folder {
     /// Its files, each a name with its bytes, where it tells them.
-    ghost files: { Self → Option (List (List ℕ × List ℕ)) };
+    ghost files: { Self → Option FileMap };
 
     /// The count of its faults.
     ghost faults: { Self → ℕ };
 
     /// The bytes of the file of this name. No call changes the files.
     fn read_file(&mut self, alloc: Global, name: &str) -> Result<Vec<u8>, FolderRefusal>
-        ensures short { IfOk result (λ bytes. vec_len bytes ≤ 1048576) }
+        ensures short { IfOk result (λ bytes. vec_len bytes ≤ max_file_bytes) }
         ensures found { IfOk result (λ bytes. IsFile (files self.old) name.now bytes.items) }
         ensures refused { IfErr result (λ refusal. FileRefused refusal (files self.old) name.now) }
         ensures same { files self.new ≡ files self.old }

@@ -2,7 +2,7 @@ ghost use Rattle.std.specs.Prelude.{◌≡◌};
 
 use std::marker::Model;
 
-/// A line without its byte 10. Contracts see it as its bytes.
+/// A line without its newline. Contracts see it as its bytes.
 #[derive(Debug, Drop)]
 pub struct Line {
     bytes: Vec<u8>,

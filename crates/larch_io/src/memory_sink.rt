@@ -1,7 +1,8 @@
-ghost use Rattle.std.specs.Prelude.{◌≡◌, ◌↔◌, ◌+◌, ◌-◌, ◌^◌, ◌<◌, ◌≤◌, [], Some, Contains, min, length, IsErrOf, IfOk, IfErr, OnOk};
+ghost use Rattle.std.specs.Prelude.{◌≡◌, ◌↔◌, ◌<◌, ◌≤◌, [], Some, Contains, min, length, IsErrOf, IfOk, IfErr, OnOk};
 ghost use Rattle.std.specs.Io.KnownBytes.{WriteAppends};
-ghost use Rattle.larch_io.specs.Faults.{WriteFaults};
-ghost use Rattle.larch_io.specs.InMemory.{IsNextCall};
+ghost use Rattle.larch_io.specs.Faults.{one_more};
+ghost use Rattle.larch_io.specs.Refusals.{WriteFaults};
+ghost use Rattle.larch_io.specs.Calls.{IsNextCall, no_calls};
 
 use crate::calls::Calls;
 use crate::refusal::WriteRefusal;
@@ -19,7 +20,7 @@ pub struct MemorySink {
 }
 
 impl Model for MemorySink {
-    ghost use Rattle.larch_io.specs.InMemory.{InMemory};
+    ghost use Rattle.larch_io.specs.Calls.{InMemory};
 
     ghost Value = { InMemory };
 
@@ -31,7 +32,7 @@ impl MemorySink {
     /// `most`.
     pub fn new(alloc: Global, failing: &[u64], most: usize) -> Result<MemorySink, Memory>
         requires { 0 < most }
-        ensures { IfOk result (λ sink. sink ≡ record { bytes = []; calls = record { failing = failing.now; most = most; made = 0; faults = 0 } }) }
+        ensures { IfOk result (λ sink. sink ≡ record { bytes = []; calls = no_calls failing.now most }) }
     {
         let calls = Calls::new(alloc, failing, most)?;
         Ok(MemorySink {
@@ -61,7 +62,7 @@ impl Sink for MemorySink {
         ensures refused { IfErr result (λ refusal. WriteFaults refusal self.old.calls.faults self.new.calls.faults) }
         ensures next { IsNextCall self.old.calls self.new.calls }
         ensures fails { IsErrOf result WriteRefusal.Failed ↔ Contains self.old.calls.failing self.new.calls.made }
-        ensures counted { IsErrOf result WriteRefusal.Failed → self.new.calls.faults ≡ min (self.old.calls.faults + 1) (2 ^ 64 - 1) }
+        ensures counted { IsErrOf result WriteRefusal.Failed → self.new.calls.faults ≡ one_more self.old.calls.faults }
         ensures moved { IfOk result (λ n. n ≡ min self.old.calls.most (length piece.now)) }
     {
         if self.calls.begin().is_err() {

@@ -1,7 +1,7 @@
-ghost use Rattle.std.specs.Prelude.{◌≡◌, ◌↔◌, ◌+◌, ◌-◌, ◌^◌, ◌<◌, ◌≤◌, Some, Contains, min, length, IsErr, IfOk, OnOk, OnErr};
+ghost use Rattle.std.specs.Prelude.{◌≡◌, ◌↔◌, ◌<◌, ◌≤◌, Some, Contains, min, length, IsErr, IfOk, OnOk, OnErr};
 ghost use Rattle.std.specs.Io.KnownBytes.{ReadConsumes};
-ghost use Rattle.larch_io.specs.Faults.{Rose};
-ghost use Rattle.larch_io.specs.InMemory.{IsNextCall};
+ghost use Rattle.larch_io.specs.Faults.{Rose, one_more};
+ghost use Rattle.larch_io.specs.Calls.{IsNextCall, no_calls};
 
 use crate::calls::Calls;
 use crate::clean_source::CleanSource;
@@ -20,7 +20,7 @@ pub struct MemorySource {
 }
 
 impl Model for MemorySource {
-    ghost use Rattle.larch_io.specs.InMemory.{InMemory};
+    ghost use Rattle.larch_io.specs.Calls.{InMemory};
 
     ghost Value = { InMemory };
 
@@ -36,7 +36,7 @@ impl MemorySource {
         most: usize,
     ) -> Result<MemorySource, Memory>
         requires { 0 < most }
-        ensures { IfOk result (λ source. source ≡ record { bytes = bytes.now; calls = record { failing = failing.now; most = most; made = 0; faults = 0 } }) }
+        ensures { IfOk result (λ source. source ≡ record { bytes = bytes.now; calls = no_calls failing.now most }) }
     {
         let calls = Calls::new(alloc, failing, most)?;
         let rest = CleanSource::new(alloc, bytes)?;
@@ -57,8 +57,9 @@ impl Source for MemorySource {
         ensures failed { OnErr result (Rose self.old.calls.faults self.new.calls.faults) }
         ensures next { IsNextCall self.old.calls self.new.calls }
         ensures fails { IsErr result ↔ Contains self.old.calls.failing self.new.calls.made }
-        ensures counted { OnErr result (self.new.calls.faults ≡ min (self.old.calls.faults + 1) (2 ^ 64 - 1)) }
-        ensures moved { IfOk result (λ n. n ≡ min self.old.calls.most (min (length piece.new) (length self.old.bytes))) }
+        ensures counted { OnErr result (self.new.calls.faults ≡ one_more self.old.calls.faults) }
+        ensures moved { IfOk result (λ n.
+            n ≡ min self.old.calls.most (min (length piece.new) (length self.old.bytes))) }
     {
         self.calls.begin()?;
         let most = self.calls.most();

@@ -1,13 +1,13 @@
 ghost use Rattle.std.specs.Prelude.{◌≡◌, IfErr, OnOk, OnErr};
 ghost use Rattle.std.specs.Io.KnownBytes.{Appends};
-ghost use Rattle.larch_io.specs.Faults.{WriteFaults};
-ghost use Rattle.larch_io.specs.Putting.{PutsFront};
+ghost use Rattle.larch_io.specs.Refusals.{WriteFaults};
+ghost use Rattle.larch_io.specs.Put.{PutsFront};
 
 use crate::refusal::WriteRefusal;
 use crate::sink::Sink;
 
 /// Appends all these bytes. A refusal comes after a front of them, never after all.
-#[tactic(auto, using(crate::proofs::Known::front_of_none, crate::proofs::Known::front_and_more, crate::proofs::Known::puts_front))]
+#[tactic(auto, using(crate::proofs::Known::front_of_none, crate::proofs::Known::puts_front))]
 pub fn put_all<K: Sink>(sink: &mut K, bytes: &[u8]) -> Result<(), WriteRefusal>
     ensures ok { OnOk result (Appends (K.held sink.old) (K.held sink.new) bytes.now) }
     ensures fine { OnOk result (K.faults sink.new ≡ K.faults sink.old) }

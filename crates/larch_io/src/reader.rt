@@ -1,9 +1,9 @@
 ghost use Rattle.std.specs.Prelude.{◌≡◌, ◌+◌, ◌≤◌, ◌++◌, true, false, [], length, take, drop, vec_len, IfOk, IfErr, OnOk, OnErr};
 ghost use Rattle.std.specs.Io.{StartsWith, appended_bytes};
 ghost use Rattle.std.specs.Io.KnownBytes.{Consumes, Keeps, IsAtEnd};
-ghost use Rattle.larch_io.specs.Faults.{TakeFaults};
-ghost use Rattle.larch_io.specs.Taking.{Takes, room_of};
-ghost use Rattle.larch_io.specs.Filling.{FillRefused};
+ghost use Rattle.larch_base.specs.Limits.{max_source_bytes};
+ghost use Rattle.larch_io.specs.Refusals.{FillRefused, TakeFaults};
+ghost use Rattle.larch_io.specs.Reader.{Takes, room_of};
 
 use crate::refusal::TakeRefusal;
 use crate::source::Source;
@@ -26,13 +26,18 @@ pub struct Reader {
 
 impl Model for Reader {
     ghost use Rattle.std.specs.Prelude.{◌≤◌, drop, vec_len};
-    ghost use Rattle.larch_io.specs.Taking.{Taken};
+    ghost use Rattle.larch_base.specs.Limits.{max_source_bytes};
+    ghost use Rattle.larch_io.specs.Reader.{Taken};
 
     ghost Value = { Taken };
 
-    ghost view = { λ reader. record { kept = drop reader.start reader.bytes.items; count = reader.count; ended = reader.ended } };
+    ghost view = { λ reader. record {
+      kept = drop reader.start reader.bytes.items;
+      count = reader.count;
+      ended = reader.ended;
+    } };
 
-    ghost invariant = { λ reader. (reader.start ≤ vec_len reader.bytes) × (reader.count ≤ 67108864) };
+    ghost invariant = { λ reader. (reader.start ≤ vec_len reader.bytes) × (reader.count ≤ max_source_bytes) };
 }
 
 impl Reader {
@@ -66,7 +71,7 @@ impl Reader {
     // How many bytes may still be taken.
     pub(crate) fn room(&self) -> usize
         ensures room { result ≡ room_of self.now }
-        ensures within { self.now.count ≤ 67108864 }
+        ensures within { self.now.count ≤ max_source_bytes }
     {
         (MAX_SOURCE_BYTES - self.count) as usize
     }
@@ -116,7 +121,7 @@ impl Reader {
         ensures rest { OnOk result (self.new.kept ≡ drop (given + ending) self.old.kept) }
         ensures counted { OnOk result (self.new.count ≡ self.old.count + (given + ending)) }
         ensures ended { self.new.ended ≡ self.old.ended }
-        ensures within { self.new.count ≤ 67108864 }
+        ensures within { self.new.count ≤ max_source_bytes }
         ensures err { OnErr result (self.new ≡ self.old) }
     {
         let bytes = Vec::from_slice(alloc, &self.kept()[..given])?;
@@ -136,11 +141,12 @@ fn remove_front(bytes: &mut Vec<u8>, place: usize)
     bytes.truncate(kept);
 }
 
-// Appends what one read gives. Its room is there before the read, so that no byte is lost for want of memory.
+// Appends what one read gives. Its room is there before the read, so that no byte is lost where memory runs out.
 fn append_piece<S: Source>(bytes: &mut Vec<u8>, source: &mut S) -> Result<usize, TakeRefusal>
     ensures longer { IfOk result (λ n. vec_len bytes.new ≡ vec_len bytes.old + n) }
     ensures front { OnOk result (StartsWith bytes.new.items bytes.old.items) }
-    ensures consumed { OnOk result (Consumes (S.left source.old) (S.left source.new) (appended_bytes bytes.old.items bytes.new.items)) }
+    ensures consumed { OnOk result
+        (Consumes (S.left source.old) (S.left source.new) (appended_bytes bytes.old.items bytes.new.items)) }
     ensures end { IfOk result (λ n. n ≡ 0 → IsAtEnd (S.left source.new)) }
     ensures err { OnErr result (bytes.new.items ≡ bytes.old.items) }
     ensures same { OnErr result (Keeps (S.left source.old) (S.left source.new)) }

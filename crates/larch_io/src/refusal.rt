@@ -17,7 +17,7 @@ pub enum WriteRefusal {
     /// A fault of the sink, which counts it.
     #[error("the sink failed")]
     Failed,
-    /// Want of memory.
+    /// Out of memory.
     #[error("out of memory")]
     Memory,
 }
@@ -42,7 +42,7 @@ pub enum FolderRefusal {
     /// The file has more bytes than a file may have.
     #[error("the file is too long")]
     TooLong,
-    /// Want of memory.
+    /// Out of memory.
     #[error("out of memory")]
     Memory,
 }
@@ -70,7 +70,7 @@ pub enum TakeRefusal {
     /// More bytes than may be taken from a source.
     #[error("too many bytes")]
     Full,
-    /// Want of memory.
+    /// Out of memory.
     #[error("out of memory")]
     Memory,
 }

@@ -1,7 +1,8 @@
 ghost use Rattle.std.specs.Prelude.{◌≡◌, ◌≢◌, ◌+◌, ◌≤◌, [], All, length, take, IfOk, IfErr, OnOk, OnErr};
-ghost use Rattle.larch_io.specs.Faults.{TakeFaults};
-ghost use Rattle.larch_io.specs.Filling.{LineStands, EndIn, NoEndIn};
-ghost use Rattle.larch_io.specs.Taking.{Takes, TakesLine, LineRefused, BytesRefused, room_of};
+ghost use Rattle.larch_base.specs.Limits.{max_source_bytes};
+ghost use Rattle.larch_io.specs.Reader.{Takes, room_of};
+ghost use Rattle.larch_io.specs.Refusals.{BytesRefused, LineRefused, TakeFaults};
+ghost use Rattle.larch_io.specs.Take.{EndIs, LineStands, TakesLine};
 
 use crate::line::Line;
 use crate::reader::Reader;
@@ -11,17 +12,17 @@ use larch_base::Bytes;
 use larch_base::limits::MAX_LINE_BYTES;
 use std::alloc::Global;
 
-/// Takes the next line and its byte 10, which the last line may lack.
+/// Takes the next line and its newline, which the last line may lack.
 #[tactic(auto, using(crate::proofs::Front::takes_none_more, crate::proofs::Front::takes_nothing, crate::proofs::Front::takes_none))]
 pub fn take_line<S: Source>(
     alloc: Global,
     reader: &mut Reader,
     source: &mut S,
 ) -> Result<Line, TakeRefusal>
-    ensures line { IfOk result (λ line. TakesLine reader.old reader.new (S.left source.old) (S.left source.new) line) }
+    ensures line { IfOk result (TakesLine reader.old reader.new (S.left source.old) (S.left source.new)) }
     ensures none { OnErr result (Takes reader.old reader.new (S.left source.old) (S.left source.new) []) }
-    ensures refused { IfErr result (λ refusal. LineRefused refusal (room_of reader.old) reader.new.kept reader.new.ended) }
-    ensures within { reader.new.count ≤ 67108864 }
+    ensures refused { IfErr result (λ refusal. LineRefused refusal reader.old reader.new) }
+    ensures within { reader.new.count ≤ max_source_bytes }
     ensures fine { OnOk result (S.faults source.new ≡ S.faults source.old) }
     ensures faults { IfErr result (λ refusal. TakeFaults refusal (S.faults source.old) (S.faults source.new)) }
 {
@@ -30,7 +31,7 @@ pub fn take_line<S: Source>(
     Ok(Line::from_vec(bytes))
 }
 
-/// Takes so many bytes.
+/// Takes so many bytes. It never answers `TooLong`, which is of lines alone.
 #[tactic(auto, using(crate::proofs::Front::takes_none_more, crate::proofs::Front::takes_nothing, crate::proofs::Front::takes_none))]
 pub fn take_exact<S: Source>(
     alloc: Global,
@@ -39,10 +40,10 @@ pub fn take_exact<S: Source>(
     count: u32,
 ) -> Result<Bytes, TakeRefusal>
     ensures count { IfOk result (λ bytes. length bytes ≡ count) }
-    ensures bytes { IfOk result (λ bytes. Takes reader.old reader.new (S.left source.old) (S.left source.new) bytes) }
+    ensures bytes { IfOk result (Takes reader.old reader.new (S.left source.old) (S.left source.new)) }
     ensures none { OnErr result (Takes reader.old reader.new (S.left source.old) (S.left source.new) []) }
-    ensures refused { IfErr result (λ refusal. BytesRefused refusal count (room_of reader.old) reader.new.kept reader.new.ended) }
-    ensures within { reader.new.count ≤ 67108864 }
+    ensures refused { IfErr result (λ refusal. BytesRefused refusal count reader.old reader.new) }
+    ensures within { reader.new.count ≤ max_source_bytes }
     ensures fine { OnOk result (S.faults source.new ≡ S.faults source.old) }
     ensures faults { IfErr result (λ refusal. TakeFaults refusal (S.faults source.old) (S.faults source.new)) }
 {
@@ -51,54 +52,65 @@ pub fn take_exact<S: Source>(
     Ok(Bytes::from_vec(bytes))
 }
 
+// Where the line at the front of the bytes that are kept ends.
+enum LineEnd {
+    // At its newline, which stands at this place.
+    At(usize),
+    // Behind these bytes: more are needed to tell.
+    Behind,
+    // Nowhere: it passes its limit.
+    TooLong,
+    // At no byte that may be taken.
+    Full,
+}
+
 // Reads until the next line is kept. Answers how many bytes it has, and how many end it.
 #[tactic(auto, using(crate::proofs::Front::takes_none, crate::proofs::Front::takes_none_more))]
 fn find_line<S: Source>(reader: &mut Reader, source: &mut S) -> Result<(usize, usize), TakeRefusal>
     ensures taken { Takes reader.old reader.new (S.left source.old) (S.left source.new) [] }
     ensures counted { reader.new.count ≡ reader.old.count }
-    ensures within { reader.new.count ≤ 67108864 }
+    ensures within { reader.new.count ≤ max_source_bytes }
     ensures found { IfOk result (λ found. LineStands reader.new.kept reader.new.ended found.0 found.1) }
     ensures room { IfOk result (λ found. found.0 + found.1 ≤ room_of reader.old) }
-    ensures refused { IfErr result (λ refusal. LineRefused refusal (room_of reader.old) reader.new.kept reader.new.ended) }
+    ensures refused { IfErr result (λ refusal. LineRefused refusal reader.old reader.new) }
     ensures fine { OnOk result (S.faults source.new ≡ S.faults source.old) }
     ensures faults { IfErr result (λ refusal. TakeFaults refusal (S.faults source.old) (S.faults source.new)) }
 {
-    let mut searched = 0;
     'search: loop {
-        if let Some(length) = find_end(reader.kept(), reader.room(), searched)? {
-            return Ok((length, 1));
+        match line_end(reader.kept(), reader.room()) {
+            LineEnd::At(length) => return Ok((length, 1)),
+            LineEnd::TooLong => return Err(TakeRefusal::TooLong),
+            LineEnd::Full => return Err(TakeRefusal::Full),
+            LineEnd::Behind => {}
         }
-        searched = reader.kept().len();
+        let length = reader.kept().len();
         if reader.fill(source)? == 0 {
-            return if searched == 0 {
+            return if length == 0 {
                 Err(TakeRefusal::End)
             } else {
-                Ok((searched, 0))
+                Ok((length, 0))
             };
         }
     }
 }
 
-// Where the line's byte 10 stands, unless more bytes are needed to tell. The bytes that were searched before
-// are no byte 10.
-fn find_end(bytes: &[u8], room: usize, searched: usize) -> Result<Option<usize>, TakeRefusal>
-    requires { All (λ byte. byte ≢ 10) (take searched bytes.now) }
-    ensures found { IfOk result (EndIn bytes.now room) }
-    ensures refused { IfErr result (NoEndIn bytes.now room) }
+// Where the line at the front of these bytes ends, of which so many may be taken.
+fn line_end(bytes: &[u8], room: usize) -> LineEnd
+    ensures { EndIs bytes.now room result }
 {
-    let most = room.min(MAX_LINE_BYTES as usize + 1);
-    for place in searched..bytes.len().min(most) {
+    let most = bytes.len().min(room).min(MAX_LINE_BYTES as usize + 1);
+    for place in 0..most {
         if bytes[place] == b'\n' {
-            return Ok(Some(place));
+            return LineEnd::At(place);
         }
     }
     if bytes.len() <= room.min(MAX_LINE_BYTES as usize) {
-        return Ok(None);
+        LineEnd::Behind
+    } else if room <= MAX_LINE_BYTES as usize {
+        LineEnd::Full
+    } else {
+        LineEnd::TooLong
     }
-    if room <= MAX_LINE_BYTES as usize {
-        return Err(TakeRefusal::Full);
-    }
-    Err(TakeRefusal::TooLong)
 }
 
 // Reads until so many bytes are kept.
@@ -106,10 +118,10 @@ fn find_end(bytes: &[u8], room: usize, searched: usize) -> Result<Option<usize>,
 fn gather<S: Source>(reader: &mut Reader, source: &mut S, count: usize) -> Result<(), TakeRefusal>
     ensures taken { Takes reader.old reader.new (S.left source.old) (S.left source.new) [] }
     ensures counted { reader.new.count ≡ reader.old.count }
-    ensures within { reader.new.count ≤ 67108864 }
+    ensures within { reader.new.count ≤ max_source_bytes }
     ensures kept { OnOk result (count ≤ length reader.new.kept) }
     ensures room { OnOk result (count ≤ room_of reader.old) }
-    ensures refused { IfErr result (λ refusal. BytesRefused refusal count (room_of reader.old) reader.new.kept reader.new.ended) }
+    ensures refused { IfErr result (λ refusal. BytesRefused refusal count reader.old reader.new) }
     ensures fine { OnOk result (S.faults source.new ≡ S.faults source.old) }
     ensures faults { IfErr result (λ refusal. TakeFaults refusal (S.faults source.old) (S.faults source.new)) }
 {

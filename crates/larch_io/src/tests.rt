@@ -109,11 +109,13 @@ fn folder_with(alloc: Global, name: &[u8], bytes: &[u8]) -> Result<CleanFolder, 
     Ok(folder)
 }
 
+// The test of a library is given no input. That bytes come in and go out shows the stored run of the program `larch`.
 #[test]
-fn begins_with_the_standard_streams(rt: HostRuntime) -> Result<(), Fail> {
+fn meets_the_end_of_its_input_and_writes_a_byte(rt: HostRuntime) -> Result<(), Fail> {
     let mut reader = Reader::new(rt.alloc())?;
     let mut source = StandardInput::new(&rt);
-    let nothing = take_exact(rt.alloc(), &mut reader, &mut source, 0)?;
-    put_all(&mut StandardOutput::new(&rt), nothing.bytes())?;
+    let refusal = take_exact(rt.alloc(), &mut reader, &mut source, 1).err();
+    assert_eq!(rt; refusal, Some(TakeRefusal::End));
+    put_all(&mut StandardOutput::new(&rt), b".")?;
     Ok(())
 }

@@ -1,5 +1,5 @@
 use Rattle.std.proofs.Common.{◌≡◌, ◌-◌, [], length}
-use Rattle.larch_io.specs.Taking.{Takes}
+use Rattle.larch_io.specs.Reader.{Takes}
 use Rattle.larch_io.proofs.take.gather.Given as goal
 
 abbrev pub invariant-fill : goal.invariant-fill

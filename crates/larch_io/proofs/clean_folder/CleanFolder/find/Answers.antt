@@ -1,5 +1,5 @@
 use Rattle.std.proofs.Common.{◌∙◌, ap}
-use Rattle.larch_io.specs.FileMap.{file_of}
+use Rattle.larch_io.specs.Folder.{file_of}
 use Rattle.larch_io.proofs.Files.{file_of_found}
 use Rattle.larch_io.proofs.clean_folder.CleanFolder.find.Goals as goal
 

@@ -1,6 +1,6 @@
 use Rattle.std.proofs.Common.{◌∙◌, cond, Some, ap}
 use Rattle.std.specs.Str.{bytes_eq}
-use Rattle.larch_io.specs.FileMap.{file_of}
+use Rattle.larch_io.specs.Folder.{file_of}
 use Rattle.larch_io.proofs.Files.{file_of_put}
 use Rattle.larch_io.proofs.clean_folder.CleanFolder.insert.Goals as goal
 

@@ -1,5 +1,5 @@
 use Rattle.std.proofs.Common.{◌≡◌, rules, false, sym, ap, ◌∙◌, refl, eqb-true}
-use Rattle.larch_io.specs.Taking.{Taken}
+use Rattle.larch_io.specs.Reader.{Taken}
 use Rattle.larch_io.proofs.Front.{takes_read, front_kept}
 use Rattle.larch_io.proofs.reader.Reader.fill.Goals as goal
 

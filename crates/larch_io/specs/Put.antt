@@ -4,4 +4,5 @@ use Rattle.std.specs.Io.KnownBytes.{Appends}
 
 -- a front of the bytes was appended, and not all of them
 abbrev pub PutsFront : Option (List ℕ) → Option (List ℕ) → List ℕ → Type 0
-PutsFront old new bytes = (front rest : List ℕ) × (bytes ≡ front ++ rest) × (0 < length rest) × Appends old new front
+PutsFront old new bytes =
+    (front rest : List ℕ) × (bytes ≡ front ++ rest) × (0 < length rest) × Appends old new front

@@ -1,5 +1,6 @@
 -- Objects in memory whose calls may fail.
-use Rattle.std.specs.Prelude.{◌≡◌, ◌+◌, ◌-◌, ◌^◌, ℕ, List, min}
+use Rattle.std.specs.Prelude.{◌≡◌, ℕ, List}
+use Rattle.larch_io.specs.Faults.{one_more}
 
 -- which calls are to fail, how many bytes a call moves at most, how many calls there were, and how many failed
 pub record CallCounts : Type 0 where
@@ -8,9 +9,13 @@ pub record CallCounts : Type 0 where
   pub made : ℕ
   pub faults : ℕ
 
+-- no call yet
+abbrev pub no_calls : List ℕ → ℕ → CallCounts
+no_calls failing most = record { failing = failing; most = most; made = 0; faults = 0 }
+
 -- there was one call more
 pub record IsNextCall (old new : CallCounts) : Type 0 where
-  pub made : new.made ≡ min (old.made + 1) (2 ^ 64 - 1)
+  pub made : new.made ≡ one_more old.made
   pub failing : new.failing ≡ old.failing
   pub most : new.most ≡ old.most
 

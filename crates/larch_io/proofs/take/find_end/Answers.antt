@@ -1,6 +1,0 @@
-use Rattle.std.proofs.Common.{arith}
-use Rattle.larch_io.proofs.Front.{none_in_front}
-use Rattle.larch_io.proofs.take.find_end.Goals as goal
-
-pub returns-clause-refused : goal.returns-clause-refused
-returns-clause-refused c = (omega arith, omega arith, none_in_front c.args.bytes.now 201 c.loop-place.place (omega arith) c.loop-place.invariant)
