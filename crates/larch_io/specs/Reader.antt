@@ -1,7 +1,7 @@
 -- What a reader keeps, reads and takes.
 use Rattle.std.specs.Prelude.{◌≡◌, ◌+◌, ◌-◌, ◌⊎◌, ℕ, Bool, true, List, [], ◌++◌, length, Option}
 use Rattle.std.specs.Io.KnownBytes.{Consumes, IsAtEnd}
-use Rattle.larch_base.specs.Limits.{max_source_bytes}
+use Rattle.larch_base.specs.declared.limits.TheConstants.{MAX_SOURCE_BYTES}
 
 -- a reader as contracts see it: the bytes that it keeps, how many were taken from it, and whether its source has ended
 pub record Taken : Type 0 where
@@ -11,7 +11,7 @@ pub record Taken : Type 0 where
 
 -- how many bytes may still be taken
 abbrev pub room_of : Taken → ℕ
-room_of reader = max_source_bytes - reader.count
+room_of reader = MAX_SOURCE_BYTES - reader.count
 
 -- the source gave these bytes in a call; a reader whose source has ended reads no more
 pub record Reads (old new : Taken) (before after : Option (List ℕ)) (given : List ℕ) : Type 0 where

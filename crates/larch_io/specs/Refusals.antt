@@ -1,7 +1,7 @@
 -- What each refusal means: which faults it counts, and why nothing was given or taken.
 use Rattle.std.specs.Prelude.{◌≡◌, ◌<◌, ◌≤◌, ℕ, Bool, true, false, List, [], length}
 use Rattle.std.specs.Prelude.{Option, Some, None, IsSomeAnd}
-use Rattle.larch_base.specs.Limits.{max_file_bytes}
+use Rattle.larch_base.specs.declared.limits.TheConstants.{MAX_FILE_BYTES}
 use Rattle.larch_io.specs.Faults.{Rose}
 use Rattle.larch_io.specs.Folder.{FileMap, file_of}
 use Rattle.larch_io.specs.Reader.{Taken, room_of}
@@ -30,7 +30,7 @@ abbrev pub FileRefused : FolderRefusal → Option FileMap → List ℕ → Type 
 FileRefused refusal None name = Unit {0}
 FileRefused folder.Failed (Some files) name = Unit {0}
 FileRefused folder.NotThere (Some files) name = file_of files name ≡ None
-FileRefused folder.TooLong (Some files) name = IsSomeAnd (file_of files name) (λ bytes. max_file_bytes < length bytes)
+FileRefused folder.TooLong (Some files) name = IsSomeAnd (file_of files name) (λ bytes. MAX_FILE_BYTES < length bytes)
 FileRefused folder.Memory (Some files) name = Unit {0}
 
 -- a refusal to take counts a fault of the source exactly where it is one

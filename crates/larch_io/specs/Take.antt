@@ -1,6 +1,6 @@
 -- Lines and pieces of a known length, as they are taken by a reader.
 use Rattle.std.specs.Prelude.{◌≡◌, ◌≢◌, ◌<◌, ◌≤◌, ◌+◌, ◌⊎◌, ℕ, Bool, true, List, [], ◌∷◌, ◌++◌, All, length, take, drop, Option}
-use Rattle.larch_base.specs.Limits.{max_line_bytes}
+use Rattle.larch_base.specs.declared.limits.TheConstants.{MAX_LINE_BYTES}
 use Rattle.larch_io.specs.Reader.{Taken, Takes}
 use Rattle.larch_io.specs.declared.take.LineEnd.{LineEnd}
 use Rattle.larch_io.specs.declared.take.LineEnd.TheVariants.{At, Behind, TooLong, Full}
@@ -11,7 +11,7 @@ HasNoNewline bytes = All (λ byte. byte ≢ 10) bytes
 
 -- bytes of a line: no newline, and not too many
 abbrev pub IsLine : List ℕ → Type 0
-IsLine line = HasNoNewline line × (length line ≤ max_line_bytes)
+IsLine line = HasNoNewline line × (length line ≤ MAX_LINE_BYTES)
 
 -- a line was taken: with its newline, or as the last of the input, which may lack it
 abbrev pub TakesLine : Taken → Taken → Option (List ℕ) → Option (List ℕ) → List ℕ → Type 0
@@ -34,11 +34,11 @@ LineStands kept ended count ending =
 -- The line passes its limit: its byte 201 may be taken, and no newline stands before it.
 abbrev pub IsTooLong : ℕ → List ℕ → Type 0
 IsTooLong room kept =
-    (max_line_bytes < length kept) × (max_line_bytes < room) × HasNoNewline (take (max_line_bytes + 1) kept)
+    (MAX_LINE_BYTES < length kept) × (MAX_LINE_BYTES < room) × HasNoNewline (take (MAX_LINE_BYTES + 1) kept)
 
 -- A byte more is there than may be taken, and neither a newline nor the line's byte 201 stands before it.
 abbrev pub PassesRoom : ℕ → List ℕ → Type 0
-PassesRoom room kept = (room < length kept) × (room ≤ max_line_bytes) × HasNoNewline (take room kept)
+PassesRoom room kept = (room < length kept) × (room ≤ MAX_LINE_BYTES) × HasNoNewline (take room kept)
 
 -- where the line at the front of these bytes ends, of which `room` may be taken
 abbrev pub EndIs : List ℕ → ℕ → LineEnd → Type 0

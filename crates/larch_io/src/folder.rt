@@ -1,6 +1,6 @@
 ghost use Rattle.std.specs.Prelude.{◌≡◌, ◌≤◌, ℕ, List, Option, IfOk, IfErr, OnOk, vec_len};
 ghost use Rattle.larch_io.specs.Refusals.{FileRefused, FolderFaults};
-ghost use Rattle.larch_base.specs.Limits.{max_file_bytes};
+ghost use Rattle.larch_base.specs.declared.limits.TheConstants.{MAX_FILE_BYTES};
 ghost use Rattle.larch_io.specs.Folder.{FileMap, IsFile};
 
 use crate::refusal::FolderRefusal;
@@ -16,7 +16,7 @@ pub trait Folder {
 
     /// The bytes of the file of this name. No call changes the files.
     fn read_file(&mut self, alloc: Global, name: &str) -> Result<Vec<u8>, FolderRefusal>
-        ensures short { IfOk result (λ bytes. vec_len bytes ≤ max_file_bytes) }
+        ensures short { IfOk result (λ bytes. vec_len bytes ≤ MAX_FILE_BYTES) }
         ensures found { IfOk result (λ bytes. IsFile (files self.old) name.now bytes.items) }
         ensures refused { IfErr result (λ refusal. FileRefused refusal (files self.old) name.now) }
         ensures same { files self.new ≡ files self.old }

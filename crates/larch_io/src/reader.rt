@@ -1,7 +1,7 @@
 ghost use Rattle.std.specs.Prelude.{◌≡◌, ◌+◌, ◌≤◌, ◌++◌, true, false, [], length, take, drop, vec_len, IfOk, IfErr, OnOk, OnErr};
 ghost use Rattle.std.specs.Io.{StartsWith, appended_bytes};
 ghost use Rattle.std.specs.Io.KnownBytes.{Consumes, Keeps, IsAtEnd};
-ghost use Rattle.larch_base.specs.Limits.{max_source_bytes};
+ghost use Rattle.larch_base.specs.declared.limits.TheConstants.{MAX_SOURCE_BYTES};
 ghost use Rattle.larch_io.specs.Refusals.{FillRefused, TakeFaults};
 ghost use Rattle.larch_io.specs.Reader.{Takes, room_of};
 
@@ -26,7 +26,7 @@ pub struct Reader {
 
 impl Model for Reader {
     ghost use Rattle.std.specs.Prelude.{◌≤◌, drop, vec_len};
-    ghost use Rattle.larch_base.specs.Limits.{max_source_bytes};
+    ghost use Rattle.larch_base.specs.declared.limits.TheConstants.{MAX_SOURCE_BYTES};
     ghost use Rattle.larch_io.specs.Reader.{Taken};
 
     ghost Value = { Taken };
@@ -37,7 +37,7 @@ impl Model for Reader {
       ended = reader.ended;
     } };
 
-    ghost invariant = { λ reader. (reader.start ≤ vec_len reader.bytes) × (reader.count ≤ max_source_bytes) };
+    ghost invariant = { λ reader. (reader.start ≤ vec_len reader.bytes) × (reader.count ≤ MAX_SOURCE_BYTES) };
 }
 
 impl Reader {
@@ -71,7 +71,7 @@ impl Reader {
     // How many bytes may still be taken.
     pub(crate) fn room(&self) -> usize
         ensures room { result ≡ room_of self.now }
-        ensures within { self.now.count ≤ max_source_bytes }
+        ensures within { self.now.count ≤ MAX_SOURCE_BYTES }
     {
         (MAX_SOURCE_BYTES - self.count) as usize
     }
@@ -121,7 +121,7 @@ impl Reader {
         ensures rest { OnOk result (self.new.kept ≡ drop (given + ending) self.old.kept) }
         ensures counted { OnOk result (self.new.count ≡ self.old.count + (given + ending)) }
         ensures ended { self.new.ended ≡ self.old.ended }
-        ensures within { self.new.count ≤ max_source_bytes }
+        ensures within { self.new.count ≤ MAX_SOURCE_BYTES }
         ensures err { OnErr result (self.new ≡ self.old) }
     {
         let bytes = Vec::from_slice(alloc, &self.kept()[..given])?;

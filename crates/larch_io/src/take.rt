@@ -1,5 +1,5 @@
 ghost use Rattle.std.specs.Prelude.{◌≡◌, ◌≢◌, ◌+◌, ◌≤◌, [], All, length, take, IfOk, IfErr, OnOk, OnErr};
-ghost use Rattle.larch_base.specs.Limits.{max_source_bytes};
+ghost use Rattle.larch_base.specs.declared.limits.TheConstants.{MAX_SOURCE_BYTES};
 ghost use Rattle.larch_io.specs.Reader.{Takes, room_of};
 ghost use Rattle.larch_io.specs.Refusals.{BytesRefused, LineRefused, TakeFaults};
 ghost use Rattle.larch_io.specs.Take.{EndIs, LineStands, TakesLine};
@@ -22,7 +22,7 @@ pub fn take_line<S: Source>(
     ensures line { IfOk result (TakesLine reader.old reader.new (S.left source.old) (S.left source.new)) }
     ensures none { OnErr result (Takes reader.old reader.new (S.left source.old) (S.left source.new) []) }
     ensures refused { IfErr result (λ refusal. LineRefused refusal reader.old reader.new) }
-    ensures within { reader.new.count ≤ max_source_bytes }
+    ensures within { reader.new.count ≤ MAX_SOURCE_BYTES }
     ensures fine { OnOk result (S.faults source.new ≡ S.faults source.old) }
     ensures faults { IfErr result (λ refusal. TakeFaults refusal (S.faults source.old) (S.faults source.new)) }
 {
@@ -43,7 +43,7 @@ pub fn take_exact<S: Source>(
     ensures bytes { IfOk result (Takes reader.old reader.new (S.left source.old) (S.left source.new)) }
     ensures none { OnErr result (Takes reader.old reader.new (S.left source.old) (S.left source.new) []) }
     ensures refused { IfErr result (λ refusal. BytesRefused refusal count reader.old reader.new) }
-    ensures within { reader.new.count ≤ max_source_bytes }
+    ensures within { reader.new.count ≤ MAX_SOURCE_BYTES }
     ensures fine { OnOk result (S.faults source.new ≡ S.faults source.old) }
     ensures faults { IfErr result (λ refusal. TakeFaults refusal (S.faults source.old) (S.faults source.new)) }
 {
@@ -69,7 +69,7 @@ enum LineEnd {
 fn find_line<S: Source>(reader: &mut Reader, source: &mut S) -> Result<(usize, usize), TakeRefusal>
     ensures taken { Takes reader.old reader.new (S.left source.old) (S.left source.new) [] }
     ensures counted { reader.new.count ≡ reader.old.count }
-    ensures within { reader.new.count ≤ max_source_bytes }
+    ensures within { reader.new.count ≤ MAX_SOURCE_BYTES }
     ensures found { IfOk result (λ found. LineStands reader.new.kept reader.new.ended found.0 found.1) }
     ensures room { IfOk result (λ found. found.0 + found.1 ≤ room_of reader.old) }
     ensures refused { IfErr result (λ refusal. LineRefused refusal reader.old reader.new) }
@@ -118,7 +118,7 @@ fn line_end(bytes: &[u8], room: usize) -> LineEnd
 fn gather<S: Source>(reader: &mut Reader, source: &mut S, count: usize) -> Result<(), TakeRefusal>
     ensures taken { Takes reader.old reader.new (S.left source.old) (S.left source.new) [] }
     ensures counted { reader.new.count ≡ reader.old.count }
-    ensures within { reader.new.count ≤ max_source_bytes }
+    ensures within { reader.new.count ≤ MAX_SOURCE_BYTES }
     ensures kept { OnOk result (count ≤ length reader.new.kept) }
     ensures room { OnOk result (count ≤ room_of reader.old) }
     ensures refused { IfErr result (λ refusal. BytesRefused refusal count reader.old reader.new) }

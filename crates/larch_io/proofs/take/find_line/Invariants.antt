@@ -1,5 +1,5 @@
 use Rattle.std.proofs.Common.{◌≡◌, ◌-◌, ◌+◌, [], length}
-use Rattle.larch_base.specs.Limits.{max_line_bytes}
+use Rattle.larch_base.specs.declared.limits.TheConstants.{MAX_LINE_BYTES}
 use Rattle.larch_io.specs.Reader.{Takes}
 use Rattle.larch_io.proofs.take.find_line.Given as goal
 
@@ -11,4 +11,4 @@ invariant-search g l = record {
 }
 
 abbrev pub decreases-search : goal.decreases-search
-decreases-search g l = max_line_bytes + 1 - length l.reader.kept
+decreases-search g l = MAX_LINE_BYTES + 1 - length l.reader.kept
