@@ -146,8 +146,12 @@ class Served(unittest.TestCase):
         self.client.published("U.lsl", ["SYNTAX"])
         self.client.close(path)
         self.client.published("T.lsl", [])
-        self.write("U.lsl", "U: trait")
         self.client.open(path, RIGHT)
+        self.write("U.lsl", "U: trait")
+        self.client.published("U.lsl", [])
+        (self.folder / "U.lsl").write_text("V: trait")
+        self.client.published("U.lsl", ["TRAIT-NAME"])
+        (self.folder / "U.lsl").unlink()
         self.client.published("U.lsl", [])
 
     def test_closed_file_that_was_never_saved(self):
@@ -227,6 +231,8 @@ class Served(unittest.TestCase):
         self.assertEqual(self.client.request("no/such", {})["code"], -32601)
         self.assertEqual(self.client.request("textDocument/hover", {})["code"], -32602)
         self.client.notify("$/setTrace", {"value": "off"})
+        self.client.notify("textDocument/didOpen", {})
+        self.client.process.stdin.write(b"Content-Length: 3\r\n\r\n{x}")
         self.client.open(pathlib.Path("/"), "")
         untitled = {"textDocument": {"uri": "untitled:1", "version": 1, "languageId": "lsl", "text": WRONG}}
         self.client.notify("textDocument/didOpen", untitled)
