@@ -6,6 +6,7 @@ pub mod Extension
 pub mod Formulas
 pub mod Freeing
 pub mod Identities
+pub mod Inductions
 pub mod Names
 pub mod Numbers
 pub mod Observed

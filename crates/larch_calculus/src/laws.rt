@@ -1,12 +1,13 @@
 //! What holds of all derivations, for crates above to cite. No function here does anything.
-ghost use Rattle.std.specs.Prelude.{◌≡◌, ◌↔◌, ◌<◌, ◌≤◌, ℕ, List, [], ◌∷◌, ◌++◌, map, All, Contains, Some};
+ghost use Rattle.std.specs.Prelude.{◌≡◌, ◌↔◌, ◌<◌, ◌≤◌, ℕ, List, [], ◌∷◌, ◌++◌, map, length, All, Contains, Some};
+ghost use Rattle.std.specs.List.{slice_get};
 ghost use Rattle.larch_term.specs.Operator.{OperatorName, PlainOperator};
 ghost use Rattle.larch_term.specs.Variable.{occurrences};
 ghost use Rattle.larch_term.specs.Place.{at, put};
 ghost use Rattle.larch_term.specs.Sorts.{sort_of, IsOver, IsTermOver};
 ghost use Rattle.larch_term.specs.Statement.{IsStatementOver, IsTheory, statement_zero, IsWellSortedTheory};
 ghost use Rattle.larch_term.specs.Substitution.{substituted};
-ghost use Rattle.larch_term.specs.Tree.{Tree};
+ghost use Rattle.larch_term.specs.Tree.{Tree, app};
 ghost use Rattle.larch_term.specs.BuiltIn.{bool_sort};
 ghost use Rattle.larch_term.specs.declared.variable.Variable.{Variable};
 ghost use Rattle.larch_term.specs.declared.statement.Statement.{Statement};
@@ -17,7 +18,7 @@ ghost use Rattle.larch_calculus.specs.Derivable.{Derivable, AreArguments};
 ghost use Rattle.larch_calculus.specs.Formula.{constant, applied, joined, falsity, implication, formula};
 ghost use Rattle.larch_term.specs.Truth.{truth};
 ghost use Rattle.larch_calculus.specs.Freed.{freed, constants_for};
-ghost use Rattle.larch_calculus.specs.Generation.{generation_hypotheses, induction_hypotheses};
+ghost use Rattle.larch_calculus.specs.Generation.{constant_terms, equation_at, generation_hypotheses, induction_hypotheses};
 ghost use Rattle.larch_calculus.specs.Identity.{IsIdentity};
 ghost use Rattle.larch_calculus.specs.Letters.{two};
 ghost use Rattle.larch_calculus.specs.Observation.{observations};
@@ -206,6 +207,18 @@ pub fn freeing()
         → Derivable t (Equation a b)
         → Derivable (extended t cs [])
         (Equation (substituted (constants_for vs cs) a) (substituted (constants_for vs cs) b)) }
+{}
+
+/// An induction may have the constants of its cases as a list, in the order of the generators.
+pub fn induction()
+    ensures { (t : Theory) (a b : Tree) (x s : List ℕ) (fs : List PlainOperator) (css : List (List PlainOperator))
+        → length css ≡ length fs → Derivable t (Generated s fs) → IsStatementOver t.operators (Equation a b)
+        → ((i : ℕ) (f : PlainOperator) (cs : List PlainOperator) → slice_get fs i ≡ Some f → slice_get css i ≡ Some cs
+        → AreArguments t f cs)
+        → ((i : ℕ) (f : PlainOperator) (cs : List PlainOperator) → slice_get fs i ≡ Some f → slice_get css i ≡ Some cs
+        → Derivable (extended t cs (induction_hypotheses x s a b cs))
+        (equation_at x s a b (app f (constant_terms cs))))
+        → Derivable t (Equation a b) }
 {}
 
 /// What a well sorted theory states is derivable from it, and so is what every theory states of the truth values.
