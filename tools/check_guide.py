@@ -3,7 +3,8 @@
 
 Each block marked `lsl` is a file T.lsl; the line below it is what the report says: `right`, or `L:C CODE`. Two files
 that are too long to print are made here. Each code of the program has exactly one part `### CODE`, and each such part
-is of a code. Ends with 1 where an answer is another one, or a code lacks its part, or no example is found."""
+is of a code; no other document or tool repeats a sentence of such a part. Ends with 1 where an answer is another one, a
+code lacks its part, a sentence stands twice, or no example is found."""
 import pathlib
 import re
 import subprocess
@@ -32,6 +33,21 @@ def without_part(text):
     return wrong if codes else ["no code found in crates/larch_base/src/code.rt"]
 
 
+def told_elsewhere(text):
+    """The sentences of the parts of codes that stand in another document, tool or file of an editor as well; blocks of
+    documents show what programs print, and aren't looked at."""
+    def plain(words):
+        return " ".join(words.lower().split())
+
+    parts = re.findall(r"^### [A-Z-]+\n(.*?)(?=^#|^```|\Z)", text, re.M | re.S)
+    told = {plain(sentence) for part in parts for sentence in re.split(r"(?<=\.)\s", part) if len(sentence) > 25}
+    for folder in ("docs", "tools", "editors", "bench", "."):
+        for path in (TOP / folder).rglob("*") if folder != "." else TOP.glob("*.md"):
+            if path.is_file() and path != TOP / "docs/TRAITS.md" and "node_modules" not in path.parts:
+                other = plain(re.sub(r"^```.*?^```$", "", path.read_text(errors="replace"), flags=re.M | re.S))
+                yield from (f"{path.relative_to(TOP)}: {sentence}" for sentence in told if sentence in other)
+
+
 def said(program, trait):
     """What a report says of T.lsl."""
     data = trait.encode()
@@ -49,6 +65,9 @@ def main():
     for code in without_part(guide):
         wrong += 1
         print(f"not exactly one part in docs/TRAITS.md: {code}")
+    for place in told_elsewhere(guide):
+        wrong += 1
+        print(f"a code's sentence in two places: {place}")
     for trait, expected in pairs:
         answer = said(program, trait)
         if answer != expected:
