@@ -4,7 +4,8 @@ ghost use Rattle.larch_term.specs.Operator.{name_bytes};
 ghost use Rattle.larch_term.specs.Tree.{forest_of};
 ghost use Rattle.larch_print.specs.Print.{printed, printed_statement, operator_line, signature_text, domain_text};
 ghost use Rattle.larch_print.specs.Print.{filled, first_placed, pieces_of, argument_list, stands_alone};
-ghost use Rattle.larch_print.specs.Print.{begins_with_bracket, begins_with_marker, inside_after, opens_bracket, closes_bracket};
+ghost use Rattle.larch_print.specs.Print.{begins_with_bracket, begins_with_marker, inside_after, opens_bracket};
+ghost use Rattle.larch_print.specs.Print.{closes_bracket};
 
 use larch_base::{Bytes, Memory, is_word};
 use larch_term::{Node, Operator, Sort, Statement, Term, Terms, is_truth};

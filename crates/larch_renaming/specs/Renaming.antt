@@ -52,7 +52,8 @@ renamed_statement r (Generated s fs) = Generated (r.sort s) (map r.operator fs)
 renamed_statement r (Partitioned s fs) = Partitioned (r.sort s) (map r.operator fs)
 
 abbrev pub renamed_theory : Renaming → Theory → Theory
-renamed_theory r t = record { operators = map r.operator t.operators; statements = map (renamed_statement r) t.statements }
+renamed_theory r t =
+    record { operators = map r.operator t.operators; statements = map (renamed_statement r) t.statements }
 
 -- each operator has the signature of the one in whose place it stands, at the other sorts
 pub record FitsSignatures (r : Renaming) : Type 0 where

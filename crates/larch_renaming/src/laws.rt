@@ -13,7 +13,8 @@ ghost use Rattle.larch_term.specs.declared.statement.Statement.{Statement};
 ghost use Rattle.larch_term.specs.declared.statement.Theory.{Theory};
 ghost use Rattle.larch_term.specs.declared.substitution.Entry.{Entry};
 ghost use Rattle.larch_term.specs.declared.variable.Variable.{Variable};
-ghost use Rattle.larch_renaming.specs.Renaming.{Renaming, renamed, renamed_variable, renamed_entry, renamed_statement, renamed_theory};
+ghost use Rattle.larch_renaming.specs.Renaming.{Renaming, renamed, renamed_variable, renamed_entry};
+ghost use Rattle.larch_renaming.specs.Renaming.{renamed_statement, renamed_theory};
 ghost use Rattle.larch_renaming.specs.Renaming.{unchanged, after, by_name, FitsSignatures, KeepsBuiltIns, Carries};
 ghost use Rattle.larch_renaming.specs.Renaming.{AreAlike, AreAlikeOver, TellsApart};
 
@@ -62,7 +63,8 @@ pub fn renaming_of_places()
 
 /// Each occurrence of a variable becomes one at the other sort, and no node comes or goes.
 pub fn renaming_of_occurrences()
-    ensures occurrences { (r : Renaming) (t : Tree) → occurrences (renamed r t) ≡ map (renamed_variable r) (occurrences t) }
+    ensures occurrences { (r : Renaming) (t : Tree)
+        → occurrences (renamed r t) ≡ map (renamed_variable r) (occurrences t) }
     ensures size { (r : Renaming) (t : Tree) → nodes (renamed r t) ≡ nodes t }
 {}
 
@@ -85,7 +87,8 @@ pub fn renamings_compose()
 /// Two renamings that do the same with sorts and operators, of all or of those that a term is over, give one term.
 pub fn alike_renamings_agree()
     ensures term { (r q : Renaming) → AreAlike r q → (t : Tree) → renamed r t ≡ renamed q t }
-    ensures statement { (r q : Renaming) → AreAlike r q → (s : Statement) → renamed_statement r s ≡ renamed_statement q s }
+    ensures statement { (r q : Renaming) → AreAlike r q → (s : Statement)
+        → renamed_statement r s ≡ renamed_statement q s }
     ensures theory { (r q : Renaming) → AreAlike r q → (t : Theory) → renamed_theory r t ≡ renamed_theory q t }
     ensures term_over { (r q : Renaming) (fs : List PlainOperator) → AreAlikeOver r q fs → (t : Tree)
         → IsOver fs t → renamed r t ≡ renamed q t }

@@ -32,10 +32,12 @@ name_of_parts (plain n) = refl
 name_of_parts (boxed b k) = refl
 
 abbrev coded_name : Coded OperatorName
-coded_name = code_by (List ℕ ⊎ (ℕ × ℕ)) (coded⊎ (coded_list coded_ℕ) (coded× coded_ℕ coded_ℕ)) name_parts name_of name_of_parts
+coded_name =
+    code_by (List ℕ ⊎ (ℕ × ℕ)) (coded⊎ (coded_list coded_ℕ) (coded× coded_ℕ coded_ℕ)) name_parts name_of name_of_parts
 
 -- operators are told apart by their parts
 abbrev pub coded_operator : Coded PlainOperator
 coded_operator =
-    code_by (OperatorName × (List (List ℕ) × List ℕ)) (coded× coded_name (coded× (coded_list (coded_list coded_ℕ)) (coded_list coded_ℕ)))
+    code_by (OperatorName × (List (List ℕ) × List ℕ))
+    (coded× coded_name (coded× (coded_list (coded_list coded_ℕ)) (coded_list coded_ℕ)))
     (λ f. (f.name, (f.domain, f.range))) (λ p. record { name = p.0; domain = p.1.0; range = p.1.1 }) (λ _. refl)

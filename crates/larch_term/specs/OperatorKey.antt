@@ -52,5 +52,7 @@ unfolding same_operator
 operator_Decides f g =
     Decides-like (same_name f.name g.name && (pointwise bytes_eq f.domain g.domain && bytes_eq f.range g.range))
     (λ h. same_record f g h.0 h.1.0 h.1.1) (λ e. (ap (λ o. o.name) e, (ap (λ o. o.domain) e, ap (λ o. o.range) e)))
-    (Decides-and (same_name f.name g.name) (pointwise bytes_eq f.domain g.domain && bytes_eq f.range g.range) (name_Decides f.name g.name)
-    (Decides-and (pointwise bytes_eq f.domain g.domain) (bytes_eq f.range g.range) (sorts_Decides f.domain g.domain) (bytes_eq-Decides f.range g.range)))
+    (Decides-and (same_name f.name g.name) (pointwise bytes_eq f.domain g.domain && bytes_eq f.range g.range)
+    (name_Decides f.name g.name)
+    (Decides-and (pointwise bytes_eq f.domain g.domain) (bytes_eq f.range g.range)
+    (sorts_Decides f.domain g.domain) (bytes_eq-Decides f.range g.range)))

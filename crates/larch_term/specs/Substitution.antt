@@ -1,5 +1,5 @@
 -- Substitutions: lists of variables with the terms that take their places.
-use Rattle.std.specs.Prelude.{◌≡◌, ℕ, cond, ◌&&◌, Bool, List, [], ◌∷◌, ◌++◌, map, All, bytes_eq, refl}
+use Rattle.std.specs.Prelude.{◌≡◌, ℕ, if◌then◌else◌, ◌&&◌, Bool, List, [], ◌∷◌, ◌++◌, map, All, bytes_eq, refl}
 use Rattle.std.specs.Coded.{Coded, code_by, coded×, coded_ℕ, coded_list}
 use Rattle.larch_term.specs.TreeCode.{coded_tree}
 use Rattle.larch_term.specs.Tree.{Tree, Forest, var, app, none, more}
@@ -20,7 +20,7 @@ is_entry_of n s e = bytes_eq e.name n && bytes_eq e.sort s
 -- what takes the place of a variable: the term of its entry, or the variable itself
 abbrev pub image : List Entry → List ℕ → List ℕ → Tree
 image [] n s = var n s
-image (e ∷ es) n s = cond (is_entry_of n s e) e.term (image es n s)
+image (e ∷ es) n s = if is_entry_of n s e then e.term else image es n s
 
 abbrev mutual
   -- the term with all variables replaced at once

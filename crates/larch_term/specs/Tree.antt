@@ -22,11 +22,13 @@ AllOf P (more t ts) = P t × AllOf P ts
 -- induction on terms: what holds of variables, and of each application where it holds of all its arguments, holds
 -- of each term
 mutual
-  pub tree_induction : (P : Tree → Type 0) → ((n s : List ℕ) → P (var n s)) → ((f : PlainOperator) (ts : Forest) → AllOf P ts → P (app f ts)) → (t : Tree) → P t
+  pub tree_induction : (P : Tree → Type 0) → ((n s : List ℕ) → P (var n s))
+      → ((f : PlainOperator) (ts : Forest) → AllOf P ts → P (app f ts)) → (t : Tree) → P t
   tree_induction P v a (var n s) = v n s
   tree_induction P v a (app f ts) = a f ts (forest_induction P v a ts)
 
-  pub forest_induction : (P : Tree → Type 0) → ((n s : List ℕ) → P (var n s)) → ((f : PlainOperator) (ts : Forest) → AllOf P ts → P (app f ts)) → (ts : Forest) → AllOf P ts
+  pub forest_induction : (P : Tree → Type 0) → ((n s : List ℕ) → P (var n s))
+      → ((f : PlainOperator) (ts : Forest) → AllOf P ts → P (app f ts)) → (ts : Forest) → AllOf P ts
   forest_induction P v a none = tt
   forest_induction P v a (more t ts) = (tree_induction P v a t, forest_induction P v a ts)
 

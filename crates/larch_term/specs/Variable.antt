@@ -1,5 +1,5 @@
 -- Variables of a term, in order of occurrence.
-use Rattle.std.specs.Prelude.{cond, ◌&&◌, Bool, List, [], ◌∷◌, ◌++◌, fold, bytes_eq}
+use Rattle.std.specs.Prelude.{if◌then◌else◌, ◌&&◌, Bool, List, [], ◌∷◌, ◌++◌, fold, bytes_eq}
 use Rattle.std.specs.List.{list_any}
 use Rattle.larch_term.specs.Tree.{Tree, Forest, var, app, none, more}
 use Rattle.larch_term.specs.declared.variable.Variable.{Variable}
@@ -20,7 +20,7 @@ same_variable v w = bytes_eq v.name w.name && bytes_eq v.sort w.sort
 
 -- the list with a variable behind it, unless it is there
 abbrev pub with_variable : List Variable → Variable → List Variable
-with_variable vs v = cond (list_any (same_variable v) vs) vs (vs ++ v ∷ [])
+with_variable vs v = if list_any (same_variable v) vs then vs else (vs ++ v ∷ [])
 
 -- the different variables of a term, in the order in which each occurs first
 abbrev pub variables_of : Tree → List Variable

@@ -30,5 +30,6 @@ pub fn truth_is_told()
 pub fn lists_are_arguments()
     ensures list { (ts : List Tree) → list_of (forest_of ts) ≡ ts }
     ensures arguments { (ts : Forest) → forest_of (list_of ts) ≡ ts }
-    ensures parts { (f g : PlainOperator) (ts us : List Tree) → app f (forest_of ts) ≡ app g (forest_of us) → (f ≡ g) × (ts ≡ us) }
+    ensures parts { (f g : PlainOperator) (ts us : List Tree) → app f (forest_of ts) ≡ app g (forest_of us)
+        → (f ≡ g) × (ts ≡ us) }
 {}
