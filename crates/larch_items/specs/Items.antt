@@ -17,7 +17,7 @@ use Rattle.larch_term.specs.Operator.{OperatorName, PlainOperator, plain, boxed}
 use Rattle.larch_term.specs.declared.statement.Statement.{Statement}
 use Rattle.larch_term.specs.declared.statement.Statement.TheVariants.{Generated, Partitioned}
 use Rattle.larch_sorts.specs.Answers.{read_equation}
-use Rattle.larch_operators.specs.ExistingSorts.{exists_sort}
+use Rattle.larch_operators.specs.Sorts.{exists_sort}
 use Rattle.larch_sorts.specs.Readings.{Variables}
 use Rattle.larch_term.specs.Equality.{same_operator}
 use Rattle.larch_sorts.specs.declared.refusal.ReadRefusal.{ReadRefusal}

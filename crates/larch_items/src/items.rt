@@ -1,5 +1,5 @@
 ghost use Rattle.std.specs.Prelude.{◌≡◌, [], None, not, Ok, IfErr, IfOk};
-ghost use Rattle.larch_operators.specs.ExistingSorts.{exists_sort};
+ghost use Rattle.larch_operators.specs.Sorts.{exists_sort};
 ghost use Rattle.larch_sorts.specs.Answers.{read_equation};
 ghost use Rattle.larch_items.specs.Clauses.{clause_statement, clause_states};
 ghost use Rattle.larch_items.specs.Declarations.{first_place};

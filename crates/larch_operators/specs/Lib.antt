@@ -1,3 +1,3 @@
 pub mod BuiltIns
-pub mod ExistingSorts
 pub mod Same
+pub mod Sorts

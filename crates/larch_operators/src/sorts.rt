@@ -1,6 +1,6 @@
 ghost use Rattle.std.specs.Prelude.{◌≡◌, [], bytes_eq, IfOk, OnOk};
 ghost use Rattle.std.specs.List.{fold, list_any};
-ghost use Rattle.larch_operators.specs.ExistingSorts.{with_sort, existing_sorts};
+ghost use Rattle.larch_operators.specs.Sorts.{with_sort, existing_sorts};
 
 use indexmap::IndexSet;
 use larch_base::Memory;

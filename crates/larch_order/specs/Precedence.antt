@@ -4,7 +4,7 @@ use Rattle.std.specs.List.{list_any, position, insert, remove}
 use Rattle.larch_term.specs.Operator.{PlainOperator}
 use Rattle.larch_operators.specs.BuiltIns.{built_ins_at}
 use Rattle.larch_term.specs.BuiltIn.{is_built_in}
-use Rattle.larch_operators.specs.ExistingSorts.{existing_sorts}
+use Rattle.larch_operators.specs.Sorts.{existing_sorts}
 use Rattle.larch_term.specs.Equality.{same_operator}
 use Rattle.larch_order.specs.declared.precedence.Way.{Way}
 use Rattle.larch_order.specs.declared.precedence.Way.TheVariants.{LeftToRight}

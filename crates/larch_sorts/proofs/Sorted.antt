@@ -16,7 +16,7 @@ use Rattle.larch_term.specs.declared.statement.Statement.{Statement}
 use Rattle.larch_term.specs.declared.statement.Statement.TheVariants.{Equation, Generated, Partitioned}
 use Rattle.larch_sorts.specs.Answers.{HasVariablesOf, IsInScope}
 use Rattle.larch_operators.specs.BuiltIns.{built_ins_at, propositional}
-use Rattle.larch_operators.specs.ExistingSorts.{existing_sorts}
+use Rattle.larch_operators.specs.Sorts.{existing_sorts}
 use Rattle.larch_sorts.specs.Operators.{taking_part}
 use Rattle.larch_sorts.specs.Readings.{Variables, sort_in, variable_sort, Reads, a_variable, an_operator, of_sort, AllRead, all_read, one_read, ReadsRight, ReadsEquation}
 use Rattle.larch_term.specs.Truth.{truth}

@@ -8,7 +8,7 @@ use Rattle.larch_base.specs.declared.position.Pos.{Pos}
 use Rattle.larch_raw.specs.RawTree.{RawTree, raw_forest}
 use Rattle.larch_raw.specs.declared.declared.RawWord.{RawWord}
 use Rattle.larch_term.specs.Operator.{PlainOperator}
-use Rattle.larch_operators.specs.ExistingSorts.{exists_sort}
+use Rattle.larch_operators.specs.Sorts.{exists_sort}
 use Rattle.larch_sorts.specs.Places.{unknown_among, sort_words, sort_words_of}
 
 map_or : {A B : Type 0} (f : A → B) (a b : Option A) → option_map f (option_or a b) ≡ option_or (option_map f a) (option_map f b)

@@ -7,7 +7,7 @@ use Rattle.larch_raw.specs.declared.equation.RawRight.{RawRight}
 use Rattle.larch_raw.specs.declared.equation.RawEquation.{RawEquation}
 use Rattle.larch_term.specs.Operator.{PlainOperator}
 use Rattle.larch_term.specs.Tree.{Tree}
-use Rattle.larch_operators.specs.ExistingSorts.{exists_sort}
+use Rattle.larch_operators.specs.Sorts.{exists_sort}
 use Rattle.larch_sorts.specs.Readings.{Variables, Reads, AreSeveral, IsNone}
 use Rattle.larch_sorts.specs.declared.refusal.ReadRefusal.{ReadRefusal}
 use Rattle.larch_sorts.specs.declared.refusal.ReadRefusal.TheVariants.{UnknownSort, NoReading, Ambiguous, Memory}

@@ -1,6 +1,6 @@
 ghost use Rattle.std.specs.Prelude.{◌≡◌, ℕ, List, ◌++◌, ◌∷◌, [], IfOk, OnOk};
 ghost use Rattle.larch_sorts.specs.Index.{kept_under};
-ghost use Rattle.larch_operators.specs.ExistingSorts.{exists_sort};
+ghost use Rattle.larch_operators.specs.Sorts.{exists_sort};
 ghost use Rattle.larch_sorts.specs.Operators.{taking_part};
 ghost use Rattle.larch_sorts.specs.Tables.{named};
 
@@ -23,7 +23,7 @@ impl Model for Signature {
     ghost use Rattle.std.specs.Prelude.{List, ◌≡◌};
     ghost use Rattle.larch_term.specs.Operator.{PlainOperator};
     ghost use Rattle.larch_sorts.specs.Index.{IsIndex};
-    ghost use Rattle.larch_operators.specs.ExistingSorts.{existing_sorts};
+    ghost use Rattle.larch_operators.specs.Sorts.{existing_sorts};
     ghost use Rattle.larch_sorts.specs.Operators.{taking_part};
 
     ghost Value = { List PlainOperator };

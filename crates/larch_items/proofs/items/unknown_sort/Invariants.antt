@@ -1,5 +1,5 @@
 use Rattle.std.proofs.Common.{◌≡◌, not, drop}
-use Rattle.larch_operators.specs.ExistingSorts.{exists_sort}
+use Rattle.larch_operators.specs.Sorts.{exists_sort}
 use Rattle.larch_items.specs.Declarations.{first_place}
 use Rattle.larch_items.proofs.items.unknown_sort.Given as goal
 

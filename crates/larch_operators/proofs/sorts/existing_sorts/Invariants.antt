@@ -1,6 +1,6 @@
 use Rattle.std.proofs.Common.{◌≡◌, ◌++◌, ◌∷◌, [], drop}
 use Rattle.std.specs.List.{fold, flat_map}
-use Rattle.larch_operators.specs.ExistingSorts.{with_sort, existing_sorts}
+use Rattle.larch_operators.specs.Sorts.{with_sort, existing_sorts}
 use Rattle.larch_operators.proofs.sorts.existing_sorts.Given as goal
 
 -- the sorts of the operators that are left, put behind those that are there, are all

@@ -1,6 +1,6 @@
 use Rattle.std.proofs.Common.{◌≡◌, drop}
 use Rattle.std.specs.List.{fold}
-use Rattle.larch_operators.specs.ExistingSorts.{with_sort}
+use Rattle.larch_operators.specs.Sorts.{with_sort}
 use Rattle.larch_operators.proofs.sorts.insert_all.Given as goal
 
 -- the sorts that are left, put behind those that are there, are all
