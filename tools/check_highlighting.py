@@ -16,7 +16,7 @@ import tempfile
 import unittest
 
 import make_highlighting
-from desk import TOP
+from desk import TOP, server
 
 KEPT = TOP / "editors/expected.txt"
 FILES = sorted(str(path.relative_to(TOP)) for folder in ("examples", "editors/samples")
@@ -74,6 +74,10 @@ class Coloured(unittest.TestCase):
         # The two connectives of slashes are given there by their bytes.
         fixed = set(table["fixed"] + table["quantifier"]) - {"/\\", "\\/"}
         self.assertEqual(fixed, {text for text in found if re.fullmatch(r"[!#$&*+/<>=?@^|~-]+|\\[a-z]+", text)})
+
+    def test_words_are_the_servers(self):
+        parts = {word for word in make_highlighting.words()["part"] if word != "trait"}
+        self.assertEqual(parts, set(re.findall("[a-z]{2,}", server.PART.pattern.decode())))
 
     def test_files_are_made_of_the_table(self):
         for path, text in make_highlighting.files().items():

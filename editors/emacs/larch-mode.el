@@ -64,6 +64,10 @@
   (append `((,larch--mark (1 'larch-mark t) (2 'font-lock-comment-face t)))
           (larch--keywords '(command option choice builtin sort))))
 
+(defconst larch--part
+  (concat (regexp-opt (seq-difference larch-part-words '("trait" "exempting")) t) "\\_>")
+  "A word that begins a part.")
+
 (defun larch--line-before ()
   "Go to the line of text before this one, past blank lines and comments; whether there is one."
   (let ((found nil))
@@ -77,9 +81,7 @@
     (if (not (larch--line-before))
         0
       (+ (current-indentation)
-         (if (looking-at-p (concat "[ \t]*\\(\\\\forall\\_>\\|.*:[ \t]*trait\\_>\\|"
-                                   "\\(includes\\|assumes\\|introduces\\|asserts\\|implies\\|converts\\)\\_>\\)"))
-             2 0)))))
+         (if (looking-at-p (concat "[ \t]*\\(\\\\forall\\_>\\|.*:[ \t]*trait\\_>\\|" larch--part "\\)")) 2 0)))))
 
 (defun lsl-indent-line ()
   "Indent a line of a trait: parts by 2, their items by 4, what stands behind a quantifier by 6."
@@ -87,7 +89,7 @@
   (larch--indent-to
    (save-excursion
      (beginning-of-line)
-     (cond ((looking-at-p "[ \t]*\\(includes\\|assumes\\|introduces\\|asserts\\|implies\\|converts\\)\\_>") 2)
+     (cond ((looking-at-p (concat "[ \t]*" larch--part)) 2)
            ((looking-at-p ".*:[ \t]*trait\\_>") 0)
            ((looking-at-p "[ \t]*\\(\\\\forall\\_>\\|[^ \t\n]+[ \t]+\\(generated\\|partitioned\\)\\_>\\|exempting\\_>\\)") 4)
            (t (larch--like-line-before))))))
