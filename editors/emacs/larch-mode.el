@@ -7,6 +7,7 @@
 ;;; Code:
 (defgroup larch nil "Traits and proof scripts of larch." :group 'languages)
 (require 'larch-words)
+(require 'seq)
 
 (defvar larch-mode-syntax-table
   (let ((table (make-syntax-table)))
@@ -41,7 +42,7 @@
           (t 'larch-symbol))))
 
 (defun larch--word (words)
-  "A function that finds the next of WORDS which isn't the rest of a backslash word."
+  "A function that finds the next of WORDS outside backslash words."
   (let ((wanted (concat "\\_<" (regexp-opt words) "\\_>")))
     (lambda (limit)
       (let ((found nil))
@@ -69,14 +70,14 @@
   "A word that begins a part.")
 
 (defun larch--line-before ()
-  "Go to the line of text before this one, past blank lines and comments; whether there is one."
+  "Go to the line before, past blank lines and comments; whether there is one."
   (let ((found nil))
     (while (and (not found) (zerop (forward-line -1)))
       (setq found (not (looking-at-p "[ \t]*\\(%\\|$\\)"))))
     found))
 
 (defun larch--like-line-before ()
-  "The indentation of the line before, and two more behind a line that opens something."
+  "The indentation of the line before, two more where that one opens something."
   (save-excursion
     (if (not (larch--line-before))
         0
@@ -84,7 +85,8 @@
          (if (looking-at-p (concat "[ \t]*\\(\\\\forall\\_>\\|.*:[ \t]*trait\\_>\\|" larch--part "\\)")) 2 0)))))
 
 (defun lsl-indent-line ()
-  "Indent a line of a trait: parts by 2, their items by 4, what stands behind a quantifier by 6."
+  "Indent a line of a trait.
+Parts stand at 2, their items at 4, equations behind a quantifier at 6."
   (interactive)
   (larch--indent-to
    (save-excursion
@@ -95,7 +97,8 @@
            (t (larch--like-line-before))))))
 
 (defun lp-indent-line ()
-  "Indent a line of a script: commands of a block by 2, and 2 more for each subgoal that is open by its marks."
+  "Indent a line of a script.
+Commands of a block stand at 2, and 2 more for each subgoal open by its marks."
   (interactive)
   (larch--indent-to
    (save-excursion
