@@ -33,11 +33,13 @@ constants_older b k (s ∷ ss) =
     All-cons (λ f. IsOlderName b f.name) (record { name = boxed b k; domain = []; range = s }) (constants_from b (suc k) ss) (omega arith) (constants_older b (suc k) ss)
 
 -- with the constants of a box, the box's number is the highest
-pub older_opened : (b c k : ℕ) (ss : List (List ℕ)) (hs : List Statement) (t : Theory) → IsOlder b t → b ≤ c → IsOlder c (extended t (constants_from c k ss) hs)
+pub older_opened : (b c k : ℕ) (ss : List (List ℕ)) (hs : List Statement) (t : Theory) → IsOlder b t → b ≤ c
+    → IsOlder c (extended t (constants_from c k ss) hs)
 older_opened b c k ss hs t h le =
     All-append (λ f. IsOlderName c f.name) t.operators (constants_from c k ss) (older_later b c t h le) (constants_older c k ss)
 
-pub older_less : (b : ℕ) (cs : List PlainOperator) (hs : List Statement) (t : Theory) → IsOlder b (extended t cs hs) → IsOlder b t
+pub older_less : (b : ℕ) (cs : List PlainOperator) (hs : List Statement) (t : Theory) → IsOlder b (extended t cs hs)
+    → IsOlder b t
 older_less b cs hs t h =
     all_from (λ f. IsOlderName b f.name) t.operators
     (λ f c. All-contains (λ f. IsOlderName b f.name) (t.operators ++ cs) f h (contains_left t.operators cs f c))
@@ -53,7 +55,8 @@ new_name b c k t lt h f (inr (d, (s, p))) e = plain_apart (ap (λ g. g.name) (sy
     plain_apart : {n : List ℕ} {b k : ℕ} → plain n ≡ boxed b k → ⊥
     plain_apart e = cc
 
-new_from : (b c k : ℕ) (ss : List (List ℕ)) (t : Theory) → b < c → IsOlder b t → All (λ f. IsNewName t f.name) (constants_from c k ss)
+new_from : (b c k : ℕ) (ss : List (List ℕ)) (t : Theory) → b < c → IsOlder b t
+    → All (λ f. IsNewName t f.name) (constants_from c k ss)
 new_from b c k [] t lt h = All-nil (λ f. IsNewName t f.name)
 new_from b c k (s ∷ ss) t lt h =
     All-cons (λ f. IsNewName t f.name) (record { name = boxed c k; domain = []; range = s }) (constants_from c (suc k) ss) (new_name b c k t lt h) (new_from b c (suc k) ss t lt h)
@@ -77,7 +80,8 @@ different_from b k (s ∷ ss) =
     (other_names b k (suc k) ss (omega arith)) (different_from b (suc k) ss)
 
 -- constants of a box with a number above those of the theory are new
-pub constants_new : (b c k : ℕ) (ss : List (List ℕ)) (t : Theory) → IsOlder b t → b < c → AreNew t (constants_from c k ss)
+pub constants_new : (b c k : ℕ) (ss : List (List ℕ)) (t : Theory) → IsOlder b t → b < c
+    → AreNew t (constants_from c k ss)
 constants_new b c k ss t h lt = record { names = new_from b c k ss t lt h; different = different_from c k ss }
 
 pub constants_without_arguments : (b k : ℕ) (ss : List (List ℕ)) → AreConstants (constants_from b k ss)
@@ -90,7 +94,8 @@ constants_sorts b k [] = refl
 constants_sorts b k (s ∷ ss) = ap (λ rs. s ∷ rs) (constants_sorts b (suc k) ss)
 
 -- they may stand for an operator's arguments in an induction
-pub constants_as_arguments : (b c k : ℕ) (f : PlainOperator) (t : Theory) → IsOlder b t → b < c → AreArguments t f (constants_from c k f.domain)
+pub constants_as_arguments : (b c k : ℕ) (f : PlainOperator) (t : Theory) → IsOlder b t → b < c
+    → AreArguments t f (constants_from c k f.domain)
 constants_as_arguments b c k f t h lt =
     record {
       new = constants_new b c k f.domain t h lt;

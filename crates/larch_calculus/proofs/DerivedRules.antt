@@ -28,16 +28,20 @@ use Rattle.larch_calculus.proofs.Sorted.{truth_over, falsity_over, sides_over, i
 use Rattle.larch_calculus.proofs.Translation.{translated}
 use Rattle.larch_calculus.proofs.WellSorted.{well_sorted}
 
-pub transitive : {t : Theory} {a b c : Tree} → Derivable t (Equation a b) → Derivable t (Equation b c) → Derivable t (Equation a c)
+pub transitive : {t : Theory} {a b c : Tree} → Derivable t (Equation a b) → Derivable t (Equation b c)
+    → Derivable t (Equation a c)
 transitive d e = replace [] d e refl refl
 
-pub replaced_right : {t : Theory} {a b u v : Tree} (p : List ℕ) → at b p ≡ Some u → Derivable t (Equation a b) → Derivable t (Equation u v) → Derivable t (Equation a (put b p v))
+pub replaced_right : {t : Theory} {a b u v : Tree} (p : List ℕ) → at b p ≡ Some u → Derivable t (Equation a b)
+    → Derivable t (Equation u v) → Derivable t (Equation a (put b p v))
 replaced_right p h d e = replace p d e h refl
 
-pub replaced_left : {t : Theory} {a b u v : Tree} (p : List ℕ) → at a p ≡ Some u → Derivable t (Equation a b) → Derivable t (Equation u v) → Derivable t (Equation (put a p v) b)
+pub replaced_left : {t : Theory} {a b u v : Tree} (p : List ℕ) → at a p ≡ Some u → Derivable t (Equation a b)
+    → Derivable t (Equation u v) → Derivable t (Equation (put a p v) b)
 replaced_left p h d e = symmetric (replace p (symmetric d) e h refl)
 
-pub replaced_inside : {t : Theory} {a u v : Tree} (p : List ℕ) → IsTermOver t.operators a → at a p ≡ Some u → Derivable t (Equation u v) → Derivable t (Equation a (put a p v))
+pub replaced_inside : {t : Theory} {a u v : Tree} (p : List ℕ) → IsTermOver t.operators a → at a p ≡ Some u
+    → Derivable t (Equation u v) → Derivable t (Equation a (put a p v))
 replaced_inside p w h e = replace p (reflexive w) e h refl
 
 pub image_x : (s : List ℕ) (a b : Tree) → image (two s a b) (codes "x") s ≡ a
@@ -52,26 +56,30 @@ two_fit s a b wa ea wb eb =
     All-cons P (record { name = codes "x"; sort = s; term = a }) (record { name = codes "y"; sort = s; term = b } ∷ []) (wa, ea)
     (All-cons P (record { name = codes "y"; sort = s; term = b }) [] (wb, eb) (All-nil P))
 
-pub two_over : (fs : List PlainOperator) (s : List ℕ) (a b : Tree) → IsOver fs a → IsOver fs b → All (λ e. IsOver fs e.term) (two s a b)
+pub two_over : (fs : List PlainOperator) (s : List ℕ) (a b : Tree) → IsOver fs a → IsOver fs b
+    → All (λ e. IsOver fs e.term) (two s a b)
 two_over fs s a b oa ob =
     let P : Entry → Type 0 = λ e. IsOver fs e.term in
     All-cons P (record { name = codes "x"; sort = s; term = a }) (record { name = codes "y"; sort = s; term = b } ∷ []) oa
     (All-cons P (record { name = codes "y"; sort = s; term = b }) [] ob (All-nil P))
 
 -- an identity with terms for x and y
-pub identity_instance : {t : Theory} (s : List ℕ) (a b : Tree) {c d : Tree} → IsTermOf t.operators s a → IsTermOf t.operators s b → IsIdentity c d
+pub identity_instance : {t : Theory} (s : List ℕ) (a b : Tree) {c d : Tree} → IsTermOf t.operators s a
+    → IsTermOf t.operators s b → IsIdentity c d
     → Derivable t (Equation (substituted (two s a b) c) (substituted (two s a b) d))
 identity_instance {t} s a b p q i =
     instance (two s a b) (two_fit s a b p.0.0 p.1 q.0.0 q.1) (two_over t.operators s a b p.0.1 q.0.1) (identity i) refl refl
 
-pub chosen_true : {t : Theory} (s : List ℕ) (a b : Tree) → IsTermOver t.operators a → sort_of a ≡ s → IsTermOver t.operators b → sort_of b ≡ s
+pub chosen_true : {t : Theory} (s : List ℕ) (a b : Tree) → IsTermOver t.operators a → sort_of a ≡ s
+    → IsTermOver t.operators b → sort_of b ≡ s
     → Derivable t (Equation (choice s truth a b) a)
 chosen_true {t} s a b wa ea wb eb =
     instance (two s a b) (two_fit s a b wa.0 ea wb.0 eb) (two_over t.operators s a b wa.1 wb.1)
     (identity (chosen_first s (codes "x") (codes "y") refl refl))
     (λ i. choice s truth (sym (image_x s a b) i) (sym (image_y s a b) i)) (sym (image_x s a b))
 
-pub chosen_false : {t : Theory} (s : List ℕ) (a b : Tree) → IsTermOver t.operators a → sort_of a ≡ s → IsTermOver t.operators b → sort_of b ≡ s
+pub chosen_false : {t : Theory} (s : List ℕ) (a b : Tree) → IsTermOver t.operators a → sort_of a ≡ s
+    → IsTermOver t.operators b → sort_of b ≡ s
     → Derivable t (Equation (choice s falsity a b) b)
 chosen_false {t} s a b wa ea wb eb =
     instance (two s a b) (two_fit s a b wa.0 ea wb.0 eb) (two_over t.operators s a b wa.1 wb.1)
@@ -79,7 +87,8 @@ chosen_false {t} s a b wa ea wb eb =
     (λ i. choice s falsity (sym (image_x s a b) i) (sym (image_y s a b) i)) (sym (image_y s a b))
 
 -- from true == false each equation: both sides are choices, with true and with false for the condition
-pub all_equal : {t : Theory} {a b : Tree} → Derivable t (Equation truth falsity) → IsStatementOver t.operators (Equation a b) → Derivable t (Equation a b)
+pub all_equal : {t : Theory} {a b : Tree} → Derivable t (Equation truth falsity)
+    → IsStatementOver t.operators (Equation a b) → Derivable t (Equation a b)
 all_equal {t} {a} {b} d w =
     let s = sort_of a in
     transitive (replace (1 ∷ []) (symmetric (chosen_true s a b w.0 refl w.1 (sym w.2))) d refl refl) (chosen_false s a b w.0 refl w.1 (sym w.2))
@@ -95,13 +104,15 @@ both_ways false true = refl
 both_ways false false = refl
 
 -- a /\ true == a
-pub with_truth : {t : Theory} (a : Tree) → IsTermOver t.operators a → sort_of a ≡ bool_sort → Derivable t (Equation (conjunction a truth) a)
+pub with_truth : {t : Theory} (a : Tree) → IsTermOver t.operators a → sort_of a ≡ bool_sort
+    → Derivable t (Equation (conjunction a truth) a)
 with_truth {t} a wa ea =
     identity_instance bool_sort a a (wa, ea) (wa, ea)
     (propositional (both x_letter always) x_letter refl refl (λ given. and_true (given (codes "x"))))
 
 -- (a /\ (a => b)) == (b /\ (b => a))
-pub exchanged : {t : Theory} (a b : Tree) → IsTermOver t.operators a → sort_of a ≡ bool_sort → IsTermOver t.operators b → sort_of b ≡ bool_sort
+pub exchanged : {t : Theory} (a b : Tree) → IsTermOver t.operators a → sort_of a ≡ bool_sort
+    → IsTermOver t.operators b → sort_of b ≡ bool_sort
     → Derivable t (Equation (conjunction a (implication a b)) (conjunction b (implication b a)))
 exchanged {t} a b wa ea wb eb =
     identity_instance bool_sort a b (wa, ea) (wb, eb)
@@ -109,7 +120,8 @@ exchanged {t} a b wa ea wb eb =
     (λ given. both_ways (given (codes "x")) (given (codes "y"))))
 
 -- formulas that imply each other are equal
-pub equal_by_implications : {t : Theory} {a b : Tree} → Derivable t (Equation (implication a b) truth) → Derivable t (Equation (implication b a) truth) → Derivable t (Equation a b)
+pub equal_by_implications : {t : Theory} {a b : Tree} → Derivable t (Equation (implication a b) truth)
+    → Derivable t (Equation (implication b a) truth) → Derivable t (Equation a b)
 equal_by_implications {t} {a} {b} d e =
     let sides = sides_over t.operators (built_in Implies bool_sort) bool_sort bool_sort a b refl (well_sorted d).0 in
     let wa = sides.0.0 in
@@ -128,7 +140,8 @@ pub supposed : (t : Theory) (h : Statement) → IsStatementOver t.operators h �
 supposed t h w =
     axiom_ (contains_later statement_zero h (t.statements ++ h ∷ []) (contains_right t.statements (h ∷ []) h (contains_here h []))) w
 
-supposing_first : (t : Theory) (h k : Statement) → IsIncluded (with_statements t (k ∷ [])) (with_statements (with_statements t (h ∷ [])) (k ∷ []))
+supposing_first : (t : Theory) (h k : Statement)
+    → IsIncluded (with_statements t (k ∷ [])) (with_statements (with_statements t (h ∷ [])) (k ∷ []))
 supposing_first t h k =
     record {
       operators = λ f c. c;
@@ -138,12 +151,14 @@ supposing_first t h k =
       ];
     }
 
-supposing_well_sorted : (t : Theory) (h : Statement) → IsWellSortedTheory t → IsStatementOver t.operators h → IsWellSortedTheory (with_statements t (h ∷ []))
+supposing_well_sorted : (t : Theory) (h : Statement) → IsWellSortedTheory t → IsStatementOver t.operators h
+    → IsWellSortedTheory (with_statements t (h ∷ []))
 supposing_well_sorted t h w v = with_statements_well_sorted t (h ∷ []) w (All-cons (IsStatementOver t.operators) h [] v (All-nil (IsStatementOver t.operators)))
 
 -- formulas without variables that follow from each other are equal
 pub equal_by_suppositions : {t : Theory} {a b : Tree} → IsWellSortedTheory t
-    → IsTermOver t.operators a → sort_of a ≡ bool_sort → occurrences a ≡ [] → IsTermOver t.operators b → sort_of b ≡ bool_sort → occurrences b ≡ []
+    → IsTermOver t.operators a → sort_of a ≡ bool_sort → occurrences a ≡ [] → IsTermOver t.operators b
+    → sort_of b ≡ bool_sort → occurrences b ≡ []
     → Derivable (with_statements t (Equation a truth ∷ [])) (Equation b truth)
     → Derivable (with_statements t (Equation b truth ∷ [])) (Equation a truth) → Derivable t (Equation a b)
 equal_by_suppositions {t} {a} {b} w wa sa oa wb sb ob d e =
@@ -170,7 +185,8 @@ prefix_included t u p =
     }
 
 -- what a theory states may be derived from another one with its operators
-pub cut_theory : {t u : Theory} {s : Statement} → IsWellSortedTheory t → IsWellSortedTheory u → ((f : PlainOperator) → Contains t.operators f → Contains u.operators f)
+pub cut_theory : {t u : Theory} {s : Statement} → IsWellSortedTheory t → IsWellSortedTheory u
+    → ((f : PlainOperator) → Contains t.operators f → Contains u.operators f)
     → ((r : Statement) → Contains t.statements r → Derivable u r) → Derivable t s → Derivable u s
 cut_theory {t} {u} {s} wt wu fs rs d =
     subst (Derivable u) (statement_unchanged s)
@@ -186,7 +202,8 @@ cut_theory {t} {u} {s} wt wu fs rs d =
       statements = λ r c. subst (Derivable u) (sym (statement_unchanged r)) (rs r c);
     }))
 
-pub cut_statements : {t : Theory} (ss : List Statement) {s : Statement} → IsWellSortedTheory t → All (Derivable t) ss → Derivable (with_statements t ss) s → Derivable t s
+pub cut_statements : {t : Theory} (ss : List Statement) {s : Statement} → IsWellSortedTheory t → All (Derivable t) ss
+    → Derivable (with_statements t ss) s → Derivable t s
 cut_statements {t} ss w h d =
     cut_theory (with_statements_well_sorted t ss w (All-weaker (Derivable t) (IsStatementOver t.operators) (λ r e. well_sorted e) ss h)) w (λ f c. c)
     (λ r c. elim (contains_either t.statements ss r c) [

@@ -16,12 +16,14 @@ use Rattle.larch_calculus.specs.Derivable.{Derivable, axiom_}
 use Rattle.larch_calculus.proofs.Sorted.{extended_well_sorted}
 
 -- new operators are none of the theory's
-apart_from_new : (t : Theory) (cs : List PlainOperator) → AreNew t cs → (f : PlainOperator) → IsKnown t.operators f → All (λ c. f ≢ c) cs
+apart_from_new : (t : Theory) (cs : List PlainOperator) → AreNew t cs → (f : PlainOperator) → IsKnown t.operators f
+    → All (λ c. f ≢ c) cs
 apart_from_new t cs n f k =
     All-weaker (λ c. IsNewName t c.name) (λ c. f ≢ c) (λ c h e. h f k (ap (λ g. g.name) e)) cs n.names
 
 different_more : (t : Theory) (cs : List PlainOperator) → AreNew t cs → (fs : List PlainOperator)
-    → ((f : PlainOperator) → Contains fs f → IsKnown t.operators f) → AllPairs (λ f g. f ≢ g) fs → AllPairs (λ f g. f ≢ g) (fs ++ cs)
+    → ((f : PlainOperator) → Contains fs f → IsKnown t.operators f) → AllPairs (λ f g. f ≢ g) fs
+    → AllPairs (λ f g. f ≢ g) (fs ++ cs)
 different_more t cs n [] k d = λ i j e lt within p. n.different i j e lt within (ap (λ g. g.name) p)
 different_more t cs n (f ∷ fs) k d =
     AllPairs-cons (λ f g. f ≢ g) f (fs ++ cs)
@@ -48,7 +50,8 @@ extended_twice t cs ds hs ks =
     λ i. record { operators = append_assoc t.operators cs ds i; statements = append_assoc t.statements hs ks i }
 
 -- the hypotheses are derivable in the extension
-pub supposed_all : (t : Theory) (cs : List PlainOperator) (hs : List Statement) → All (IsStatementOver (t.operators ++ cs)) hs
+pub supposed_all : (t : Theory) (cs : List PlainOperator) (hs : List Statement)
+    → All (IsStatementOver (t.operators ++ cs)) hs
     → All (Derivable (extended t cs hs)) hs
 supposed_all t cs hs w =
     all_from (Derivable (extended t cs hs)) hs

@@ -36,14 +36,16 @@ pub record Extends (r further : Renaming) (t u : Theory) (cs : List PlainOperato
   pub names : AreNew u (map further.operator cs)
   pub apart : (c f : PlainOperator) → Contains cs c → IsKnown (t.operators ++ cs) f
       → (further.operator c).name ≡ (further.operator f).name → c.name ≡ f.name
-  pub together : (c f : PlainOperator) → Contains cs c → c.name ≡ f.name → (further.operator c).name ≡ (further.operator f).name
+  pub together : (c f : PlainOperator) → Contains cs c → c.name ≡ f.name
+      → (further.operator c).name ≡ (further.operator f).name
 
 boxed_signature : (r : Renaming) → FitsSignatures r → (b : ℕ) (o : Option ℕ) (f : PlainOperator)
     → ((boxed_at r b o f).domain ≡ map r.sort f.domain) × ((boxed_at r b o f).range ≡ r.sort f.range)
 boxed_signature r h b None f = (h.domain f, h.range f)
 boxed_signature r h b (Some k) f = (refl, refl)
 
-pub box_extends : (r : Renaming) (t u : Theory) (cs : List PlainOperator) → IsFaithful r → Carries r t.operators u.operators → AreNew t cs
+pub box_extends : (r : Renaming) (t u : Theory) (cs : List PlainOperator) → IsFaithful r
+    → Carries r t.operators u.operators → AreNew t cs
     → Extends r (with_box r cs (next_box u.operators)) t u cs
 box_extends r t u cs faithful known n =
     let b = next_box u.operators in
@@ -88,11 +90,13 @@ box_extends r t u cs faithful known n =
     box_place : (b j k : ℕ) → boxed b j ≡ boxed b k → j ≡ k
     box_place b j k e = cc
 
-    same_place : (get : ℕ → Option PlainOperator) (c d : PlainOperator) (j k : ℕ) → j ≡ k → get j ≡ Some c → get k ≡ Some d → c ≡ d
+    same_place : (get : ℕ → Option PlainOperator) (c d : PlainOperator) (j k : ℕ) → j ≡ k → get j ≡ Some c
+        → get k ≡ Some d → c ≡ d
     same_place get c d j k e p q = cc
 
 -- the places of names among the constants are as before
-place_kept : (r further : Renaming) (t u : Theory) (cs : List PlainOperator) → Extends r further t u cs → (f : PlainOperator)
+place_kept : (r further : Renaming) (t u : Theory) (cs : List PlainOperator) → Extends r further t u cs
+    → (f : PlainOperator)
     → IsKnown (t.operators ++ cs) f → place_of (map further.operator cs) (further.operator f).name ≡ place_of cs f.name
 place_kept r further t u cs x f k =
     place_alike further.operator cs f.name (further.operator f).name
@@ -100,13 +104,15 @@ place_kept r further t u cs x f k =
 
 -- the variable for a constant, at the other sort
 variable_kept : (r : Renaming) (vs : List Variable) (o : Option ℕ)
-    → option_and_then (slice_get (map (renamed_variable r) vs)) o ≡ option_map (renamed_variable r) (option_and_then (slice_get vs) o)
+    → option_and_then (slice_get (map (renamed_variable r) vs)) o
+    ≡ option_map (renamed_variable r) (option_and_then (slice_get vs) o)
 variable_kept r vs None = refl
 variable_kept r vs (Some k) = slice_get-map (renamed_variable r) vs k
 
 -- variables in the places of the constants, and other names for what is left
 mutual
-  pub freed_renamed : (r further : Renaming) (t u : Theory) (cs : List PlainOperator) (vs : List Variable) → Extends r further t u cs
+  pub freed_renamed : (r further : Renaming) (t u : Theory) (cs : List PlainOperator) (vs : List Variable)
+      → Extends r further t u cs
       → AreNew t cs → map (λ c. c.range) cs ≡ map (λ v. v.sort) vs → (a : Tree) → IsOver (t.operators ++ cs) a
       → renamed r (freed cs vs a) ≡ freed (map further.operator cs) (map (renamed_variable r) vs) (renamed further a)
   freed_renamed r further t u cs vs x n e (var m s) o = ap (var m) (sym (x.alike.sorts s))
@@ -126,23 +132,29 @@ mutual
             (variable_for cs vs f.name) (variable_for (map further.operator cs) (map (renamed_variable r) vs) (further.operator f).name) v.0 v.1 variable
       ]
     where
-      left : (r : Renaming) (g f : PlainOperator) (ts us : Forest) (o p : Option Variable) → o ≡ None → p ≡ option_map (renamed_variable r) o
+      left : (r : Renaming) (g f : PlainOperator) (ts us : Forest) (o p : Option Variable) → o ≡ None
+          → p ≡ option_map (renamed_variable r) o
           → r.operator f ≡ g → renamed_all r ts ≡ us
-          → renamed r (unwrap_or (option_map (λ v. var v.name v.sort) o) (app f ts)) ≡ unwrap_or (option_map (λ v. var v.name v.sort) p) (app g us)
+          → renamed r (unwrap_or (option_map (λ v. var v.name v.sort) o) (app f ts))
+          ≡ unwrap_or (option_map (λ v. var v.name v.sort) p) (app g us)
       left r g f ts us o p a b e q =
           ap (λ z. renamed r (unwrap_or (option_map (λ v. var v.name v.sort) z) (app f ts))) a
           ∙ (λ i. app (e i) (q i))
           ∙ ap (λ z. unwrap_or (option_map (λ v. var v.name v.sort) z) (app g us)) (sym (b ∙ ap (option_map (renamed_variable r)) a))
 
-      gone : (r : Renaming) (g f : PlainOperator) (ts us : Forest) (o p : Option Variable) (v : Variable) → o ≡ Some v → p ≡ option_map (renamed_variable r) o
-          → renamed r (unwrap_or (option_map (λ v. var v.name v.sort) o) (app f ts)) ≡ unwrap_or (option_map (λ v. var v.name v.sort) p) (app g us)
+      gone : (r : Renaming) (g f : PlainOperator) (ts us : Forest) (o p : Option Variable) (v : Variable) → o ≡ Some v
+          → p ≡ option_map (renamed_variable r) o
+          → renamed r (unwrap_or (option_map (λ v. var v.name v.sort) o) (app f ts))
+          ≡ unwrap_or (option_map (λ v. var v.name v.sort) p) (app g us)
       gone r g f ts us o p v a b =
           ap (λ z. renamed r (unwrap_or (option_map (λ v. var v.name v.sort) z) (app f ts))) a
           ∙ ap (λ z. unwrap_or (option_map (λ v. var v.name v.sort) z) (app g us)) (sym (b ∙ ap (option_map (renamed_variable r)) a))
 
-  pub freed_all_renamed : (r further : Renaming) (t u : Theory) (cs : List PlainOperator) (vs : List Variable) → Extends r further t u cs
+  pub freed_all_renamed : (r further : Renaming) (t u : Theory) (cs : List PlainOperator) (vs : List Variable)
+      → Extends r further t u cs
       → AreNew t cs → map (λ c. c.range) cs ≡ map (λ v. v.sort) vs → (ls : Forest) → AllOver (t.operators ++ cs) ls
-      → renamed_all r (freed_all cs vs ls) ≡ freed_all (map further.operator cs) (map (renamed_variable r) vs) (renamed_all further ls)
+      → renamed_all r (freed_all cs vs ls)
+      ≡ freed_all (map further.operator cs) (map (renamed_variable r) vs) (renamed_all further ls)
   freed_all_renamed r further t u cs vs x n e none o = refl
   freed_all_renamed r further t u cs vs x n e (more a ls) o =
       λ i. more (freed_renamed r further t u cs vs x n e a o.0 i) (freed_all_renamed r further t u cs vs x n e ls o.1 i)

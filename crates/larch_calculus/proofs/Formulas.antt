@@ -39,7 +39,8 @@ truth_is (app f none) e = ap (λ g. app g none) (is_true_one f e)
 truth_is (app f (more t ts)) e = cc
 
 -- (a = a) == true
-equals_itself : {t : Theory} (a : Tree) → IsTermOver t.operators a → Derivable t (Equation (equality (sort_of a) a a) truth)
+equals_itself : {t : Theory} (a : Tree) → IsTermOver t.operators a
+    → Derivable t (Equation (equality (sort_of a) a a) truth)
 equals_itself {t} a w =
     let s = sort_of a in
     instance (two s a a) (two_fit s a a w.0 refl w.0 refl) (two_over t.operators s a a w.1 w.1)
@@ -47,30 +48,35 @@ equals_itself {t} a w =
     (λ i. equality s (sym (image_x s a a) i) (sym (image_x s a a) i)) refl
 
 -- (a <=> a) == true
-equivalent_itself : {t : Theory} (a : Tree) → IsTermOver t.operators a → sort_of a ≡ bool_sort → Derivable t (Equation (equivalence a a) truth)
+equivalent_itself : {t : Theory} (a : Tree) → IsTermOver t.operators a → sort_of a ≡ bool_sort
+    → Derivable t (Equation (equivalence a a) truth)
 equivalent_itself {t} a w e =
     identity_instance bool_sort a a (w, e) (w, e)
     (propositional (equivalent x_letter x_letter) always refl refl (λ given. agree_itself (given (codes "x"))))
 
 -- (a = b) == (a <=> b)
-equal_is_equivalent : {t : Theory} (a b : Tree) → IsTermOver t.operators a → sort_of a ≡ bool_sort → IsTermOver t.operators b → sort_of b ≡ bool_sort
+equal_is_equivalent : {t : Theory} (a b : Tree) → IsTermOver t.operators a → sort_of a ≡ bool_sort
+    → IsTermOver t.operators b → sort_of b ≡ bool_sort
     → Derivable t (Equation (equality bool_sort a b) (equivalence a b))
 equal_is_equivalent {t} a b wa ea wb eb =
     identity_instance bool_sort a b (wa, ea) (wb, eb)
     (propositional (equal x_letter y_letter) (equivalent x_letter y_letter) refl refl (λ given. refl))
 
 -- the four cases of a formula, each with what is known in it
-formula_is : (P : Tree → Type 0) (a b : Tree) → (b ≡ truth → P a) → (a ≡ truth → P b) → (sort_of a ≡ bool_sort → P (equivalence a b)) → P (equality (sort_of a) a b) → P (formula a b)
+formula_is : (P : Tree → Type 0) (a b : Tree) → (b ≡ truth → P a) → (a ≡ truth → P b)
+    → (sort_of a ≡ bool_sort → P (equivalence a b)) → P (equality (sort_of a) a b) → P (formula a b)
 formula_is P a b right left over_bool other =
     one P a b (equivalence a b) (equality (sort_of a) a b) (is_truth b) (is_truth a) (bytes_eq (sort_of a) bool_sort) (λ e. right (truth_is b e)) (λ e. left (truth_is a e)) (λ e. over_bool ((bytes_eq-Decides (sort_of a) bool_sort).0 e)) other
   where
-    one : (P : Tree → Type 0) (a b c d : Tree) (p q r : Bool) → (p ≡ true → P a) → (q ≡ true → P b) → (r ≡ true → P c) → P d → P (cond p a (cond q b (cond r c d)))
+    one : (P : Tree → Type 0) (a b c d : Tree) (p q r : Bool) → (p ≡ true → P a) → (q ≡ true → P b) → (r ≡ true → P c)
+        → P d → P (cond p a (cond q b (cond r c d)))
     one P a b c d true q r f g h x = f refl
     one P a b c d false true r f g h x = g refl
     one P a b c d false false true f g h x = h refl
     one P a b c d false false false f g h x = x
 
-pub formula_follows : {t : Theory} (a b : Tree) → Derivable t (Equation a b) → Derivable t (Equation (formula a b) truth)
+pub formula_follows : {t : Theory} (a b : Tree) → Derivable t (Equation a b)
+    → Derivable t (Equation (formula a b) truth)
 formula_follows {t} a b d =
     let w = well_sorted d in
     formula_is (λ f. Derivable t (Equation f truth)) a b
@@ -79,7 +85,8 @@ formula_follows {t} a b d =
     (λ e. replaced_left (2 ∷ []) refl (equivalent_itself a w.0 e) d)
     (replaced_left (2 ∷ []) refl (equals_itself a w.0) d)
 
-pub equation_follows : {t : Theory} (a b : Tree) → Derivable t (Equation (formula a b) truth) → Derivable t (Equation a b)
+pub equation_follows : {t : Theory} (a b : Tree) → Derivable t (Equation (formula a b) truth)
+    → Derivable t (Equation a b)
 equation_follows {t} a b =
     formula_is (λ f. Derivable t (Equation f truth) → Derivable t (Equation a b)) a b
     (λ e d. subst (λ z. Derivable t (Equation a z)) (sym e) d)

@@ -32,15 +32,18 @@ is_named n s e h =
     let p = both_true (bytes_eq e.name n) (bytes_eq e.sort s) h in
     ((bytes_eq-Decides e.name n).0 p.0, (bytes_eq-Decides e.sort s).0 p.1)
 
-known_apart : (t : Theory) (cs : List PlainOperator) → AreNew t cs → (f : PlainOperator) → IsKnown t.operators f → All (λ c. c.name ≢ f.name) cs
+known_apart : (t : Theory) (cs : List PlainOperator) → AreNew t cs → (f : PlainOperator) → IsKnown t.operators f
+    → All (λ c. c.name ≢ f.name) cs
 known_apart t cs n f k = All-weaker (λ c. IsNewName t c.name) (λ c. c.name ≢ f.name) (λ c h e. h f k (sym e)) cs n.names
 
 -- what a theory knows is none of the new constants
-pub known_not_placed : (t : Theory) (cs : List PlainOperator) → AreNew t cs → (f : PlainOperator) → IsKnown t.operators f → place_of cs f.name ≡ None
+pub known_not_placed : (t : Theory) (cs : List PlainOperator) → AreNew t cs → (f : PlainOperator)
+    → IsKnown t.operators f → place_of cs f.name ≡ None
 known_not_placed t cs n f k = not_placed cs f.name (known_apart t cs n f k)
 
 -- what is freed keeps its sort, and is over the operators without the constants
-pub freed_sort : (t : Theory) (cs : List PlainOperator) (vs : List Variable) → AreNew t cs → map (λ c. c.range) cs ≡ map (λ v. v.sort) vs → (a : Tree)
+pub freed_sort : (t : Theory) (cs : List PlainOperator) (vs : List Variable) → AreNew t cs
+    → map (λ c. c.range) cs ≡ map (λ v. v.sort) vs → (a : Tree)
     → IsOver (t.operators ++ cs) a → sort_of (freed cs vs a) ≡ sort_of a
 freed_sort t cs vs n e (var m s) o = refl
 freed_sort t cs vs n e (app f ts) o =
@@ -51,13 +54,15 @@ freed_sort t cs vs n e (app f ts) o =
           ap (λ q. sort_of (unwrap_or (option_map (λ v. var v.name v.sort) q) (app f (freed_all cs vs ts)))) v.1 ∙ v.2
     ]
 
-pub freed_sorts : (t : Theory) (cs : List PlainOperator) (vs : List Variable) → AreNew t cs → map (λ c. c.range) cs ≡ map (λ v. v.sort) vs → (ls : Forest)
+pub freed_sorts : (t : Theory) (cs : List PlainOperator) (vs : List Variable) → AreNew t cs
+    → map (λ c. c.range) cs ≡ map (λ v. v.sort) vs → (ls : Forest)
     → AllOver (t.operators ++ cs) ls → sorts_of (freed_all cs vs ls) ≡ sorts_of ls
 freed_sorts t cs vs n e none o = refl
 freed_sorts t cs vs n e (more a ls) o = λ i. freed_sort t cs vs n e a o.0 i ∷ freed_sorts t cs vs n e ls o.1 i
 
 mutual
-  pub freed_well_sorted : (t : Theory) (cs : List PlainOperator) (vs : List Variable) → AreNew t cs → map (λ c. c.range) cs ≡ map (λ v. v.sort) vs → (a : Tree)
+  pub freed_well_sorted : (t : Theory) (cs : List PlainOperator) (vs : List Variable) → AreNew t cs
+      → map (λ c. c.range) cs ≡ map (λ v. v.sort) vs → (a : Tree)
       → IsOver (t.operators ++ cs) a → WellSorted a → WellSorted (freed cs vs a) × IsOver t.operators (freed cs vs a)
   freed_well_sorted t cs vs n e (var m s) o w = (tt, tt)
   freed_well_sorted t cs vs n e (app f ts) o w =
@@ -71,8 +76,10 @@ mutual
         | inr h ↦ subst Good (sym (has_variable cs vs f n.different e h).1) (tt, tt)
       ]
 
-  pub freed_all_well_sorted : (t : Theory) (cs : List PlainOperator) (vs : List Variable) → AreNew t cs → map (λ c. c.range) cs ≡ map (λ v. v.sort) vs → (ls : Forest)
-      → AllOver (t.operators ++ cs) ls → AllWellSorted ls → AllWellSorted (freed_all cs vs ls) × AllOver t.operators (freed_all cs vs ls)
+  pub freed_all_well_sorted : (t : Theory) (cs : List PlainOperator) (vs : List Variable) → AreNew t cs
+      → map (λ c. c.range) cs ≡ map (λ v. v.sort) vs → (ls : Forest)
+      → AllOver (t.operators ++ cs) ls → AllWellSorted ls
+      → AllWellSorted (freed_all cs vs ls) × AllOver t.operators (freed_all cs vs ls)
   freed_all_well_sorted t cs vs n e none o w = (tt, tt)
   freed_all_well_sorted t cs vs n e (more a ls) o w =
       let p = freed_well_sorted t cs vs n e a o.0 w.0 in
@@ -102,7 +109,8 @@ image_is (v ∷ vs) (c ∷ cs) n s =
     ]
 
 -- a variable among as many as there are constants becomes one of them
-pub image_is_constant : (vs : List Variable) (cs : List PlainOperator) (v : Variable) → map (λ c. c.range) cs ≡ map (λ v. v.sort) vs
+pub image_is_constant : (vs : List Variable) (cs : List PlainOperator) (v : Variable)
+    → map (λ c. c.range) cs ≡ map (λ v. v.sort) vs
     → Contains vs v → (c : PlainOperator) × (image (constants_for vs cs) v.name v.sort ≡ constant c)
 image_is_constant [] cs v e h = absurd (contains_none v h)
 image_is_constant (w ∷ vs) [] v e h = cc
@@ -126,7 +134,8 @@ image_is_constant (w ∷ vs) (c ∷ cs) v e h =
 -- freeing takes a substitution back where it does so at each variable
 mutual
   pub freed_back : (t : Theory) (cs : List PlainOperator) (vs : List Variable) (es : List Entry) → AreNew t cs
-      → ((n s : List ℕ) → freed cs vs (image es n s) ≡ var n s) → (a : Tree) → IsOver t.operators a → freed cs vs (substituted es a) ≡ a
+      → ((n s : List ℕ) → freed cs vs (image es n s) ≡ var n s) → (a : Tree) → IsOver t.operators a
+      → freed cs vs (substituted es a) ≡ a
   freed_back t cs vs es n h (var m s) o = h m s
   freed_back t cs vs es n h (app f ts) o =
       ap (λ p. unwrap_or (option_map (λ v. var v.name v.sort) (option_and_then (slice_get vs) p)) (app f (freed_all cs vs (substituted_all es ts))))
@@ -141,11 +150,13 @@ mutual
       λ i. more (freed_back t cs vs es n h a o.0 i) (freed_all_back t cs vs es n h ts o.1 i)
 
 -- what has none of the constants stays
-pub freed_itself : (t : Theory) (cs : List PlainOperator) (vs : List Variable) (a : Tree) → AreNew t cs → IsOver t.operators a → freed cs vs a ≡ a
+pub freed_itself : (t : Theory) (cs : List PlainOperator) (vs : List Variable) (a : Tree) → AreNew t cs
+    → IsOver t.operators a → freed cs vs a ≡ a
 freed_itself t cs vs a n o = ap (freed cs vs) (sym (substituted_nil a)) ∙ freed_back t cs vs [] n (λ m s. refl) a o
 
 -- freeing takes back the substitution of constants for variables
-pub freed_constants : (t : Theory) (cs : List PlainOperator) (vs : List Variable) (a : Tree) → AreNew t cs → IsOver t.operators a
+pub freed_constants : (t : Theory) (cs : List PlainOperator) (vs : List Variable) (a : Tree) → AreNew t cs
+    → IsOver t.operators a
     → freed cs vs (substituted (constants_for vs cs) a) ≡ a
 freed_constants t cs vs a n o =
     freed_back t cs vs (constants_for vs cs) n
@@ -159,12 +170,14 @@ freed_constants t cs vs a n o =
 
 -- a term is closed where each of its variables becomes a closed one
 mutual
-  pub closed_by : (es : List Entry) (a : Tree) → ((v : Variable) → Contains (occurrences a) v → occurrences (image es v.name v.sort) ≡ [])
+  pub closed_by : (es : List Entry) (a : Tree)
+      → ((v : Variable) → Contains (occurrences a) v → occurrences (image es v.name v.sort) ≡ [])
       → occurrences (substituted es a) ≡ []
   closed_by es (var n s) h = h (record { name = n; sort = s }) (contains_here (record { name = n; sort = s }) [])
   closed_by es (app f ts) h = all_closed_by es ts h
 
-  pub all_closed_by : (es : List Entry) (ts : Forest) → ((v : Variable) → Contains (occurrences_in ts) v → occurrences (image es v.name v.sort) ≡ [])
+  pub all_closed_by : (es : List Entry) (ts : Forest)
+      → ((v : Variable) → Contains (occurrences_in ts) v → occurrences (image es v.name v.sort) ≡ [])
       → occurrences_in (substituted_all es ts) ≡ []
   all_closed_by es none h = refl
   all_closed_by es (more a ts) h =
@@ -172,14 +185,16 @@ mutual
       ++ all_closed_by es ts (λ v c. h v (contains_right (occurrences a) (occurrences_in ts) v c)) i
 
 -- a term whose variables all became constants is closed
-pub constants_close : (cs : List PlainOperator) (vs : List Variable) (a : Tree) → map (λ c. c.range) cs ≡ map (λ v. v.sort) vs
+pub constants_close : (cs : List PlainOperator) (vs : List Variable) (a : Tree)
+    → map (λ c. c.range) cs ≡ map (λ v. v.sort) vs
     → All (Contains vs) (occurrences a) → occurrences (substituted (constants_for vs cs) a) ≡ []
 constants_close cs vs a e h =
     closed_by (constants_for vs cs) a
     (λ v c. ap occurrences (image_is_constant vs cs v e (All-contains (Contains vs) (occurrences a) v h c)).1)
 
 -- the substitution is of terms of the variables' sorts, over operators among which the constants are
-pub constants_fit : (vs : List Variable) (cs : List PlainOperator) → AreConstants cs → map (λ c. c.range) cs ≡ map (λ v. v.sort) vs
+pub constants_fit : (vs : List Variable) (cs : List PlainOperator) → AreConstants cs
+    → map (λ c. c.range) cs ≡ map (λ v. v.sort) vs
     → Fits (constants_for vs cs)
 constants_fit [] cs k e = All-nil (λ e. WellSorted e.term × (sort_of e.term ≡ e.sort))
 constants_fit (v ∷ vs) [] k e = All-nil (λ e. WellSorted e.term × (sort_of e.term ≡ e.sort))
@@ -188,7 +203,8 @@ constants_fit (v ∷ vs) (c ∷ cs) k e =
     All-cons (λ e. WellSorted e.term × (sort_of e.term ≡ e.sort)) (record { name = v.name; sort = v.sort; term = constant c }) (constants_for vs cs)
     ((sym (All-head (λ f. f.domain ≡ []) c cs k), tt), cc) (constants_fit vs cs (All-tail (λ f. f.domain ≡ []) c cs k) p)
 
-pub constants_over : (fs : List PlainOperator) (vs : List Variable) (cs : List PlainOperator) → ((c : PlainOperator) → Contains cs c → Contains fs c)
+pub constants_over : (fs : List PlainOperator) (vs : List Variable) (cs : List PlainOperator)
+    → ((c : PlainOperator) → Contains cs c → Contains fs c)
     → All (λ e. IsOver fs e.term) (constants_for vs cs)
 constants_over fs [] cs h = All-nil (λ e. IsOver fs e.term)
 constants_over fs (v ∷ vs) [] h = All-nil (λ e. IsOver fs e.term)
@@ -197,7 +213,8 @@ constants_over fs (v ∷ vs) (c ∷ cs) h =
     (inl (h c (contains_here c cs)), tt) (constants_over fs vs cs (λ d i. h d (contains_later c d cs i)))
 
 -- a well sorted term of the theory becomes one of its extension, of the same sort, and becomes the theory's again
-pub with_constants : (t : Theory) (cs : List PlainOperator) (vs : List Variable) (s : List ℕ) (a : Tree) → AreConstants cs
+pub with_constants : (t : Theory) (cs : List PlainOperator) (vs : List Variable) (s : List ℕ) (a : Tree)
+    → AreConstants cs
     → map (λ c. c.range) cs ≡ map (λ v. v.sort) vs → IsTermOf t.operators s a
     → IsTermOf (extended t cs []).operators s (substituted (constants_for vs cs) a)
 with_constants t cs vs s a k e w =
@@ -212,21 +229,28 @@ with_constants t cs vs s a k e w =
       substituted_sort es a fit ∙ w.1,
     )
 
-pub without_constants : (t : Theory) (cs : List PlainOperator) (vs : List Variable) (s : List ℕ) (a : Tree) → AreNew t cs
-    → map (λ c. c.range) cs ≡ map (λ v. v.sort) vs → IsTermOf (extended t cs []).operators s a → IsTermOf t.operators s (freed cs vs a)
+pub without_constants : (t : Theory) (cs : List PlainOperator) (vs : List Variable) (s : List ℕ) (a : Tree)
+    → AreNew t cs
+    → map (λ c. c.range) cs ≡ map (λ v. v.sort) vs → IsTermOf (extended t cs []).operators s a
+    → IsTermOf t.operators s (freed cs vs a)
 without_constants t cs vs s a n e w = (freed_well_sorted t cs vs n e a w.0.1 w.0.0, freed_sort t cs vs n e a w.0.1 ∙ w.1)
 
 -- what holds of new constants holds of all values
-pub generalised : (t : Theory) (cs : List PlainOperator) (vs : List Variable) (a b : Tree) → AreNew t cs → AreConstants cs
+pub generalised : (t : Theory) (cs : List PlainOperator) (vs : List Variable) (a b : Tree) → AreNew t cs
+    → AreConstants cs
     → map (λ c. c.range) cs ≡ map (λ v. v.sort) vs → IsStatementOver t.operators (Equation a b)
-    → Derivable (extended t cs []) (Equation (substituted (constants_for vs cs) a) (substituted (constants_for vs cs) b)) → Derivable t (Equation a b)
+    → Derivable (extended t cs [])
+    (Equation (substituted (constants_for vs cs) a) (substituted (constants_for vs cs) b))
+    → Derivable t (Equation a b)
 generalised t cs vs a b n k e w d =
     fresh cs vs n k e d (sym (freed_constants t cs vs a n w.0.1)) (sym (freed_constants t cs vs b n w.1.1))
 
 -- and what holds of all values holds of new constants
-pub specialised : (t : Theory) (cs : List PlainOperator) (vs : List Variable) (a b : Tree) → IsWellSortedTheory t → AreConstants cs
+pub specialised : (t : Theory) (cs : List PlainOperator) (vs : List Variable) (a b : Tree) → IsWellSortedTheory t
+    → AreConstants cs
     → map (λ c. c.range) cs ≡ map (λ v. v.sort) vs → Derivable t (Equation a b)
-    → Derivable (extended t cs []) (Equation (substituted (constants_for vs cs) a) (substituted (constants_for vs cs) b))
+    → Derivable (extended t cs [])
+    (Equation (substituted (constants_for vs cs) a) (substituted (constants_for vs cs) b))
 specialised t cs vs a b g k e d =
     instance (constants_for vs cs) (constants_fit vs cs k e) (constants_over (t.operators ++ cs) vs cs (contains_right t.operators cs))
     (weaken g (included_more t cs []) d) refl refl

@@ -14,22 +14,26 @@ use Rattle.larch_calculus.specs.Identity.{Proposition, letter, always, never, de
 use Rattle.larch_calculus.specs.Theories.{IsTermOf}
 
 -- a built-in operator over arguments of its domain's sorts
-built : (fs : List PlainOperator) (b : BuiltIn) (s : List ℕ) (ts : Forest) → sorts_of ts ≡ built_in_domain b s → AllWellSorted ts → AllOver fs ts
+built : (fs : List PlainOperator) (b : BuiltIn) (s : List ℕ) (ts : Forest) → sorts_of ts ≡ built_in_domain b s
+    → AllWellSorted ts → AllOver fs ts
     → IsTermOver fs (app (built_in b s) ts)
 built fs b s ts e w o = ((e, w), (inr (b, (s, refl)), o))
 
 pub variable_of : (fs : List PlainOperator) (n s : List ℕ) → IsTermOf fs s (var n s)
 variable_of fs n s = ((tt, tt), refl)
 
-pub built_of_none : (fs : List PlainOperator) (b : BuiltIn) (s : List ℕ) → [] ≡ built_in_domain b s → IsTermOf fs (built_in_range b s) (app (built_in b s) none)
+pub built_of_none : (fs : List PlainOperator) (b : BuiltIn) (s : List ℕ) → [] ≡ built_in_domain b s
+    → IsTermOf fs (built_in_range b s) (app (built_in b s) none)
 built_of_none fs b s e = (built fs b s none e tt tt, refl)
 
-pub built_of_one : (fs : List PlainOperator) (b : BuiltIn) (s r : List ℕ) (t : Tree) → r ∷ [] ≡ built_in_domain b s → IsTermOf fs r t
+pub built_of_one : (fs : List PlainOperator) (b : BuiltIn) (s r : List ℕ) (t : Tree) → r ∷ [] ≡ built_in_domain b s
+    → IsTermOf fs r t
     → IsTermOf fs (built_in_range b s) (app (built_in b s) (more t none))
 built_of_one fs b s r t e p =
     (built fs b s (more t none) (subst (λ x. x ∷ [] ≡ built_in_domain b s) (sym p.1) e) (p.0.0, tt) (p.0.1, tt), refl)
 
-pub built_of_two : (fs : List PlainOperator) (b : BuiltIn) (s r q : List ℕ) (t u : Tree) → r ∷ q ∷ [] ≡ built_in_domain b s → IsTermOf fs r t → IsTermOf fs q u
+pub built_of_two : (fs : List PlainOperator) (b : BuiltIn) (s r q : List ℕ) (t u : Tree)
+    → r ∷ q ∷ [] ≡ built_in_domain b s → IsTermOf fs r t → IsTermOf fs q u
     → IsTermOf fs (built_in_range b s) (app (built_in b s) (more t (more u none)))
 built_of_two fs b s r q t u e p o = (
   built fs b s (more t (more u none))
@@ -38,13 +42,15 @@ built_of_two fs b s r q t u e p o = (
   refl,
 )
 
-pub choice_of : (fs : List PlainOperator) (s : List ℕ) (c t u : Tree) → IsTermOf fs bool_sort c → IsTermOf fs s t → IsTermOf fs s u → IsTermOf fs s (choice s c t u)
+pub choice_of : (fs : List PlainOperator) (s : List ℕ) (c t u : Tree) → IsTermOf fs bool_sort c → IsTermOf fs s t
+    → IsTermOf fs s u → IsTermOf fs s (choice s c t u)
 choice_of fs s c t u p o q = (
   built fs If s (more c (more t (more u none))) (λ i. p.1 i ∷ o.1 i ∷ q.1 i ∷ []) (p.0.0, (o.0.0, (q.0.0, tt))) (p.0.1, (o.0.1, (q.0.1, tt))),
   refl,
 )
 
-pub equality_of : (fs : List PlainOperator) (s : List ℕ) (t u : Tree) → IsTermOf fs s t → IsTermOf fs s u → IsTermOf fs bool_sort (equality s t u)
+pub equality_of : (fs : List PlainOperator) (s : List ℕ) (t u : Tree) → IsTermOf fs s t → IsTermOf fs s u
+    → IsTermOf fs bool_sort (equality s t u)
 equality_of fs s t u p o = built_of_two fs Equal s s s t u refl p o
 
 pub truth_of : (fs : List PlainOperator) → IsTermOf fs bool_sort truth
@@ -67,7 +73,8 @@ proposition_of fs (unequal p q) = built_of_two fs Unequal bool_sort bool_sort bo
 proposition_of fs (chosen p q r) = choice_of fs bool_sort (term_of p) (term_of q) (term_of r) (proposition_of fs p) (proposition_of fs q) (proposition_of fs r)
 
 -- two terms of one sort as the sides of an equation, each written in another way
-sides : (fs : List PlainOperator) (s : List ℕ) (a b t u : Tree) → a ≡ t → b ≡ u → IsTermOf fs s t → IsTermOf fs s u → IsStatementOver fs (Equation a b)
+sides : (fs : List PlainOperator) (s : List ℕ) (a b t u : Tree) → a ≡ t → b ≡ u → IsTermOf fs s t → IsTermOf fs s u
+    → IsStatementOver fs (Equation a b)
 sides fs s a b t u e f p o =
     subst (λ x. IsStatementOver fs (Equation x b)) (sym e) (subst (λ x. IsStatementOver fs (Equation t x)) (sym f) (p.0, o.0, p.1 ∙ sym o.1))
 

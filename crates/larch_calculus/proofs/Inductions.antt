@@ -11,7 +11,8 @@ use Rattle.larch_calculus.specs.Generation.{constant_terms, equation_at, inducti
 use Rattle.larch_calculus.specs.Derivable.{Derivable, AreArguments, induct}
 
 -- where a list of the same length has something, this one has too
-got_there : (fs : List PlainOperator) (css : List (List PlainOperator)) (i : ℕ) (f : PlainOperator) → length css ≡ length fs
+got_there : (fs : List PlainOperator) (css : List (List PlainOperator)) (i : ℕ) (f : PlainOperator)
+    → length css ≡ length fs
     → slice_get fs i ≡ Some f → slice_get css i ≡ Some (unwrap_or (slice_get css i) [])
 got_there [] css i f e h = cc
 got_there (g ∷ fs) [] i f e h = absurd (omega arith)
@@ -19,9 +20,12 @@ got_there (g ∷ fs) (cs ∷ css) zero f e h = refl
 got_there (g ∷ fs) (cs ∷ css) (suc i) f e h = got_there fs css i f (omega arith) h
 
 -- an induction whose cases have these constants, in the order of the generators
-pub inducted : (t : Theory) (a b : Tree) (x s : List ℕ) (fs : List PlainOperator) (css : List (List PlainOperator)) → length css ≡ length fs
+pub inducted : (t : Theory) (a b : Tree) (x s : List ℕ) (fs : List PlainOperator) (css : List (List PlainOperator))
+    → length css ≡ length fs
     → Derivable t (Generated s fs) → IsStatementOver t.operators (Equation a b)
-    → ((i : ℕ) (f : PlainOperator) (cs : List PlainOperator) → slice_get fs i ≡ Some f → slice_get css i ≡ Some cs → AreArguments t f cs)
+    →
+    ((i : ℕ) (f : PlainOperator) (cs : List PlainOperator) → slice_get fs i ≡ Some f → slice_get css i ≡ Some cs
+    → AreArguments t f cs)
     → ((i : ℕ) (f : PlainOperator) (cs : List PlainOperator) → slice_get fs i ≡ Some f → slice_get css i ≡ Some cs
     → Derivable (extended t cs (induction_hypotheses x s a b cs)) (equation_at x s a b (app f (constant_terms cs))))
     → Derivable t (Equation a b)

@@ -27,11 +27,13 @@ not_placed (c ∷ cs) n h =
     let a = names_apart c.name n (All-head (λ d. d.name ≢ n) c cs h) in
     ap (λ b. cond b (Some 0) (option_map suc (place_of cs n))) a ∙ ap (option_map suc) (not_placed cs n (All-tail (λ d. d.name ≢ n) c cs h))
 
-different_from : (c f : PlainOperator) (cs : List PlainOperator) → AllPairs (λ f g. f.name ≢ g.name) (c ∷ cs) → Contains cs f → c.name ≢ f.name
+different_from : (c f : PlainOperator) (cs : List PlainOperator) → AllPairs (λ f g. f.name ≢ g.name) (c ∷ cs)
+    → Contains cs f → c.name ≢ f.name
 different_from c f cs d h = All-contains (λ g. c.name ≢ g.name) cs f (λ k e lt. d 0 (suc k) e (omega arith) (omega arith)) h
 
 -- an operator among some with different names stands at the place of its name
-pub placed_at : (cs : List PlainOperator) (k : ℕ) (f : PlainOperator) → AllPairs (λ f g. f.name ≢ g.name) cs → slice_get cs k ≡ Some f
+pub placed_at : (cs : List PlainOperator) (k : ℕ) (f : PlainOperator) → AllPairs (λ f g. f.name ≢ g.name) cs
+    → slice_get cs k ≡ Some f
     → place_of cs f.name ≡ Some k
 placed_at [] k f d e = cc
 placed_at (c ∷ cs) zero f d e =
@@ -48,7 +50,8 @@ placed cs f d h = let r = contains_got cs f h in (r.0, placed_at cs r.0 f d r.1,
 
 -- the places of some names among some constants are as those of others among others
 pub place_alike : (new : PlainOperator → PlainOperator) (cs : List PlainOperator) (n m : OperatorName)
-    → ((c : PlainOperator) → Contains cs c → same_name (new c).name m ≡ same_name c.name n) → place_of (map new cs) m ≡ place_of cs n
+    → ((c : PlainOperator) → Contains cs c → same_name (new c).name m ≡ same_name c.name n)
+    → place_of (map new cs) m ≡ place_of cs n
 place_alike new [] n m h = refl
 place_alike new (c ∷ cs) n m h =
     ap (λ b. cond b (Some 0) (option_map suc (place_of (map new cs) m))) (h c (contains_here c cs))
@@ -56,8 +59,10 @@ place_alike new (c ∷ cs) n m h =
     (place_alike new cs n m (λ d t. let lt = t.1 in h d (suc t.0, omega arith, t.2)))
 
 -- the variable for a constant, which has the constant's sort
-pub has_variable : (cs : List PlainOperator) (vs : List Variable) (f : PlainOperator) → AllPairs (λ f g. f.name ≢ g.name) cs
-    → map (λ c. c.range) cs ≡ map (λ v. v.sort) vs → Contains cs f → (v : Variable) × (variable_for cs vs f.name ≡ Some v) × (v.sort ≡ f.range)
+pub has_variable : (cs : List PlainOperator) (vs : List Variable) (f : PlainOperator)
+    → AllPairs (λ f g. f.name ≢ g.name) cs
+    → map (λ c. c.range) cs ≡ map (λ v. v.sort) vs → Contains cs f
+    → (v : Variable) × (variable_for cs vs f.name ≡ Some v) × (v.sort ≡ f.range)
 has_variable cs vs f d e h =
     let p = placed cs f d h in
     let o : option_map (λ v. v.sort) (slice_get vs p.0) ≡ Some f.range =
@@ -65,7 +70,8 @@ has_variable cs vs f d e h =
     let r = mapped (slice_get vs p.0) f.range o in
     (r.0, ap (option_and_then (slice_get vs)) p.1 ∙ r.1, r.2)
   where
-    mapped : (o : Option Variable) (s : List ℕ) → option_map (λ v. v.sort) o ≡ Some s → (v : Variable) × (o ≡ Some v) × (v.sort ≡ s)
+    mapped : (o : Option Variable) (s : List ℕ) → option_map (λ v. v.sort) o ≡ Some s
+        → (v : Variable) × (o ≡ Some v) × (v.sort ≡ s)
     mapped None s e = cc
     mapped (Some v) s e = (v, refl, cc)
 
@@ -78,7 +84,8 @@ abbrev pub next_box : List PlainOperator → ℕ
 next_box [] = 0
 next_box (f ∷ fs) = above_name f.name + next_box fs
 
-below_next : (fs : List PlainOperator) (f : PlainOperator) (b k : ℕ) → Contains fs f → f.name ≡ boxed b k → b < next_box fs
+below_next : (fs : List PlainOperator) (f : PlainOperator) (b k : ℕ) → Contains fs f → f.name ≡ boxed b k
+    → b < next_box fs
 below_next [] f b k h e = let lt = h.1 in absurd (omega arith)
 below_next (g ∷ fs) f b k h e =
     elim (contains_cases g f fs h) [

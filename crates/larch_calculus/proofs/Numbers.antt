@@ -54,7 +54,8 @@ successor_over = (
 )
 
 -- a box may be opened for each generator
-boxes : (i : ℕ) (f : PlainOperator) → slice_get (nought ∷ successor ∷ []) i ≡ Some f → AreArguments numbers f (box_constants i)
+boxes : (i : ℕ) (f : PlainOperator) → slice_get (nought ∷ successor ∷ []) i ≡ Some f
+    → AreArguments numbers f (box_constants i)
 boxes zero f e =
     let p : nought ≡ f = cc in
     subst (λ g. AreArguments numbers g []) p
@@ -77,7 +78,8 @@ boxes (suc zero) f e =
 boxes (suc (suc i)) f e = cc
 
 -- 0 + 0 == 0, from x + 0 == x
-first : Derivable (extended numbers [] []) (Equation (joined plus (constant nought) (constant nought)) (constant nought))
+first : Derivable (extended numbers [] [])
+    (Equation (joined plus (constant nought) (constant nought)) (constant nought))
 first =
     let t = extended numbers [] [] in
     let known = knows_more numbers.operators [] in
@@ -86,7 +88,8 @@ first =
     (axiom_ {s = sum_with_nought} (2, omega arith, refl) (statement_over_more numbers.operators t.operators known sum_with_nought nought_over)) refl refl
 
 -- 0 + s(c) == s(0 + c), and with 0 + c == c at place 1 of the right side 0 + s(c) == s(c)
-second : Derivable (extended numbers (fresh_number ∷ []) (Equation (joined plus (constant nought) (constant fresh_number)) (constant fresh_number) ∷ []))
+second : Derivable
+    (extended numbers (fresh_number ∷ []) (Equation (joined plus (constant nought) (constant fresh_number)) (constant fresh_number) ∷ []))
     (Equation (joined plus (constant nought) (applied successor (constant fresh_number))) (applied successor (constant fresh_number)))
 second =
     let supposition = Equation (joined plus (constant nought) (constant fresh_number)) (constant fresh_number) in
@@ -103,7 +106,8 @@ second =
     replace (1 ∷ []) summed given refl refl
 
 steps : (i : ℕ) (f : PlainOperator) → slice_get (nought ∷ successor ∷ []) i ≡ Some f
-    → Derivable (extended numbers (box_constants i) (induction_hypotheses (codes "x") number_sort (joined plus (constant nought) x_number) x_number (box_constants i)))
+    → Derivable
+    (extended numbers (box_constants i) (induction_hypotheses (codes "x") number_sort (joined plus (constant nought) x_number) x_number (box_constants i)))
     (equation_at (codes "x") number_sort (joined plus (constant nought) x_number) x_number (app f (constant_terms (box_constants i))))
 steps zero f e =
     let p : nought ≡ f = cc in

@@ -19,7 +19,8 @@ use Rattle.larch_calculus.proofs.Sorted.{knows_more, statement_over_more}
 number_is : (k p : ℕ) → (k == p) ≡ true → k ≡ p
 number_is k p e = grind arith
 
-sort_of_choice : (b : Bool) (t u : Tree) (s : List ℕ) → (b ≡ true → sort_of t ≡ s) → sort_of u ≡ s → sort_of (cond b t u) ≡ s
+sort_of_choice : (b : Bool) (t u : Tree) (s : List ℕ) → (b ≡ true → sort_of t ≡ s) → sort_of u ≡ s
+    → sort_of (cond b t u) ≡ s
 sort_of_choice true t u s h e = h refl
 sort_of_choice false t u s h e = e
 
@@ -40,7 +41,8 @@ place_at_least s k [] p c = let lt = c.1 in absurd (omega arith)
 place_at_least s k (r ∷ rs) p c =
     elim (places_of s k r rs p c) [ inl e ↦ let i = e.0 in omega arith | inr d ↦ let le = place_at_least s (suc k) rs p d in omega arith ]
 
-sorts_past : (names : ℕ → List ℕ) (place : ℕ) (t : Tree) (k : ℕ) (ss : List (List ℕ)) → place < k → sorts_of (arguments_with names place t k ss) ≡ ss
+sorts_past : (names : ℕ → List ℕ) (place : ℕ) (t : Tree) (k : ℕ) (ss : List (List ℕ)) → place < k
+    → sorts_of (arguments_with names place t k ss) ≡ ss
 sorts_past names place t k [] lt = refl
 sorts_past names place t k (r ∷ rs) lt =
     let head : sort_of (cond (k == place) t (var (names k) r)) ≡ r =
@@ -70,12 +72,14 @@ either_holds : (P : Tree → Type 0) (b : Bool) (t u : Tree) → P t → P u →
 either_holds P true t u p q = p
 either_holds P false t u p q = q
 
-arguments_well_sorted : (names : ℕ → List ℕ) (place : ℕ) (t : Tree) (k : ℕ) (ss : List (List ℕ)) → WellSorted t → AllWellSorted (arguments_with names place t k ss)
+arguments_well_sorted : (names : ℕ → List ℕ) (place : ℕ) (t : Tree) (k : ℕ) (ss : List (List ℕ)) → WellSorted t
+    → AllWellSorted (arguments_with names place t k ss)
 arguments_well_sorted names place t k [] w = tt
 arguments_well_sorted names place t k (r ∷ rs) w =
     (either_holds WellSorted (k == place) t (var (names k) r) w tt, arguments_well_sorted names place t (suc k) rs w)
 
-arguments_over : (fs : List PlainOperator) (names : ℕ → List ℕ) (place : ℕ) (t : Tree) (k : ℕ) (ss : List (List ℕ)) → IsOver fs t → AllOver fs (arguments_with names place t k ss)
+arguments_over : (fs : List PlainOperator) (names : ℕ → List ℕ) (place : ℕ) (t : Tree) (k : ℕ) (ss : List (List ℕ))
+    → IsOver fs t → AllOver fs (arguments_with names place t k ss)
 arguments_over fs names place t k [] o = tt
 arguments_over fs names place t k (r ∷ rs) o =
     (either_holds (IsOver fs) (k == place) t (var (names k) r) o tt, arguments_over fs names place t (suc k) rs o)
@@ -92,16 +96,20 @@ observation_is s (o ∷ os) w c =
       | inr b ↦ let r = observation_is s os w b in (contains_later o w.observer os r.0, r.1)
     ]
 
-pub observed_over : (fs : List PlainOperator) (names : ℕ → List ℕ) (s : List ℕ) (w : Observation) (t : Tree) → IsKnown fs w.observer
-    → Contains (places_of_sort s 1 w.observer.domain) w.place → IsTermOver fs t → sort_of t ≡ s → IsTermOver fs (observed names w t)
+pub observed_over : (fs : List PlainOperator) (names : ℕ → List ℕ) (s : List ℕ) (w : Observation) (t : Tree)
+    → IsKnown fs w.observer
+    → Contains (places_of_sort s 1 w.observer.domain) w.place → IsTermOver fs t → sort_of t ≡ s
+    → IsTermOver fs (observed names w t)
 observed_over fs names s w t k c o e = (
   (sorts_with names w.place t s 1 w.observer.domain e c, arguments_well_sorted names w.place t 1 w.observer.domain o.0),
   (k, arguments_over fs names w.place t 1 w.observer.domain o.1),
 )
 
 -- the observations' equations between two terms of the sort are well sorted
-pub observations_over : (fs : List PlainOperator) (names : ℕ → List ℕ) (s : List ℕ) (os : List PlainOperator) (t u : Tree)
-    → ((o : PlainOperator) → Contains os o → IsKnown fs o) → IsTermOver fs t → sort_of t ≡ s → IsTermOver fs u → sort_of u ≡ s
+pub observations_over : (fs : List PlainOperator) (names : ℕ → List ℕ) (s : List ℕ) (os : List PlainOperator)
+    (t u : Tree)
+    → ((o : PlainOperator) → Contains os o → IsKnown fs o) → IsTermOver fs t → sort_of t ≡ s → IsTermOver fs u
+    → sort_of u ≡ s
     → All (IsStatementOver fs) (observations names s os t u)
 observations_over fs names s os t u k wt et wu eu =
     All-map (IsStatementOver fs) (λ w. Equation (observed names w t) (observed names w u)) (observations_of s os)
@@ -110,8 +118,10 @@ observations_over fs names s os t u k wt et wu eu =
     let r = observation_is s os w c in
     (observed_over fs names s w t (k w.observer r.0) r.1 wt et, observed_over fs names s w u (k w.observer r.0) r.1 wu eu, refl)))
 
-pub observations_of_terms : (fs : List PlainOperator) (names : ℕ → List ℕ) (s : List ℕ) (os : List PlainOperator) (t u : Tree)
-    → IsStatementOver fs (Partitioned s os) → IsTermOf fs s t → IsTermOf fs s u → All (IsStatementOver fs) (observations names s os t u)
+pub observations_of_terms : (fs : List PlainOperator) (names : ℕ → List ℕ) (s : List ℕ) (os : List PlainOperator)
+    (t u : Tree)
+    → IsStatementOver fs (Partitioned s os) → IsTermOf fs s t → IsTermOf fs s u
+    → All (IsStatementOver fs) (observations names s os t u)
 observations_of_terms fs names s os t u w p q =
     observations_over fs names s os t u (λ o i. (All-contains (λ g. IsKnown fs g × Contains g.domain s) os o w i).0) p.0 p.1 q.0 q.1
 

@@ -22,7 +22,8 @@ use Rattle.larch_renaming.proofs.RenamedSubstitutions as by_entries
 use Rattle.larch_calculus.specs.Renaming.{KeepsSortsApart, TakesBack}
 
 -- what stands at a place
-pub renamed_at : (r : Renaming) (t : Tree) (p : List ℕ) (u : Tree) → at t p ≡ Some u → at (renamed r t) p ≡ Some (renamed r u)
+pub renamed_at : (r : Renaming) (t : Tree) (p : List ℕ) (u : Tree) → at t p ≡ Some u
+    → at (renamed r t) p ≡ Some (renamed r u)
 renamed_at r t p u h = at_renamed r t p ∙ ap (option_map (renamed r)) h
 
 -- sorts are told apart as before
@@ -33,7 +34,8 @@ sort_test r k s q =
     (λ e. (bytes_eq-Decides (r.sort s) (r.sort q)).1 (ap r.sort ((bytes_eq-Decides s q).0 e)))
 
 -- so are variables
-pub variable_back : (r : Renaming) → KeepsSortsApart r → (v w : Variable) → renamed_variable r v ≡ renamed_variable r w → v ≡ w
+pub variable_back : (r : Renaming) → KeepsSortsApart r → (v w : Variable)
+    → renamed_variable r v ≡ renamed_variable r w → v ≡ w
 variable_back r k v w e = λ i. record { name = ap (λ x. x.name) e i; sort = k v.sort w.sort (ap (λ x. x.sort) e) i }
 
 pub renamed_substituted : (r : Renaming) → KeepsSortsApart r → (es : List Entry) (t : Tree)
@@ -46,12 +48,14 @@ pub operators_alike : (r q : Renaming) (fs : List PlainOperator) → AreAlikeOve
 operators_alike r q fs h gs k = map_by r.operator q.operator gs (λ g c. h.operators g (k g c))
 
 -- what a renaming makes, taken back
-pub statement_back : (q r : Renaming) → TakesBack q r → (s : Statement) → renamed_statement q (renamed_statement r s) ≡ s
+pub statement_back : (q r : Renaming) → TakesBack q r → (s : Statement)
+    → renamed_statement q (renamed_statement r s) ≡ s
 statement_back q r h s = sym (statement_after q r s) ∙ statement_alike (after q r) unchanged h s ∙ statement_unchanged s
 
 pub theory_back : (q r : Renaming) → TakesBack q r → (t : Theory) → renamed_theory q (renamed_theory r t) ≡ t
 theory_back q r h t = sym (theory_after q r t) ∙ theory_alike (after q r) unchanged h t ∙ theory_unchanged t
 
 -- a built-in operator over Bool stays
-pub built_in_kept : (r : Renaming) → KeepsBuiltIns r → (b : BuiltIn) → r.operator (built_in b bool_sort) ≡ built_in b bool_sort
+pub built_in_kept : (r : Renaming) → KeepsBuiltIns r → (b : BuiltIn)
+    → r.operator (built_in b bool_sort) ≡ built_in b bool_sort
 built_in_kept r k b = k.operators b bool_sort ∙ ap (built_in b) k.truth_values

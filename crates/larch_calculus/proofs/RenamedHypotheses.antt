@@ -50,7 +50,8 @@ proposition_renamed r k (chosen p q o) =
     (more (proposition_renamed r k p i) (more (proposition_renamed r k q i) (more (proposition_renamed r k o i) none)))
 
 -- an identity is one at the other sorts
-pub identity_renamed : (r : Renaming) → KeepsBuiltIns r → {a b : Tree} → IsIdentity a b → IsIdentity (renamed r a) (renamed r b)
+pub identity_renamed : (r : Renaming) → KeepsBuiltIns r → {a b : Tree} → IsIdentity a b
+    → IsIdentity (renamed r a) (renamed r b)
 identity_renamed r k (propositional p q e f v) =
     propositional p q (ap (renamed r) e ∙ proposition_renamed r k p) (ap (renamed r) f ∙ proposition_renamed r k q) v
 identity_renamed r k (equal_itself s x e f) =
@@ -130,7 +131,8 @@ observations_of_renamed r h s (o ∷ os) =
     ∙ ap (λ ws. ws ++ map (renamed_observation r) (observations_of s os)) (sym (map_map (renamed_observation r) at_old ks))
     ∙ sym (map-append (renamed_observation r) (map at_old ks) (observations_of s os))
 
-pub observations_renamed : (r : Renaming) → IsFaithful r → (names : ℕ → List ℕ) (s : List ℕ) (os : List PlainOperator) (t u : Tree)
+pub observations_renamed : (r : Renaming) → IsFaithful r
+    → (names : ℕ → List ℕ) (s : List ℕ) (os : List PlainOperator) (t u : Tree)
     → map (renamed_statement r) (observations names s os t u)
     ≡ observations names (r.sort s) (map r.operator os) (renamed r t) (renamed r u)
 observations_renamed r h names s os t u =
@@ -162,11 +164,13 @@ implied_renamed : (r : Renaming) → KeepsBuiltIns r → (us : List Tree) (t : T
 implied_renamed r k [] t = refl
 implied_renamed r k (u ∷ us) t = λ i. joined (built_in_kept r k Implies i) (conjoined_renamed r k u us i) (renamed r t)
 
-variables_renamed : (r : Renaming) (vs : List Variable) → renamed_all r (variable_terms vs) ≡ variable_terms (map (renamed_variable r) vs)
+variables_renamed : (r : Renaming) (vs : List Variable)
+    → renamed_all r (variable_terms vs) ≡ variable_terms (map (renamed_variable r) vs)
 variables_renamed r [] = refl
 variables_renamed r (v ∷ vs) = ap (more (var v.name (r.sort v.sort))) (variables_renamed r vs)
 
-numbered_renamed : (r : Renaming) (k : ℕ) (ss : List (List ℕ)) → variables_from k (map r.sort ss) ≡ map (renamed_variable r) (variables_from k ss)
+numbered_renamed : (r : Renaming) (k : ℕ) (ss : List (List ℕ))
+    → variables_from k (map r.sort ss) ≡ map (renamed_variable r) (variables_from k ss)
 numbered_renamed r k [] = refl
 numbered_renamed r k (s ∷ ss) = ap (λ vs. record { name = place_name k; sort = r.sort s } ∷ vs) (numbered_renamed r (suc k) ss)
 
@@ -181,7 +185,8 @@ formula_renamed r h p s f =
     ∙ ap (λ ws. implied_by (holding (r.operator p) (r.sort s) ws) (applied (r.operator p) (app (r.operator f) (variable_terms ws)))) us
 
 pub generation_renamed : (r : Renaming) → IsFaithful r → (p : PlainOperator) (s : List ℕ) (fs : List PlainOperator)
-    → map (renamed_statement r) (generation_hypotheses p s fs) ≡ generation_hypotheses (r.operator p) (r.sort s) (map r.operator fs)
+    → map (renamed_statement r) (generation_hypotheses p s fs)
+    ≡ generation_hypotheses (r.operator p) (r.sort s) (map r.operator fs)
 generation_renamed r h p s fs =
     let before : PlainOperator → Statement = λ f. Equation (generation_formula p s f) truth in
     let behind : PlainOperator → Statement = λ f. Equation (generation_formula (r.operator p) (r.sort s) f) truth in
@@ -190,7 +195,8 @@ generation_renamed r h p s fs =
     (λ f c i. Equation (formula_renamed r h p s f i) (truth_renamed r h.built_in i))
     ∙ sym (map_map behind r.operator fs)
 
-pub constants_renamed : (r : Renaming) (cs : List PlainOperator) → renamed_all r (constant_terms cs) ≡ constant_terms (map r.operator cs)
+pub constants_renamed : (r : Renaming) (cs : List PlainOperator)
+    → renamed_all r (constant_terms cs) ≡ constant_terms (map r.operator cs)
 constants_renamed r [] = refl
 constants_renamed r (c ∷ cs) = ap (more (constant (r.operator c))) (constants_renamed r cs)
 

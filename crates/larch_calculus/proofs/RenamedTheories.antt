@@ -19,7 +19,8 @@ use Rattle.larch_calculus.proofs.Sorted.{extended_well_sorted}
 use Rattle.larch_calculus.proofs.Translation.{translated}
 
 -- a well sorted theory is translated to what it becomes
-pub theory_translation : (r : Renaming) (t : Theory) → IsFaithful r → IsWellSortedTheory t → IsTranslation r t (renamed_theory r t)
+pub theory_translation : (r : Renaming) (t : Theory) → IsFaithful r → IsWellSortedTheory t
+    → IsTranslation r t (renamed_theory r t)
 theory_translation r t h w =
     let v = renamed_theory_well_sorted r h.signatures h.built_in t w in
     record {
@@ -38,7 +39,8 @@ pub theory_renamed : (r : Renaming) (t : Theory) (s : Statement) → IsFaithful 
     → Derivable (renamed_theory r t) (renamed_statement r s)
 theory_renamed r t s h w d = translated d r (renamed_theory r t) (theory_translation r t h w)
 
-pub renamed_taken_back : (r q : Renaming) (t : Theory) (s : Statement) → IsFaithful r → IsFaithful q → TakesBack q r → IsWellSortedTheory t
+pub renamed_taken_back : (r q : Renaming) (t : Theory) (s : Statement) → IsFaithful r → IsFaithful q → TakesBack q r
+    → IsWellSortedTheory t
     → Derivable (renamed_theory r t) (renamed_statement r s) → Derivable t s
 renamed_taken_back r q t s h k b w d =
     let e = theory_renamed q (renamed_theory r t) (renamed_statement r s) k (renamed_theory_well_sorted r h.signatures h.built_in t w) d in
@@ -54,7 +56,8 @@ names_faithful new k =
       apart = λ s q e. e;
     }
 
-pub names_taken_back : (new old : OperatorName → OperatorName) → ((n : OperatorName) → old (new n) ≡ n) → TakesBack (by_name old) (by_name new)
+pub names_taken_back : (new old : OperatorName → OperatorName) → ((n : OperatorName) → old (new n) ≡ n)
+    → TakesBack (by_name old) (by_name new)
 names_taken_back new old h =
     record { sorts = λ s. refl; operators = λ f i. record { name = h f.name i; domain = f.domain; range = f.range } }
 
@@ -65,7 +68,8 @@ plain_kept : (new : OperatorName → OperatorName) → RenamesBoxes new → (n :
 plain_kept new r (plain n) p = r n
 plain_kept new r (boxed b k) p = absurd p
 
-plain_alike : (new : OperatorName → OperatorName) (t : Theory) → RenamesBoxes new → HasPlainNames t → AreAlikeOver (by_name new) unchanged t.operators
+plain_alike : (new : OperatorName → OperatorName) (t : Theory) → RenamesBoxes new → HasPlainNames t
+    → AreAlikeOver (by_name new) unchanged t.operators
 plain_alike new t r p = record { sorts = λ s. refl; operators = λ f k i. record { name = kept f k i; domain = f.domain; range = f.range } }
   where
     kept : (f : PlainOperator) → IsKnown t.operators f → new f.name ≡ f.name
@@ -73,9 +77,11 @@ plain_alike new t r p = record { sorts = λ s. refl; operators = λ f k i. recor
     kept f (inr b) = boxes_keep new r f b
 
 -- an extension of a theory with plain names, by other names for constants of boxes
-extension_renamed : (new : OperatorName → OperatorName) (t : Theory) (cs : List PlainOperator) (hs : List Statement) → RenamesBoxes new → HasPlainNames t
+extension_renamed : (new : OperatorName → OperatorName) (t : Theory) (cs : List PlainOperator) (hs : List Statement)
+    → RenamesBoxes new → HasPlainNames t
     → IsWellSortedTheory t
-    → renamed_theory (by_name new) (extended t cs hs) ≡ extended t (map (by_name new).operator cs) (map (renamed_statement (by_name new)) hs)
+    → renamed_theory (by_name new) (extended t cs hs)
+    ≡ extended t (map (by_name new).operator cs) (map (renamed_statement (by_name new)) hs)
 extension_renamed new t cs hs r p w =
     let q = by_name new in
     let same : renamed_theory q t ≡ t = theory_alike_over q unchanged t (plain_alike new t r p) w ∙ theory_unchanged t in
@@ -86,17 +92,22 @@ extension_renamed new t cs hs r p w =
     λ i. record { operators = fs i; statements = ss i }
 
 -- constants of boxes by other names, above a theory with plain names
-pub boxes_renamed : (new : OperatorName → OperatorName) (t : Theory) (cs : List PlainOperator) (hs : List Statement) (s : Statement) → RenamesBoxes new
-    → HasPlainNames t → IsWellSortedTheory t → All (IsStatementOver (extended t cs hs).operators) hs → Derivable (extended t cs hs) s
-    → Derivable (extended t (map (by_name new).operator cs) (map (renamed_statement (by_name new)) hs)) (renamed_statement (by_name new) s)
+pub boxes_renamed : (new : OperatorName → OperatorName) (t : Theory) (cs : List PlainOperator) (hs : List Statement)
+    (s : Statement) → RenamesBoxes new
+    → HasPlainNames t → IsWellSortedTheory t → All (IsStatementOver (extended t cs hs).operators) hs
+    → Derivable (extended t cs hs) s
+    → Derivable (extended t (map (by_name new).operator cs) (map (renamed_statement (by_name new)) hs))
+    (renamed_statement (by_name new) s)
 boxes_renamed new t cs hs s r p w v d =
     subst (λ z. Derivable z (renamed_statement (by_name new) s)) (extension_renamed new t cs hs r p w)
     (theory_renamed (by_name new) (extended t cs hs) s (names_faithful new (boxes_keep new r)) (extended_well_sorted t cs hs w v) d)
 
-pub boxes_taken_back : (new old : OperatorName → OperatorName) (t : Theory) (cs : List PlainOperator) (hs : List Statement) (s : Statement) → RenamesBoxes new
+pub boxes_taken_back : (new old : OperatorName → OperatorName) (t : Theory) (cs : List PlainOperator)
+    (hs : List Statement) (s : Statement) → RenamesBoxes new
     → RenamesBoxes old → ((n : OperatorName) → old (new n) ≡ n) → HasPlainNames t → IsWellSortedTheory t
     → All (IsStatementOver (extended t cs hs).operators) hs
-    → Derivable (extended t (map (by_name new).operator cs) (map (renamed_statement (by_name new)) hs)) (renamed_statement (by_name new) s)
+    → Derivable (extended t (map (by_name new).operator cs) (map (renamed_statement (by_name new)) hs))
+    (renamed_statement (by_name new) s)
     → Derivable (extended t cs hs) s
 boxes_taken_back new old t cs hs s r q h p w v d =
     renamed_taken_back (by_name new) (by_name old) (extended t cs hs) s (names_faithful new (boxes_keep new r))

@@ -38,7 +38,8 @@ mutual
 pub term_over_more : (fs gs : List PlainOperator) → Knows fs gs → (t : Tree) → IsTermOver fs t → IsTermOver gs t
 term_over_more fs gs k t w = (w.0, over_more fs gs k t w.1)
 
-pub statement_over_more : (fs gs : List PlainOperator) → Knows fs gs → (s : Statement) → IsStatementOver fs s → IsStatementOver gs s
+pub statement_over_more : (fs gs : List PlainOperator) → Knows fs gs → (s : Statement) → IsStatementOver fs s
+    → IsStatementOver gs s
 statement_over_more fs gs k (Equation l r) w = (term_over_more fs gs k l w.0, term_over_more fs gs k r w.1, w.2)
 statement_over_more fs gs k (Generated s hs) w =
     All-weaker (λ g. IsKnown fs g × (g.range ≡ s)) (λ g. IsKnown gs g × (g.range ≡ s)) (λ g p. (k g p.0, p.1)) hs w
@@ -78,7 +79,8 @@ extended_well_sorted t cs hs w h =
     (All-weaker (IsStatementOver t.operators) (IsStatementOver (t.operators ++ cs)) (statement_over_more t.operators (t.operators ++ cs) (knows_more t.operators cs)) t.statements w)
     h
 
-pub with_statements_well_sorted : (t : Theory) (hs : List Statement) → IsWellSortedTheory t → All (IsStatementOver t.operators) hs → IsWellSortedTheory (with_statements t hs)
+pub with_statements_well_sorted : (t : Theory) (hs : List Statement) → IsWellSortedTheory t
+    → All (IsStatementOver t.operators) hs → IsWellSortedTheory (with_statements t hs)
 with_statements_well_sorted t hs w h = All-append (IsStatementOver t.operators) t.statements hs w h
 
 -- a well sorted formula over operators
@@ -98,20 +100,24 @@ zero_over fs =
     All-cons P (built_in True bool_sort) (built_in False bool_sort ∷ []) (inr (True, (bool_sort, refl)), refl)
     (All-cons P (built_in False bool_sort) [] (inr (False, (bool_sort, refl)), refl) (All-nil P))
 
-conjunction_over : (fs : List PlainOperator) (t u : Tree) → IsFormulaOver fs t → IsFormulaOver fs u → IsFormulaOver fs (conjunction t u)
+conjunction_over : (fs : List PlainOperator) (t u : Tree) → IsFormulaOver fs t → IsFormulaOver fs u
+    → IsFormulaOver fs (conjunction t u)
 conjunction_over fs t u p q =
     ((((λ i. p.1 i ∷ q.1 i ∷ []), (p.0.0, (q.0.0, tt))), (inr (And, (bool_sort, refl)), (p.0.1, (q.0.1, tt)))), refl)
 
-implication_over : (fs : List PlainOperator) (t u : Tree) → IsFormulaOver fs t → IsFormulaOver fs u → IsFormulaOver fs (implication t u)
+implication_over : (fs : List PlainOperator) (t u : Tree) → IsFormulaOver fs t → IsFormulaOver fs u
+    → IsFormulaOver fs (implication t u)
 implication_over fs t u p q =
     ((((λ i. p.1 i ∷ q.1 i ∷ []), (p.0.0, (q.0.0, tt))), (inr (Implies, (bool_sort, refl)), (p.0.1, (q.0.1, tt)))), refl)
 
-conjoined_over : (fs : List PlainOperator) (t : Tree) (us : List Tree) → IsFormulaOver fs t → All (IsFormulaOver fs) us → IsFormulaOver fs (conjoined t us)
+conjoined_over : (fs : List PlainOperator) (t : Tree) (us : List Tree) → IsFormulaOver fs t
+    → All (IsFormulaOver fs) us → IsFormulaOver fs (conjoined t us)
 conjoined_over fs t [] p h = p
 conjoined_over fs t (u ∷ us) p h =
     conjoined_over fs (conjunction t u) us (conjunction_over fs t u p (All-head (IsFormulaOver fs) u us h)) (All-tail (IsFormulaOver fs) u us h)
 
-implied_over : (fs : List PlainOperator) (us : List Tree) (t : Tree) → All (IsFormulaOver fs) us → IsFormulaOver fs t → IsFormulaOver fs (implied_by us t)
+implied_over : (fs : List PlainOperator) (us : List Tree) (t : Tree) → All (IsFormulaOver fs) us → IsFormulaOver fs t
+    → IsFormulaOver fs (implied_by us t)
 implied_over fs [] t h p = p
 implied_over fs (u ∷ us) t h p =
     implication_over fs (conjoined u us) t (conjoined_over fs u us (All-head (IsFormulaOver fs) u us h) (All-tail (IsFormulaOver fs) u us h)) p
@@ -127,11 +133,13 @@ sides_over fs f r s a b e w =
     let p : sort_of a ∷ sort_of b ∷ [] ≡ r ∷ s ∷ [] = w.0.0 ∙ e in
     (((w.0.1.0, w.1.1.0), cc), ((w.0.1.1.0, w.1.1.1.0), cc))
 
-applied_over : (fs : List PlainOperator) (p : PlainOperator) (s : List ℕ) (t : Tree) → Contains fs p → p.domain ≡ s ∷ [] → p.range ≡ bool_sort
+applied_over : (fs : List PlainOperator) (p : PlainOperator) (s : List ℕ) (t : Tree) → Contains fs p
+    → p.domain ≡ s ∷ [] → p.range ≡ bool_sort
     → IsTermOver fs t → sort_of t ≡ s → IsFormulaOver fs (applied p t)
 applied_over fs p s t c d r w e = (((ap (λ x. x ∷ []) e ∙ sym d, (w.0, tt)), (inl c, (w.1, tt))), r)
 
-holding_over : (fs : List PlainOperator) (p : PlainOperator) (s : List ℕ) (vs : List Variable) → Contains fs p → p.domain ≡ s ∷ [] → p.range ≡ bool_sort
+holding_over : (fs : List PlainOperator) (p : PlainOperator) (s : List ℕ) (vs : List Variable) → Contains fs p
+    → p.domain ≡ s ∷ [] → p.range ≡ bool_sort
     → All (IsFormulaOver fs) (holding p s vs)
 holding_over fs p s [] c d r = All-nil (IsFormulaOver fs)
 holding_over fs p s (v ∷ vs) c d r =
@@ -156,8 +164,10 @@ variables_over fs [] = tt
 variables_over fs (v ∷ vs) = (tt, variables_over fs vs)
 
 -- the hypotheses of a generation clause are well sorted over the operators with the predicate
-pub generation_over : (t : Theory) (p : PlainOperator) (s : List ℕ) (gs : List PlainOperator) → IsStatementOver t.operators (Generated s gs)
-    → p.domain ≡ s ∷ [] → p.range ≡ bool_sort → All (IsStatementOver (t.operators ++ p ∷ [])) (generation_hypotheses p s gs)
+pub generation_over : (t : Theory) (p : PlainOperator) (s : List ℕ) (gs : List PlainOperator)
+    → IsStatementOver t.operators (Generated s gs)
+    → p.domain ≡ s ∷ [] → p.range ≡ bool_sort
+    → All (IsStatementOver (t.operators ++ p ∷ [])) (generation_hypotheses p s gs)
 generation_over t p s gs w d r =
     let fs = t.operators ++ p ∷ [] in
     let c : Contains fs p = contains_right t.operators (p ∷ []) p (0, omega arith, refl) in
@@ -176,7 +186,8 @@ generation_over t p s gs w d r =
 pub only_fits : (x s : List ℕ) (t : Tree) → WellSorted t → sort_of t ≡ s → Fits (only x s t)
 only_fits x s t w e = All-cons (λ e. WellSorted e.term × (sort_of e.term ≡ e.sort)) (record { name = x; sort = s; term = t }) [] (w, e) (All-nil (λ e. WellSorted e.term × (sort_of e.term ≡ e.sort)))
 
-pub equation_over : (fs : List PlainOperator) (x s : List ℕ) (l r t : Tree) → IsStatementOver fs (Equation l r) → IsTermOver fs t → sort_of t ≡ s
+pub equation_over : (fs : List PlainOperator) (x s : List ℕ) (l r t : Tree) → IsStatementOver fs (Equation l r)
+    → IsTermOver fs t → sort_of t ≡ s
     → IsStatementOver fs (equation_at x s l r t)
 equation_over fs x s l r t w v e =
     let es = only x s t in
@@ -188,7 +199,8 @@ equation_over fs x s l r t w v e =
     )
 
 -- the hypotheses of an induction are well sorted over operators among which the constants are
-pub induction_over : (fs : List PlainOperator) (x s : List ℕ) (l r : Tree) (cs : List PlainOperator) → IsStatementOver fs (Equation l r)
+pub induction_over : (fs : List PlainOperator) (x s : List ℕ) (l r : Tree) (cs : List PlainOperator)
+    → IsStatementOver fs (Equation l r)
     → All (λ c. Contains fs c × (c.domain ≡ [])) cs → All (IsStatementOver fs) (induction_hypotheses x s l r cs)
 induction_over fs x s l r [] w h = All-nil (IsStatementOver fs)
 induction_over fs x s l r (c ∷ cs) w h =
@@ -202,7 +214,8 @@ induction_over fs x s l r (c ∷ cs) w h =
     ]
 
 -- the hypotheses of an induction are well sorted over the theory's operators and the constants
-pub suppositions_over : (t : Theory) (x s : List ℕ) (a b : Tree) (cs : List PlainOperator) → IsStatementOver t.operators (Equation a b)
+pub suppositions_over : (t : Theory) (x s : List ℕ) (a b : Tree) (cs : List PlainOperator)
+    → IsStatementOver t.operators (Equation a b)
     → AreConstants cs → All (IsStatementOver (t.operators ++ cs)) (induction_hypotheses x s a b cs)
 suppositions_over t x s a b cs w k =
     induction_over (t.operators ++ cs) x s a b cs

@@ -37,13 +37,16 @@ use Rattle.larch_calculus.proofs.Extension.{with_box, Extends, box_extends, free
 use Rattle.larch_calculus.proofs.WellSorted.{well_sorted}
 
 -- a statement of the larger theory's own is derivable there
-own : (u : Theory) (hs : List Statement) (s : Statement) → Contains hs s → IsStatementOver u.operators s → Derivable (with_statements u hs) s
+own : (u : Theory) (hs : List Statement) (s : Statement) → Contains hs s → IsStatementOver u.operators s
+    → Derivable (with_statements u hs) s
 own u hs s c w = axiom_ (contains_later statement_zero s (u.statements ++ hs) (contains_right u.statements hs s c)) w
 
 -- a translation, with new constants and hypotheses on both sides
-pub further_translation : (r further : Renaming) (t u : Theory) (cs : List PlainOperator) (hs : List Statement) → IsTranslation r t u
+pub further_translation : (r further : Renaming) (t u : Theory) (cs : List PlainOperator) (hs : List Statement)
+    → IsTranslation r t u
     → Extends r further t u cs → All (IsStatementOver (t.operators ++ cs)) hs
-    → IsTranslation further (extended t cs hs) (extended u (map further.operator cs) (map (renamed_statement further) hs))
+    → IsTranslation further (extended t cs hs)
+    (extended u (map further.operator cs) (map (renamed_statement further) hs))
 further_translation r further t u cs hs x e w =
     let ds = map further.operator cs in
     let ks = map (renamed_statement further) hs in
@@ -96,7 +99,8 @@ translation_with r t u h x w =
     }
 
 -- a translation from a theory is one from each smaller well sorted theory
-smaller_translation : (r : Renaming) (t larger u : Theory) → IsWellSortedTheory t → IsIncluded t larger → IsTranslation r larger u → IsTranslation r t u
+smaller_translation : (r : Renaming) (t larger u : Theory) → IsWellSortedTheory t → IsIncluded t larger
+    → IsTranslation r larger u → IsTranslation r t u
 smaller_translation r t larger u g i x =
     record {
       source = g;
@@ -106,19 +110,22 @@ smaller_translation r t larger u g i x =
       statements = λ s c. x.statements s (i.statements s c);
     }
 
-renamed_constants : (r : Renaming) → FitsSignatures r → (cs : List PlainOperator) → AreConstants cs → AreConstants (map r.operator cs)
+renamed_constants : (r : Renaming) → FitsSignatures r → (cs : List PlainOperator) → AreConstants cs
+    → AreConstants (map r.operator cs)
 renamed_constants r h cs k =
     All-map (λ f. f.domain ≡ []) r.operator cs
     (All-weaker (λ f. f.domain ≡ []) (λ f. (r.operator f).domain ≡ []) (λ f e. h.domain f ∙ ap (map r.sort) e) cs k)
 
-renamed_ranges : (r : Renaming) → FitsSignatures r → (cs : List PlainOperator) → map (λ c. c.range) (map r.operator cs) ≡ map r.sort (map (λ c. c.range) cs)
+renamed_ranges : (r : Renaming) → FitsSignatures r → (cs : List PlainOperator)
+    → map (λ c. c.range) (map r.operator cs) ≡ map r.sort (map (λ c. c.range) cs)
 renamed_ranges r h cs =
     map_map (λ c. c.range) r.operator cs
     ∙ map_by (λ c. (r.operator c).range) (λ c. r.sort c.range) cs (λ c _. h.range c)
     ∙ sym (map_map r.sort (λ c. c.range) cs)
 
 -- what is asked of an induction's constants holds of them as they become
-renamed_arguments : (r further : Renaming) (t u : Theory) (f g : PlainOperator) (cs : List PlainOperator) → Extends r further t u cs
+renamed_arguments : (r further : Renaming) (t u : Theory) (f g : PlainOperator) (cs : List PlainOperator)
+    → Extends r further t u cs
     → further.operator f ≡ g → AreArguments t f cs → AreArguments u g (map further.operator cs)
 renamed_arguments r further t u f g cs e i a =
     let h = e.faithful.signatures in
@@ -129,7 +136,8 @@ renamed_arguments r further t u f g cs e i a =
     }
 
 -- the equation of an induction's case
-renamed_case : (r further : Renaming) (t u : Theory) (x s : List ℕ) (a b : Tree) (f g : PlainOperator) (cs : List PlainOperator)
+renamed_case : (r further : Renaming) (t u : Theory) (x s : List ℕ) (a b : Tree) (f g : PlainOperator)
+    (cs : List PlainOperator)
     → Extends r further t u cs → IsStatementOver t.operators (Equation a b) → further.operator f ≡ g
     → renamed_statement further (equation_at x s a b (app f (constant_terms cs)))
     ≡ equation_at x (r.sort s) (renamed r a) (renamed r b) (app g (constant_terms (map further.operator cs)))
@@ -148,7 +156,8 @@ renamed_suppositions r further t u x s a b cs e w =
     (renamed_alike_over further r t.operators e.alike b w.1.1 j) (map further.operator cs))
 
 -- a variable that doesn't occur becomes one that doesn't
-renamed_absent : (r : Renaming) → KeepsSortsApart r → (vs : List Variable) (a : Tree) → All (λ v. Contains (occurrences a) v → ⊥) vs
+renamed_absent : (r : Renaming) → KeepsSortsApart r → (vs : List Variable) (a : Tree)
+    → All (λ v. Contains (occurrences a) v → ⊥) vs
     → All (λ v. Contains (occurrences (renamed r a)) v → ⊥) (map (renamed_variable r) vs)
 renamed_absent r k vs a h =
     All-map (λ v. Contains (occurrences (renamed r a)) v → ⊥) (renamed_variable r) vs
@@ -185,7 +194,8 @@ stated_carried t s c r u x =
       | inr d ↦ x.statements s d
     ]
 
-fresh_carried : (t : Theory) (a b c d : Tree) (cs : List PlainOperator) (vs : List Variable) → AreNew t cs → AreConstants cs
+fresh_carried : (t : Theory) (a b c d : Tree) (cs : List PlainOperator) (vs : List Variable) → AreNew t cs
+    → AreConstants cs
     → map (λ f. f.range) cs ≡ map (λ v. v.sort) vs → Derived IsCarried (extended t cs []) (Equation a b)
     → c ≡ freed cs vs a → d ≡ freed cs vs b → IsCarried t (Equation c d)
 fresh_carried t a b c d cs vs n k e y p q r u x =
@@ -257,7 +267,9 @@ induction_carried t a b x s fs cs d w k h r u tr =
 
 observation_carried : (t : Theory) (a b : Tree) (s : List ℕ) (os : List PlainOperator) (names : ℕ → ℕ → List ℕ)
     → Derived IsCarried t (Partitioned s os) → IsStatementOver t.operators (Equation a b) → sort_of a ≡ s
-    → ((i : ℕ) (w : Observation) → slice_get (observations_of s os) i ≡ Some w → AreApart (other_variables (names i) w) a b)
+    →
+    ((i : ℕ) (w : Observation) → slice_get (observations_of s os) i ≡ Some w
+    → AreApart (other_variables (names i) w) a b)
     → ((i : ℕ) (w : Observation) → slice_get (observations_of s os) i ≡ Some w
     → Derived IsCarried t (Equation (observed (names i) w a) (observed (names i) w b)))
     → IsCarried t (Equation a b)
@@ -356,5 +368,6 @@ rules_carried =
     }
 
 -- what is derivable from a theory is derivable, as it becomes, from the one that it is translated to
-pub translated : {t : Theory} {s : Statement} → Derivable t s → (r : Renaming) (u : Theory) → IsTranslation r t u → Derivable u (renamed_statement r s)
+pub translated : {t : Theory} {s : Statement} → Derivable t s → (r : Renaming) (u : Theory) → IsTranslation r t u
+    → Derivable u (renamed_statement r s)
 translated d = by_rules IsCarried rules_carried d
