@@ -18,14 +18,17 @@ plain_is_older b (boxed c k) h = absurd h
 
 -- a theory with plain names has no constants of boxes
 pub older_plain : (b : ℕ) (t : Theory) → HasPlainNames t → IsOlder b t
-older_plain b t h = All-weaker (λ f. IsPlainName f.name) (λ f. IsOlderName b f.name) (λ f p. plain_is_older b f.name p) t.operators h
+older_plain b t h =
+    All-weaker (λ f. IsPlainName f.name) (λ f. IsOlderName b f.name) (λ f p. plain_is_older b f.name p) t.operators h
 
 later_name : (b c : ℕ) (n : OperatorName) → b ≤ c → IsOlderName b n → IsOlderName c n
 later_name b c (plain n) le h = tt
 later_name b c (boxed d k) le h = omega (arith, h, le)
 
 pub older_later : (b c : ℕ) (t : Theory) → IsOlder b t → b ≤ c → IsOlder c t
-older_later b c t h le = All-weaker (λ f. IsOlderName b f.name) (λ f. IsOlderName c f.name) (λ f p. later_name b c f.name le p) t.operators h
+older_later b c t h le =
+    All-weaker (λ f. IsOlderName b f.name) (λ f. IsOlderName c f.name)
+    (λ f p. later_name b c f.name le p) t.operators h
 
 constants_older : (b k : ℕ) (ss : List (List ℕ)) → All (λ f. IsOlderName b f.name) (constants_from b k ss)
 constants_older b k [] = All-nil (λ f. IsOlderName b f.name)
@@ -36,7 +39,8 @@ constants_older b k (s ∷ ss) =
 pub older_opened : (b c k : ℕ) (ss : List (List ℕ)) (hs : List Statement) (t : Theory) → IsOlder b t → b ≤ c
     → IsOlder c (extended t (constants_from c k ss) hs)
 older_opened b c k ss hs t h le =
-    All-append (λ f. IsOlderName c f.name) t.operators (constants_from c k ss) (older_later b c t h le) (constants_older c k ss)
+    All-append (λ f. IsOlderName c f.name) t.operators (constants_from c k ss) (older_later b c t h le)
+    (constants_older c k ss)
 
 pub older_less : (b : ℕ) (cs : List PlainOperator) (hs : List Statement) (t : Theory) → IsOlder b (extended t cs hs)
     → IsOlder b t
@@ -46,7 +50,8 @@ older_less b cs hs t h =
 
 -- a name of a box with a higher number is new
 pub new_name : (b c k : ℕ) (t : Theory) → b < c → IsOlder b t → IsNewName t (boxed c k)
-new_name b c k t lt h f (inl i) e = above (subst (IsOlderName b) e (All-contains (λ f. IsOlderName b f.name) t.operators f h i))
+new_name b c k t lt h f (inl i) e =
+    above (subst (IsOlderName b) e (All-contains (λ f. IsOlderName b f.name) t.operators f h i))
   where
     above : c ≤ b → ⊥
     above le = omega (arith, le, lt)

@@ -68,7 +68,8 @@ pub identity_instance : {t : Theory} (s : List ℕ) (a b : Tree) {c d : Tree} �
     → IsTermOf t.operators s b → IsIdentity c d
     → Derivable t (Equation (substituted (two s a b) c) (substituted (two s a b) d))
 identity_instance {t} s a b p q i =
-    instance (two s a b) (two_fit s a b p.0.0 p.1 q.0.0 q.1) (two_over t.operators s a b p.0.1 q.0.1) (identity i) refl refl
+    instance (two s a b) (two_fit s a b p.0.0 p.1 q.0.0 q.1) (two_over t.operators s a b p.0.1 q.0.1)
+    (identity i) refl refl
 
 pub chosen_true : {t : Theory} (s : List ℕ) (a b : Tree) → IsTermOver t.operators a → sort_of a ≡ s
     → IsTermOver t.operators b → sort_of b ≡ s
@@ -91,7 +92,8 @@ pub all_equal : {t : Theory} {a b : Tree} → Derivable t (Equation truth falsit
     → IsStatementOver t.operators (Equation a b) → Derivable t (Equation a b)
 all_equal {t} {a} {b} d w =
     let s = sort_of a in
-    transitive (replace (1 ∷ []) (symmetric (chosen_true s a b w.0 refl w.1 (sym w.2))) d refl refl) (chosen_false s a b w.0 refl w.1 (sym w.2))
+    transitive (replace (1 ∷ []) (symmetric (chosen_true s a b w.0 refl w.1 (sym w.2))) d refl refl)
+    (chosen_false s a b w.0 refl w.1 (sym w.2))
 
 and_true : (p : Bool) → p && true ≡ p
 and_true true = refl
@@ -128,12 +130,14 @@ equal_by_implications {t} {a} {b} d e =
     let wb = sides.1.0 in
     let middle : Derivable t (Equation (conjunction a truth) (conjunction b (implication b a))) =
     symmetric (replace (2 ∷ []) (symmetric (exchanged a b wa sides.0.1 wb sides.1.1)) d refl refl) in
-    transitive (symmetric (with_truth a wa sides.0.1)) (transitive (replace (2 ∷ []) middle e refl refl) (with_truth b wb sides.1.1))
+    transitive (symmetric (with_truth a wa sides.0.1))
+    (transitive (replace (2 ∷ []) middle e refl refl) (with_truth b wb sides.1.1))
 
 -- what a theory states is derivable from it
 pub stated : (t : Theory) (s : Statement) → IsWellSortedTheory t → Contains t.statements s → Derivable t s
 stated t s w c =
-    axiom_ (contains_later statement_zero s t.statements c) (All-contains (IsStatementOver t.operators) t.statements s w c)
+    axiom_ (contains_later statement_zero s t.statements c)
+    (All-contains (IsStatementOver t.operators) t.statements s w c)
 
 -- what is supposed is derivable
 pub supposed : (t : Theory) (h : Statement) → IsStatementOver t.operators h → Derivable (with_statements t (h ∷ [])) h
@@ -153,7 +157,9 @@ supposing_first t h k =
 
 supposing_well_sorted : (t : Theory) (h : Statement) → IsWellSortedTheory t → IsStatementOver t.operators h
     → IsWellSortedTheory (with_statements t (h ∷ []))
-supposing_well_sorted t h w v = with_statements_well_sorted t (h ∷ []) w (All-cons (IsStatementOver t.operators) h [] v (All-nil (IsStatementOver t.operators)))
+supposing_well_sorted t h w v =
+    with_statements_well_sorted t (h ∷ []) w
+    (All-cons (IsStatementOver t.operators) h [] v (All-nil (IsStatementOver t.operators)))
 
 -- formulas without variables that follow from each other are equal
 pub equal_by_suppositions : {t : Theory} {a b : Tree} → IsWellSortedTheory t
@@ -205,7 +211,8 @@ cut_theory {t} {u} {s} wt wu fs rs d =
 pub cut_statements : {t : Theory} (ss : List Statement) {s : Statement} → IsWellSortedTheory t → All (Derivable t) ss
     → Derivable (with_statements t ss) s → Derivable t s
 cut_statements {t} ss w h d =
-    cut_theory (with_statements_well_sorted t ss w (All-weaker (Derivable t) (IsStatementOver t.operators) (λ r e. well_sorted e) ss h)) w (λ f c. c)
+    cut_theory
+    (with_statements_well_sorted t ss w (All-weaker (Derivable t) (IsStatementOver t.operators) (λ r e. well_sorted e) ss h)) w (λ f c. c)
     (λ r c. elim (contains_either t.statements ss r c) [
       | inl a ↦ stated t r w a
       | inr b ↦ All-contains (Derivable t) ss r h b

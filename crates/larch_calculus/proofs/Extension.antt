@@ -124,12 +124,16 @@ mutual
       ∙ variable_kept r vs (place_of cs f.name) in
       elim (known_cases t.operators cs f o.0) [
         | inl k ↦ left r (further.operator f) f (freed_all cs vs ts) (freed_all (map further.operator cs) (map (renamed_variable r) vs) (renamed_all further ts))
-            (variable_for cs vs f.name) (variable_for (map further.operator cs) (map (renamed_variable r) vs) (further.operator f).name)
-            (ap (option_and_then (slice_get vs)) (known_not_placed t cs n f k)) variable (sym (x.alike.operators f k)) rest
+            (variable_for cs vs f.name)
+            (variable_for (map further.operator cs) (map (renamed_variable r) vs) (further.operator f).name)
+            (ap (option_and_then (slice_get vs)) (known_not_placed t cs n f k)) variable
+            (sym (x.alike.operators f k)) rest
         | inr h ↦
             let v = has_variable cs vs f n.different e h in
-            gone r (further.operator f) f (freed_all cs vs ts) (freed_all (map further.operator cs) (map (renamed_variable r) vs) (renamed_all further ts))
-            (variable_for cs vs f.name) (variable_for (map further.operator cs) (map (renamed_variable r) vs) (further.operator f).name) v.0 v.1 variable
+            gone r (further.operator f) f (freed_all cs vs ts)
+            (freed_all (map further.operator cs) (map (renamed_variable r) vs) (renamed_all further ts))
+            (variable_for cs vs f.name)
+            (variable_for (map further.operator cs) (map (renamed_variable r) vs) (further.operator f).name) v.0 v.1 variable
       ]
     where
       left : (r : Renaming) (g f : PlainOperator) (ts us : Forest) (o p : Option Variable) → o ≡ None
@@ -140,7 +144,8 @@ mutual
       left r g f ts us o p a b e q =
           ap (λ z. renamed r (unwrap_or (option_map (λ v. var v.name v.sort) z) (app f ts))) a
           ∙ (λ i. app (e i) (q i))
-          ∙ ap (λ z. unwrap_or (option_map (λ v. var v.name v.sort) z) (app g us)) (sym (b ∙ ap (option_map (renamed_variable r)) a))
+          ∙ ap (λ z. unwrap_or (option_map (λ v. var v.name v.sort) z) (app g us))
+          (sym (b ∙ ap (option_map (renamed_variable r)) a))
 
       gone : (r : Renaming) (g f : PlainOperator) (ts us : Forest) (o p : Option Variable) (v : Variable) → o ≡ Some v
           → p ≡ option_map (renamed_variable r) o
@@ -148,7 +153,8 @@ mutual
           ≡ unwrap_or (option_map (λ v. var v.name v.sort) p) (app g us)
       gone r g f ts us o p v a b =
           ap (λ z. renamed r (unwrap_or (option_map (λ v. var v.name v.sort) z) (app f ts))) a
-          ∙ ap (λ z. unwrap_or (option_map (λ v. var v.name v.sort) z) (app g us)) (sym (b ∙ ap (option_map (renamed_variable r)) a))
+          ∙ ap (λ z. unwrap_or (option_map (λ v. var v.name v.sort) z) (app g us))
+          (sym (b ∙ ap (option_map (renamed_variable r)) a))
 
   pub freed_all_renamed : (r further : Renaming) (t u : Theory) (cs : List PlainOperator) (vs : List Variable)
       → Extends r further t u cs

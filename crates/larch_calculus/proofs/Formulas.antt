@@ -66,7 +66,9 @@ equal_is_equivalent {t} a b wa ea wb eb =
 formula_is : (P : Tree → Type 0) (a b : Tree) → (b ≡ truth → P a) → (a ≡ truth → P b)
     → (sort_of a ≡ bool_sort → P (equivalence a b)) → P (equality (sort_of a) a b) → P (formula a b)
 formula_is P a b right left over_bool other =
-    one P a b (equivalence a b) (equality (sort_of a) a b) (is_truth b) (is_truth a) (bytes_eq (sort_of a) bool_sort) (λ e. right (truth_is b e)) (λ e. left (truth_is a e)) (λ e. over_bool ((bytes_eq-Decides (sort_of a) bool_sort).0 e)) other
+    one P a b (equivalence a b) (equality (sort_of a) a b) (is_truth b) (is_truth a) (bytes_eq (sort_of a) bool_sort)
+    (λ e. right (truth_is b e)) (λ e. left (truth_is a e))
+    (λ e. over_bool ((bytes_eq-Decides (sort_of a) bool_sort).0 e)) other
   where
     one : (P : Tree → Type 0) (a b c d : Tree) (p q r : Bool) → (p ≡ true → P a) → (q ≡ true → P b) → (r ≡ true → P c)
         → P d → P (cond p a (cond q b (cond r c d)))

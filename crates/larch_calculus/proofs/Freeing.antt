@@ -121,7 +121,8 @@ image_is_constant (w ∷ vs) (c ∷ cs) v e h =
       | inr y ↦ elim (contains_cases w v vs h) [
         | inl i ↦
             let one : is_entry_of v.name v.sort d ≡ true =
-            and_both (bytes_eq w.name v.name) (bytes_eq w.sort v.sort) ((bytes_eq-Decides w.name v.name).1 (ap (λ u. u.name) i))
+            and_both (bytes_eq w.name v.name) (bytes_eq w.sort v.sort)
+            ((bytes_eq-Decides w.name v.name).1 (ap (λ u. u.name) i))
             ((bytes_eq-Decides w.sort v.sort).1 (ap (λ u. u.sort) i)) in
             (c, ap (λ b. cond b (constant c) (image (constants_for vs cs) v.name v.sort)) one)
         | inr t ↦
@@ -201,7 +202,8 @@ constants_fit (v ∷ vs) [] k e = All-nil (λ e. WellSorted e.term × (sort_of e
 constants_fit (v ∷ vs) (c ∷ cs) k e =
     let p : map (λ c. c.range) cs ≡ map (λ v. v.sort) vs = cc in
     All-cons (λ e. WellSorted e.term × (sort_of e.term ≡ e.sort)) (record { name = v.name; sort = v.sort; term = constant c }) (constants_for vs cs)
-    ((sym (All-head (λ f. f.domain ≡ []) c cs k), tt), cc) (constants_fit vs cs (All-tail (λ f. f.domain ≡ []) c cs k) p)
+    ((sym (All-head (λ f. f.domain ≡ []) c cs k), tt), cc)
+    (constants_fit vs cs (All-tail (λ f. f.domain ≡ []) c cs k) p)
 
 pub constants_over : (fs : List PlainOperator) (vs : List Variable) (cs : List PlainOperator)
     → ((c : PlainOperator) → Contains cs c → Contains fs c)
@@ -233,7 +235,8 @@ pub without_constants : (t : Theory) (cs : List PlainOperator) (vs : List Variab
     → AreNew t cs
     → map (λ c. c.range) cs ≡ map (λ v. v.sort) vs → IsTermOf (extended t cs []).operators s a
     → IsTermOf t.operators s (freed cs vs a)
-without_constants t cs vs s a n e w = (freed_well_sorted t cs vs n e a w.0.1 w.0.0, freed_sort t cs vs n e a w.0.1 ∙ w.1)
+without_constants t cs vs s a n e w =
+    (freed_well_sorted t cs vs n e a w.0.1 w.0.0, freed_sort t cs vs n e a w.0.1 ∙ w.1)
 
 -- what holds of new constants holds of all values
 pub generalised : (t : Theory) (cs : List PlainOperator) (vs : List Variable) (a b : Tree) → AreNew t cs
@@ -252,5 +255,6 @@ pub specialised : (t : Theory) (cs : List PlainOperator) (vs : List Variable) (a
     → Derivable (extended t cs [])
     (Equation (substituted (constants_for vs cs) a) (substituted (constants_for vs cs) b))
 specialised t cs vs a b g k e d =
-    instance (constants_for vs cs) (constants_fit vs cs k e) (constants_over (t.operators ++ cs) vs cs (contains_right t.operators cs))
+    instance (constants_for vs cs) (constants_fit vs cs k e)
+    (constants_over (t.operators ++ cs) vs cs (contains_right t.operators cs))
     (weaken g (included_more t cs []) d) refl refl

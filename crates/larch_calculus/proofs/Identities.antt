@@ -45,7 +45,8 @@ built_of_two fs b s r q t u e p o = (
 pub choice_of : (fs : List PlainOperator) (s : List ℕ) (c t u : Tree) → IsTermOf fs bool_sort c → IsTermOf fs s t
     → IsTermOf fs s u → IsTermOf fs s (choice s c t u)
 choice_of fs s c t u p o q = (
-  built fs If s (more c (more t (more u none))) (λ i. p.1 i ∷ o.1 i ∷ q.1 i ∷ []) (p.0.0, (o.0.0, (q.0.0, tt))) (p.0.1, (o.0.1, (q.0.1, tt))),
+  built fs If s (more c (more t (more u none))) (λ i. p.1 i ∷ o.1 i ∷ q.1 i ∷ []) (p.0.0, (o.0.0, (q.0.0, tt)))
+      (p.0.1, (o.0.1, (q.0.1, tt))),
   refl,
 )
 
@@ -64,27 +65,44 @@ proposition_of fs (letter n) = variable_of fs n bool_sort
 proposition_of fs always = truth_of fs
 proposition_of fs never = falsity_of fs
 proposition_of fs (denied p) = built_of_one fs Not bool_sort bool_sort (term_of p) refl (proposition_of fs p)
-proposition_of fs (both p q) = built_of_two fs And bool_sort bool_sort bool_sort (term_of p) (term_of q) refl (proposition_of fs p) (proposition_of fs q)
-proposition_of fs (either p q) = built_of_two fs Or bool_sort bool_sort bool_sort (term_of p) (term_of q) refl (proposition_of fs p) (proposition_of fs q)
-proposition_of fs (implied p q) = built_of_two fs Implies bool_sort bool_sort bool_sort (term_of p) (term_of q) refl (proposition_of fs p) (proposition_of fs q)
-proposition_of fs (equivalent p q) = built_of_two fs Iff bool_sort bool_sort bool_sort (term_of p) (term_of q) refl (proposition_of fs p) (proposition_of fs q)
-proposition_of fs (equal p q) = equality_of fs bool_sort (term_of p) (term_of q) (proposition_of fs p) (proposition_of fs q)
-proposition_of fs (unequal p q) = built_of_two fs Unequal bool_sort bool_sort bool_sort (term_of p) (term_of q) refl (proposition_of fs p) (proposition_of fs q)
-proposition_of fs (chosen p q r) = choice_of fs bool_sort (term_of p) (term_of q) (term_of r) (proposition_of fs p) (proposition_of fs q) (proposition_of fs r)
+proposition_of fs (both p q) =
+    built_of_two fs And bool_sort bool_sort bool_sort (term_of p) (term_of q) refl (proposition_of fs p)
+    (proposition_of fs q)
+proposition_of fs (either p q) =
+    built_of_two fs Or bool_sort bool_sort bool_sort (term_of p) (term_of q) refl (proposition_of fs p)
+    (proposition_of fs q)
+proposition_of fs (implied p q) =
+    built_of_two fs Implies bool_sort bool_sort bool_sort (term_of p) (term_of q) refl (proposition_of fs p)
+    (proposition_of fs q)
+proposition_of fs (equivalent p q) =
+    built_of_two fs Iff bool_sort bool_sort bool_sort (term_of p) (term_of q) refl (proposition_of fs p)
+    (proposition_of fs q)
+proposition_of fs (equal p q) =
+    equality_of fs bool_sort (term_of p) (term_of q) (proposition_of fs p) (proposition_of fs q)
+proposition_of fs (unequal p q) =
+    built_of_two fs Unequal bool_sort bool_sort bool_sort (term_of p) (term_of q) refl (proposition_of fs p)
+    (proposition_of fs q)
+proposition_of fs (chosen p q r) =
+    choice_of fs bool_sort (term_of p) (term_of q) (term_of r) (proposition_of fs p) (proposition_of fs q)
+    (proposition_of fs r)
 
 -- two terms of one sort as the sides of an equation, each written in another way
 sides : (fs : List PlainOperator) (s : List ℕ) (a b t u : Tree) → a ≡ t → b ≡ u → IsTermOf fs s t → IsTermOf fs s u
     → IsStatementOver fs (Equation a b)
 sides fs s a b t u e f p o =
-    subst (λ x. IsStatementOver fs (Equation x b)) (sym e) (subst (λ x. IsStatementOver fs (Equation t x)) (sym f) (p.0, o.0, p.1 ∙ sym o.1))
+    subst (λ x. IsStatementOver fs (Equation x b)) (sym e)
+    (subst (λ x. IsStatementOver fs (Equation t x)) (sym f) (p.0, o.0, p.1 ∙ sym o.1))
 
 pub identity_over : (fs : List PlainOperator) {a b : Tree} → IsIdentity a b → IsStatementOver fs (Equation a b)
-identity_over fs {a} {b} (propositional p q l r v) = sides fs bool_sort a b (term_of p) (term_of q) l r (proposition_of fs p) (proposition_of fs q)
+identity_over fs {a} {b} (propositional p q l r v) =
+    sides fs bool_sort a b (term_of p) (term_of q) l r (proposition_of fs p) (proposition_of fs q)
 identity_over fs {a} {b} (equal_itself s x l r) =
-    sides fs bool_sort a b (equality s (var x s) (var x s)) truth l r (equality_of fs s (var x s) (var x s) (variable_of fs x s) (variable_of fs x s)) (truth_of fs)
+    sides fs bool_sort a b (equality s (var x s) (var x s)) truth l r
+    (equality_of fs s (var x s) (var x s) (variable_of fs x s) (variable_of fs x s)) (truth_of fs)
 identity_over fs {a} {b} (equal_exchanged s x y l r) =
     sides fs bool_sort a b (equality s (var x s) (var y s)) (equality s (var y s) (var x s)) l r
-    (equality_of fs s (var x s) (var y s) (variable_of fs x s) (variable_of fs y s)) (equality_of fs s (var y s) (var x s) (variable_of fs y s) (variable_of fs x s))
+    (equality_of fs s (var x s) (var y s) (variable_of fs x s) (variable_of fs y s))
+    (equality_of fs s (var y s) (var x s) (variable_of fs y s) (variable_of fs x s))
 identity_over fs {a} {b} (unequal_denied s x y l r) =
     sides fs bool_sort a b (inequality s (var x s) (var y s)) (negation (equality s (var x s) (var y s))) l r
     (built_of_two fs Unequal s s s (var x s) (var y s) refl (variable_of fs x s) (variable_of fs y s))
@@ -92,10 +110,12 @@ identity_over fs {a} {b} (unequal_denied s x y l r) =
     (equality_of fs s (var x s) (var y s) (variable_of fs x s) (variable_of fs y s)))
 identity_over fs {a} {b} (chosen_first s x y l r) =
     sides fs s a b (choice s truth (var x s) (var y s)) (var x s) l r
-    (choice_of fs s truth (var x s) (var y s) (truth_of fs) (variable_of fs x s) (variable_of fs y s)) (variable_of fs x s)
+    (choice_of fs s truth (var x s) (var y s) (truth_of fs) (variable_of fs x s) (variable_of fs y s))
+    (variable_of fs x s)
 identity_over fs {a} {b} (chosen_second s x y l r) =
     sides fs s a b (choice s falsity (var x s) (var y s)) (var y s) l r
-    (choice_of fs s falsity (var x s) (var y s) (falsity_of fs) (variable_of fs x s) (variable_of fs y s)) (variable_of fs y s)
+    (choice_of fs s falsity (var x s) (var y s) (falsity_of fs) (variable_of fs x s) (variable_of fs y s))
+    (variable_of fs y s)
 identity_over fs {a} {b} (chosen_same s c x l r) =
     sides fs s a b (choice s (var c bool_sort) (var x s) (var x s)) (var x s) l r
     (choice_of fs s (var c bool_sort) (var x s) (var x s) (variable_of fs c bool_sort) (variable_of fs x s) (variable_of fs x s)) (variable_of fs x s)

@@ -25,11 +25,13 @@ pub not_placed : (cs : List PlainOperator) (n : OperatorName) → All (λ c. c.n
 not_placed [] n h = refl
 not_placed (c ∷ cs) n h =
     let a = names_apart c.name n (All-head (λ d. d.name ≢ n) c cs h) in
-    ap (λ b. cond b (Some 0) (option_map suc (place_of cs n))) a ∙ ap (option_map suc) (not_placed cs n (All-tail (λ d. d.name ≢ n) c cs h))
+    ap (λ b. cond b (Some 0) (option_map suc (place_of cs n))) a ∙ ap (option_map suc)
+    (not_placed cs n (All-tail (λ d. d.name ≢ n) c cs h))
 
 different_from : (c f : PlainOperator) (cs : List PlainOperator) → AllPairs (λ f g. f.name ≢ g.name) (c ∷ cs)
     → Contains cs f → c.name ≢ f.name
-different_from c f cs d h = All-contains (λ g. c.name ≢ g.name) cs f (λ k e lt. d 0 (suc k) e (omega arith) (omega arith)) h
+different_from c f cs d h =
+    All-contains (λ g. c.name ≢ g.name) cs f (λ k e lt. d 0 (suc k) e (omega arith) (omega arith)) h
 
 -- an operator among some with different names stands at the place of its name
 pub placed_at : (cs : List PlainOperator) (k : ℕ) (f : PlainOperator) → AllPairs (λ f g. f.name ≢ g.name) cs
@@ -38,7 +40,8 @@ pub placed_at : (cs : List PlainOperator) (k : ℕ) (f : PlainOperator) → AllP
 placed_at [] k f d e = cc
 placed_at (c ∷ cs) zero f d e =
     let p : c ≡ f = cc in
-    ap (λ b. cond b (Some 0) (option_map suc (place_of cs f.name))) ((name_Decides c.name f.name).1 (ap (λ g. g.name) p))
+    ap (λ b. cond b (Some 0) (option_map suc (place_of cs f.name)))
+    ((name_Decides c.name f.name).1 (ap (λ g. g.name) p))
 placed_at (c ∷ cs) (suc k) f d e =
     let apart = different_from c f cs d (got_contains cs k f e) in
     ap (λ b. cond b (Some 0) (option_map suc (place_of cs f.name))) (names_apart c.name f.name apart)
@@ -66,7 +69,8 @@ pub has_variable : (cs : List PlainOperator) (vs : List Variable) (f : PlainOper
 has_variable cs vs f d e h =
     let p = placed cs f d h in
     let o : option_map (λ v. v.sort) (slice_get vs p.0) ≡ Some f.range =
-    sym (slice_get-map (λ v. v.sort) vs p.0) ∙ ap (λ ss. slice_get ss p.0) (sym e) ∙ slice_get-map (λ c. c.range) cs p.0 ∙ ap (option_map (λ c. c.range)) p.2 in
+    sym (slice_get-map (λ v. v.sort) vs p.0) ∙ ap (λ ss. slice_get ss p.0) (sym e) ∙ slice_get-map
+    (λ c. c.range) cs p.0 ∙ ap (option_map (λ c. c.range)) p.2 in
     let r = mapped (slice_get vs p.0) f.range o in
     (r.0, ap (option_and_then (slice_get vs)) p.1 ∙ r.1, r.2)
   where

@@ -25,7 +25,8 @@ has_successor : IsKnown numbers.operators successor
 has_successor = inl (contains_later nought successor (successor ∷ plus ∷ []) (contains_here successor (plus ∷ [])))
 
 has_plus : IsKnown numbers.operators plus
-has_plus = inl (contains_later nought plus (successor ∷ plus ∷ []) (contains_later successor plus (plus ∷ []) (contains_here plus [])))
+has_plus =
+    inl (contains_later nought plus (successor ∷ plus ∷ []) (contains_later successor plus (plus ∷ []) (contains_here plus [])))
 
 -- the constant of the box for the successor
 abbrev fresh_number : PlainOperator
@@ -83,7 +84,8 @@ first : Derivable (extended numbers [] [])
 first =
     let t = extended numbers [] [] in
     let known = knows_more numbers.operators [] in
-    instance (two number_sort (constant nought) (constant nought)) (two_fit number_sort (constant nought) (constant nought) (refl, tt) refl (refl, tt) refl)
+    instance (two number_sort (constant nought) (constant nought))
+    (two_fit number_sort (constant nought) (constant nought) (refl, tt) refl (refl, tt) refl)
     (two_over t.operators number_sort (constant nought) (constant nought) (known nought has_nought, tt) (known nought has_nought, tt))
     (axiom_ {s = sum_with_nought} (2, omega arith, refl) (statement_over_more numbers.operators t.operators known sum_with_nought nought_over)) refl refl
 
@@ -97,7 +99,8 @@ second =
     let known = knows_more numbers.operators (fresh_number ∷ []) in
     let own : IsKnown t.operators fresh_number = inl (3, omega arith, refl) in
     let summed : Derivable t (Equation (joined plus (constant nought) (applied successor (constant fresh_number))) (applied successor (joined plus (constant nought) (constant fresh_number)))) =
-    instance (two number_sort (constant nought) (constant fresh_number)) (two_fit number_sort (constant nought) (constant fresh_number) (refl, tt) refl (refl, tt) refl)
+    instance (two number_sort (constant nought) (constant fresh_number))
+    (two_fit number_sort (constant nought) (constant fresh_number) (refl, tt) refl (refl, tt) refl)
     (two_over t.operators number_sort (constant nought) (constant fresh_number) (known nought has_nought, tt) (own, tt))
     (axiom_ {s = sum_with_successor} (3, omega arith, refl) (statement_over_more numbers.operators t.operators known sum_with_successor successor_over)) refl refl in
     let given : Derivable t supposition =
@@ -119,4 +122,6 @@ steps (suc zero) f e =
 steps (suc (suc i)) f e = cc
 
 pub by_induction : Derivable numbers sum_from_nought
-by_induction = induct (codes "x") number_sort (nought ∷ successor ∷ []) box_constants (axiom_ (1, omega arith, refl) generated_over) goal_over boxes steps
+by_induction =
+    induct (codes "x") number_sort (nought ∷ successor ∷ []) box_constants
+    (axiom_ (1, omega arith, refl) generated_over) goal_over boxes steps

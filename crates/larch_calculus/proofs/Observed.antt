@@ -63,7 +63,8 @@ sorts_with names place t s k (r ∷ rs) e c =
       | inr d ↦
           let le = place_at_least s (suc k) rs place d in
           let head : sort_of (cond (k == place) t (var (names k) r)) ≡ r =
-          sort_of_choice (k == place) t (var (names k) r) r (λ q. let i = number_is k place q in absurd (omega arith)) refl in
+          sort_of_choice (k == place) t (var (names k) r) r
+          (λ q. let i = number_is k place q in absurd (omega arith)) refl in
           let tail = sorts_with names place t s (suc k) rs e d in
           λ i. head i ∷ tail i
     ]
@@ -92,7 +93,8 @@ observation_is s (o ∷ os) w c =
     elim (contains_either (map (λ k. record { observer = o; place = k }) (places_of_sort s 1 o.domain)) (observations_of s os) w c) [
       | inl a ↦
           let r = contained_in_map (λ k. record { observer = o; place = k }) (places_of_sort s 1 o.domain) w a in
-          subst (λ x. Contains (o ∷ os) x.observer × Contains (places_of_sort s 1 x.observer.domain) x.place) r.2 (contains_here o os, r.1)
+          subst (λ x. Contains (o ∷ os) x.observer × Contains (places_of_sort s 1 x.observer.domain) x.place) r.2
+          (contains_here o os, r.1)
       | inr b ↦ let r = observation_is s os w b in (contains_later o w.observer os r.0, r.1)
     ]
 
@@ -123,7 +125,8 @@ pub observations_of_terms : (fs : List PlainOperator) (names : ℕ → List ℕ)
     → IsStatementOver fs (Partitioned s os) → IsTermOf fs s t → IsTermOf fs s u
     → All (IsStatementOver fs) (observations names s os t u)
 observations_of_terms fs names s os t u w p q =
-    observations_over fs names s os t u (λ o i. (All-contains (λ g. IsKnown fs g × Contains g.domain s) os o w i).0) p.0 p.1 q.0 q.1
+    observations_over fs names s os t u
+    (λ o i. (All-contains (λ g. IsKnown fs g × Contains g.domain s) os o w i).0) p.0 p.1 q.0 q.1
 
 -- so are those between two new constants
 pub partition_over : (t : Theory) (names : ℕ → List ℕ) (s : List ℕ) (os : List PlainOperator) (c d : PlainOperator)
@@ -135,4 +138,5 @@ partition_over t names s os c d w k e f =
     λ g i. ((sym (All-contains (λ g. g.domain ≡ []) cs g k i), tt), (inl (contains_right t.operators cs g i), tt)) in
     observations_of_terms (t.operators ++ cs) names s os (constant c) (constant d)
     (statement_over_more t.operators (t.operators ++ cs) (knows_more t.operators cs) (Partitioned s os) w)
-    (constant_over c (contains_here c (d ∷ [])), e) (constant_over d (contains_later c d (d ∷ []) (contains_here d [])), f)
+    (constant_over c (contains_here c (d ∷ [])), e)
+    (constant_over d (contains_later c d (d ∷ []) (contains_here d [])), f)

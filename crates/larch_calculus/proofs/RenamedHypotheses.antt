@@ -55,7 +55,8 @@ pub identity_renamed : (r : Renaming) → KeepsBuiltIns r → {a b : Tree} → I
 identity_renamed r k (propositional p q e f v) =
     propositional p q (ap (renamed r) e ∙ proposition_renamed r k p) (ap (renamed r) f ∙ proposition_renamed r k q) v
 identity_renamed r k (equal_itself s x e f) =
-    equal_itself (r.sort s) x (ap (renamed r) e ∙ equality_renamed r k s (var x s) (var x s)) (ap (renamed r) f ∙ truth_renamed r k)
+    equal_itself (r.sort s) x (ap (renamed r) e ∙ equality_renamed r k s (var x s) (var x s))
+    (ap (renamed r) f ∙ truth_renamed r k)
 identity_renamed r k (equal_exchanged s x y e f) =
     equal_exchanged (r.sort s) x y (ap (renamed r) e ∙ equality_renamed r k s (var x s) (var y s))
     (ap (renamed r) f ∙ equality_renamed r k s (var y s) (var x s))
@@ -102,7 +103,8 @@ beside_renamed r names place k (s ∷ ss) =
     let vs = variables_beside names place (suc k) ss in
     let rest = beside_renamed r names place (suc k) ss in
     cond_by (k == place) (variables_beside names place (suc k) (map r.sort ss))
-    (renamed_variable r v ∷ variables_beside names place (suc k) (map r.sort ss)) (map (renamed_variable r) vs) (map (renamed_variable r) (v ∷ vs))
+    (renamed_variable r v ∷ variables_beside names place (suc k) (map r.sort ss)) (map (renamed_variable r) vs)
+    (map (renamed_variable r) (v ∷ vs))
     rest (ap (λ us. renamed_variable r v ∷ us) rest)
     ∙ sym (map_cond (map (renamed_variable r)) (k == place) vs (v ∷ vs))
 
@@ -128,7 +130,8 @@ observations_of_renamed r h s (o ∷ os) =
     let places : places_of_sort (r.sort s) 1 (r.operator o).domain ≡ ks =
     ap (places_of_sort (r.sort s) 1) (h.signatures.domain o) ∙ places_renamed r h.apart s 1 o.domain in
     (λ i. map at_new (places i) ++ observations_of_renamed r h s os i)
-    ∙ ap (λ ws. ws ++ map (renamed_observation r) (observations_of s os)) (sym (map_map (renamed_observation r) at_old ks))
+    ∙ ap (λ ws. ws ++ map (renamed_observation r) (observations_of s os))
+    (sym (map_map (renamed_observation r) at_old ks))
     ∙ sym (map-append (renamed_observation r) (map at_old ks) (observations_of s os))
 
 pub observations_renamed : (r : Renaming) → IsFaithful r
@@ -172,7 +175,8 @@ variables_renamed r (v ∷ vs) = ap (more (var v.name (r.sort v.sort))) (variabl
 numbered_renamed : (r : Renaming) (k : ℕ) (ss : List (List ℕ))
     → variables_from k (map r.sort ss) ≡ map (renamed_variable r) (variables_from k ss)
 numbered_renamed r k [] = refl
-numbered_renamed r k (s ∷ ss) = ap (λ vs. record { name = place_name k; sort = r.sort s } ∷ vs) (numbered_renamed r (suc k) ss)
+numbered_renamed r k (s ∷ ss) =
+    ap (λ vs. record { name = place_name k; sort = r.sort s } ∷ vs) (numbered_renamed r (suc k) ss)
 
 formula_renamed : (r : Renaming) → IsFaithful r → (p : PlainOperator) (s : List ℕ) (f : PlainOperator)
     → renamed r (generation_formula p s f) ≡ generation_formula (r.operator p) (r.sort s) (r.operator f)
@@ -202,7 +206,8 @@ constants_renamed r (c ∷ cs) = ap (more (constant (r.operator c))) (constants_
 
 pub equation_renamed : (r : Renaming) → KeepsSortsApart r → (x s : List ℕ) (a b t : Tree)
     → renamed_statement r (equation_at x s a b t) ≡ equation_at x (r.sort s) (renamed r a) (renamed r b) (renamed r t)
-equation_renamed r k x s a b t = λ i. Equation (renamed_substituted r k (only x s t) a i) (renamed_substituted r k (only x s t) b i)
+equation_renamed r k x s a b t =
+    λ i. Equation (renamed_substituted r k (only x s t) a i) (renamed_substituted r k (only x s t) b i)
 
 pub induction_renamed : (r : Renaming) → IsFaithful r → (x s : List ℕ) (a b : Tree) (cs : List PlainOperator)
     → map (renamed_statement r) (induction_hypotheses x s a b cs)

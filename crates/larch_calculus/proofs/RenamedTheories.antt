@@ -70,7 +70,8 @@ plain_kept new r (boxed b k) p = absurd p
 
 plain_alike : (new : OperatorName → OperatorName) (t : Theory) → RenamesBoxes new → HasPlainNames t
     → AreAlikeOver (by_name new) unchanged t.operators
-plain_alike new t r p = record { sorts = λ s. refl; operators = λ f k i. record { name = kept f k i; domain = f.domain; range = f.range } }
+plain_alike new t r p =
+    record { sorts = λ s. refl; operators = λ f k i. record { name = kept f k i; domain = f.domain; range = f.range } }
   where
     kept : (f : PlainOperator) → IsKnown t.operators f → new f.name ≡ f.name
     kept f (inl c) = plain_kept new r f.name (All-contains (λ g. IsPlainName g.name) t.operators f p c)

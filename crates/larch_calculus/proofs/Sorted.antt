@@ -44,7 +44,8 @@ statement_over_more fs gs k (Equation l r) w = (term_over_more fs gs k l w.0, te
 statement_over_more fs gs k (Generated s hs) w =
     All-weaker (λ g. IsKnown fs g × (g.range ≡ s)) (λ g. IsKnown gs g × (g.range ≡ s)) (λ g p. (k g p.0, p.1)) hs w
 statement_over_more fs gs k (Partitioned s hs) w =
-    All-weaker (λ g. IsKnown fs g × Contains g.domain s) (λ g. IsKnown gs g × Contains g.domain s) (λ g p. (k g p.0, p.1)) hs w
+    All-weaker (λ g. IsKnown fs g × Contains g.domain s) (λ g. IsKnown gs g × Contains g.domain s)
+    (λ g p. (k g p.0, p.1)) hs w
 
 pub knows_more : (fs gs : List PlainOperator) → Knows fs (fs ++ gs)
 knows_more fs gs f (inl c) = inl (contains_left fs gs f c)
@@ -114,13 +115,15 @@ conjoined_over : (fs : List PlainOperator) (t : Tree) (us : List Tree) → IsFor
     → All (IsFormulaOver fs) us → IsFormulaOver fs (conjoined t us)
 conjoined_over fs t [] p h = p
 conjoined_over fs t (u ∷ us) p h =
-    conjoined_over fs (conjunction t u) us (conjunction_over fs t u p (All-head (IsFormulaOver fs) u us h)) (All-tail (IsFormulaOver fs) u us h)
+    conjoined_over fs (conjunction t u) us (conjunction_over fs t u p (All-head (IsFormulaOver fs) u us h))
+    (All-tail (IsFormulaOver fs) u us h)
 
 implied_over : (fs : List PlainOperator) (us : List Tree) (t : Tree) → All (IsFormulaOver fs) us → IsFormulaOver fs t
     → IsFormulaOver fs (implied_by us t)
 implied_over fs [] t h p = p
 implied_over fs (u ∷ us) t h p =
-    implication_over fs (conjoined u us) t (conjoined_over fs u us (All-head (IsFormulaOver fs) u us h) (All-tail (IsFormulaOver fs) u us h)) p
+    implication_over fs (conjoined u us) t
+    (conjoined_over fs u us (All-head (IsFormulaOver fs) u us h) (All-tail (IsFormulaOver fs) u us h)) p
 
 -- arguments of a well sorted term have the sorts of its operator's domain
 pub side_over : (fs : List PlainOperator) (f : PlainOperator) (r : List ℕ) (a : Tree) → f.domain ≡ r ∷ []
@@ -184,7 +187,9 @@ generation_over t p s gs w d r =
 
 -- a substitution of one variable
 pub only_fits : (x s : List ℕ) (t : Tree) → WellSorted t → sort_of t ≡ s → Fits (only x s t)
-only_fits x s t w e = All-cons (λ e. WellSorted e.term × (sort_of e.term ≡ e.sort)) (record { name = x; sort = s; term = t }) [] (w, e) (All-nil (λ e. WellSorted e.term × (sort_of e.term ≡ e.sort)))
+only_fits x s t w e =
+    All-cons (λ e. WellSorted e.term × (sort_of e.term ≡ e.sort)) (record { name = x; sort = s; term = t }) [] (w, e)
+    (All-nil (λ e. WellSorted e.term × (sort_of e.term ≡ e.sort)))
 
 pub equation_over : (fs : List PlainOperator) (x s : List ℕ) (l r t : Tree) → IsStatementOver fs (Equation l r)
     → IsTermOver fs t → sort_of t ≡ s

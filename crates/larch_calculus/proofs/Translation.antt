@@ -180,7 +180,8 @@ got_observation : (r : Renaming) → IsFaithful r → (s : List ℕ) (os : List 
     → slice_get (observations_of (r.sort s) (map r.operator os)) i ≡ Some w
     → (v : Observation) × (slice_get (observations_of s os) i ≡ Some v) × (renamed_observation r v ≡ w)
 got_observation r h s os i w e =
-    got_in_map (renamed_observation r) (observations_of s os) i w (ap (λ ws. slice_get ws i) (sym (observations_of_renamed r h s os)) ∙ e)
+    got_in_map (renamed_observation r) (observations_of s os) i w
+    (ap (λ ws. slice_get ws i) (sym (observations_of_renamed r h s os)) ∙ e)
 
 -- what is stated is derivable, as it becomes, from each theory that its own is translated to
 abbrev IsCarried : Theory → Statement → Type 0
@@ -307,7 +308,8 @@ generation_carried t s fs p x w n d e h r u tr =
     let renaming : ks ≡ generation_hypotheses q (r.sort s) (map r.operator fs) =
     generation_renamed further f p s fs
     ∙ ap (generation_hypotheses q (r.sort s)) (operators_alike further r t.operators y.alike fs known) in
-    generated q x (renamed_statement_over r t.operators u.operators tr.faithful.signatures tr.operators (Generated s fs) w) y.names
+    generated q x
+    (renamed_statement_over r t.operators u.operators tr.faithful.signatures tr.operators (Generated s fs) w) y.names
     (f.signatures.domain p ∙ ap (map r.sort) d) (f.signatures.range p ∙ ap r.sort e ∙ f.built_in.truth_values)
     (subst (λ z. Derivable (extended u (q ∷ []) z) (Equation (applied q (var x (r.sort s))) truth)) renaming
     (subst (λ z. Derivable (extended u (q ∷ []) ks) (Equation (applied q (var x (r.sort s))) z)) (truth_renamed further f.built_in)
@@ -334,8 +336,10 @@ partition_carried t s os c d w n k e f h r u x =
     observations_renamed further g place_name s os (constant c) (constant d)
     ∙ ap (λ gs. observations place_name (r.sort s) gs (constant p) (constant q))
     (operators_alike further r t.operators y.alike os known) in
-    partitioned p q (renamed_statement_over r t.operators u.operators x.faithful.signatures x.operators (Partitioned s os) w) y.names
-    (renamed_constants further g.signatures cs k) (g.signatures.range c ∙ ap r.sort e) (g.signatures.range d ∙ ap r.sort f)
+    partitioned p q
+    (renamed_statement_over r t.operators u.operators x.faithful.signatures x.operators (Partitioned s os) w) y.names
+    (renamed_constants further g.signatures cs k) (g.signatures.range c ∙ ap r.sort e)
+    (g.signatures.range d ∙ ap r.sort f)
     (subst (λ z. Derivable (extended u (p ∷ q ∷ []) z) (Equation (constant p) (constant q))) renaming
     (h.1 further (extended u (p ∷ q ∷ []) ks)
     (further_translation r further t u cs hs x y (partition_over t place_name s os c d w k e f))))
