@@ -1,13 +1,11 @@
 -- An equation and its formula are derivable from each other.
-use Rattle.std.proofs.Common.{◌≡◌, ℕ, ◌==◌, Bool, true, false, ◌&&◌, cond, List, [], ◌∷◌, length, codes, bytes_eq, refl, sym, ap, subst, arith}
+use Rattle.std.proofs.Common.{◌≡◌, Bool, true, false, cond, [], ◌∷◌, codes, bytes_eq, refl, sym, subst}
 use Rattle.std.proofs.lemmas.Slice.Eq.{bytes_eq-Decides}
-use Rattle.larch_base.proofs.Bools.{both_true}
-use Rattle.larch_term.specs.Operator.{OperatorName, PlainOperator, plain, boxed, name_bytes}
 use Rattle.larch_term.specs.BuiltIn.{built_in, bool_sort}
-use Rattle.larch_term.specs.Tree.{Tree, var, app, none, more}
+use Rattle.larch_term.specs.Tree.{Tree}
 use Rattle.larch_term.specs.Sorts.{sort_of, IsTermOver}
-use Rattle.larch_term.specs.Truth.{is_truth, is_true, truth}
-use Rattle.larch_term.specs.declared.built_in.BuiltIn.TheVariants.{True, Iff}
+use Rattle.larch_term.specs.Truth.{is_truth, truth}
+use Rattle.larch_term.specs.declared.built_in.BuiltIn.TheVariants.{Iff}
 use Rattle.larch_term.specs.declared.statement.Statement.TheVariants.{Equation}
 use Rattle.larch_term.specs.declared.statement.Theory.{Theory}
 use Rattle.larch_calculus.specs.Formula.{equivalence, equality, formula}
@@ -15,28 +13,10 @@ use Rattle.larch_calculus.specs.Identity.{always, equivalent, equal, proposition
 use Rattle.larch_calculus.specs.Letters.{two, x_letter, y_letter}
 use Rattle.larch_calculus.specs.Derivable as rule
 use Rattle.larch_calculus.specs.Derivable.{Derivable, identity, symmetric, instance}
+use Rattle.larch_term.proofs.TruthTest.{is_truth_Decides}
 use Rattle.larch_calculus.proofs.DerivedRules.{transitive, replaced_left, identity_instance, image_x, two_fit, two_over}
 use Rattle.larch_calculus.proofs.Sorted.{sides_over}
 use Rattle.larch_calculus.proofs.WellSorted.{well_sorted}
-
-no_sorts : (ss : List (List ℕ)) → (length ss == 0) ≡ true → ss ≡ []
-no_sorts [] e = refl
-no_sorts (s ∷ ss) e = let z : length (s ∷ ss) ≡ 0 = grind arith in absurd (omega arith)
-
-spelled_true : (n : OperatorName) → bytes_eq (name_bytes n) (codes "true") ≡ true → n ≡ plain (codes "true")
-spelled_true (plain n) e = ap plain ((bytes_eq-Decides n (codes "true")).0 e)
-spelled_true (boxed b k) e = cc
-
-is_true_one : (f : PlainOperator) → is_true f ≡ true → f ≡ built_in True bool_sort
-is_true_one f e =
-    let p = both_true (bytes_eq (name_bytes f.name) (codes "true")) ((length f.domain == 0) && bytes_eq f.range bool_sort) e in
-    let q = both_true (length f.domain == 0) (bytes_eq f.range bool_sort) p.1 in
-    λ i. record { name = spelled_true f.name p.0 i; domain = no_sorts f.domain q.0 i; range = (bytes_eq-Decides f.range bool_sort).0 q.1 i }
-
-pub truth_is : (t : Tree) → is_truth t ≡ true → t ≡ truth
-truth_is (var n s) e = cc
-truth_is (app f none) e = ap (λ g. app g none) (is_true_one f e)
-truth_is (app f (more t ts)) e = cc
 
 -- (a = a) == true
 equals_itself : {t : Theory} (a : Tree) → IsTermOver t.operators a
@@ -67,7 +47,7 @@ formula_is : (P : Tree → Type 0) (a b : Tree) → (b ≡ truth → P a) → (a
     → (sort_of a ≡ bool_sort → P (equivalence a b)) → P (equality (sort_of a) a b) → P (formula a b)
 formula_is P a b right left over_bool other =
     one P a b (equivalence a b) (equality (sort_of a) a b) (is_truth b) (is_truth a) (bytes_eq (sort_of a) bool_sort)
-    (λ e. right (truth_is b e)) (λ e. left (truth_is a e))
+    (λ e. right ((is_truth_Decides b).0 e)) (λ e. left ((is_truth_Decides a).0 e))
     (λ e. over_bool ((bytes_eq-Decides (sort_of a) bool_sort).0 e)) other
   where
     one : (P : Tree → Type 0) (a b c d : Tree) (p q r : Bool) → (p ≡ true → P a) → (q ≡ true → P b) → (r ≡ true → P c)

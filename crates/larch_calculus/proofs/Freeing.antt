@@ -1,14 +1,14 @@
 -- Constants in the places of variables, and variables in theirs again.
 use Rattle.std.proofs.Common.{◌≡◌, ◌≢◌, ℕ, suc, ◌⊎◌, inl, inr, true, bytes_eq, cond, List, [], ◌∷◌, ◌++◌, map, Some, option_map, option_and_then, unwrap_or, All, Contains, refl, sym, ◌∙◌, ap, Option, None, subst}
 use Rattle.std.specs.List.{slice_get}
-use Rattle.std.proofs.lemmas.List.Elements.{All-nil, All-cons, All-head, All-tail, All-weaker, All-contains}
+use Rattle.std.proofs.lemmas.List.Elements.{All-nil, All-cons, All-head, All-tail, All-weaker}
 use Rattle.std.proofs.lemmas.Slice.Eq.{bytes_eq-Decides}
 use Rattle.larch_base.proofs.Bools.{true_or_false, both_true, and_both}
-use Rattle.larch_base.proofs.Members.{contains_here, contains_later, contains_left, contains_right, contains_cases, contains_none}
+use Rattle.larch_base.proofs.Members.{contains_here, contains_later, contains_right, contains_cases, contains_none}
 use Rattle.larch_term.specs.Operator.{PlainOperator}
 use Rattle.larch_term.specs.Tree.{Tree, Forest, var, app, none, more}
 use Rattle.larch_term.specs.Sorts.{sort_of, WellSorted, IsOver, AllOver, IsKnown, sorts_of, AllWellSorted}
-use Rattle.larch_term.specs.Variable.{occurrences, occurrences_in}
+use Rattle.larch_term.specs.Variable.{occurrences}
 use Rattle.larch_term.specs.Statement.{IsStatementOver, IsWellSortedTheory}
 use Rattle.larch_term.specs.Substitution.{is_entry_of, image, substituted, substituted_all, Fits}
 use Rattle.larch_term.specs.declared.substitution.Entry.{Entry}
@@ -16,6 +16,7 @@ use Rattle.larch_term.specs.declared.variable.Variable.{Variable}
 use Rattle.larch_term.specs.declared.statement.Statement.TheVariants.{Equation}
 use Rattle.larch_term.specs.declared.statement.Theory.{Theory}
 use Rattle.larch_term_laws.proofs.Substitutions.{substituted_sort, substituted_well_sorted, substituted_over, substituted_nil}
+use Rattle.larch_term_laws.proofs.Agreement.{closed_by_images}
 use Rattle.larch_calculus.specs.Formula.{constant}
 use Rattle.larch_calculus.specs.Freed.{freed, freed_all, constants_for, place_of}
 use Rattle.larch_calculus.specs.Theories.{IsTermOf, IsNewName, AreNew, AreConstants, extended}
@@ -169,29 +170,14 @@ freed_constants t cs vs a n o =
           ∙ ap (λ p. unwrap_or (option_map (λ v. var v.name v.sort) p) (constant r.1)) r.4
     ]) a o
 
--- a term is closed where each of its variables becomes a closed one
-mutual
-  pub closed_by : (es : List Entry) (a : Tree)
-      → ((v : Variable) → Contains (occurrences a) v → occurrences (image es v.name v.sort) ≡ [])
-      → occurrences (substituted es a) ≡ []
-  closed_by es (var n s) h = h (record { name = n; sort = s }) (contains_here (record { name = n; sort = s }) [])
-  closed_by es (app f ts) h = all_closed_by es ts h
-
-  pub all_closed_by : (es : List Entry) (ts : Forest)
-      → ((v : Variable) → Contains (occurrences_in ts) v → occurrences (image es v.name v.sort) ≡ [])
-      → occurrences_in (substituted_all es ts) ≡ []
-  all_closed_by es none h = refl
-  all_closed_by es (more a ts) h =
-      λ i. closed_by es a (λ v c. h v (contains_left (occurrences a) (occurrences_in ts) v c)) i
-      ++ all_closed_by es ts (λ v c. h v (contains_right (occurrences a) (occurrences_in ts) v c)) i
-
 -- a term whose variables all became constants is closed
 pub constants_close : (cs : List PlainOperator) (vs : List Variable) (a : Tree)
     → map (λ c. c.range) cs ≡ map (λ v. v.sort) vs
     → All (Contains vs) (occurrences a) → occurrences (substituted (constants_for vs cs) a) ≡ []
 constants_close cs vs a e h =
-    closed_by (constants_for vs cs) a
-    (λ v c. ap occurrences (image_is_constant vs cs v e (All-contains (Contains vs) (occurrences a) v h c)).1)
+    closed_by_images (constants_for vs cs) a
+    (All-weaker (Contains vs) (λ v. occurrences (image (constants_for vs cs) v.name v.sort) ≡ [])
+    (λ v c. ap occurrences (image_is_constant vs cs v e c).1) (occurrences a) h)
 
 -- the substitution is of terms of the variables' sorts, over operators among which the constants are
 pub constants_fit : (vs : List Variable) (cs : List PlainOperator) → AreConstants cs
