@@ -8,7 +8,7 @@ folder=$top/crates/larch_bench_ordering
 (cd "$folder" && rt run </dev/null >/dev/null 2>&1) || { echo 'ordering: the program could not be built' >&2; exit 1; }
 program=$folder/out/larch_bench_ordering
 echo 'shape status size nanoseconds greater'
-for shape in chains trees stairs products; do
+for shape in chains trees stairs products operators; do
     for status in left right multiset; do
         for size in 125 250 500 1000 2000; do
             "$program" "$shape" "$status" "$size" "$count" || exit 1

@@ -75,13 +75,15 @@ fn repeat(order: &Precedence, pair: &Pair, count: u64) -> u64 {
 
 fn main(rt: HostRuntime) -> io::Result<()> {
     let Some(task) = read_task(&rt)? else {
-        println!(rt; "chains, trees, stairs or products; left, right or multiset; size; count")?;
+        println!(rt;
+            "chains, trees, stairs, products or operators; left, right or multiset; size; count"
+        )?;
         return Ok(());
     };
     let Ok(pair) = task.shape.pair(rt.alloc(), task.size) else {
         return Ok(());
     };
-    let Ok(order) = shapes::precedence(rt.alloc(), task.way) else {
+    let Ok(order) = task.shape.precedence(rt.alloc(), task.way) else {
         return Ok(());
     };
     let start = Instant::now(&rt)?;

@@ -14,7 +14,13 @@ pub enum Shape {
     Stairs,
     /// g(x, g(x, .. g(x, z))) and a balanced tree of h with z at each leaf: each leaf is looked for, and found last.
     Products,
+    /// g(z, g(z, .. g(z, x))) and a chain that goes through all operators below g, again and again, to y: g is compared
+    /// with each, in a precedence of 1,000 operators.
+    Operators,
 }
+
+// How many operators there are besides f, g and h where there are many.
+const OTHERS: u64 = 997;
 
 /// Two terms.
 #[derive(Drop)]
@@ -31,6 +37,7 @@ impl Shape {
             b"trees" => Some(Shape::Trees),
             b"stairs" => Some(Shape::Stairs),
             b"products" => Some(Shape::Products),
+            b"operators" => Some(Shape::Operators),
             _ => None,
         }
     }
@@ -42,6 +49,7 @@ impl Shape {
             Shape::Trees => "trees",
             Shape::Stairs => "stairs",
             Shape::Products => "products",
+            Shape::Operators => "operators",
         }
     }
 
@@ -52,33 +60,56 @@ impl Shape {
             Shape::Trees => trees(alloc, size),
             Shape::Stairs => stairs(alloc, size),
             Shape::Products => products(alloc, size),
+            Shape::Operators => operators(alloc, size),
         }
     }
-}
 
-/// The precedence with f, h and g, from low to high, each with a status.
-pub fn precedence(alloc: Global, way: Way) -> Result<Precedence, Memory> {
-    let f = operator(alloc, b"f", 1)?;
-    let h = operator(alloc, b"h", 2)?;
-    let g = operator(alloc, b"g", 2)?;
-    let theory = theory(alloc, f, h, g)?;
-    let mut order = Precedence::of_theory(alloc, &theory)?;
-    for operator in theory.operators.as_slice() {
-        let _ = order.register_status(operator, way);
+    /// The precedence with f, h and g, from low to high, each with a status; where the shape has many operators, the
+    /// others stand below g.
+    pub fn precedence(self, alloc: Global, way: Way) -> Result<Precedence, Memory> {
+        let others = match self {
+            Shape::Operators => OTHERS,
+            _ => 0,
+        };
+        let theory = theory(alloc, others)?;
+        let mut order = Precedence::of_theory(alloc, &theory)?;
+        for operator in theory.operators.as_slice() {
+            let _ = order.register_status(operator, way);
+        }
+        Ok(order)
     }
-    Ok(order)
 }
 
-fn theory(alloc: Global, f: Operator, h: Operator, g: Operator) -> Result<Theory, Memory> {
+fn theory(alloc: Global, others: u64) -> Result<Theory, Memory> {
     let mut operators = Sequence::new(alloc);
-    operators.push(f)?;
-    operators.push(h)?;
-    operators.push(g)?;
+    push_operator(alloc, b"f", 1, &mut operators)?;
+    push_operator(alloc, b"h", 2, &mut operators)?;
+    for number in 0..others {
+        let other = other(alloc, number)?;
+        operators.push(other)?;
+    }
+    push_operator(alloc, b"g", 2, &mut operators)?;
     let statements = Sequence::new(alloc);
     Ok(Theory {
         operators,
         statements,
     })
+}
+
+fn push_operator(
+    alloc: Global,
+    form: &[u8],
+    arguments: u64,
+    operators: &mut Sequence<Operator>,
+) -> Result<(), Memory> {
+    let operator = operator(alloc, form, arguments)?;
+    operators.push(operator)
+}
+
+// The operator with a number, of one argument.
+fn other(alloc: Global, number: u64) -> Result<Operator, Memory> {
+    let form = format!(in alloc; "o{number}")?;
+    operator(alloc, form.as_bytes(), 1)
 }
 
 fn chains(alloc: Global, size: u64) -> Result<Pair, Memory> {
@@ -103,6 +134,22 @@ fn products(alloc: Global, size: u64) -> Result<Pair, Memory> {
     let left = comb(alloc, b"x", b"z", size / 2)?;
     let right = tree(alloc, b"h", b"z", size)?;
     Ok(Pair { left, right })
+}
+
+fn operators(alloc: Global, size: u64) -> Result<Pair, Memory> {
+    let left = comb(alloc, b"z", b"x", size / 2)?;
+    let right = ladder(alloc, b"y", size)?;
+    Ok(Pair { left, right })
+}
+
+// o0(o1(.. (NAME))), with o0 again behind the last one.
+fn ladder(alloc: Global, name: &[u8], size: u64) -> Result<Term, Memory> {
+    let mut term = variable(alloc, name)?;
+    for level in 1..size {
+        let other = other(alloc, level % OTHERS)?;
+        term = applied(alloc, other, term)?;
+    }
+    Ok(term)
 }
 
 // f(f(.. f(NAME))).
@@ -155,6 +202,10 @@ fn variable(alloc: Global, name: &[u8]) -> Result<Term, Memory> {
 
 fn one(alloc: Global, argument: Term) -> Result<Term, Memory> {
     let operator = operator(alloc, b"f", 1)?;
+    applied(alloc, operator, argument)
+}
+
+fn applied(alloc: Global, operator: Operator, argument: Term) -> Result<Term, Memory> {
     let mut arguments = Vec::with_capacity(alloc, 1)?;
     arguments.push(argument)?;
     Ok(Term::app(operator, Terms::from_vec(arguments)))

@@ -5,11 +5,11 @@ use Rattle.std.specs.List.{list_any, list_all}
 use Rattle.larch_term.specs.Operator.{PlainOperator}
 use Rattle.larch_term.specs.Tree.{Tree, Forest, var, app, none, more, list_of, nodes, nodes_all}
 use Rattle.larch_order.specs.declared.precedence.Ranked.{Ranked}
-use Rattle.larch_order.specs.declared.precedence.Way.{Way}
-use Rattle.larch_order.specs.declared.precedence.Way.TheVariants.{LeftToRight, RightToLeft, Multiset}
+use Rattle.larch_base.specs.declared.way.Way.{Way}
+use Rattle.larch_base.specs.declared.way.Way.TheVariants.{LeftToRight, RightToLeft, Multiset}
 use Rattle.larch_term.specs.Equality.{same_tree, same_operator}
 use Rattle.larch_order.specs.Precedence.{above, status_of}
-use Rattle.larch_order.specs.Greater.{greater, count_of, remains, some_reaches, some_beats, first_greater, last_greater, multiset_greater, by_status, heads_beat}
+use Rattle.larch_order.specs.Greater.{greater, count_of, remains, some_reaches, some_beats, first_greater, last_greater, multiset_greater, of_status, heads_beat}
 use Rattle.larch_term.proofs.Decided.{tree_Decides, operator_Decides}
 use Rattle.larch_order.proofs.Ordering.{reached_by}
 use Rattle.larch_order.proofs.OrderingLaws.{reaches_is, greater_than_application}
@@ -88,10 +88,10 @@ module _ (ranks : List Ranked) where
   some_beats_is none us ts t = refl
   some_beats_is (more s ss) us ts t = ap (λ b. (remains us ts s && greater ranks s t) || b) (some_beats_is ss us ts t)
 
-  remains_told : (us ts : List Tree) (x : Tree) → remains us ts x ≡ true → Remains us ts x
+  pub remains_told : (us ts : List Tree) (x : Tree) → remains us ts x ≡ true → Remains us ts x
   remains_told us ts x e = omega (arith, ltb-true (count_of x ts) (count_of x us) e, count_is x ts, count_is x us)
 
-  remains_from : (us ts : List Tree) (x : Tree) → Remains us ts x → remains us ts x ≡ true
+  pub remains_from : (us ts : List Tree) (x : Tree) → Remains us ts x → remains us ts x ≡ true
   remains_from us ts x lt = lt-ltb (count_of x ts) (count_of x us) (omega (arith, lt, count_is x ts, count_is x us))
 
   not_and : (a b : Bool) → a ≡ true → (not a || b) ≡ true → b ≡ true
@@ -143,20 +143,20 @@ module _ (ranks : List Ranked) where
   abbrev pub HeadCases : PlainOperator → Forest → PlainOperator → List Tree → Type 0
   HeadCases f ss g us = ((f ≡ g → ⊥) × (above ranks f g ≡ true)) ⊎ ((f ≡ g) × ListsAbove (status_of ranks f) ss us)
 
-  by_lists : (w : Way) (ss : Forest) (us : List Tree) → by_status w (first_greater ranks ss us) (last_greater ranks ss us) (multiset_greater (IsBeaten ss us) (list_of ss) us) ≡ true
+  by_lists : (w : Way) (ss : Forest) (us : List Tree) → of_status w (first_greater ranks ss us) (last_greater ranks ss us) (multiset_greater (IsBeaten ss us) (list_of ss) us) ≡ true
       → ListsAbove w ss us
   by_lists LeftToRight ss us e = e
   by_lists RightToLeft ss us e = e
   by_lists Multiset ss us e = multiset_found ss us e
 
   from_lists : (w : Way) (ss : Forest) (us : List Tree) → ListsAbove w ss us
-      → by_status w (first_greater ranks ss us) (last_greater ranks ss us) (multiset_greater (IsBeaten ss us) (list_of ss) us) ≡ true
+      → of_status w (first_greater ranks ss us) (last_greater ranks ss us) (multiset_greater (IsBeaten ss us) (list_of ss) us) ≡ true
   from_lists LeftToRight ss us e = e
   from_lists RightToLeft ss us e = e
   from_lists Multiset ss us e = multiset_from ss us e
 
   abbrev ByStatus : PlainOperator → Forest → List Tree → Bool
-  ByStatus f ss us = by_status (status_of ranks f) (first_greater ranks ss us) (last_greater ranks ss us) (multiset_greater (IsBeaten ss us) (list_of ss) us)
+  ByStatus f ss us = of_status (status_of ranks f) (first_greater ranks ss us) (last_greater ranks ss us) (multiset_greater (IsBeaten ss us) (list_of ss) us)
 
   pub heads_cases : (f : PlainOperator) (ss : Forest) (g : PlainOperator) (us : List Tree) → heads_beat ranks f ss g us ≡ true → HeadCases f ss g us
   heads_cases f ss g us e =

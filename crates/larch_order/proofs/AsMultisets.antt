@@ -1,20 +1,21 @@
 -- Applications of one operator that compares its arguments as multisets.
-use Rattle.std.proofs.Common.{◌≡◌, ℕ, suc, ◌+◌, ◌<◌, length, drop, get_or, drop-cons, ap₂, nat_lt, Bool, true, false, cond, not, ◌&&◌, ◌||◌, List, [], ◌∷◌, refl, sym, ◌∙◌, ap, arith}
+use Rattle.std.proofs.Common.{◌≡◌, ℕ, suc, ◌+◌, ◌<◌, ◌≤◌, length, drop, get_or, drop-cons, ap₂, nat_lt, Bool, true, false, cond, not, ◌&&◌, ◌||◌, List, [], ◌∷◌, refl, sym, ◌∙◌, ap, arith}
 use Rattle.std.specs.List.{list_any, list_all}
 use Rattle.std.proofs.lemmas.List.Sums.{sum_by-cons}
 use Rattle.std.proofs.lemmas.Bool.{ltb-true, lt-ltb, ltb-false, false_from_ne_true, false≢true}
 use Rattle.larch_term.specs.Operator.{PlainOperator}
 use Rattle.larch_term.specs.Tree.{Tree, app, forest_of}
 use Rattle.larch_order.specs.declared.precedence.Ranked.{Ranked}
-use Rattle.larch_order.specs.declared.precedence.Way.TheVariants.{Multiset}
+use Rattle.larch_base.specs.declared.way.Way.TheVariants.{Multiset}
 use Rattle.larch_order.specs.declared.greater.Comparison.TheVariants.{Above, Neither}
 use Rattle.larch_term.specs.Equality.{same_tree}
-use Rattle.larch_order.specs.Greater.{greater, comparison, multiset_greater, remains, count_of, some_reaches, some_beats, OneHead}
+use Rattle.larch_order.specs.Greater.{greater, comparison, multiset_greater, remains, count_of, some_reaches, some_beats}
 use Rattle.larch_order.proofs.Irreflexive.{transitive}
 use Rattle.larch_term.proofs.Decided.{tree_Decides}
-use Rattle.larch_order.proofs.Bools.{and_left, and_right, and_both, and_not_left, and_not_right, or_left, or_right, or_known_left}
+use Rattle.larch_base.proofs.Bools.{and_left, and_right, and_both, and_not_left, and_not_right, or_left, or_right, or_known_left}
 use Rattle.larch_order.proofs.Below.{same_refl, below_is_other, arguments_below, reacher_above}
 use Rattle.larch_order.proofs.Comparing.{allowed, forbidden, beat, beat_multiset, stands}
+use Rattle.larch_order.specs.Greater.{OneHead}
 
 all_where : (p q : Tree → Bool) (xs : List Tree) → ((x : Tree) → p x ≡ true → q x ≡ true) → list_all p xs ≡ true → list_all q xs ≡ true
 all_where p q [] h e = refl
@@ -22,6 +23,21 @@ all_where p q (x ∷ xs) h e = and_both (q x) (list_all q xs) (h x (and_left (p 
 
 count_cons : (t u : Tree) (us : List Tree) → count_of t (u ∷ us) ≡ cond (same_tree u t) 1 0 + count_of t us
 count_cons t u us = sum_by-cons (λ w. cond (same_tree w t) 1 0) u us
+
+-- one term more is counted
+pub counted_next : (t u : Tree) (ts : List Tree) (i old new : ℕ) (b : Bool) → i < length ts → u ≡ get_or ts i u → b ≡ same_tree u t
+    → (old + count_of t (drop i ts) ≡ count_of t ts) × (old ≤ i) → new ≡ cond b (old + 1) old
+    → (new + count_of t (drop (i + 1) ts) ≡ count_of t ts) × (new ≤ i + 1)
+counted_next t u ts i old new b lt at e h n =
+    let k : suc i ≡ i + 1 = omega arith in
+    let d : drop i ts ≡ u ∷ drop (i + 1) ts = drop-cons ts i u lt ∙ ap₂ (λ w j. w ∷ drop j ts) (sym at) k in
+    let c : count_of t (drop i ts) ≡ cond b 1 0 + count_of t (drop (i + 1) ts) =
+    ap (count_of t) d ∙ count_cons t u (drop (i + 1) ts) ∙ ap (λ a. cond a 1 0 + count_of t (drop (i + 1) ts)) (sym e) in
+    by_answer b (count_of t (drop i ts)) (count_of t (drop (i + 1) ts)) (count_of t ts) c h n
+  where
+    by_answer : (b : Bool) (here later all : ℕ) → here ≡ cond b 1 0 + later → (old + here ≡ all) × (old ≤ i) → new ≡ cond b (old + 1) old → (new + later ≡ all) × (new ≤ i + 1)
+    by_answer true here later all c h n = (omega (arith, c, h.0, n), omega (arith, h.1, n))
+    by_answer false here later all c h n = (omega (arith, c, h.0, n), omega (arith, h.1, n))
 
 counted_here : (u : Tree) (us : List Tree) → nat_lt 0 (count_of u (u ∷ us)) ≡ true
 counted_here u us =

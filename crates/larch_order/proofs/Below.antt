@@ -7,7 +7,7 @@ use Rattle.larch_term.specs.Tree.{Tree, app, forest_of}
 use Rattle.larch_order.specs.declared.precedence.Ranked.{Ranked}
 use Rattle.larch_term.specs.Equality.{same_tree}
 use Rattle.larch_order.specs.Greater.{greater, some_reaches}
-use Rattle.larch_order.proofs.Bools.{and_left, and_right, and_both, or_right, or_both}
+use Rattle.larch_base.proofs.Bools.{and_left, and_right, and_both, or_right, or_both}
 use Rattle.larch_term.proofs.Decided.{tree_Decides}
 use Rattle.larch_order.proofs.Ordering.{reached_by}
 use Rattle.larch_order.proofs.Irreflexive.{transitive, irreflexive}

@@ -1,44 +1,29 @@
 -- The place above the built-in operators.
-use Rattle.std.proofs.Common.{◌≡◌, ℕ, suc, ◌+◌, ◌≤◌, ◌<◌, take, map, Bool, true, false, cond, ◌||◌, IsTrue, ◌↔◌, List, [], ◌∷◌, ◌++◌, length, get_or, refl, sym, ◌∙◌, ap, arith}
+use Rattle.std.proofs.Common.{◌≡◌, ℕ, suc, ◌+◌, ◌≤◌, ◌<◌, take, map, Bool, true, false, cond, ◌||◌, List, [], ◌∷◌, ◌++◌, length, get_or, refl, sym, ◌∙◌, ap, arith}
 use Rattle.std.specs.List.{list_any}
 use Rattle.std.proofs.lemmas.List.Folds.{list_any-append}
-use Rattle.std.proofs.lemmas.Bool.Decides.{same_from_decides}
-use Rattle.std.proofs.lemmas.List.{take_more, length-take-le, map-append}
+use Rattle.std.proofs.lemmas.List.{take_more, length-take-le}
 use Rattle.larch_term.specs.Operator.{PlainOperator}
-use Rattle.larch_term.specs.BuiltIn.{IsBuiltIn, is_built_in}
+use Rattle.std.proofs.lemmas.List.{map-append}
 use Rattle.larch_order.specs.declared.precedence.Ranked.{Ranked}
-use Rattle.larch_term.proofs.BuiltIns.{is_built_in_Decides}
+use Rattle.larch_term.specs.BuiltIn.{is_built_in}
+use Rattle.larch_base.proofs.Bools.{or_left, or_right, or_known_right}
 use Rattle.larch_order.specs.Precedence.{unranked, above_built_ins}
-
-or_true : (a b : Bool) → a ≡ true → (a || b) ≡ true
-or_true true b e = refl
-or_true false b e = cc
-
-pub built_in_told : (f : PlainOperator) (r : Bool) → IsTrue r ↔ IsBuiltIn f → r ≡ is_built_in f
-built_in_told f r h = same_from_decides r (is_built_in f) h (is_built_in_Decides f)
-
-or_right : (a b : Bool) → b ≡ true → (a || b) ≡ true
-or_right true b e = refl
-or_right false b e = e
 
 -- one entry more: a built-in operator moves the place behind itself
 pub above_one_more : (ranks : List Ranked) (r : Ranked) → is_built_in r.operator ≡ true → above_built_ins (ranks ++ r ∷ []) ≡ length ranks + 1
 above_one_more [] r e = rw e refl
 above_one_more (q ∷ ranks) r e =
     let a : list_any (λ p. is_built_in p.operator) (ranks ++ r ∷ []) ≡ true =
-    list_any-append (λ p. is_built_in p.operator) ranks (r ∷ []) ∙ or_right (list_any (λ p. is_built_in p.operator) ranks) (is_built_in r.operator || false) (or_true (is_built_in r.operator) false e) in
+    list_any-append (λ p. is_built_in p.operator) ranks (r ∷ []) ∙ or_right (list_any (λ p. is_built_in p.operator) ranks) (is_built_in r.operator || false) (or_left (is_built_in r.operator) false e) in
     rw (or_right (is_built_in q.operator) (list_any (λ p. is_built_in p.operator) (ranks ++ r ∷ [])) a) (omega (arith, above_one_more ranks r e))
-
-or_false : (a : Bool) → (a || false) ≡ a
-or_false true = refl
-or_false false = refl
 
 -- one entry more of another operator leaves it
 pub above_other_more : (ranks : List Ranked) (r : Ranked) → is_built_in r.operator ≡ false → above_built_ins (ranks ++ r ∷ []) ≡ above_built_ins ranks
 above_other_more [] r e = rw e refl
 above_other_more (q ∷ ranks) r e =
     let a : list_any (λ p. is_built_in p.operator) (ranks ++ r ∷ []) ≡ list_any (λ p. is_built_in p.operator) ranks =
-    list_any-append (λ p. is_built_in p.operator) ranks (r ∷ []) ∙ rw e (or_false (list_any (λ p. is_built_in p.operator) ranks)) in
+    list_any-append (λ p. is_built_in p.operator) ranks (r ∷ []) ∙ rw e (or_known_right (list_any (λ p. is_built_in p.operator) ranks) false refl) in
     rw (a, above_other_more ranks r e) refl
 
 within_more : (b : Bool) (n m : ℕ) → n ≤ m → cond b (1 + n) 0 ≤ suc m

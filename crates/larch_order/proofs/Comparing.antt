@@ -8,8 +8,8 @@ use Rattle.larch_term.specs.Operator.{PlainOperator}
 use Rattle.larch_term.specs.Tree.{Tree, Forest, var, app, forest_of, list_of, nodes}
 use Rattle.larch_term.proofs.TreeLists.{list_of-forest_of, same_parts}
 use Rattle.larch_order.specs.declared.precedence.Ranked.{Ranked}
-use Rattle.larch_order.specs.declared.precedence.Way.{Way}
-use Rattle.larch_order.specs.declared.precedence.Way.TheVariants.{LeftToRight, RightToLeft, Multiset}
+use Rattle.larch_base.specs.declared.way.Way.{Way}
+use Rattle.larch_base.specs.declared.way.Way.TheVariants.{LeftToRight, RightToLeft, Multiset}
 use Rattle.larch_order.specs.declared.greater.Comparison.{Comparison}
 use Rattle.larch_order.specs.declared.greater.Comparison.TheVariants.{Same, Above, Neither}
 use Rattle.larch_order.specs.Precedence.{above, status_of}
@@ -18,7 +18,7 @@ use Rattle.larch_order.specs.Greater.{OneHead, greater, comparison, is_above, re
 use Rattle.larch_term.proofs.Decided.{tree_Decides, operator_Decides}
 use Rattle.larch_order.proofs.Ordering.{above_each, parts_fall}
 use Rattle.larch_order.proofs.Irreflexive.{irreflexive}
-use Rattle.larch_order.proofs.Bools.{agree, and_both, or_right}
+use Rattle.larch_base.proofs.Bools.{same_truth, and_both, or_right}
 use Rattle.larch_order.proofs.Below.{different, above_arguments}
 
 -- what a comparison tells
@@ -78,7 +78,7 @@ greater_by ranks f g ss ts =
 pub allowed : (ranks : List Ranked) (f g : PlainOperator) (ss ts : List Tree) → beat ranks f g ss ts ≡ true
     → greater ranks (app f (forest_of ss)) (app g (forest_of ts)) ≡ list_all (greater ranks (app f (forest_of ss))) ts
 allowed ranks f g ss ts e =
-    agree (greater ranks (app f (forest_of ss)) (app g (forest_of ts))) (list_all (greater ranks (app f (forest_of ss))) ts)
+    same_truth (greater ranks (app f (forest_of ss)) (app g (forest_of ts))) (list_all (greater ranks (app f (forest_of ss))) ts)
     (above_arguments ranks (app f (forest_of ss)) g ts)
     (λ h. greater_by ranks f g ss ts ∙ or_right (some_reaches ranks (forest_of ss) (app g (forest_of ts))) (beat ranks f g ss ts && list_all (greater ranks (app f (forest_of ss))) ts)
     (and_both (beat ranks f g ss ts) (list_all (greater ranks (app f (forest_of ss))) ts) e h))
@@ -144,26 +144,26 @@ other_stands ranks f g ss ts u v r p q d a e =
     ap₂ (greater ranks) (sym p) (sym q) ∙ forbidden ranks f g ss ts (beat_other ranks f g ss ts d ∙ a) ∙ ap (some_reaches ranks (forest_of ss)) q ∙ sym e in
     stands ranks u v r (other_heads ranks f g ss ts u v p q d) x
 
-above_by : (x y : Bool) → (x ≡ true → y ≡ false) → is_above (cond x Same (cond y Above Neither)) ≡ y
-above_by true y h = sym (h refl)
-above_by false true h = refl
-above_by false false h = refl
+above_exactly : (x y : Bool) → (x ≡ true → y ≡ false) → is_above (cond x Same (cond y Above Neither)) ≡ y
+above_exactly true y h = sym (h refl)
+above_exactly false true h = refl
+above_exactly false false h = refl
 
-reaches_by : (x y : Bool) → reaches (cond x Same (cond y Above Neither)) ≡ (x || y)
-reaches_by true y = refl
-reaches_by false true = refl
-reaches_by false false = refl
+reaches_exactly : (x y : Bool) → reaches (cond x Same (cond y Above Neither)) ≡ (x || y)
+reaches_exactly true y = refl
+reaches_exactly false true = refl
+reaches_exactly false false = refl
 
 -- a term is greater exactly where it stands above
 pub above_is_greater : (ranks : List Ranked) (s t : Tree) → is_above (comparison ranks s t) ≡ greater ranks s t
 above_is_greater ranks s t =
-    above_by (same_tree s t) (greater ranks s t) (λ e. ap (greater ranks s) (sym ((tree_Decides s t).0 e)) ∙ irreflexive ranks s)
+    above_exactly (same_tree s t) (greater ranks s t) (λ e. ap (greater ranks s) (sym ((tree_Decides s t).0 e)) ∙ irreflexive ranks s)
 
 pub not_greater_told : (ranks : List Ranked) (s t : Tree) (c : Comparison) (b : Bool) → c ≡ comparison ranks s t → b ≡ is_above c → b ≡ false → greater ranks s t ≡ false
 not_greater_told ranks s t c b e x y = sym (above_is_greater ranks s t) ∙ ap is_above (sym e) ∙ sym x ∙ y
 
 pub reaches_is : (ranks : List Ranked) (s t : Tree) → reaches (comparison ranks s t) ≡ (same_tree s t || greater ranks s t)
-reaches_is ranks s t = reaches_by (same_tree s t) (greater ranks s t)
+reaches_is ranks s t = reaches_exactly (same_tree s t) (greater ranks s t)
 
 -- two terms with one head
 pub one_head : (ranks : List Ranked) (f g : PlainOperator) (ss ts : List Tree) (u v : Tree) (b : Bool) (w way : Way) → app f (forest_of ss) ≡ u → app g (forest_of ts) ≡ v

@@ -4,8 +4,8 @@ use Rattle.std.proofs.lemmas.Option.{option_and_then_some}
 use Rattle.larch_term.specs.Tree.{Tree, Forest, var, app, none, more, list_of}
 use Rattle.larch_term.specs.Place.{at, argument, put, put_in}
 use Rattle.larch_order.specs.declared.precedence.Ranked.{Ranked}
-use Rattle.larch_order.specs.declared.precedence.Way.{Way}
-use Rattle.larch_order.specs.declared.precedence.Way.TheVariants.{LeftToRight, RightToLeft, Multiset}
+use Rattle.larch_base.specs.declared.way.Way.{Way}
+use Rattle.larch_base.specs.declared.way.Way.TheVariants.{LeftToRight, RightToLeft, Multiset}
 use Rattle.larch_order.specs.Precedence.{status_of}
 use Rattle.larch_order.specs.Greater.{greater, first_greater, last_greater}
 use Rattle.larch_order.proofs.Multisets.{In, count, tally, multiset_replaced}

@@ -7,7 +7,7 @@ use Rattle.larch_term.specs.Operator.{PlainOperator}
 use Rattle.larch_term.specs.Tree.{Tree, app, forest_of}
 use Rattle.larch_term.proofs.TreeLists.{same_parts}
 use Rattle.larch_order.specs.declared.precedence.Ranked.{Ranked}
-use Rattle.larch_order.specs.declared.precedence.Way.TheVariants.{LeftToRight}
+use Rattle.larch_base.specs.declared.way.Way.TheVariants.{LeftToRight}
 use Rattle.larch_order.specs.declared.greater.Comparison.TheVariants.{Same, Above, Neither}
 use Rattle.larch_order.specs.Precedence.{status_of}
 use Rattle.larch_term.specs.Equality.{same_tree}
@@ -15,7 +15,7 @@ use Rattle.std.proofs.lemmas.Bool.{false_from_ne_true, false≢true}
 use Rattle.larch_term.proofs.Decided.{tree_Decides}
 use Rattle.larch_order.specs.Greater.{OneHead, greater, comparison, some_reaches, first_greater}
 use Rattle.larch_order.proofs.Irreflexive.{transitive}
-use Rattle.larch_order.proofs.Bools.{and_left, and_right, and_known_left, or_both, or_known_left, or_assoc}
+use Rattle.larch_base.proofs.Bools.{and_left, and_right, and_known_left, or_both, or_known_left, or_assoc}
 use Rattle.larch_order.proofs.Below.{different, same_refl, arguments_below, none_reaches}
 use Rattle.larch_order.proofs.Comparing.{allowed, forbidden, beat_first, stands, stands_same, told_same, told_above, told_neither}
 
@@ -63,18 +63,18 @@ doesnt_reach ranks t a b below e =
     (different a t (λ p. false≢true (sym e ∙ ap (λ v. greater ranks v b) p ∙ below)))
     (false_from_ne_true (greater ranks a t) (λ h. false≢true (sym e ∙ transitive ranks a t b h below)))
 
-above_by : (ranks : List Ranked) (f : PlainOperator) (ps : List Tree) (a b : Tree) (xs ys : List Tree) → status_of ranks f ≡ LeftToRight → same_tree a b ≡ false → greater ranks a b ≡ true
+first_above : (ranks : List Ranked) (f : PlainOperator) (ps : List Tree) (a b : Tree) (xs ys : List Tree) → status_of ranks f ≡ LeftToRight → same_tree a b ≡ false → greater ranks a b ≡ true
     → greater ranks (app f (forest_of (ps ++ a ∷ xs))) (app f (forest_of (ps ++ b ∷ ys))) ≡ list_all (greater ranks (app f (forest_of (ps ++ a ∷ xs)))) ys
-above_by ranks f ps a b xs ys way d e =
+first_above ranks f ps a b xs ys way d e =
     allowed ranks f f (ps ++ a ∷ xs) (ps ++ b ∷ ys) (beat_first ranks f (ps ++ a ∷ xs) (ps ++ b ∷ ys) way ∙ first_decides ranks ps a b xs ys d ∙ e)
     ∙ list_all-append (greater ranks (app f (forest_of (ps ++ a ∷ xs)))) ps (b ∷ ys)
     ∙ and_known_left (list_all (greater ranks (app f (forest_of (ps ++ a ∷ xs)))) ps) (list_all (greater ranks (app f (forest_of (ps ++ a ∷ xs)))) (b ∷ ys)) (front_below ranks f ps (a ∷ xs))
     ∙ and_known_left (greater ranks (app f (forest_of (ps ++ a ∷ xs))) b) (list_all (greater ranks (app f (forest_of (ps ++ a ∷ xs)))) ys)
     (transitive ranks (app f (forest_of (ps ++ a ∷ xs))) a b (argument_below ranks f ps a xs) e)
 
-neither_by : (ranks : List Ranked) (f : PlainOperator) (ps : List Tree) (a b : Tree) (xs ys : List Tree) → status_of ranks f ≡ LeftToRight → same_tree a b ≡ false → greater ranks a b ≡ false
+first_neither : (ranks : List Ranked) (f : PlainOperator) (ps : List Tree) (a b : Tree) (xs ys : List Tree) → status_of ranks f ≡ LeftToRight → same_tree a b ≡ false → greater ranks a b ≡ false
     → greater ranks (app f (forest_of (ps ++ a ∷ xs))) (app f (forest_of (ps ++ b ∷ ys))) ≡ some_reaches ranks (forest_of xs) (app f (forest_of (ps ++ b ∷ ys)))
-neither_by ranks f ps a b xs ys way d e =
+first_neither ranks f ps a b xs ys way d e =
     forbidden ranks f f (ps ++ a ∷ xs) (ps ++ b ∷ ys) (beat_first ranks f (ps ++ a ∷ xs) (ps ++ b ∷ ys) way ∙ first_decides ranks ps a b xs ys d ∙ e)
     ∙ reaches_append ranks ps (a ∷ xs) (app f (forest_of (ps ++ b ∷ ys)))
     ∙ or_known_left (some_reaches ranks (forest_of ps) (app f (forest_of (ps ++ b ∷ ys)))) (some_reaches ranks (forest_of (a ∷ xs)) (app f (forest_of (ps ++ b ∷ ys))))
@@ -117,7 +117,7 @@ pub above_behind : (ranks : List Ranked) (f : PlainOperator) (ss ts ps xs ys : L
 above_behind ranks f ss ts ps xs ys u v a b r p q way x y told e =
     let t : (same_tree a b ≡ false) × (greater ranks a b ≡ true) = told_above ranks a b told in
     let d : same_tree u v ≡ false = unequal f ss ts u v p q (λ h. false≢true (sym t.0 ∙ (tree_Decides a b).1 (behind_inj ps a b xs ys (sym x ∙ h ∙ y)))) in
-    let g : greater ranks u v ≡ list_all (greater ranks u) ys = rw (p, q, x, y) (above_by ranks f ps a b xs ys way t.0 t.1) in
+    let g : greater ranks u v ≡ list_all (greater ranks u) ys = rw (p, q, x, y) (first_above ranks f ps a b xs ys way t.0 t.1) in
     ap (λ c. cond c Above Neither) e ∙ stands ranks u v (list_all (greater ranks u) ys) d g
 
 pub neither_behind : (ranks : List Ranked) (f : PlainOperator) (ss ts ps xs ys : List Tree) (u v a b : Tree) (r : Bool)
@@ -126,7 +126,7 @@ pub neither_behind : (ranks : List Ranked) (f : PlainOperator) (ss ts ps xs ys :
 neither_behind ranks f ss ts ps xs ys u v a b r p q way x y told e =
     let t : (same_tree a b ≡ false) × (greater ranks a b ≡ false) = told_neither ranks a b told in
     let d : same_tree u v ≡ false = unequal f ss ts u v p q (λ h. false≢true (sym t.0 ∙ (tree_Decides a b).1 (behind_inj ps a b xs ys (sym x ∙ h ∙ y)))) in
-    let g : greater ranks u v ≡ some_reaches ranks (forest_of xs) v = rw (p, q, x, y) (neither_by ranks f ps a b xs ys way t.0 t.1) in
+    let g : greater ranks u v ≡ some_reaches ranks (forest_of xs) v = rw (p, q, x, y) (first_neither ranks f ps a b xs ys way t.0 t.1) in
     ap (λ c. cond c Above Neither) e ∙ stands ranks u v (some_reaches ranks (forest_of xs) v) d g
 
 -- the same at a place

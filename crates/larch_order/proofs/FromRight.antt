@@ -8,7 +8,7 @@ use Rattle.std.proofs.lemmas.Bool.{false≢true}
 use Rattle.larch_term.specs.Operator.{PlainOperator}
 use Rattle.larch_term.specs.Tree.{Tree, app, forest_of}
 use Rattle.larch_order.specs.declared.precedence.Ranked.{Ranked}
-use Rattle.larch_order.specs.declared.precedence.Way.TheVariants.{RightToLeft}
+use Rattle.larch_base.specs.declared.way.Way.TheVariants.{RightToLeft}
 use Rattle.larch_order.specs.declared.greater.Comparison.TheVariants.{Same, Above, Neither}
 use Rattle.larch_order.specs.Precedence.{status_of}
 use Rattle.larch_term.specs.Equality.{same_tree}
@@ -16,7 +16,7 @@ use Rattle.larch_order.specs.Greater.{OneHead, greater, comparison, some_reaches
 use Rattle.larch_order.proofs.Irreflexive.{transitive}
 use Rattle.larch_order.proofs.Ordering.{suc_inj, last_greater_cons, last_greater_unequal}
 use Rattle.larch_term.proofs.Decided.{tree_Decides}
-use Rattle.larch_order.proofs.Bools.{and_right, and_both, and_not_right, and_known_right, or_both, or_known_right}
+use Rattle.larch_base.proofs.Bools.{and_right, and_both, and_not_right, and_known_right, or_both, or_known_right}
 use Rattle.larch_order.proofs.Below.{same_refl, none_reaches}
 use Rattle.larch_order.proofs.Comparing.{allowed, forbidden, beat_last, stands, stands_same, told_same, told_above, told_neither}
 use Rattle.larch_order.proofs.FromLeft.{reaches_append, back_below, argument_below, doesnt_reach, first_inj, rest_inj, unequal, split_at}
@@ -49,9 +49,9 @@ before_inj [] (y ∷ ys) a b ps len e = cc
 before_inj (x ∷ xs) [] a b ps len e = cc
 before_inj (x ∷ xs) (y ∷ ys) a b ps len e = before_inj xs ys a b ps (suc_inj len) (rest_inj x y (xs ++ a ∷ ps) (ys ++ b ∷ ps) e)
 
-above_by : (ranks : List Ranked) (f : PlainOperator) (xs ys : List Tree) (a b : Tree) (ps : List Tree) → status_of ranks f ≡ RightToLeft → length xs ≡ length ys → same_tree a b ≡ false → greater ranks a b ≡ true
+last_above : (ranks : List Ranked) (f : PlainOperator) (xs ys : List Tree) (a b : Tree) (ps : List Tree) → status_of ranks f ≡ RightToLeft → length xs ≡ length ys → same_tree a b ≡ false → greater ranks a b ≡ true
     → greater ranks (app f (forest_of (xs ++ a ∷ ps))) (app f (forest_of (ys ++ b ∷ ps))) ≡ list_all (greater ranks (app f (forest_of (xs ++ a ∷ ps)))) ys
-above_by ranks f xs ys a b ps way len d e =
+last_above ranks f xs ys a b ps way len d e =
     allowed ranks f f (xs ++ a ∷ ps) (ys ++ b ∷ ps) (beat_last ranks f (xs ++ a ∷ ps) (ys ++ b ∷ ps) way ∙ last_decides ranks xs ys a b ps len d ∙ e)
     ∙ list_all-append (greater ranks (app f (forest_of (xs ++ a ∷ ps)))) ys (b ∷ ps)
     ∙ and_known_right (list_all (greater ranks (app f (forest_of (xs ++ a ∷ ps)))) ys) (list_all (greater ranks (app f (forest_of (xs ++ a ∷ ps)))) (b ∷ ps))
@@ -59,9 +59,9 @@ above_by ranks f xs ys a b ps way len d e =
     (transitive ranks (app f (forest_of (xs ++ a ∷ ps))) a b (argument_below ranks f xs a ps) e)
     (and_right (greater ranks (app f (forest_of (xs ++ a ∷ ps))) a) (list_all (greater ranks (app f (forest_of (xs ++ a ∷ ps)))) ps) (back_below ranks f xs (a ∷ ps))))
 
-neither_by : (ranks : List Ranked) (f : PlainOperator) (xs ys : List Tree) (a b : Tree) (ps : List Tree) → status_of ranks f ≡ RightToLeft → length xs ≡ length ys → same_tree a b ≡ false → greater ranks a b ≡ false
+last_neither : (ranks : List Ranked) (f : PlainOperator) (xs ys : List Tree) (a b : Tree) (ps : List Tree) → status_of ranks f ≡ RightToLeft → length xs ≡ length ys → same_tree a b ≡ false → greater ranks a b ≡ false
     → greater ranks (app f (forest_of (xs ++ a ∷ ps))) (app f (forest_of (ys ++ b ∷ ps))) ≡ some_reaches ranks (forest_of xs) (app f (forest_of (ys ++ b ∷ ps)))
-neither_by ranks f xs ys a b ps way len d e =
+last_neither ranks f xs ys a b ps way len d e =
     forbidden ranks f f (xs ++ a ∷ ps) (ys ++ b ∷ ps) (beat_last ranks f (xs ++ a ∷ ps) (ys ++ b ∷ ps) way ∙ last_decides ranks xs ys a b ps len d ∙ e)
     ∙ reaches_append ranks xs (a ∷ ps) (app f (forest_of (ys ++ b ∷ ps)))
     ∙ or_known_right (some_reaches ranks (forest_of xs) (app f (forest_of (ys ++ b ∷ ps)))) (some_reaches ranks (forest_of (a ∷ ps)) (app f (forest_of (ys ++ b ∷ ps))))
@@ -78,7 +78,7 @@ pub above_before : (ranks : List Ranked) (f : PlainOperator) (ss ts xs ys ps : L
 above_before ranks f ss ts xs ys ps u v a b r p q way len x y told e =
     let t : (same_tree a b ≡ false) × (greater ranks a b ≡ true) = told_above ranks a b told in
     let d : same_tree u v ≡ false = unequal f ss ts u v p q (λ h. false≢true (sym t.0 ∙ (tree_Decides a b).1 (before_inj xs ys a b ps len (sym x ∙ h ∙ y)))) in
-    let g : greater ranks u v ≡ list_all (greater ranks u) ys = rw (p, q, x, y) (above_by ranks f xs ys a b ps way len t.0 t.1) in
+    let g : greater ranks u v ≡ list_all (greater ranks u) ys = rw (p, q, x, y) (last_above ranks f xs ys a b ps way len t.0 t.1) in
     ap (λ c. cond c Above Neither) e ∙ stands ranks u v (list_all (greater ranks u) ys) d g
 
 pub neither_before : (ranks : List Ranked) (f : PlainOperator) (ss ts xs ys ps : List Tree) (u v a b : Tree) (r : Bool)
@@ -87,7 +87,7 @@ pub neither_before : (ranks : List Ranked) (f : PlainOperator) (ss ts xs ys ps :
 neither_before ranks f ss ts xs ys ps u v a b r p q way len x y told e =
     let t : (same_tree a b ≡ false) × (greater ranks a b ≡ false) = told_neither ranks a b told in
     let d : same_tree u v ≡ false = unequal f ss ts u v p q (λ h. false≢true (sym t.0 ∙ (tree_Decides a b).1 (before_inj xs ys a b ps len (sym x ∙ h ∙ y)))) in
-    let g : greater ranks u v ≡ some_reaches ranks (forest_of xs) v = rw (p, q, x, y) (neither_by ranks f xs ys a b ps way len t.0 t.1) in
+    let g : greater ranks u v ≡ some_reaches ranks (forest_of xs) v = rw (p, q, x, y) (last_neither ranks f xs ys a b ps way len t.0 t.1) in
     ap (λ c. cond c Above Neither) e ∙ stands ranks u v (some_reaches ranks (forest_of xs) v) d g
 
 -- the same at a place

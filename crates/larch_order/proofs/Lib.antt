@@ -2,9 +2,9 @@
 pub mod Above
 pub mod AsMultisets
 pub mod Below
-pub mod Bools
 pub mod BuiltIns
 pub mod Comparing
+pub mod Computed
 pub mod Context
 pub mod FromLeft
 pub mod FromRight

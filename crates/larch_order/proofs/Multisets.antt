@@ -110,7 +110,7 @@ Beaten R us ts t = (x : Tree) × Remains us ts x × (R x t ≡ true)
 abbrev pub MultisetAbove : (Tree → Tree → Bool) → List Tree → List Tree → Type 0
 MultisetAbove R us ts = ((x : Tree) × Remains us ts x) × ((t : Tree) → Remains ts us t → Beaten R us ts t)
 
-remains_in : (us ts : List Tree) (x : Tree) → Remains us ts x → In us x
+pub remains_in : (us ts : List Tree) (x : Tree) → Remains us ts x → In us x
 remains_in us ts x lt = in_from_count x us (omega (arith, lt))
 
 module _ (R : Tree → Tree → Bool) (ms ns ps : List Tree)

@@ -6,7 +6,7 @@ use Rattle.larch_term.specs.Operator.{PlainOperator}
 use Rattle.larch_term.specs.Tree.{Tree, Forest, var, app, none, more, forest_of, list_of, nodes, nodes_all_is_sum}
 use Rattle.larch_term.proofs.TreeLists.{list_of-forest_of}
 use Rattle.larch_term.specs.Equality.{same_tree}
-use Rattle.larch_order.proofs.Bools.{and_not_right, or_left}
+use Rattle.larch_base.proofs.Bools.{and_not_right, or_left}
 use Rattle.larch_order.specs.declared.precedence.Ranked.{Ranked}
 use Rattle.larch_order.specs.Greater.{greater, all_by_rule, some_reaches, last_greater, heads_beat}
 

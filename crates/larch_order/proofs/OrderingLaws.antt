@@ -1,5 +1,5 @@
 -- What holds of the ordering.
-use Rattle.std.proofs.Common.{◌≡◌, ℕ, zero, suc, Bool, true, false, ◌&&◌, ◌||◌, List, [], ◌∷◌, Some, None, option_and_then, refl, ◌∙◌, ap}
+use Rattle.std.proofs.Common.{◌≡◌, ℕ, zero, suc, true, ◌&&◌, ◌||◌, List, [], ◌∷◌, Some, None, option_and_then, refl, ◌∙◌, ap}
 use Rattle.std.specs.List.{list_any, list_all}
 use Rattle.larch_term.specs.Operator.{PlainOperator}
 use Rattle.larch_term.specs.Tree.{Tree, Forest, var, app, none, more, list_of}
@@ -8,6 +8,8 @@ use Rattle.larch_order.specs.declared.precedence.Ranked.{Ranked}
 use Rattle.larch_term.specs.Equality.{same_tree}
 use Rattle.larch_order.specs.Greater.{greater, some_reaches, heads_beat}
 use Rattle.larch_term.proofs.Decided.{tree_Decides}
+use Rattle.larch_base.proofs.Bools.{or_left, or_right}
+use Rattle.larch_base.proofs.Options.{some_inj}
 use Rattle.larch_order.proofs.Ordering.{reached_by, above_each}
 
 -- an application is greater than a term by one of three cases
@@ -27,24 +29,8 @@ greater_than_application ranks f g ss ts =
     ap (λ b. some_reaches ranks ss (app g ts) || (heads_beat ranks f ss g (list_of ts) && b)) (above_each ranks f ss ts)
     ∙ ap (λ b. b || (heads_beat ranks f ss g (list_of ts) && list_all (greater ranks (app f ss)) (list_of ts))) (reaches_is ranks ss (app g ts))
 
-either_left : (a b c : Bool) → a ≡ true → ((a || b) || c) ≡ true
-either_left true b c e = refl
-either_left false b c e = cc
-
-either_middle : (a b c : Bool) → b ≡ true → ((a || b) || c) ≡ true
-either_middle true b c e = refl
-either_middle false true c e = refl
-either_middle false false c e = cc
-
-either_right : (a c : Bool) → c ≡ true → (a || c) ≡ true
-either_right true c e = refl
-either_right false c e = e
-
 none_below : {u : Tree} → None ≡ Some u → ⊥
 none_below e = cc
-
-found : {t u : Tree} → Some t ≡ Some u → t ≡ u
-found e = cc
 
 mutual
   -- a term is greater than what stands at a place below its root
@@ -56,8 +42,8 @@ mutual
   argument_reaches ranks none u k p e = absurd (none_below e)
   argument_reaches ranks (more t ts) u zero p e = absurd (none_below e)
   argument_reaches ranks (more t ts) u (suc zero) [] e =
-      either_left (same_tree t u) (greater ranks t u) (some_reaches ranks ts u) ((tree_Decides t u).1 (found e))
+      or_left (same_tree t u || greater ranks t u) (some_reaches ranks ts u) (or_left (same_tree t u) (greater ranks t u) ((tree_Decides t u).1 (some_inj e)))
   argument_reaches ranks (more t ts) u (suc zero) (j ∷ q) e =
-      either_middle (same_tree t u) (greater ranks t u) (some_reaches ranks ts u) (subterm_below ranks t u j q e)
+      or_left (same_tree t u || greater ranks t u) (some_reaches ranks ts u) (or_right (same_tree t u) (greater ranks t u) (subterm_below ranks t u j q e))
   argument_reaches ranks (more t ts) u (suc (suc k)) p e =
-      either_right (same_tree t u || greater ranks t u) (some_reaches ranks ts u) (argument_reaches ranks ts u (suc k) p e)
+      or_right (same_tree t u || greater ranks t u) (some_reaches ranks ts u) (argument_reaches ranks ts u (suc k) p e)

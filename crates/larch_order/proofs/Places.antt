@@ -7,7 +7,7 @@ use Rattle.std.proofs.lemmas.List.Quantifiers.{position-Some}
 use borrow.Rule.Slice.PartMut.{put_mid, mid_of}
 use Rattle.larch_term.specs.Operator.{PlainOperator}
 use Rattle.larch_order.specs.declared.precedence.Ranked.{Ranked}
-use Rattle.larch_order.specs.declared.precedence.Way.{Way}
+use Rattle.larch_base.specs.declared.way.Way.{Way}
 use Rattle.larch_order.specs.Precedence.{is_of, place_of, with_status, with_status_at}
 use Rattle.larch_term.proofs.Decided.{operator_Decides}
 

@@ -6,8 +6,8 @@ use Rattle.larch_term.specs.Tree.{Tree, Forest, var, app, none, more, list_of, n
 use Rattle.larch_term.specs.Substitution.{substituted, substituted_all}
 use Rattle.larch_term.specs.declared.substitution.Entry.{Entry}
 use Rattle.larch_order.specs.declared.precedence.Ranked.{Ranked}
-use Rattle.larch_order.specs.declared.precedence.Way.{Way}
-use Rattle.larch_order.specs.declared.precedence.Way.TheVariants.{LeftToRight, RightToLeft, Multiset}
+use Rattle.larch_base.specs.declared.way.Way.{Way}
+use Rattle.larch_base.specs.declared.way.Way.TheVariants.{LeftToRight, RightToLeft, Multiset}
 use Rattle.larch_order.specs.Precedence.{status_of}
 use Rattle.larch_order.specs.Greater.{greater, first_greater, last_greater, heads_beat}
 use Rattle.larch_order.proofs.Multisets.{In, MultisetAbove, in_mapped, multiset_mapped}

@@ -8,8 +8,8 @@ use Rattle.larch_term.specs.Operator.{PlainOperator}
 use Rattle.larch_term.specs.Tree.{Tree, Forest, var, app, none, more, list_of, forest_of, nodes}
 use Rattle.larch_term.proofs.TreeLists.{forest_of-list_of}
 use Rattle.larch_order.specs.declared.precedence.Ranked.{Ranked}
-use Rattle.larch_order.specs.declared.precedence.Way.{Way}
-use Rattle.larch_order.specs.declared.precedence.Way.TheVariants.{LeftToRight, RightToLeft, Multiset}
+use Rattle.larch_base.specs.declared.way.Way.{Way}
+use Rattle.larch_base.specs.declared.way.Way.TheVariants.{LeftToRight, RightToLeft, Multiset}
 use Rattle.larch_term.specs.Equality.{same_tree}
 use Rattle.larch_order.specs.Precedence.{above, place_of, is_higher, status_of}
 use Rattle.larch_order.specs.Greater.{greater, first_greater, last_greater, heads_beat}

@@ -1,13 +1,14 @@
 -- The precedence: the operators from low to high, each with its status.
-use Rattle.std.specs.Prelude.{ℕ, ◌+◌, Bool, false, cond, nat_lt, List, [], ◌∷◌, ◌++◌, map, get_or, set, Option, Some, None, is_some}
+use Rattle.std.specs.Prelude.{◌≡◌, ℕ, ◌+◌, Bool, false, if◌then◌else◌, nat_lt, List, [], ◌∷◌, ◌++◌, map, get_or, set, Option, Some, None, is_some}
 use Rattle.std.specs.List.{list_any, position, insert, remove}
+use Rattle.std.specs.Map.{lookup}
 use Rattle.larch_term.specs.Operator.{PlainOperator}
 use Rattle.larch_operators.specs.BuiltIns.{built_ins_at}
 use Rattle.larch_term.specs.BuiltIn.{is_built_in}
 use Rattle.larch_operators.specs.Sorts.{existing_sorts}
 use Rattle.larch_term.specs.Equality.{same_operator}
-use Rattle.larch_order.specs.declared.precedence.Way.{Way}
-use Rattle.larch_order.specs.declared.precedence.Way.TheVariants.{LeftToRight}
+use Rattle.larch_base.specs.declared.way.Way.{Way}
+use Rattle.larch_base.specs.declared.way.Way.TheVariants.{LeftToRight}
 use Rattle.larch_order.specs.declared.precedence.Ranked.{Ranked}
 
 -- whether an entry of the list is that of an operator
@@ -17,6 +18,10 @@ is_of f r = same_operator r.operator f
 -- the place of an operator in the list, 0 being the lowest, if it is there
 abbrev pub place_of : List Ranked → PlainOperator → Option ℕ
 place_of ranks f = position (is_of f) ranks
+
+-- an index of the list: it has the place of each operator that is there, and no other operator
+abbrev pub IsIndex : List (PlainOperator × ℕ) → List Ranked → Type 0
+IsIndex places ranks = (f : PlainOperator) → lookup (same_operator f) places ≡ place_of ranks f
 
 -- whether an operator is in the list
 abbrev pub has : List Ranked → PlainOperator → Bool
@@ -52,7 +57,8 @@ precedence_of fs = map unranked (built_ins_at (existing_sorts fs) ++ fs)
 -- the place directly above the last built-in operator, the lowest where there is none
 abbrev pub above_built_ins : List Ranked → ℕ
 above_built_ins [] = 0
-above_built_ins (r ∷ ranks) = cond (list_any (λ q. is_built_in q.operator) (r ∷ ranks)) (1 + above_built_ins ranks) 0
+above_built_ins (r ∷ ranks) =
+    if list_any (λ q. is_built_in q.operator) (r ∷ ranks) then 1 + above_built_ins ranks else 0
 
 -- the list with a new operator there
 abbrev pub with_constant : List Ranked → PlainOperator → List Ranked
@@ -62,7 +68,8 @@ with_constant ranks f = insert ranks (above_built_ins ranks) (unranked f)
 abbrev pub moved_above : List Ranked → PlainOperator → Option ℕ → Option ℕ → List Ranked
 moved_above ranks f None place = ranks
 moved_above ranks f (Some i) None = ranks
-moved_above ranks f (Some i) (Some j) = cond (nat_lt i j) (insert (remove ranks i) j (get_or ranks i (unranked f))) ranks
+moved_above ranks f (Some i) (Some j) =
+    if nat_lt i j then insert (remove ranks i) j (get_or ranks i (unranked f)) else ranks
 
 -- the list after a first operator was registered as higher than a second: where it was the lower one it stands
 -- directly above it, else nothing changes

@@ -1,10 +1,11 @@
-ghost use Rattle.std.specs.Prelude.{◌≡◌, cond};
+ghost use Rattle.std.specs.Prelude.{◌≡◌, ◌↔◌, IsTrue, if◌then◌else◌};
 ghost use Rattle.std.specs.List.{list_any, list_all};
 ghost use Rattle.larch_term.specs.Tree.{forest_of};
 ghost use Rattle.larch_term.specs.Equality.{same_tree};
-ghost use Rattle.larch_order.specs.Greater.{OneHead, greater, comparison, is_above, reaches, multiset_greater, some_reaches, some_beats, remains, count_of};
+ghost use Rattle.larch_order.specs.Greater.{OneHead, Greater, greater, comparison, is_above, reaches, multiset_greater, some_reaches, some_beats, remains, count_of};
 
-use crate::precedence::{Precedence, Way, is_same};
+use crate::precedence::Precedence;
+use larch_base::Way;
 use larch_term::{Node, Term, same_term};
 
 // How a term stands to another one.
@@ -17,7 +18,7 @@ pub(crate) enum Comparison {
 
 impl Comparison {
     fn above_if(holds: bool) -> Comparison
-        ensures { result ≡ cond holds Comparison.Above Comparison.Neither }
+        ensures { result ≡ (if holds then Comparison.Above else Comparison.Neither) }
     {
         if holds {
             Comparison::Above
@@ -47,7 +48,8 @@ impl Precedence {
     /// multiset, tests of equality come on top. It goes down by at most three calls for each level of the two terms.
     #[tactic(auto, using(crate::proofs::Comparing::above_is_greater))]
     pub fn greater(&self, left: &Term, right: &Term) -> bool
-        ensures { result ≡ greater self.now left.now right.now }
+        ensures ordering { IsTrue result ↔ Greater self.now left.now right.now }
+        ensures computed { result ≡ greater self.now left.now right.now }
     {
         self.compare(left, right).is_above()
     }
@@ -67,20 +69,20 @@ impl Precedence {
             return Comparison::above_if(self.some_reaches(terms, right));
         };
         let others = arguments.as_slice();
-        if !is_same(operator, other) {
-            let above = if self.is_above(operator, other) {
-                self.is_above_all(left, others)
-            } else {
-                self.some_reaches(terms, right)
+        if operator == other {
+            return match self.status(operator) {
+                Way::LeftToRight => self.compare_from_left(left, terms, right, others),
+                Way::RightToLeft => self.compare_from_right(left, terms, right, others),
+                Way::Multiset if same_term(left, right) => Comparison::Same,
+                Way::Multiset => Comparison::above_if(self.multiset_greater(terms, others)),
             };
-            return Comparison::above_if(above);
         }
-        match self.status(operator) {
-            Way::LeftToRight => self.compare_from_left(left, terms, right, others),
-            Way::RightToLeft => self.compare_from_right(left, terms, right, others),
-            Way::Multiset if is_equal(left, right) => Comparison::Same,
-            Way::Multiset => Comparison::above_if(self.multiset_greater(terms, others)),
-        }
+        let above = if self.is_above(operator, other) {
+            self.is_above_all(left, others)
+        } else {
+            self.some_reaches(terms, right)
+        };
+        Comparison::above_if(above)
     }
 
     // How two applications of an operator that compares from the left stand. At the first place at which their
@@ -181,7 +183,8 @@ impl Precedence {
     // Whether the terms are greater as a multiset.
     #[cycle(compare)]
     fn multiset_greater(&self, terms: &[Term], others: &[Term]) -> bool
-        ensures { result ≡ multiset_greater (λ u. some_beats self.now (forest_of terms.now) terms.now others.now u) terms.now others.now }
+        ensures { result ≡
+            multiset_greater (λ u. some_beats self.now (forest_of terms.now) terms.now others.now u) terms.now others.now }
     {
         if !some_remains(terms, others) {
             return false;
@@ -211,9 +214,9 @@ impl Precedence {
 
 // How a term stands to another one that it isn't greater than.
 fn same_or_neither(left: &Term, right: &Term) -> Comparison
-    ensures { result ≡ cond (same_tree left.now right.now) Comparison.Same Comparison.Neither }
+    ensures { result ≡ (if same_tree left.now right.now then Comparison.Same else Comparison.Neither) }
 {
-    if is_equal(left, right) {
+    if same_term(left, right) {
         Comparison::Same
     } else {
         Comparison::Neither
@@ -239,16 +242,9 @@ fn count_of(term: &Term, terms: &[Term]) -> usize
 {
     let mut count = 0;
     for other in terms {
-        if is_equal(other, term) {
+        if same_term(other, term) {
             count += 1;
         }
     }
     count
-}
-
-// Whether two terms are equal, as the definitions test it.
-fn is_equal(left: &Term, right: &Term) -> bool
-    ensures { result ≡ same_tree left.now right.now }
-{
-    same_term(left, right)
 }

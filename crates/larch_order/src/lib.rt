@@ -6,7 +6,8 @@ pub mod laws;
 mod of_theory;
 mod precedence;
 
-pub use precedence::{OrderRefusal, Precedence, Ranked, Way};
+pub use larch_base::Way;
+pub use precedence::{OrderRefusal, Precedence, Ranked};
 
 #[cfg(test)]
 mod tests;

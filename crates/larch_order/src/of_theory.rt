@@ -1,8 +1,8 @@
 ghost use Rattle.std.specs.Prelude.{◌≡◌, ◌++◌, ◌∷◌, [], map, IfOk, OnOk};
 ghost use Rattle.larch_order.specs.Precedence.{unranked, precedence_of};
 
-use crate::precedence::{Precedence, Ranked, Way};
-use larch_base::{Memory, Sequence};
+use crate::precedence::{Precedence, Ranked};
+use larch_base::{Memory, Sequence, Way};
 use larch_operators::{existing_sorts, push_built_ins};
 use larch_term::{Operator, Theory};
 use std::alloc::Global;
@@ -20,7 +20,7 @@ impl Precedence {
         let mut ranks = Vec::new(alloc);
         push_operators(&mut ranks, built_ins.as_slice())?;
         push_operators(&mut ranks, operators)?;
-        Ok(Precedence::from_ranks(ranks))
+        Precedence::from_ranks(ranks)
     }
 }
 

@@ -1,24 +1,15 @@
 ghost use Rattle.std.specs.Prelude.{◌≡◌, ◌↔◌, ◌⊎◌, ◌≤◌, ◌<◌, false, IsTrue, IfOk, OnOk, OnErr, IsErrOf, length, get_or};
 ghost use Rattle.std.specs.List.{insert, remove};
 ghost use Rattle.larch_order.specs.declared.precedence.Ranked.{Ranked};
-ghost use Rattle.larch_order.specs.Precedence.{has, place_of, status_of, above, above_built_ins, with_constant, raised, with_status};
-ghost use Rattle.larch_term.specs.BuiltIn.{is_built_in};
-ghost use Rattle.larch_term.specs.Equality.{same_operator};
+ghost use Rattle.larch_order.specs.Precedence.{IsIndex, has, place_of, status_of, above, above_built_ins, with_constant, raised, with_status};
 ghost use Rattle.larch_order.specs.declared.precedence.OrderRefusal.TheVariants.{Memory as wants_memory};
 
-use larch_base::Memory;
-use larch_term::{Operator, is_built_in, same_operator};
+use indexmap::IndexMap;
+use larch_base::{Memory, Way};
+use larch_term::{Operator, is_built_in};
 use std::alloc::Global;
 use std::marker::Model;
 use thiserror::Error;
-
-/// How an operator compares the lists of its arguments.
-#[derive(Clone, Copy, Debug, PartialEq, Eq)]
-pub enum Way {
-    LeftToRight,
-    RightToLeft,
-    Multiset,
-}
 
 /// An operator with its status.
 #[derive(Drop)]
@@ -27,19 +18,24 @@ pub struct Ranked {
     pub status: Way,
 }
 
-/// A precedence. Contracts see it as the list of its operators with their statuses, from low to high.
+/// A precedence. Contracts see it as the list of its operators with their statuses, from low to high. It finds the
+/// place of an operator by an index.
 #[derive(Drop)]
 pub struct Precedence {
     ranks: Vec<Ranked>,
+    places: IndexMap<Operator, usize>,
 }
 
 impl Model for Precedence {
     ghost use Rattle.std.specs.Prelude.{List};
     ghost use Rattle.larch_order.specs.declared.precedence.Ranked.{Ranked};
+    ghost use Rattle.larch_order.specs.Precedence.{IsIndex};
 
     ghost Value = { List Ranked };
 
     ghost view = { λ precedence. precedence.ranks.items };
+
+    ghost invariant = { λ precedence. IsIndex precedence.places.entries precedence.ranks.items };
 }
 
 /// Why nothing is registered.
@@ -48,7 +44,7 @@ pub enum OrderRefusal {
     /// An operator isn't in the precedence.
     #[error("unknown operator")]
     Unknown,
-    /// Want of memory.
+    /// Out of memory.
     #[error("out of memory")]
     Memory,
 }
@@ -63,26 +59,22 @@ impl From<Memory> for OrderRefusal {
 
 impl Precedence {
     // The precedence with these entries.
-    pub(crate) fn from_ranks(ranks: Vec<Ranked>) -> Precedence
-        ensures { result ≡ ranks.items }
+    pub(crate) fn from_ranks(ranks: Vec<Ranked>) -> Result<Precedence, Memory>
+        ensures { IfOk result (λ precedence. precedence ≡ ranks.items) }
     {
-        Precedence { ranks }
+        let places = index_of(*ranks.allocator(), ranks.as_slice())?;
+        Ok(Precedence { ranks, places })
     }
 
     /// The same precedence once more.
     pub fn copy(&self) -> Result<Precedence, Memory>
         ensures { IfOk result (λ precedence. precedence ≡ self.now) }
     {
-        let mut ranks = Vec::with_capacity(*self.ranks.allocator(), self.ranks.len())?;
-        for rank in &self.ranks {
-            let operator = rank.operator.copy()?;
-            let status = rank.status;
-            ranks.push(Ranked { operator, status })?;
-        }
-        Ok(Precedence { ranks })
+        let ranks = copy_ranks(*self.ranks.allocator(), self.ranks.as_slice())?;
+        Precedence::from_ranks(ranks)
     }
 
-    /// Puts a new operator directly above the last built-in one. Where memory is wanting nothing changes.
+    /// Puts a new operator directly above the last built-in one. Out of memory, it changes nothing.
     pub fn add_constant(&mut self, constant: &Operator) -> Result<(), Memory>
         ensures ok { OnOk result (self.new ≡ with_constant self.old constant.now) }
         ensures err { OnErr result (self.new ≡ self.old) }
@@ -90,7 +82,9 @@ impl Precedence {
         let operator = constant.copy()?;
         let place = self.above_built_ins();
         let status = Way::LeftToRight;
-        self.ranks.insert(place, Ranked { operator, status })?;
+        let mut ranks = copy_ranks(*self.ranks.allocator(), self.ranks.as_slice())?;
+        ranks.insert(place, Ranked { operator, status })?;
+        *self = Precedence::from_ranks(ranks)?;
         Ok(())
     }
 
@@ -102,7 +96,7 @@ impl Precedence {
     {
         let mut place = 0;
         for i in 0..self.ranks.len() {
-            if is_built_in_rank(&self.ranks[i]) {
+            if is_built_in(&self.ranks[i].operator) {
                 place = i + 1;
             }
         }
@@ -117,15 +111,27 @@ impl Precedence {
     ) -> Result<(), OrderRefusal>
         ensures ok { OnOk result (self.new ≡ raised self.old upper.now lower.now) }
         ensures err { OnErr result (self.new ≡ self.old) }
-        ensures unknown { IsErrOf result OrderRefusal.Unknown ↔ ((has self.old upper.now ≡ false) ⊎ (has self.old lower.now ≡ false)) }
+        ensures unknown { IsErrOf result OrderRefusal.Unknown ↔
+            ((has self.old upper.now ≡ false) ⊎ (has self.old lower.now ≡ false)) }
     {
         let (Some(from), Some(to)) = (self.place(upper), self.place(lower)) else {
             return Err(OrderRefusal::Unknown);
         };
         if from < to {
-            move_up(self.ranks.as_mut_slice(), from, to);
+            *self = self.moved_up(from, to)?;
         }
         Ok(())
+    }
+
+    // The precedence with the entry at a place moved up to another place.
+    fn moved_up(&self, from: usize, to: usize) -> Result<Precedence, Memory>
+        requires { (from < to) × (to < length self.now) }
+        ensures { IfOk result (λ moved.
+            (d : Ranked) → moved ≡ insert (remove self.now from) to (get_or self.now from d)) }
+    {
+        let mut ranks = copy_ranks(*self.ranks.allocator(), self.ranks.as_slice())?;
+        move_up(ranks.as_mut_slice(), from, to);
+        Precedence::from_ranks(ranks)
     }
 
     /// Gives an operator another status.
@@ -145,9 +151,7 @@ impl Precedence {
     fn place(&self, operator: &Operator) -> Option<usize>
         ensures { result ≡ place_of self.now operator.now }
     {
-        self.ranks
-            .iter()
-            .position(|rank| is_same(&rank.operator, operator))
+        self.places.get(operator).copied()
     }
 
     /// Whether an operator is above another one. It takes no memory.
@@ -171,25 +175,37 @@ impl Precedence {
     }
 }
 
+// The entries once more.
+fn copy_ranks(alloc: Global, ranks: &[Ranked]) -> Result<Vec<Ranked>, Memory>
+    ensures { IfOk result (λ copied. copied.items ≡ ranks.now) }
+{
+    let mut copied = Vec::with_capacity(alloc, ranks.len())?;
+    for rank in ranks {
+        let operator = rank.operator.copy()?;
+        let status = rank.status;
+        copied.push(Ranked { operator, status })?;
+    }
+    Ok(copied)
+}
+
+// The place of each operator, from the last entry to the first: where an operator stands twice, the lower place counts.
+fn index_of(alloc: Global, ranks: &[Ranked]) -> Result<IndexMap<Operator, usize>, Memory>
+    ensures { IfOk result (λ places. IsIndex places.entries ranks.now) }
+{
+    let mut places = IndexMap::new(alloc);
+    let mut place = ranks.len();
+    while place > 0 {
+        place -= 1;
+        let operator = ranks[place].operator.copy()?;
+        places.insert(operator, place)?;
+    }
+    Ok(places)
+}
+
 // Moves the entry at a place up to another place; those between come down by one.
 fn move_up(ranks: &mut [Ranked], from: usize, to: usize)
     requires { (from < to) × (to < length ranks.old) }
     ensures { (d : Ranked) → ranks.new ≡ insert (remove ranks.old from) to (get_or ranks.old from d) }
 {
     ranks[from..=to].rotate_left(1);
-}
-
-// Whether two operators are equal, as the definitions test it.
-#[tactic(auto, using(larch_term::proofs::Decided::operators_told))]
-pub(crate) fn is_same(left: &Operator, right: &Operator) -> bool
-    ensures { result ≡ same_operator left.now right.now }
-{
-    same_operator(left, right)
-}
-
-#[tactic(auto, using(crate::proofs::BuiltIns::built_in_told))]
-fn is_built_in_rank(rank: &Ranked) -> bool
-    ensures { result ≡ is_built_in rank.now.operator }
-{
-    is_built_in(&rank.operator)
 }

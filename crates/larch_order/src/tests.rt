@@ -77,18 +77,21 @@ fn adds_constants(rt: HostRuntime) -> Result<(), Fail> {
     let mut order = precedence(rt.alloc())?;
     let constant = operator(rt.alloc(), b"c", 0)?;
     order.add_constant(&constant)?;
-    let fits = constant_fits(rt.alloc(), &order, &constant)?;
-    assert!(rt; fits);
+    let places = around(rt.alloc(), &order, &constant)?;
+    assert_eq!(rt; places, (true, true));
     Ok(())
 }
 
-// The constant stands above the built-in operators and below the theory's.
-fn constant_fits(alloc: Global, order: &Precedence, constant: &Operator) -> Result<bool, Memory> {
+// Whether the constant stands above the last built-in operator, and whether f stands above it.
+fn around(alloc: Global, order: &Precedence, constant: &Operator) -> Result<(bool, bool), Memory> {
     let truth = bool_sort(alloc)?;
     let choice = BuiltIn::If.operator(alloc, &truth)?;
     let f = operator(alloc, b"f", 1)?;
     let copied = order.copy()?;
-    Ok(copied.is_above(constant, &choice) && copied.is_above(&f, constant))
+    Ok((
+        copied.is_above(constant, &choice),
+        copied.is_above(&f, constant),
+    ))
 }
 
 #[test]
@@ -96,9 +99,9 @@ fn registers(rt: HostRuntime) -> Result<(), Fail> {
     let mut order = precedence(rt.alloc())?;
     let f = operator(rt.alloc(), b"f", 1)?;
     let g = operator(rt.alloc(), b"g", 2)?;
-    assert!(rt; order.is_above(&g, &f));
-    let answer = order.register_height(&f, &g);
-    assert!(rt; answer.is_ok() && order.is_above(&f, &g));
+    assert_eq!(rt; order.is_above(&g, &f), true);
+    assert_eq!(rt; order.register_height(&f, &g), Ok(()));
+    assert_eq!(rt; order.is_above(&f, &g), true);
     Ok(())
 }
 
@@ -107,7 +110,8 @@ fn refuses_unknown_operators(rt: HostRuntime) -> Result<(), Fail> {
     let mut order = precedence(rt.alloc())?;
     let h = operator(rt.alloc(), b"h", 1)?;
     let answer = order.register_status(&h, Way::Multiset);
-    assert_eq!(rt; answer.err(), Some(OrderRefusal::Unknown));
+    assert_eq!(rt; answer, Err(OrderRefusal::Unknown));
+    assert_eq!(rt; order.status(&h), Way::LeftToRight);
     Ok(())
 }
 
@@ -116,25 +120,18 @@ fn compares_by_status(rt: HostRuntime) -> Result<(), Fail> {
     let mut order = precedence(rt.alloc())?;
     let left = left_heavy(rt.alloc())?;
     let right = right_heavy(rt.alloc())?;
-    assert!(rt; order.greater(&left, &right) && !order.greater(&right, &left));
-    let fits = compares_from_the_right(rt.alloc(), &mut order, &left, &right)?;
-    assert!(rt; fits);
+    let g = operator(rt.alloc(), b"g", 2)?;
+    assert_eq!(rt; both_ways(&order, &left, &right), (true, false));
+    assert_eq!(rt; order.register_status(&g, Way::RightToLeft), Ok(()));
+    assert_eq!(rt; both_ways(&order, &left, &right), (false, true));
+    assert_eq!(rt; order.register_status(&g, Way::Multiset), Ok(()));
+    assert_eq!(rt; both_ways(&order, &left, &right), (false, false));
     Ok(())
 }
 
-// From the right it is the other way round, and as multisets the two can't be compared.
-fn compares_from_the_right(
-    alloc: Global,
-    order: &mut Precedence,
-    left: &Term,
-    right: &Term,
-) -> Result<bool, Memory> {
-    let g = operator(alloc, b"g", 2)?;
-    let answer = order.register_status(&g, Way::RightToLeft);
-    let from_right = order.greater(right, left) && !order.greater(left, right);
-    let again = order.register_status(&g, Way::Multiset);
-    let apart = !order.greater(right, left) && !order.greater(left, right);
-    Ok(answer.is_ok() && again.is_ok() && from_right && apart)
+// Whether each of two terms is greater than the other.
+fn both_ways(order: &Precedence, left: &Term, right: &Term) -> (bool, bool) {
+    (order.greater(left, right), order.greater(right, left))
 }
 
 // f(f(.. f(x)))
@@ -162,7 +159,8 @@ fn chains_two_thousand_deep(rt: HostRuntime) -> Result<(), Fail> {
     let left = chain(rt.alloc(), b"x", 2000)?;
     let other = chain(rt.alloc(), b"y", 2000)?;
     let below = chain(rt.alloc(), b"x", 1999)?;
-    assert!(rt; !order.greater(&left, &other) && order.greater(&left, &below));
+    assert_eq!(rt; order.greater(&left, &other), false);
+    assert_eq!(rt; order.greater(&left, &below), true);
     Ok(())
 }
 
@@ -172,6 +170,6 @@ fn goes_down_both_terms(rt: HostRuntime) -> Result<(), Fail> {
     let order = precedence(rt.alloc())?;
     let left = comb(rt.alloc(), b"x", 2000)?;
     let right = chain(rt.alloc(), b"y", 2000)?;
-    assert!(rt; !order.greater(&left, &right));
+    assert_eq!(rt; order.greater(&left, &right), false);
     Ok(())
 }

@@ -19,7 +19,9 @@ use Rattle.larch_calculus.specs.Theories.{IsTermOf}
 use Rattle.larch_calculus.proofs.DerivedRules.{identity_instance, transitive}
 use Rattle.larch_calculus.proofs.Sorted.{side_over, sides_over}
 use Rattle.larch_calculus.proofs.WellSorted.{well_sorted}
-use Rattle.larch_tables.specs.Rows.{PlainRow, x, y, a, b, deduction_rows, numbered}
+use Rattle.larch_tables.specs.Row.{PlainRow, numbered}
+use Rattle.larch_tables.specs.Spelling.{x, y, a, b}
+use Rattle.larch_tables.specs.Tables.{deduction_rows}
 use Rattle.larch_tables.proofs.Identities.{assigned, Every, every_at, at_place}
 
 -- the proposition as a term, with terms in the places of x and y

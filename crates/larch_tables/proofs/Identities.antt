@@ -1,6 +1,6 @@
 -- Each built-in row is an identity: the rows without a sort of their own by their truth tables, the others by the
 -- forms of identities at a sort.
-use Rattle.std.proofs.Common.{rules, ◌≡◌, ℕ, zero, suc, ◌==◌, ◌-◌, Bool, true, false, ◌&&◌, ◌||◌, cond, List, [], ◌∷◌, bytes_eq, codes, get_or, Option, Some, None, refl, sym, ◌∙◌, ap, subst}
+use Rattle.std.proofs.Common.{rules, ◌≡◌, ℕ, zero, suc, ◌==◌, ◌-◌, Bool, true, false, ◌||◌, cond, List, [], ◌∷◌, bytes_eq, codes, get_or, Option, Some, None, refl, sym, ◌∙◌, ap, subst}
 use Rattle.std.specs.List.{slice_get, list_all}
 use Rattle.std.proofs.lemmas.Option.{option_and_then_some, cond_some}
 use Rattle.larch_term.specs.Tree.{Tree, Forest, var, app, none, more}
@@ -11,9 +11,12 @@ use Rattle.larch_term.specs.declared.built_in.BuiltIn.TheVariants.{True, False, 
 use Rattle.larch_term.specs.declared.statement.Statement.{Statement}
 use Rattle.larch_term.specs.declared.statement.Statement.TheVariants.{Equation, Generated, Partitioned}
 use Rattle.larch_calculus.specs.Identity.{Proposition, letter, always, never, denied, both, either, implied, equivalent, equal, unequal, chosen, term_of, agree, value, propositional, equal_itself, equal_exchanged, unequal_denied, chosen_first, chosen_second, chosen_same}
-use Rattle.larch_tables.specs.Rows.{PlainRow, built_in_rows, numbered, is_offered, offered, IsIdentityStatement}
-use Rattle.larch_tables.specs.Codes.{words}
-use Rattle.larch_tables.proofs.Offered.{some_inj}
+use Rattle.larch_tables.specs.Row.{PlainRow, numbered}
+use Rattle.larch_tables.specs.Spelling.{words}
+use Rattle.larch_tables.specs.Statement.{is_offered, offered, IsIdentityStatement}
+use Rattle.larch_tables.specs.Tables.{built_in_rows}
+use Rattle.larch_base.proofs.Bools.{both_true}
+use Rattle.larch_base.proofs.Options.{some_inj}
 
 -- the first of some words that has a name
 abbrev word_named : List ℕ → List BuiltIn → BuiltIn
@@ -86,10 +89,6 @@ IsShown false statement = reread statement ≡ statement
 abbrev pub Every : (PlainRow → Type 0) → List PlainRow → Type 0
 Every P [] = Unit {0}
 Every P (row ∷ rows) = P row × Every P rows
-
-both_true : (b c : Bool) → b && c ≡ true → (b ≡ true) × (c ≡ true)
-both_true true c e = (refl, e)
-both_true false c e = cc
 
 -- each row is shown so, one without a sort by computing
 shown : (s : List ℕ) → Every (λ row. IsShown row.sorted row.given) (built_in_rows s)

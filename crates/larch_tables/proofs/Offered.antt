@@ -4,14 +4,14 @@ use Rattle.std.specs.Option.{is_some, option_map, option_and_then, ok_or}
 use Rattle.std.specs.Result.{IfOk, IsErrOf}
 use Rattle.std.specs.List.{AllZip, slice_get}
 use Rattle.std.proofs.lemmas.Slice.Eq.{bytes_eq-Decides}
+use Rattle.larch_base.proofs.Options.{some_inj}
 use Rattle.larch_term.specs.BuiltIn.{bool_sort}
 use Rattle.larch_term.specs.declared.statement.Statement.{Statement}
-use Rattle.larch_tables.specs.Rows.{PlainRow, built_in_rows, numbered, is_offered, offered}
-use Rattle.larch_tables.specs.Codes.{sort_for, equation_of, equations_of, row_of, IsRowAt, HasRows}
+use Rattle.larch_tables.specs.Row.{PlainRow, numbered}
+use Rattle.larch_tables.specs.Spelling.{equation_of}
+use Rattle.larch_tables.specs.Statement.{is_offered, offered}
+use Rattle.larch_tables.specs.Tables.{built_in_rows, sort_for, equations_of, row_of, IsRowAt, HasRows}
 use Rattle.larch_tables.specs.declared.row.Row.{Row}
-
-pub some_inj : {X : Type 0} {x y : X} → Some x ≡ Some y → x ≡ y
-some_inj e = cc
 
 -- items of two lists that fit each other one by one
 zipped_some : {X Y : Type 0} (R : X → Y → Type 0) (xs : List X) (ys : List Y) (i : ℕ) (x : X) → AllZip R xs ys → slice_get xs i ≡ Some x

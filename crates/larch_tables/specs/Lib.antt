@@ -1,3 +1,4 @@
-pub mod Codes
-pub mod Entries
-pub mod Rows
+pub mod Row
+pub mod Spelling
+pub mod Statement
+pub mod Tables

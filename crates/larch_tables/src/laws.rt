@@ -4,7 +4,9 @@ ghost use Rattle.larch_term.specs.declared.statement.Statement.{Statement};
 ghost use Rattle.larch_term.specs.declared.statement.Theory.{Theory};
 ghost use Rattle.larch_term.specs.declared.substitution.Entry.{Entry};
 ghost use Rattle.larch_calculus.specs.Derivable.{Derivable};
-ghost use Rattle.larch_tables.specs.Rows.{PlainRow, built_in_rows, deduction_rows, numbered, offered, IsIdentityStatement};
+ghost use Rattle.larch_tables.specs.Row.{PlainRow, numbered};
+ghost use Rattle.larch_tables.specs.Statement.{offered, IsIdentityStatement};
+ghost use Rattle.larch_tables.specs.Tables.{built_in_rows, deduction_rows};
 ghost use Rattle.larch_term.specs.Substitution.{substituted_statement};
 
 /// The built-in rows have the numbers 1 to 40, the deduction rows 1 to 7.
@@ -15,12 +17,16 @@ pub fn numbers_of_rows()
 
 /// Each built-in row is an identity at every sort, so whatever is offered is one.
 pub fn rows_are_identities()
-    ensures rows { (s : List ℕ) (n : ℕ) (row : PlainRow) → numbered (built_in_rows s) n ≡ Some row → IsIdentityStatement row.given }
-    ensures offered { (s : List ℕ) (n : ℕ) (statement : Statement) → offered n s ≡ Some statement → IsIdentityStatement statement }
+    ensures rows { (s : List ℕ) (n : ℕ) (row : PlainRow) → numbered (built_in_rows s) n ≡ Some row →
+        IsIdentityStatement row.given }
+    ensures offered { (s : List ℕ) (n : ℕ) (statement : Statement) → offered n s ≡ Some statement →
+        IsIdentityStatement statement }
 {}
 
 /// The consequences of a deduction row are derivable wherever its equation is: from each theory, at each sort and with
 /// any terms in the places of the variables.
 pub fn consequences_are_derivable()
-    ensures { (t : Theory) (s : List ℕ) (es : List Entry) (n : ℕ) (row : PlainRow) → numbered (deduction_rows s) n ≡ Some row → Derivable t (substituted_statement es row.given) → All (λ c. Derivable t (substituted_statement es c)) row.consequences }
+    ensures { (t : Theory) (s : List ℕ) (es : List Entry) (n : ℕ) (row : PlainRow) →
+        numbered (deduction_rows s) n ≡ Some row → Derivable t (substituted_statement es row.given) →
+        All (λ c. Derivable t (substituted_statement es c)) row.consequences }
 {}

@@ -3,8 +3,8 @@
 #![tactic(auto)]
 
 pub mod laws;
-mod reading;
 mod row;
+mod spelling;
 mod statement;
 mod tables;
 

@@ -1,5 +1,5 @@
 ghost use Rattle.std.specs.Prelude.{◌≡◌};
-ghost use Rattle.larch_tables.specs.Rows.{numbered};
+ghost use Rattle.larch_tables.specs.Row.{numbered};
 
 use std::marker::Model;
 
@@ -52,7 +52,7 @@ pub struct Table<const N: usize> {
 impl<const N: usize> Model for Table<N> {
     ghost use Rattle.std.specs.Prelude.{◌≡◌, List, length, map};
     ghost use Rattle.larch_tables.specs.declared.row.Row.{Row};
-    ghost use Rattle.larch_tables.specs.Entries.{row_of_entry};
+    ghost use Rattle.larch_tables.specs.Row.{row_of_entry};
 
     ghost Value = { List Row };
 

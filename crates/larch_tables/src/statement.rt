@@ -1,10 +1,10 @@
 ghost use Rattle.std.specs.Prelude.{◌≡◌, ◌||◌, bytes_eq, IfOk, IsErrOf, Some, None};
 ghost use Rattle.larch_term.specs.BuiltIn.{bool_sort};
-ghost use Rattle.larch_tables.specs.Rows.{offered, IsIdentityStatement};
+ghost use Rattle.larch_tables.specs.Statement.{offered, IsIdentityStatement};
 ghost use Rattle.larch_tables.specs.declared.statement.RowRefusal.TheVariants.{Memory as wants_memory};
 
-use crate::reading::equation_of;
 use crate::row::Row;
+use crate::spelling::equation_of;
 use crate::tables::built_in;
 use larch_base::Memory;
 use larch_term::{Sort, Statement};
@@ -17,7 +17,7 @@ pub enum RowRefusal {
     /// There is no such row, or it isn't offered at the sort.
     #[error("no such row")]
     NoRow,
-    /// Want of memory.
+    /// Out of memory.
     #[error("out of memory")]
     Memory,
 }

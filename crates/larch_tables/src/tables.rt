@@ -1,5 +1,4 @@
-ghost use Rattle.larch_tables.specs.Codes.{HasRows};
-ghost use Rattle.larch_tables.specs.Rows.{built_in_rows, deduction_rows};
+ghost use Rattle.larch_tables.specs.Tables.{HasRows, built_in_rows, deduction_rows};
 
 use crate::row::{Entry, Side, Sides, Table};
 
@@ -28,8 +27,12 @@ macro_rules! side {
     ($p:tt) => { Side { length: 1, codes: [code!($p), 0, 0, 0, 0, 0, 0, 0] } };
     ($p:tt $q:tt) => { Side { length: 2, codes: [code!($p), code!($q), 0, 0, 0, 0, 0, 0] } };
     ($p:tt $q:tt $r:tt) => { Side { length: 3, codes: [code!($p), code!($q), code!($r), 0, 0, 0, 0, 0] } };
-    ($p:tt $q:tt $r:tt $s:tt) => { Side { length: 4, codes: [code!($p), code!($q), code!($r), code!($s), 0, 0, 0, 0] } };
-    ($p:tt $q:tt $r:tt $s:tt $t:tt) => { Side { length: 5, codes: [code!($p), code!($q), code!($r), code!($s), code!($t), 0, 0, 0] } };
+    ($p:tt $q:tt $r:tt $s:tt) => {
+        Side { length: 4, codes: [code!($p), code!($q), code!($r), code!($s), 0, 0, 0, 0] }
+    };
+    ($p:tt $q:tt $r:tt $s:tt $t:tt) => {
+        Side { length: 5, codes: [code!($p), code!($q), code!($r), code!($s), code!($t), 0, 0, 0] }
+    };
 }
 
 macro_rules! sides {
@@ -50,7 +53,13 @@ macro_rules! entry {
         Entry { given: $sides, first: sides!($left == $right), second: sides!([] == []), count: 1, sorted: $sorted }
     };
     ($sides:expr, $sorted:expr; $left:tt == $right:tt, $left_too:tt == $right_too:tt) => {
-        Entry { given: $sides, first: sides!($left == $right), second: sides!($left_too == $right_too), count: 2, sorted: $sorted }
+        Entry {
+            given: $sides,
+            first: sides!($left == $right),
+            second: sides!($left_too == $right_too),
+            count: 2,
+            sorted: $sorted,
+        }
     };
 }
 

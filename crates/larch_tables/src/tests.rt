@@ -57,10 +57,17 @@ a = b == b = a
 #[test]
 fn prints_rows(rt: HostRuntime) -> Result<(), Memory> {
     let text = rows_at(rt.alloc(), b"Bool")?;
-    assert!(rt; text.bytes() == AT_BOOL.as_bytes());
+    assert_eq!(rt; text.bytes(), AT_BOOL.as_bytes());
     let text = rows_at(rt.alloc(), b"N")?;
-    assert!(rt; text.bytes() == AT_OTHERS.as_bytes());
+    assert_eq!(rt; text.bytes(), AT_OTHERS.as_bytes());
     Ok(())
+}
+
+#[test]
+fn numbers_rows(rt: HostRuntime) {
+    let table = deductions();
+    let counts = [0, 1, 3, 7, 8].map(|number| table.row(number).map(|row| row.count));
+    assert_eq!(rt; counts, [None, Some(2), Some(1), Some(1), None]);
 }
 
 // The rows that are offered at a sort, a line for each.

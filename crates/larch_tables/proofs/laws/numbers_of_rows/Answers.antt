@@ -1,5 +1,5 @@
 use Rattle.larch_tables.proofs.Offered.{has_number}
-use Rattle.larch_tables.specs.Rows.{built_in_rows, deduction_rows}
+use Rattle.larch_tables.specs.Tables.{built_in_rows, deduction_rows}
 use Rattle.larch_tables.proofs.laws.numbers_of_rows.Goals as goal
 
 pub returns : goal.returns

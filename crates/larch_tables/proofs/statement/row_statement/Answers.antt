@@ -2,7 +2,7 @@ use Rattle.std.proofs.Common.{◌≡◌, Some, IfOk, sym, ◌∙◌, subst}
 use Rattle.larch_tables.specs.declared.statement.RowRefusal.TheVariants.{NoRow}
 use Rattle.larch_tables.proofs.Identities.{offered_identity}
 use Rattle.larch_tables.proofs.Offered.{no_row, not_offered, offered_equation, said, not_said}
-use Rattle.larch_tables.specs.Rows.{offered, IsIdentityStatement}
+use Rattle.larch_tables.specs.Statement.{offered, IsIdentityStatement}
 use Rattle.larch_tables.proofs.statement.row_statement.Goals as goal
 
 pub returns-in_default-clause-no_row : goal.returns-in_default-clause-no_row

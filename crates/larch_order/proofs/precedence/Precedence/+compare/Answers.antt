@@ -6,10 +6,11 @@ use Rattle.std.proofs.lemmas.List.Folds.{list_all_at}
 use Rattle.std.proofs.lemmas.List.Sums.{sum_by-take-le}
 use Rattle.larch_term.specs.Tree.{app, forest_of, nodes}
 use Rattle.larch_term.specs.TermView.{view_node}
-use Rattle.larch_order.specs.declared.precedence.Way.TheVariants.{LeftToRight, RightToLeft, Multiset}
+use Rattle.larch_base.specs.declared.way.Way.TheVariants.{LeftToRight, RightToLeft, Multiset}
 use Rattle.larch_order.specs.Greater.{greater, some_reaches, some_beats}
+use Rattle.larch_term.proofs.Decided.{trees_told}
 use Rattle.larch_order.proofs.Ordering.{parts_fall}
-use Rattle.larch_order.proofs.Comparing.{stands_to_variable, higher_stands, other_stands, one_head, left_falls, right_falls, item_falls, rest_falls, not_greater_told}
+use Rattle.larch_order.proofs.Comparing.{stands_same, stands_to_variable, higher_stands, other_stands, one_head, left_falls, right_falls, item_falls, rest_falls, not_greater_told}
 use Rattle.larch_order.proofs.FromLeft.{above_at, neither_at, same_more, past_at, ended_at, short_at}
 use Rattle.larch_order.proofs.FromRight.{above_from, neither_from, same_back, all_same, uneven}
 use Rattle.larch_order.proofs.AsMultisets.{multisets, beats_past, not_remaining, not_greater}
@@ -41,12 +42,12 @@ compare-some_reaches-above-requires t c =
     let p = parts_fall c.in-App.operator c.as_slice-terms.result.now c.args.left.now l in
     (omega (arith, p, c.decreases), tt)
 
-pub compare-returns-then-not-is_same : goal.compare-returns-then-not-is_same
-compare-returns-then-not-is_same t c =
+pub compare-returns : goal.compare-returns
+compare-returns t c =
     let l = ap (λ ts. app c.in-App.operator (forest_of ts)) c.as_slice-terms.ensures ∙ sym (ap view_node c.in-App.is) ∙ c.node.ensures in
     let r = ap (λ ts. app c.in-App-node.other (forest_of ts)) c.as_slice-others.ensures ∙ sym (ap view_node c.in-App-node.is) ∙ c.node-2.ensures in
-    let d = sym c.is_same.ensures ∙ c.if-not-is_same.true in
-    c.above_if-then-not-is_same.ensures
+    let d = sym c.eq.ensures ∙ c.if-eq.false in
+    c.above_if-2.ensures
     ∙ elim c.if-is_above.branch [
       | compare-then-is_above w ↦
           higher_stands c.args.self.now c.in-App.operator c.in-App-node.other c.as_slice-terms.result.now c.as_slice-others.result.now c.args.left.now c.args.right.now c.if-is_above.above l r d
@@ -61,8 +62,8 @@ compare-compare_from_left-requires t c =
     let l = ap (λ ts. app c.in-App.operator (forest_of ts)) c.as_slice-terms.ensures ∙ sym (ap view_node c.in-App.is) ∙ c.node.ensures in
     let r = ap (λ ts. app c.in-App-node.other (forest_of ts)) c.as_slice-others.ensures ∙ sym (ap view_node c.in-App-node.is) ∙ c.node-2.ensures in (
       omega (arith, c.decreases),
-      one_head c.args.self.now c.in-App.operator c.in-App-node.other c.as_slice-terms.result.now c.as_slice-others.result.now c.args.left.now c.args.right.now c.is_same.result c.status.result LeftToRight l r
-          c.is_same.ensures c.if-not-is_same.false c.status.ensures c.in-LeftToRight.is,
+      one_head c.args.self.now c.in-App.operator c.in-App-node.other c.as_slice-terms.result.now c.as_slice-others.result.now c.args.left.now c.args.right.now c.eq.result c.status.result LeftToRight l r
+          c.eq.ensures c.if-eq.true c.status.ensures c.in-LeftToRight.is,
     )
 
 pub compare-compare_from_right-requires : goal.compare-compare_from_right-requires
@@ -70,8 +71,8 @@ compare-compare_from_right-requires t c =
     let l = ap (λ ts. app c.in-App.operator (forest_of ts)) c.as_slice-terms.ensures ∙ sym (ap view_node c.in-App.is) ∙ c.node.ensures in
     let r = ap (λ ts. app c.in-App-node.other (forest_of ts)) c.as_slice-others.ensures ∙ sym (ap view_node c.in-App-node.is) ∙ c.node-2.ensures in (
       omega (arith, c.decreases),
-      one_head c.args.self.now c.in-App.operator c.in-App-node.other c.as_slice-terms.result.now c.as_slice-others.result.now c.args.left.now c.args.right.now c.is_same.result c.status.result RightToLeft l r
-          c.is_same.ensures c.if-not-is_same.false c.status.ensures c.in-RightToLeft.is,
+      one_head c.args.self.now c.in-App.operator c.in-App-node.other c.as_slice-terms.result.now c.as_slice-others.result.now c.args.left.now c.args.right.now c.eq.result c.status.result RightToLeft l r
+          c.eq.ensures c.if-eq.true c.status.ensures c.in-RightToLeft.is,
     )
 
 pub compare-multiset_greater-requires : goal.compare-multiset_greater-requires
@@ -82,14 +83,17 @@ compare-multiset_greater-requires t c =
     let q = parts_fall c.in-App-node.other c.as_slice-others.result.now c.args.right.now r in
     (omega (arith, p, q, c.decreases), tt)
 
+pub compare-returns-in-Multiset : goal.compare-returns-in-Multiset
+compare-returns-in-Multiset t c = stands_same c.args.self.now c.args.left.now c.args.right.now (c.same_term.ensures.0 c.if-same_term.true)
+
 pub compare-returns-in-Multiset-2 : goal.compare-returns-in-Multiset-2
 compare-returns-in-Multiset-2 t c =
     let l = ap (λ ts. app c.in-App.operator (forest_of ts)) c.as_slice-terms.ensures ∙ sym (ap view_node c.in-App.is) ∙ c.node.ensures in
     let r = ap (λ ts. app c.in-App-node.other (forest_of ts)) c.as_slice-others.ensures ∙ sym (ap view_node c.in-App-node.is) ∙ c.node-2.ensures in
-    let h = one_head c.args.self.now c.in-App.operator c.in-App-node.other c.as_slice-terms.result.now c.as_slice-others.result.now c.args.left.now c.args.right.now c.is_same.result c.status.result Multiset l r
-    c.is_same.ensures c.if-not-is_same.false c.status.ensures c.in-Multiset-2.is in
+    let h = one_head c.args.self.now c.in-App.operator c.in-App-node.other c.as_slice-terms.result.now c.as_slice-others.result.now c.args.left.now c.args.right.now c.eq.result c.status.result Multiset l r
+    c.eq.ensures c.if-eq.true c.status.ensures c.in-Multiset-2.is in
     c.above_if-in-Multiset-2.ensures
-    ∙ multisets c.args.self.now c.as_slice-terms.result.now c.as_slice-others.result.now c.args.left.now c.args.right.now c.multiset_greater.result h (sym c.is_equal.ensures ∙ c.if-is_equal.false)
+    ∙ multisets c.args.self.now c.as_slice-terms.result.now c.as_slice-others.result.now c.args.left.now c.args.right.now c.multiset_greater.result h (sym (trees_told c.args.left.now c.args.right.now c.same_term.result c.same_term.ensures) ∙ c.if-same_term.false)
     c.multiset_greater.ensures
 
 pub compare_from_left-some_reaches-requires : goal.compare_from_left-some_reaches-requires

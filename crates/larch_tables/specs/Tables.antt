@@ -1,35 +1,16 @@
--- The rows as equations between terms, and how they are offered.
-use Rattle.std.specs.Prelude.{ℕ, ◌==◌, ◌-◌, ◌||◌, Bool, true, false, cond, List, [], ◌∷◌, bytes_eq, codes, Option, Some, None, option_and_then}
-use Rattle.std.specs.List.{slice_get}
-use Rattle.larch_term.specs.Tree.{Tree, var}
+-- The tables of rows, as equations between terms, and which coded rows spell them.
+use Rattle.std.specs.Prelude.{◌≡◌, ℕ, Bool, true, false, if◌then◌else◌, List, [], ◌∷◌, length, take, Option, Some, option_map, option_and_then}
+use Rattle.std.specs.List.{AllZip}
+use Rattle.larch_term.specs.Tree.{Tree}
 use Rattle.larch_term.specs.BuiltIn.{bool_sort}
-use Rattle.larch_term.specs.declared.statement.Statement.{Statement}
-use Rattle.larch_term.specs.declared.statement.Statement.TheVariants.{Equation, Generated, Partitioned}
-use Rattle.larch_calculus.specs.Formula.{falsity, negation, conjunction, disjunction, implication, equivalence, equality, inequality, choice}
 use Rattle.larch_term.specs.Truth.{truth}
-use Rattle.larch_calculus.specs.Identity.{IsIdentity}
-
--- a row at a sort: whether it is offered at every sort, its equation, and the equations that follow from that
-pub record PlainRow : Type 0 where
-  pub sorted : Bool
-  pub given : Statement
-  pub consequences : List Statement
-
--- the variables of rows: x, y and z are of sort Bool, a and b of the row's sort
-abbrev pub x : Tree
-x = var (codes "x") bool_sort
-
-abbrev pub y : Tree
-y = var (codes "y") bool_sort
-
-abbrev pub z : Tree
-z = var (codes "z") bool_sort
-
-abbrev pub a : List ℕ → Tree
-a s = var (codes "a") s
-
-abbrev pub b : List ℕ → Tree
-b s = var (codes "b") s
+use Rattle.larch_term.specs.declared.statement.Statement.{Statement}
+use Rattle.larch_term.specs.declared.statement.Statement.TheVariants.{Equation}
+use Rattle.larch_calculus.specs.Formula.{falsity, negation, conjunction, disjunction, implication, equivalence, equality, inequality, choice}
+use Rattle.larch_tables.specs.Row.{PlainRow}
+use Rattle.larch_tables.specs.Spelling.{x, y, a, b, equation_of}
+use Rattle.larch_tables.specs.declared.row.Sides.{Sides}
+use Rattle.larch_tables.specs.declared.row.Row.{Row}
 
 -- an equation that is offered at Bool alone
 abbrev pub at_bool : Tree → Tree → PlainRow
@@ -108,20 +89,31 @@ deduction_rows s =
     deduced_at_bool (Equation (equivalence x y) truth) (Equation x y ∷ []) ∷
     []
 
--- what has a number in a list, counted from 1
-abbrev pub numbered : {X : Type 0} → List X → ℕ → Option X
-numbered rows n = cond (n == 0) None (slice_get rows (n - 1))
+-- the equations that several pairs of sides spell, where each spells one
+abbrev pub equations_of : List ℕ → List Sides → Option (List Statement)
+equations_of s [] = Some []
+equations_of s (e ∷ es) =
+    option_and_then (λ given. option_map (λ further. given ∷ further) (equations_of s es)) (equation_of s e)
 
--- every sort, or Bool alone
-abbrev pub is_offered : List ℕ → PlainRow → Bool
-is_offered s row = row.sorted || bytes_eq s bool_sort
+-- the sort at which a row is read: Bool where it isn't offered at every sort
+abbrev pub sort_for : List ℕ → Row → List ℕ
+sort_for s row = if row.sorted then s else bool_sort
 
--- the equation of the built-in row with a number at a sort, where there is such a row and it is offered there
-abbrev pub offered : ℕ → List ℕ → Option Statement
-offered n s = option_and_then (λ row. cond (is_offered s row) (Some row.given) None) (numbered (built_in_rows s) n)
+-- the row with this mark, this equation and these consequences, where there are both
+abbrev pub row_with : Bool → Option Statement → Option (List Statement) → Option PlainRow
+row_with sorted given further =
+    option_and_then (λ g. option_map (λ h. record { sorted = sorted; given = g; consequences = h }) further) given
 
--- the statement is an identity
-abbrev pub IsIdentityStatement : Statement → Type 0
-IsIdentityStatement (Equation l r) = IsIdentity l r
-IsIdentityStatement (Generated s fs) = ⊥
-IsIdentityStatement (Partitioned s fs) = ⊥
+-- the row that a coded row spells at a sort
+abbrev pub row_of : List ℕ → Row → Option PlainRow
+row_of s row =
+    row_with row.sorted (equation_of (sort_for s row) row.given)
+    (equations_of (sort_for s row) (take row.count row.consequences))
+
+-- the coded row spells a plain one at a sort, and counts its consequences
+abbrev pub IsRowAt : List ℕ → Row → PlainRow → Type 0
+IsRowAt s row plain = (row_of s row ≡ Some plain) × (row.count ≡ length plain.consequences)
+
+-- at each sort the table spells these rows, one by one
+abbrev pub HasRows : (List ℕ → List PlainRow) → List Row → Type 0
+HasRows rows table = (s : List ℕ) → AllZip (IsRowAt s) table (rows s)

@@ -1,0 +1,25 @@
+-- Rows: what one says, as the code holds it, and by its number.
+use Rattle.std.specs.Prelude.{ℕ, ◌==◌, ◌-◌, Bool, if◌then◌else◌, List, [], ◌∷◌, Option, None}
+use Rattle.std.specs.List.{slice_get}
+use Rattle.larch_term.specs.declared.statement.Statement.{Statement}
+use Rattle.larch_tables.specs.declared.row.Row.{Row}
+use Rattle.larch_tables.specs.declared.row.Entry.{Entry}
+
+-- a row at a sort: whether it is offered at every sort, its equation, and the equations that follow from that
+pub record PlainRow : Type 0 where
+  pub sorted : Bool
+  pub given : Statement
+  pub consequences : List Statement
+
+-- the row of an entry
+abbrev pub row_of_entry : Entry → Row
+row_of_entry entry = record {
+  given = entry.given;
+  consequences = entry.first ∷ entry.second ∷ [];
+  count = entry.count;
+  sorted = entry.sorted;
+}
+
+-- what has a number in a list, counted from 1
+abbrev pub numbered : {X : Type 0} → List X → ℕ → Option X
+numbered rows n = if n == 0 then None else slice_get rows (n - 1)

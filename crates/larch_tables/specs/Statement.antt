@@ -1,0 +1,22 @@
+-- How a row is offered.
+use Rattle.std.specs.Prelude.{ℕ, ◌||◌, Bool, if◌then◌else◌, List, bytes_eq, Option, Some, None, option_and_then}
+use Rattle.larch_term.specs.BuiltIn.{bool_sort}
+use Rattle.larch_term.specs.declared.statement.Statement.{Statement}
+use Rattle.larch_term.specs.declared.statement.Statement.TheVariants.{Equation, Generated, Partitioned}
+use Rattle.larch_calculus.specs.Identity.{IsIdentity}
+use Rattle.larch_tables.specs.Row.{PlainRow, numbered}
+use Rattle.larch_tables.specs.Tables.{built_in_rows}
+
+-- every sort, or Bool alone
+abbrev pub is_offered : List ℕ → PlainRow → Bool
+is_offered s row = row.sorted || bytes_eq s bool_sort
+
+-- the equation of the built-in row with a number at a sort, where there is such a row and it is offered there
+abbrev pub offered : ℕ → List ℕ → Option Statement
+offered n s = option_and_then (λ row. if is_offered s row then Some row.given else None) (numbered (built_in_rows s) n)
+
+-- the statement is an identity
+abbrev pub IsIdentityStatement : Statement → Type 0
+IsIdentityStatement (Equation l r) = IsIdentity l r
+IsIdentityStatement (Generated s fs) = ⊥
+IsIdentityStatement (Partitioned s fs) = ⊥
