@@ -1,5 +1,5 @@
 -- Constants of a box whose number is above those that a theory has are new.
-use Rattle.std.proofs.Common.{◌≡◌, ◌≢◌, ℕ, suc, ◌≤◌, ◌<◌, inl, inr, List, [], ◌∷◌, ◌++◌, map, All, AllPairs, refl, sym, ◌∙◌, ap, subst, arith}
+use Rattle.std.proofs.Common.{◌≡◌, ◌≢◌, ℕ, suc, ◌≤◌, ◌<◌, inl, inr, List, [], ◌∷◌, ◌++◌, map, All, AllPairs, Contains, refl, sym, ◌∙◌, ap, subst, arith, Option, option_map, option_and_then, unwrap_or}
 use Rattle.std.proofs.lemmas.List.Elements.{All-nil, All-cons, All-append, All-weaker, All-contains}
 use Rattle.std.proofs.lemmas.List.Kept.{AllPairs-cons}
 use Rattle.larch_base.proofs.Lists.{all_from}
@@ -7,7 +7,15 @@ use Rattle.larch_base.proofs.Members.{contains_left}
 use Rattle.larch_term.specs.Operator.{OperatorName, PlainOperator, plain, boxed}
 use Rattle.larch_term.specs.declared.statement.Statement.{Statement}
 use Rattle.larch_term.specs.declared.statement.Theory.{Theory}
-use Rattle.larch_calculus.specs.Boxes.{constants_from, IsOlderName, IsOlder}
+use Rattle.std.specs.List.{slice_get}
+use Rattle.larch_term.specs.Sorts.{IsKnown, IsOver, AllOver}
+use Rattle.larch_term.specs.Tree.{Tree, Forest, var, app, none, more}
+use Rattle.larch_term.specs.Statement.{IsStatementOver}
+use Rattle.larch_term.specs.declared.variable.Variable.{Variable}
+use Rattle.larch_term.specs.declared.statement.Statement.TheVariants.{Equation, Generated, Partitioned}
+use Rattle.larch_calculus.proofs.Names.{not_placed}
+use Rattle.larch_calculus.specs.Freed.{freed, freed_all}
+use Rattle.larch_calculus.specs.Boxes.{constants_from, IsOlderName, IsOlder, IsOlderTerm, AreOlderTerms, IsOlderStatement}
 use Rattle.larch_calculus.specs.Derivable.{AreArguments}
 use Rattle.larch_calculus.specs.Renaming.{IsPlainName, HasPlainNames}
 use Rattle.larch_calculus.specs.Theories.{IsNewName, AreNew, AreConstants, extended}
@@ -107,3 +115,61 @@ constants_as_arguments b c k f t h lt =
       constants = constants_without_arguments c k f.domain;
       sorts = constants_sorts c k f.domain;
     }
+
+-- what a theory knows is as old as the theory
+known_older : (b : ℕ) (t : Theory) (f : PlainOperator) → IsOlder b t → IsKnown t.operators f → IsOlderName b f.name
+known_older b t f h (inl c) = All-contains (λ f. IsOlderName b f.name) t.operators f h c
+known_older b t f h (inr (d, (s, p))) = subst (λ g. IsOlderName b g.name) (sym p) tt
+
+mutual
+  term_older : (b : ℕ) (t : Theory) → IsOlder b t → (a : Tree) → IsOver t.operators a → IsOlderTerm b a
+  term_older b t h (var n s) o = tt
+  term_older b t h (app f ts) o = (known_older b t f h o.0, terms_older b t h ts o.1)
+
+  terms_older : (b : ℕ) (t : Theory) → IsOlder b t → (ts : Forest) → AllOver t.operators ts → AreOlderTerms b ts
+  terms_older b t h none o = tt
+  terms_older b t h (more a ts) o = (term_older b t h a o.0, terms_older b t h ts o.1)
+
+-- so is what is stated over it
+pub statement_older : (b : ℕ) (t : Theory) (s : Statement) → IsOlder b t → IsStatementOver t.operators s
+    → IsOlderStatement b s
+statement_older b t (Equation l r) h w = (term_older b t h l w.0.1, term_older b t h r w.1.1)
+statement_older b t (Generated s fs) h w =
+    All-weaker (λ g. IsKnown t.operators g × (g.range ≡ s)) (λ g. IsOlderName b g.name) (λ g p. known_older b t g h p.0)
+    fs w
+statement_older b t (Partitioned s fs) h w =
+    All-weaker (λ g. IsKnown t.operators g × Contains g.domain s) (λ g. IsOlderName b g.name)
+    (λ g p. known_older b t g h p.0) fs w
+
+older_apart : (b c k : ℕ) (n : OperatorName) → b < c → IsOlderName b n → boxed c k ≢ n
+older_apart b c k (plain n) lt h e = cc
+older_apart b c k (boxed d j) lt h e = let p = same_box c k d j e in omega (arith, h, lt)
+  where
+    same_box : (c k d j : ℕ) → boxed c k ≡ boxed d j → c ≡ d
+    same_box c k d j e = cc
+
+older_not_placed : (b c k : ℕ) (ss : List (List ℕ)) (n : OperatorName) → b < c → IsOlderName b n
+    → All (λ f. f.name ≢ n) (constants_from c k ss)
+older_not_placed b c k [] n lt h = All-nil (λ f. f.name ≢ n)
+older_not_placed b c k (s ∷ ss) n lt h =
+    All-cons (λ f. f.name ≢ n) (record { name = boxed c k; domain = []; range = s }) (constants_from c (suc k) ss)
+    (older_apart b c k n lt h) (older_not_placed b c (suc k) ss n lt h)
+
+abbrev kept : List Variable → Option ℕ → PlainOperator → Forest → Tree
+kept vs o f ts = unwrap_or (option_map (λ v. var v.name v.sort) (option_and_then (slice_get vs) o)) (app f ts)
+
+-- a term without constants of the box, or of later ones, stays where the box's constants are freed
+mutual
+  pub older_stays : (b c k : ℕ) (ss : List (List ℕ)) (vs : List Variable) → b < c → (a : Tree) → IsOlderTerm b a
+      → freed (constants_from c k ss) vs a ≡ a
+  older_stays b c k ss vs lt (var n s) h = refl
+  older_stays b c k ss vs lt (app f ts) h =
+      ap (λ p. kept vs p f (freed_all (constants_from c k ss) vs ts))
+      (not_placed (constants_from c k ss) f.name (older_not_placed b c k ss f.name lt h.0))
+      ∙ ap (app f) (all_older_stay b c k ss vs lt ts h.1)
+
+  all_older_stay : (b c k : ℕ) (ss : List (List ℕ)) (vs : List Variable) → b < c → (ts : Forest) → AreOlderTerms b ts
+      → freed_all (constants_from c k ss) vs ts ≡ ts
+  all_older_stay b c k ss vs lt none h = refl
+  all_older_stay b c k ss vs lt (more a ts) h =
+      λ i. more (older_stays b c k ss vs lt a h.0 i) (all_older_stay b c k ss vs lt ts h.1 i)

@@ -13,7 +13,7 @@ ghost use Rattle.larch_term.specs.declared.variable.Variable.{Variable};
 ghost use Rattle.larch_term.specs.declared.statement.Statement.{Statement};
 ghost use Rattle.larch_term.specs.declared.statement.Statement.TheVariants.{Equation, Generated, Partitioned};
 ghost use Rattle.larch_term.specs.declared.statement.Theory.{Theory};
-ghost use Rattle.larch_calculus.specs.Boxes.{constants_from, IsOlder};
+ghost use Rattle.larch_calculus.specs.Boxes.{constants_from, IsOlder, IsOlderTerm, IsOlderStatement};
 ghost use Rattle.larch_calculus.specs.Derivable.{Derivable, AreArguments};
 ghost use Rattle.larch_calculus.specs.Formula.{constant, applied, joined, falsity, implication, formula};
 ghost use Rattle.larch_term.specs.Truth.{truth};
@@ -164,7 +164,8 @@ pub fn suppositions()
 
 /// Constants of a box whose number is above those of all boxes in the theory are new; they may stand for an operator's
 /// arguments in an induction. No box's number is above a number where the theory has plain names; where it is so for a
-/// theory it is so for a higher number, with the constants of the box of that number, and without constants.
+/// theory it is so for a higher number, with the constants of the box of that number, and without constants. And where
+/// it is so for a theory it is for each statement over it; then the constants of a later box don't occur in it.
 pub fn boxes()
     ensures constants { (b k : ℕ) (ss : List (List ℕ)) → AreConstants (constants_from b k ss) }
     ensures sorts { (b k : ℕ) (ss : List (List ℕ)) → map (λ c. c.range) (constants_from b k ss) ≡ ss }
@@ -176,6 +177,10 @@ pub fn boxes()
     ensures later { (b c : ℕ) (t : Theory) → IsOlder b t → b ≤ c → IsOlder c t }
     ensures opened { (b c k : ℕ) (ss : List (List ℕ)) (hs : List Statement) (t : Theory) → IsOlder b t → b ≤ c
         → IsOlder c (extended t (constants_from c k ss) hs) }
+    ensures statement { (b : ℕ) (t : Theory) (s : Statement) → IsOlder b t → IsStatementOver t.operators s
+        → IsOlderStatement b s }
+    ensures unchanged { (b c k : ℕ) (ss : List (List ℕ)) (vs : List Variable) → b < c → (a : Tree) → IsOlderTerm b a
+        → freed (constants_from c k ss) vs a ≡ a }
     ensures left { (b : ℕ) (cs : List PlainOperator) (hs : List Statement) (t : Theory) → IsOlder b (extended t cs hs)
         → IsOlder b t }
 {}

@@ -1,4 +1,4 @@
-use Rattle.larch_calculus.proofs.Boxes.{constants_without_arguments, constants_sorts, constants_new, constants_as_arguments, older_plain, older_later, older_opened, older_less}
+use Rattle.larch_calculus.proofs.Boxes.{constants_without_arguments, constants_sorts, constants_new, constants_as_arguments, older_plain, older_later, older_opened, older_less, statement_older, older_stays}
 use Rattle.larch_calculus.proofs.laws.boxes.Goals as goal
 
 pub returns : goal.returns
@@ -11,5 +11,7 @@ returns c =
       plain = older_plain;
       later = older_later;
       opened = older_opened;
+      statement = statement_older;
+      unchanged = older_stays;
       left = older_less;
     }
