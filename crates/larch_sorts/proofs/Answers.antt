@@ -3,22 +3,27 @@ use Rattle.std.proofs.Common.{◌≡◌, inl, inr, Bool, true, false, cond, ◌&
 use Rattle.std.specs.Bool.{Decides}
 use Rattle.std.specs.List.{list_all}
 use Rattle.std.proofs.lemmas.List.Elements.{All-nil, All-cons}
+use Rattle.larch_base.specs.declared.code.Code.TheVariants.{UnknownSort, NoReading, Ambiguous}
+use Rattle.larch_base.specs.declared.fault.Fault.{Fault}
 use Rattle.larch_base.specs.declared.position.Pos.{Pos}
+use Rattle.larch_base.proofs.Bools.{both_true}
+use Rattle.larch_sorts.specs.Faults.{fault, fault_at, unless}
 use Rattle.larch_raw.specs.RawTree.{RawTree}
 use Rattle.larch_raw.specs.declared.equation.RawEquation.{RawEquation}
 use Rattle.larch_term.specs.Operator.{PlainOperator}
 use Rattle.larch_term.specs.Tree.{Tree}
-use Rattle.larch_sorts.specs.Answers.{is_empty, unread_in, first_unread, refused_or, only, answer}
-use Rattle.larch_sorts.specs.Places.{unknown_sort, parts, sides, in_sides, head_of, equation_head, HasReading, FirstUnread, Stands}
-use Rattle.larch_sorts.specs.Readings.{Variables, Reads, IsOnly, IsNone}
+use Rattle.larch_sorts.specs.Read.{is_empty, unread_in, first_unread, only, answer}
+use Rattle.larch_sorts.specs.Unknown.{unknown_sort}
+use Rattle.larch_sorts.specs.Parts.{parts, sides, in_sides, head_of, equation_head}
+use Rattle.larch_sorts.specs.Stands.{HasReading, FirstUnread, Stands, unknown_stands, unread_stands, several_stand}
+use Rattle.larch_sorts.specs.Scope.{Variables}
+use Rattle.larch_sorts.specs.Readings.{Reads, IsOnly, IsNone}
 use Rattle.larch_sorts.specs.ReadingLists.{readings}
-use Rattle.larch_sorts.specs.Tables.{Tells}
+use Rattle.larch_sorts.specs.Found.{Tells}
 use Rattle.larch_sorts.specs.declared.found.Found.{Found}
 use Rattle.larch_sorts.specs.declared.found.Found.TheVariants.{One, Several}
-use Rattle.larch_sorts.specs.declared.refusal.ReadRefusal.{ReadRefusal}
-use Rattle.larch_sorts.specs.declared.refusal.ReadRefusal.TheVariants.{UnknownSort, NoReading, Ambiguous}
 use Rattle.larch_sorts.proofs.Listed.{listed, reads_listed}
-use Rattle.larch_sorts.proofs.Members.{contains_here, contains_later, contains_cases, contains_none}
+use Rattle.larch_base.proofs.Members.{contains_here, contains_later, contains_cases, contains_none}
 use Rattle.larch_sorts.proofs.Telling.{tells_once}
 
 -- what is found in a list
@@ -27,12 +32,12 @@ found_in same [] = None
 found_in same (x ∷ xs) = cond (list_all (same x) xs) (Some (One x)) (Some Several)
 
 -- the answer where this was found
-abbrev pub decided : {A : Type 0} → RawEquation → Option (Found A) → Result A ReadRefusal
-decided raw None = Err (NoReading (equation_head raw raw.right))
+abbrev pub decided : {A : Type 0} → RawEquation → Option (Found A) → Result A Fault
+decided raw None = Err (fault NoReading (equation_head raw raw.right))
 decided raw (Some (One x)) = Ok x
-decided raw (Some Several) = Err (Ambiguous raw.first)
+decided raw (Some Several) = Err (fault Ambiguous raw.first)
 
-decided_by : {A : Type 0} (raw : RawEquation) (b : Bool) (x : A) → cond b (Ok x) (Err (Ambiguous raw.first)) ≡ decided raw (cond b (Some (One x)) (Some Several))
+decided_by : {A : Type 0} (raw : RawEquation) (b : Bool) (x : A) → cond b (Ok x) (Err (fault Ambiguous raw.first)) ≡ decided raw (cond b (Some (One x)) (Some Several))
 decided_by raw true x = refl
 decided_by raw false x = refl
 
@@ -40,14 +45,10 @@ only_decided : {A : Type 0} (same : A → A → Bool) (raw : RawEquation) (xs : 
 only_decided same raw [] = refl
 only_decided same raw (x ∷ xs) = decided_by raw (list_all (same x) xs) x
 
-both_pass : (a b : Bool) → (a && b) ≡ true → (a ≡ true) × (b ≡ true)
-both_pass true b e = (refl, e)
-both_pass false b e = cc
-
 all_pass : {A : Type 0} (p : A → Bool) (xs : List A) (y : A) → list_all p xs ≡ true → Contains xs y → p y ≡ true
 all_pass p [] y e c = absurd (contains_none y c)
 all_pass p (x ∷ xs) y e c =
-    let b = both_pass (p x) (list_all p xs) e in
+    let b = both_true (p x) (list_all p xs) e in
     elim (contains_cases x y xs c) [ inl q ↦ subst (λ z. p z ≡ true) q b.0 | inr d ↦ all_pass p xs y b.1 d ]
 
 failing_first : {A : Type 0} (p : A → Bool) (x : A) (xs : List A) (b : Bool) → p x ≡ b → (list_all p xs ≡ false → (y : A) × Contains xs y × (p y ≡ false)) → (b && list_all p xs) ≡ false
@@ -100,11 +101,11 @@ first_or_later fs vs raw raws pos false e later h =
     (raw ∷ r.0, r.1, r.2, ap (λ us. raw ∷ us) r.3, All-cons (HasReading fs vs) raw r.0 (something_reads fs vs raw (readings fs vs raw) refl e) r.4, r.5, r.6)
 
 -- the place of the first part without a reading
-pub unread_stands : (fs : List PlainOperator) (vs : Variables) (raws : List RawTree) (pos : Pos) → unread_in fs vs raws ≡ Some pos → FirstUnread fs vs raws pos
+pub unread_at : (fs : List PlainOperator) (vs : Variables) (raws : List RawTree) (pos : Pos) → unread_in fs vs raws ≡ Some pos → FirstUnread fs vs raws pos
 unfolding unread_in
-unread_stands fs vs [] pos e = cc
-unread_stands fs vs (raw ∷ raws) pos e =
-    first_or_later fs vs raw raws pos (is_empty (readings fs vs raw)) refl (unread_stands fs vs raws pos) (sym (unread_step fs vs raw raws (is_empty (readings fs vs raw)) refl) ∙ e)
+unread_at fs vs [] pos e = cc
+unread_at fs vs (raw ∷ raws) pos e =
+    first_or_later fs vs raw raws pos (is_empty (readings fs vs raw)) refl (unread_at fs vs raws pos) (sym (unread_step fs vs raw raws (is_empty (readings fs vs raw)) refl) ∙ e)
 
 read_or_not : (fs : List PlainOperator) (vs : Variables) (raw : RawTree) (raws : List RawTree) (b : Bool) → is_empty (readings fs vs raw) ≡ b
     → (unread_in fs vs raws ≡ None → All (HasReading fs vs) raws) → cond b (Some (head_of raw)) (unread_in fs vs raws) ≡ None → All (HasReading fs vs) (raw ∷ raws)
@@ -120,16 +121,21 @@ all_have_readings fs vs (raw ∷ raws) e =
 -- the answer, by what was found of the parts and of the whole
 module _ {A : Type 0} (same : A → A → Bool) (decides : (x y : A) → Decides (same x y) (x ≡ y)) (P : A → Type 0) (fs : List PlainOperator) (vs : Variables) (raw : RawEquation) (xs : List A)
     (to : (x : A) → Contains xs x → P x) (from : (x : A) → P x → Contains xs x) where
-  pub answer_unknown : (pos : Pos) → unknown_sort fs raw ≡ Some pos → answer fs vs raw same xs ≡ Err (UnknownSort pos)
-  answer_unknown pos e = ap (λ u. refused_or UnknownSort u (refused_or NoReading (first_unread fs vs raw) (only same raw xs))) e
+  pub answer_unknown : (pos : Pos) → unknown_sort fs raw ≡ Some pos → answer fs vs raw same xs ≡ Err (fault UnknownSort pos)
+  answer_unknown pos e =
+      ap (λ u. unless (fault_at UnknownSort u) (unless (fault_at NoReading (first_unread fs vs raw)) (only same raw xs))) e
 
-  pub answer_unread : (pos : Pos) → unknown_sort fs raw ≡ None → first_unread fs vs raw ≡ Some pos → answer fs vs raw same xs ≡ Err (NoReading pos)
-  answer_unread pos e u =
-      ap (λ z. refused_or UnknownSort z (refused_or NoReading (first_unread fs vs raw) (only same raw xs))) e ∙ ap (λ z. refused_or NoReading z (only same raw xs)) u
+  pub answer_unread : (f : Fault) → unknown_sort fs raw ≡ None → fault_at NoReading (first_unread fs vs raw) ≡ Some f
+      → answer fs vs raw same xs ≡ Err f
+  answer_unread f e u =
+      ap (λ z. unless (fault_at UnknownSort z) (unless (fault_at NoReading (first_unread fs vs raw)) (only same raw xs))) e
+      ∙ ap (λ z. unless z (only same raw xs)) u
 
-  pub answer_found : (found : Option (Found A)) → unknown_sort fs raw ≡ None → first_unread fs vs raw ≡ None → Tells found P → answer fs vs raw same xs ≡ decided raw found
+  pub answer_found : (found : Option (Found A)) → unknown_sort fs raw ≡ None → first_unread fs vs raw ≡ None → Tells found P
+      → answer fs vs raw same xs ≡ decided raw found
   answer_found found e u h =
-      ap (λ z. refused_or UnknownSort z (refused_or NoReading (first_unread fs vs raw) (only same raw xs))) e ∙ ap (λ z. refused_or NoReading z (only same raw xs)) u
+      ap (λ z. unless (fault_at UnknownSort z) (unless (fault_at NoReading (first_unread fs vs raw)) (only same raw xs))) e
+      ∙ ap (λ z. unless (fault_at NoReading z) (only same raw xs)) u
       ∙ only_is same decides P raw xs found to from h
 
   found_ok : (found : Option (Found A)) (x : A) → Tells found P → decided raw found ≡ Ok x → IsOnly P x
@@ -137,28 +143,38 @@ module _ {A : Type 0} (same : A → A → Bool) (decides : (x y : A) → Decides
   found_ok (Some Several) x h e = cc
   found_ok (Some (One y)) x h e = let q : y ≡ x = cc in subst (IsOnly P) q h
 
-  found_err : (found : Option (Found A)) (refusal : ReadRefusal) → Tells found P → unknown_sort fs raw ≡ None → All (HasReading fs vs) (in_sides parts (sides raw)) → decided raw found ≡ Err refusal → Stands fs vs raw P refusal
-  found_err None refusal h u all e =
-      let q : NoReading (equation_head raw raw.right) ≡ refusal = cc in subst (Stands fs vs raw P) q (u, inr (all, h, refl))
-  found_err (Some Several) refusal h u all e = let q : Ambiguous raw.first ≡ refusal = cc in subst (Stands fs vs raw P) q (u, h, refl)
-  found_err (Some (One y)) refusal h u all e = cc
+  found_err : (found : Option (Found A)) (f : Fault) → Tells found P → unknown_sort fs raw ≡ None
+      → All (HasReading fs vs) (in_sides parts (sides raw)) → decided raw found ≡ Err f → Stands fs vs raw P f
+  found_err None f h u all e =
+      let q : fault NoReading (equation_head raw raw.right) ≡ f = cc in
+      subst (Stands fs vs raw P) q (unread_stands u (inr (all, h, refl)))
+  found_err (Some Several) f h u all e =
+      let q : fault Ambiguous raw.first ≡ f = cc in subst (Stands fs vs raw P) q (several_stand u h refl)
+  found_err (Some (One y)) f h u all e = cc
 
-  ok_from : (x : A) (u p : Option Pos) → unknown_sort fs raw ≡ u → first_unread fs vs raw ≡ p → refused_or UnknownSort u (refused_or NoReading p (only same raw xs)) ≡ Ok x → (unknown_sort fs raw ≡ None) × IsOnly P x
+  ok_from : (x : A) (u p : Option Pos) → unknown_sort fs raw ≡ u → first_unread fs vs raw ≡ p
+      → unless (fault_at UnknownSort u) (unless (fault_at NoReading p) (only same raw xs)) ≡ Ok x
+      → (unknown_sort fs raw ≡ None) × IsOnly P x
   ok_from x (Some pos) p e f h = cc
   ok_from x None (Some pos) e f h = cc
-  ok_from x None None e f h = (e, found_ok (found_in same xs) x (list_tells same decides P xs to from) (sym (only_decided same raw xs) ∙ h))
+  ok_from x None None e f h =
+      (e, found_ok (found_in same xs) x (list_tells same decides P xs to from) (sym (only_decided same raw xs) ∙ h))
 
   -- an answer is the only reading, and all sorts are known
   pub answer_ok : (x : A) → answer fs vs raw same xs ≡ Ok x → (unknown_sort fs raw ≡ None) × IsOnly P x
   answer_ok x h = ok_from x (unknown_sort fs raw) (first_unread fs vs raw) refl refl h
 
-  err_from : (refusal : ReadRefusal) (u p : Option Pos) → unknown_sort fs raw ≡ u → first_unread fs vs raw ≡ p → refused_or UnknownSort u (refused_or NoReading p (only same raw xs)) ≡ Err refusal → Stands fs vs raw P refusal
-  err_from refusal (Some pos) p e f h = let q : UnknownSort pos ≡ refusal = cc in subst (Stands fs vs raw P) q e
-  err_from refusal None (Some pos) e f h =
-      let q : NoReading pos ≡ refusal = cc in subst (Stands fs vs raw P) q (e, inl (unread_stands fs vs (in_sides parts (sides raw)) pos f))
-  err_from refusal None None e f h =
-      found_err (found_in same xs) refusal (list_tells same decides P xs to from) e (all_have_readings fs vs (in_sides parts (sides raw)) f) (sym (only_decided same raw xs) ∙ h)
+  err_from : (f : Fault) (u p : Option Pos) → unknown_sort fs raw ≡ u → first_unread fs vs raw ≡ p
+      → unless (fault_at UnknownSort u) (unless (fault_at NoReading p) (only same raw xs)) ≡ Err f → Stands fs vs raw P f
+  err_from f (Some pos) p e u h =
+      let q : fault UnknownSort pos ≡ f = cc in subst (Stands fs vs raw P) q (unknown_stands e)
+  err_from f None (Some pos) e u h =
+      let q : fault NoReading pos ≡ f = cc in
+      subst (Stands fs vs raw P) q (unread_stands e (inl (unread_at fs vs (in_sides parts (sides raw)) pos u)))
+  err_from f None None e u h =
+      found_err (found_in same xs) f (list_tells same decides P xs to from) e
+      (all_have_readings fs vs (in_sides parts (sides raw)) u) (sym (only_decided same raw xs) ∙ h)
 
-  -- a refusal stands where it says
-  pub answer_err : (refusal : ReadRefusal) → answer fs vs raw same xs ≡ Err refusal → Stands fs vs raw P refusal
-  answer_err refusal h = err_from refusal (unknown_sort fs raw) (first_unread fs vs raw) refl refl h
+  -- a fault stands where it says
+  pub answer_err : (f : Fault) → answer fs vs raw same xs ≡ Err f → Stands fs vs raw P f
+  answer_err f h = err_from f (unknown_sort fs raw) (first_unread fs vs raw) refl refl h

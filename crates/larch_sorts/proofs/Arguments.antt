@@ -2,7 +2,8 @@
 use Rattle.std.proofs.Common.{◌≡◌, ℕ, ◌+◌, ◌<◌, Bool, true, false, List, [], ◌∷◌, ◌++◌, map, drop, length, get_or, Option, Some, None, append_assoc, refl, sym, ◌∙◌, ap, ap₂, arith}
 use Rattle.std.proofs.lemmas.List.{drop_more, get_or-map, length-map}
 use Rattle.larch_term.specs.Tree.{Tree}
-use Rattle.larch_sorts.specs.Tables.{Entries, reading_at, arguments_at, with_argument, resumed}
+use Rattle.larch_sorts.specs.Table.{Entries, reading_at}
+use Rattle.larch_sorts.specs.Operators.{arguments_at, with_argument, resumed}
 use Rattle.larch_sorts.specs.declared.found.Found.{Found}
 use Rattle.larch_sorts.specs.declared.found.Found.TheVariants.{One, Several}
 

@@ -1,13 +1,15 @@
 pub mod Answers
 pub mod Arguments
 pub mod Converse
+pub mod Existing
 pub mod Listed
-pub mod Members
 pub mod Parts
 pub mod ReadAnswers
+pub mod Refusals
 pub mod Scopes
 pub mod SidesTold
 pub mod Sorted
+pub mod SortsRead
 pub mod Tables
 pub mod Telling
 pub mod UnknownSorts

@@ -12,15 +12,16 @@ use Rattle.larch_term.specs.declared.statement.Statement.TheVariants.{Equation, 
 use Rattle.larch_term.specs.Operator.{PlainOperator, plain}
 use Rattle.larch_term.specs.Sorts.{sort_of, sorts_of}
 use Rattle.larch_term.specs.Tree.{Tree, Forest, var, app, none, more}
-use Rattle.larch_sorts.specs.Operators.{taking_part}
-use Rattle.larch_sorts.specs.Readings.{Variables, variable_sort, Reads, a_variable, an_operator, of_sort, AllRead, all_read, one_read, ReadsRight, ReadsEquation, ReadsLone}
+use Rattle.larch_sorts.specs.Signature.{taking_part}
+use Rattle.larch_sorts.specs.Scope.{Variables}
+use Rattle.larch_sorts.specs.Readings.{variable_sort, Reads, a_variable, an_operator, of_sort, AllRead, all_read, one_read, ReadsRight, ReadsEquation, ReadsLone}
 use Rattle.larch_term.specs.Truth.{truth}
-use Rattle.larch_sorts.specs.ReadingLists.{readings, choices, applied, have_sorts, variable_or, right_readings, equation_readings, lone_readings}
+use Rattle.larch_sorts.specs.ReadingLists.{readings, choices, applications, have_sorts, variable_or, right_readings, equation_readings, lone_readings}
 use Rattle.larch_term.specs.Equality.{same_name}
-use Rattle.larch_sorts.proofs.Members.{contains_here, contains_one, contains_none, contains_map, contained_in_map, contains_flat_map, contained_in_flat_map, contains_filter, contained_in_filter}
+use Rattle.larch_base.proofs.Members.{contains_here, contains_one, contains_none, contains_map, contained_in_map, contains_flat_map, contained_in_flat_map, contains_filter, contained_in_filter}
 use Rattle.larch_term.proofs.Decided.{name_Decides, sorts_Decides}
 
-applied_to : (n : List ℕ) (us : List Forest) (f : PlainOperator) (ts : Forest) → f.name ≡ plain n → Contains us ts → sorts_of ts ≡ f.domain → Contains (applied n us f) (app f ts)
+applied_to : (n : List ℕ) (us : List Forest) (f : PlainOperator) (ts : Forest) → f.name ≡ plain n → Contains us ts → sorts_of ts ≡ f.domain → Contains (applications n us f) (app f ts)
 applied_to n us f ts e c d =
     rw ((name_Decides f.name (plain n)).1 e) (contains_map (app f) (filter (have_sorts f.domain) us) ts (contains_filter (have_sorts f.domain) us ts c ((sorts_Decides (sorts_of ts) f.domain).1 d)))
 
@@ -38,7 +39,7 @@ mutual
   pub listed : (fs : List PlainOperator) (vs : Variables) (raw : RawTree) (t : Tree) → Reads fs vs raw t → Contains (readings fs vs raw) t
   listed fs vs (apply n raws p) (var m s) (a_variable e) = rw e (contains_here (var n s) [])
   listed fs vs (apply n raws p) (app f ts) (an_operator e c d all sorts) =
-      rw e (contains_flat_map (applied n (choices fs vs raws)) (taking_part fs) f (app f ts) c (applied_to n (choices fs vs raws) f ts d (all_listed fs vs raws ts all) sorts))
+      rw e (contains_flat_map (applications n (choices fs vs raws)) (taking_part fs) f (app f ts) c (applied_to n (choices fs vs raws) f ts d (all_listed fs vs raws ts all) sorts))
   listed fs vs (qualified raw w p) t (of_sort r e) =
       contains_filter (λ u. bytes_eq (sort_of u) w.name) (readings fs vs raw) t (listed fs vs raw t r) ((bytes_eq-Decides (sort_of t) w.name).1 e)
 
@@ -51,10 +52,10 @@ mutual
 
 reads_apply : (fs : List PlainOperator) (vs : Variables) (n : List ℕ) (raws : RawForest) (p : Pos) (t : Tree) (o : Option (List ℕ)) → variable_sort vs n raws ≡ o
     → ((ts : Forest) → Contains (choices fs vs raws) ts → AllRead fs vs raws ts)
-    → Contains (variable_or o n (flat_map (applied n (choices fs vs raws)) (taking_part fs))) t → Reads fs vs (apply n raws p) t
+    → Contains (variable_or o n (flat_map (applications n (choices fs vs raws)) (taking_part fs))) t → Reads fs vs (apply n raws p) t
 reads_apply fs vs n raws p t (Some s) e all c = subst (Reads fs vs (apply n raws p)) (contains_one (var n s) t c) (a_variable e)
 reads_apply fs vs n raws p t None e all c =
-    let r = contained_in_flat_map (applied n (choices fs vs raws)) (taking_part fs) t c in
+    let r = contained_in_flat_map (applications n (choices fs vs raws)) (taking_part fs) t c in
     let q = in_applied n (choices fs vs raws) r.0 t (same_name r.0.name (plain n)) refl r.2 in
     subst (Reads fs vs (apply n raws p)) q.4 (an_operator e r.1 q.1 (all q.0 q.2) q.3)
 

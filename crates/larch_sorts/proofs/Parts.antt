@@ -9,13 +9,15 @@ use Rattle.larch_term.specs.Operator.{PlainOperator}
 use Rattle.larch_term.specs.Tree.{Tree, Forest, var, app, none, more}
 use Rattle.larch_term.specs.declared.statement.Statement.{Statement}
 use Rattle.larch_term.specs.declared.statement.Statement.TheVariants.{Equation, Generated, Partitioned}
-use Rattle.larch_sorts.specs.Answers.{is_empty, unread_in}
-use Rattle.larch_sorts.specs.Places.{parts, parts_of, sides, right_sides, in_sides, HasReading, FirstUnread}
-use Rattle.larch_sorts.specs.Readings.{Variables, variable_sort, Reads, a_variable, an_operator, of_sort, AllRead, one_read, ReadsRight, ReadsEquation, ReadsLone, IsNone}
+use Rattle.larch_sorts.specs.Read.{is_empty, unread_in}
+use Rattle.larch_sorts.specs.Parts.{parts, parts_of, sides, right_sides, in_sides}
+use Rattle.larch_sorts.specs.Stands.{HasReading, FirstUnread}
+use Rattle.larch_sorts.specs.Scope.{Variables}
+use Rattle.larch_sorts.specs.Readings.{variable_sort, Reads, a_variable, an_operator, of_sort, AllRead, one_read, ReadsRight, ReadsEquation, ReadsLone, IsNone}
 use Rattle.larch_sorts.specs.ReadingLists.{readings}
 use Rattle.larch_sorts.proofs.Answers.{unread_step}
 use Rattle.larch_sorts.proofs.Listed.{listed, reads_listed}
-use Rattle.larch_sorts.proofs.Members.{contains_here, contains_none}
+use Rattle.larch_base.proofs.Members.{contains_here, contains_none}
 use Rattle.larch_sorts.proofs.Unread.{read_first}
 
 -- a variable is its only part

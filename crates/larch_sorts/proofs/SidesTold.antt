@@ -10,17 +10,21 @@ use Rattle.larch_term.specs.Operator.{PlainOperator}
 use Rattle.larch_term.specs.Sorts.{sort_of}
 use Rattle.larch_term.specs.Tree.{Tree}
 use Rattle.larch_term.specs.BuiltIn.{bool_sort}
-use Rattle.larch_sorts.specs.Answers.{unread_in, first_unread}
-use Rattle.larch_sorts.specs.Places.{parts, right_sides, in_sides}
-use Rattle.larch_sorts.specs.Readings.{Variables, Reads, ReadsRight, ReadsLone}
+use Rattle.larch_sorts.specs.Read.{unread_in, first_unread}
+use Rattle.larch_sorts.specs.Parts.{parts, right_sides, in_sides}
+use Rattle.larch_sorts.specs.Scope.{Variables}
+use Rattle.larch_sorts.specs.Readings.{Reads, ReadsRight, ReadsLone}
 use Rattle.larch_term.specs.Truth.{truth}
 use Rattle.larch_term.specs.Equality.{same_tree}
-use Rattle.larch_sorts.specs.Tables.{Entries, reading_at, Tells, TableTells, Unread, sorts_in, found_anywhere, same_sides, paired, sides_found, formula_found, ReadsSides}
+use Rattle.larch_sorts.specs.Table.{Entries, reading_at}
+use Rattle.larch_sorts.specs.Found.{Tells}
+use Rattle.larch_sorts.specs.Tabulate.{TableTells, Unread}
+use Rattle.larch_sorts.specs.Sides.{sorts_in, found_anywhere, same_sides, paired, sides_found, formula_found, ReadsSides}
 use Rattle.larch_sorts.specs.declared.found.Found.{Found}
 use Rattle.larch_sorts.specs.declared.found.Found.TheVariants.{One, Several}
 use Rattle.larch_sorts.specs.declared.found.Sides.{Sides}
 use Rattle.larch_sorts.specs.declared.refusal.ReadRefusal.{ReadRefusal}
-use Rattle.larch_sorts.proofs.Members.{contains_here, contains_later}
+use Rattle.larch_base.proofs.Members.{contains_here, contains_later}
 use Rattle.larch_term.proofs.Decided.{tree_Decides}
 use Rattle.larch_sorts.proofs.Telling.{tells_same, tells_at_all}
 use Rattle.larch_sorts.proofs.Unread.{read_first, unread_first}

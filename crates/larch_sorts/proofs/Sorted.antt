@@ -1,43 +1,51 @@
 -- What is read is well sorted, over the operators that take part, and its variables are in scope.
-use Rattle.std.proofs.Common.{◌≡◌, ℕ, inl, inr, List, [], ◌++◌, map, All, Contains, Option, Some, None, refl, sym, ◌∙◌, ap, subst}
+use Rattle.std.proofs.Common.{◌≡◌, ℕ, ◌⊎◌, inl, inr, List, [], ◌++◌, map, All, Contains, Option, Some, None, refl, sym, ◌∙◌, ap, subst}
 use Rattle.std.proofs.lemmas.List.Elements.{All-nil, All-cons, All-append}
 use Rattle.larch_raw.specs.RawTree.{RawTree, RawForest, apply, qualified, no_more, one_more}
 use Rattle.larch_raw.specs.declared.equation.RawRight.{RawRight}
 use Rattle.larch_raw.specs.declared.equation.RawEquation.{RawEquation}
-use Rattle.larch_term.specs.BuiltIn.{IsBuiltIn, built_in, bool_sort}
+use Rattle.larch_term.specs.BuiltIn.{IsBuiltIn, built_in}
 use Rattle.larch_term.specs.Variable.{occurrences, occurrences_in}
 use Rattle.larch_term.specs.Operator.{PlainOperator}
 use Rattle.larch_term.specs.Sorts.{sort_of, WellSorted, AllWellSorted, IsKnown, IsOver, AllOver}
 use Rattle.larch_term.specs.Statement.{IsStatementOver}
 use Rattle.larch_term.specs.Tree.{Tree, Forest, var, app, none, more}
+use Rattle.larch_term.specs.BuiltIn.{bool_sort}
 use Rattle.larch_term.specs.declared.built_in.BuiltIn.{BuiltIn}
 use Rattle.larch_term.specs.declared.built_in.BuiltIn.TheVariants.{True, Equal, Unequal, If}
 use Rattle.larch_term.specs.declared.statement.Statement.{Statement}
 use Rattle.larch_term.specs.declared.statement.Statement.TheVariants.{Equation, Generated, Partitioned}
-use Rattle.larch_sorts.specs.Answers.{HasVariablesOf, IsInScope}
+use Rattle.larch_sorts.specs.Scope.{HasVariablesOf, IsInScope}
 use Rattle.larch_operators.specs.BuiltIns.{built_ins_at, propositional}
 use Rattle.larch_operators.specs.Sorts.{existing_sorts}
-use Rattle.larch_sorts.specs.Operators.{taking_part}
-use Rattle.larch_sorts.specs.Readings.{Variables, sort_in, variable_sort, Reads, a_variable, an_operator, of_sort, AllRead, all_read, one_read, ReadsRight, ReadsEquation}
+use Rattle.larch_sorts.specs.Signature.{taking_part}
+use Rattle.larch_sorts.specs.Scope.{Variables, sort_in}
+use Rattle.larch_sorts.specs.Readings.{variable_sort, Reads, a_variable, an_operator, of_sort, AllRead, all_read, one_read, ReadsRight, ReadsEquation}
 use Rattle.larch_term.specs.Truth.{truth}
-use Rattle.larch_sorts.proofs.Members.{contains_either, contained_in_map}
+use Rattle.larch_base.proofs.Members.{contains_either, contained_in_map}
 
-built_in_of_map : (b : BuiltIn) (sorts : List (List ℕ)) (f : PlainOperator) → Contains (map (built_in b) sorts) f → IsBuiltIn f
-built_in_of_map b sorts f c = let r = contained_in_map (built_in b) sorts f c in (b, (r.0, sym r.2))
+-- what is made of a list of sorts is made of one of them
+of_map : (b : BuiltIn) (sorts : List (List ℕ)) (f : PlainOperator) → Contains (map (built_in b) sorts) f
+    → (c : BuiltIn) × (s : List ℕ) × ((s ≡ bool_sort) ⊎ Contains sorts s) × (f ≡ built_in c s)
+of_map b sorts f c = let r = contained_in_map (built_in b) sorts f c in (b, r.0, inr r.1, sym r.2)
 
--- what is among the built-in operators at sorts is built in
-built_in_known : (sorts : List (List ℕ)) (f : PlainOperator) → Contains (built_ins_at sorts) f → IsBuiltIn f
-built_in_known sorts f c =
+-- what is among the built-in operators at sorts is built in, at Bool or one of the sorts
+pub among_built_ins : (sorts : List (List ℕ)) (f : PlainOperator) → Contains (built_ins_at sorts) f
+    → (b : BuiltIn) × (s : List ℕ) × ((s ≡ bool_sort) ⊎ Contains sorts s) × (f ≡ built_in b s)
+among_built_ins sorts f c =
     elim (contains_either (map (λ b. built_in b bool_sort) propositional) (map (built_in Equal) sorts ++ (map (built_in Unequal) sorts ++ map (built_in If) sorts)) f c) [
-      | inl d ↦ let r = contained_in_map (λ b. built_in b bool_sort) propositional f d in (r.0, (bool_sort, sym r.2))
+      | inl d ↦ let r = contained_in_map (λ b. built_in b bool_sort) propositional f d in (r.0, bool_sort, inl refl, sym r.2)
       | inr d ↦ elim (contains_either (map (built_in Equal) sorts) (map (built_in Unequal) sorts ++ map (built_in If) sorts) f d) [
-        | inl e ↦ built_in_of_map Equal sorts f e
+        | inl e ↦ of_map Equal sorts f e
         | inr e ↦ elim (contains_either (map (built_in Unequal) sorts) (map (built_in If) sorts) f e) [
-          | inl g ↦ built_in_of_map Unequal sorts f g
-          | inr g ↦ built_in_of_map If sorts f g
+          | inl g ↦ of_map Unequal sorts f g
+          | inr g ↦ of_map If sorts f g
         ]
       ]
     ]
+
+built_in_known : (sorts : List (List ℕ)) (f : PlainOperator) → Contains (built_ins_at sorts) f → IsBuiltIn f
+built_in_known sorts f c = let r = among_built_ins sorts f c in (r.0, (r.1, r.3))
 
 -- what takes part is one of the operators or built in
 pub known : (fs : List PlainOperator) (f : PlainOperator) → Contains (taking_part fs) f → IsKnown fs f

@@ -9,15 +9,20 @@ use Rattle.larch_term.specs.Operator.{PlainOperator, plain}
 use Rattle.larch_term.specs.Sorts.{sort_of, sorts_of}
 use Rattle.larch_term.specs.Tree.{Tree, var, app, forest_of, list_of}
 use Rattle.larch_term.proofs.TreeLists.{forest_of_inj, forest_of-list_of}
-use Rattle.larch_sorts.specs.Operators.{taking_part}
-use Rattle.larch_sorts.specs.Readings.{Variables, variable_sort, Reads, a_variable, an_operator, of_sort, AllRead, all_read, one_read}
+use Rattle.larch_sorts.specs.Signature.{taking_part}
+use Rattle.larch_sorts.specs.Scope.{Variables}
+use Rattle.larch_sorts.specs.Readings.{variable_sort, Reads, a_variable, an_operator, of_sort, AllRead, all_read, one_read}
 use Rattle.larch_term.specs.Equality.{same_name, same_tree}
-use Rattle.larch_sorts.specs.Tables.{Entries, reading_at, Tells, applied, TableTells, AllTell, with_argument, arguments_at, extended, with_operator, operators_at, named}
+use Rattle.larch_sorts.specs.Table.{Entries, reading_at, application}
+use Rattle.larch_sorts.specs.Found.{Tells}
+use Rattle.larch_sorts.specs.Tabulate.{TableTells, AllTell}
+use Rattle.larch_sorts.specs.Operators.{with_argument, arguments_at, extended, with_operator, operators_at}
+use Rattle.larch_sorts.specs.Signature.{named}
 use Rattle.larch_sorts.specs.declared.found.Found.{Found}
 use Rattle.larch_sorts.specs.declared.found.Found.TheVariants.{One, Several}
-use Rattle.larch_sorts.proofs.Members.{contains_here, contains_later, contains_cases, contains_none, contains_filter, contained_in_filter}
+use Rattle.larch_base.proofs.Members.{contains_here, contains_later, contains_cases, contains_none, contains_filter, contained_in_filter}
 use Rattle.larch_term.proofs.Decided.{name_Decides, tree_Decides}
-use Rattle.larch_sorts.proofs.Telling.{tells_same, tells_joined, tells_applied}
+use Rattle.larch_sorts.proofs.Telling.{tells_same, tells_merged, tells_applied}
 
 -- a list whose first thing has one property, and the further ones another
 abbrev FirstAndRest : (Tree → Type 0) → (List Tree → Type 0) → List Tree → Type 0
@@ -88,7 +93,7 @@ module _ (fs : List PlainOperator) (vs : Variables) (tables : List Entries) (raw
   extended_tells P before f None h k =
       tells_same P (λ t. P t ⊎ ByOperator fs vs raws f t) (λ t p. inl p) (λ t p. elim p [ inl a ↦ a | inr b ↦ absurd (k b.0 b.1) ]) before h
   extended_tells P before f (Some arguments) h k =
-      tells_joined same_tree tree_Decides P (ByOperator fs vs raws f) before (applied f arguments) h
+      tells_merged same_tree tree_Decides P (ByOperator fs vs raws f) before (application f arguments) h
       (tells_applied f (ReadAt fs vs raws f.domain) (ByOperator fs vs raws f) arguments (λ ts q. (ts, q, refl)) (λ t r. r)
       (λ ts us e. forest_of_inj ts us cc) k)
 

@@ -5,10 +5,12 @@ use Rattle.std.specs.List.{fold}
 use Rattle.larch_term.specs.Operator.{PlainOperator}
 use Rattle.larch_term.specs.Tree.{Tree, app, forest_of}
 use Rattle.larch_sorts.specs.Readings.{IsOnly}
-use Rattle.larch_sorts.specs.Tables.{Tells, joined_by, with_found, applied}
+use Rattle.larch_sorts.specs.Found.{Tells}
+use Rattle.larch_sorts.specs.Table.{merged_by, application}
+use Rattle.larch_sorts.specs.Sides.{with_found}
 use Rattle.larch_sorts.specs.declared.found.Found.{Found}
 use Rattle.larch_sorts.specs.declared.found.Found.TheVariants.{One, Several}
-use Rattle.larch_sorts.proofs.Members.{contains_here, contains_later, contains_cases, contains_none}
+use Rattle.larch_base.proofs.Members.{contains_here, contains_later, contains_cases, contains_none}
 
 -- what is told of one property is told of each that has the same things
 pub tells_same : {A : Type 0} (P Q : A → Type 0) → ((x : A) → P x → Q x) → ((x : A) → Q x → P x) → (found : Option (Found A)) → Tells found P → Tells found Q
@@ -35,20 +37,20 @@ one_by same P Q t u true e d h k =
 one_by same P Q t u false e d h k = (t, u, inl h.0, inr k.0, λ tu. let y : same t u ≡ true = d.1 tu in cc)
 
 -- what was found before together with what was found now
-pub tells_joined : {A : Type 0} (same : A → A → Bool) → ((t u : A) → Decides (same t u) (t ≡ u)) → (P Q : A → Type 0) (before : Option (Found A)) (now : Found A) → Tells before P → Tells (Some now) Q
-    → Tells (Some (joined_by same before now)) (λ x. P x ⊎ Q x)
-tells_joined same d P Q None (One u) h k = (inr k.0, λ y p. elim p [ inl a ↦ absurd (h y a) | inr b ↦ k.1 y b ])
-tells_joined same d P Q None Several h k = (k.0, k.1, inr k.2, inr k.3, k.4)
-tells_joined same d P Q (Some Several) (One u) h k = (h.0, h.1, inl h.2, inl h.3, h.4)
-tells_joined same d P Q (Some Several) Several h k = (h.0, h.1, inl h.2, inl h.3, h.4)
-tells_joined same d P Q (Some (One t)) Several h k = (k.0, k.1, inr k.2, inr k.3, k.4)
-tells_joined same d P Q (Some (One t)) (One u) h k = one_by same P Q t u (same t u) refl (d t u) h k
+pub tells_merged : {A : Type 0} (same : A → A → Bool) → ((t u : A) → Decides (same t u) (t ≡ u)) → (P Q : A → Type 0) (before : Option (Found A)) (now : Found A) → Tells before P → Tells (Some now) Q
+    → Tells (Some (merged_by same before now)) (λ x. P x ⊎ Q x)
+tells_merged same d P Q None (One u) h k = (inr k.0, λ y p. elim p [ inl a ↦ absurd (h y a) | inr b ↦ k.1 y b ])
+tells_merged same d P Q None Several h k = (k.0, k.1, inr k.2, inr k.3, k.4)
+tells_merged same d P Q (Some Several) (One u) h k = (h.0, h.1, inl h.2, inl h.3, h.4)
+tells_merged same d P Q (Some Several) Several h k = (h.0, h.1, inl h.2, inl h.3, h.4)
+tells_merged same d P Q (Some (One t)) Several h k = (k.0, k.1, inr k.2, inr k.3, k.4)
+tells_merged same d P Q (Some (One t)) (One u) h k = one_by same P Q t u (same t u) refl (d t u) h k
 
 -- what was found before together with what was found now, if anything
 pub tells_with_found : {A : Type 0} (same : A → A → Bool) → ((t u : A) → Decides (same t u) (t ≡ u)) → (P Q : A → Type 0) (before now : Option (Found A)) → Tells before P → Tells now Q
     → Tells (with_found same before now) (λ x. P x ⊎ Q x)
 tells_with_found same d P Q before None h k = tells_same P (λ x. P x ⊎ Q x) (λ x p. inl p) (λ x p. elim p [ inl a ↦ a | inr b ↦ absurd (k x b) ]) before h
-tells_with_found same d P Q before (Some now) h k = tells_joined same d P Q before now h k
+tells_with_found same d P Q before (Some now) h k = tells_merged same d P Q before now h k
 
 -- what was found at each of some sorts
 pub tells_at_sorts : {A : Type 0} (same : A → A → Bool) → ((t u : A) → Decides (same t u) (t ≡ u)) → (R : A → Type 0) (sort : A → List ℕ) (found : List ℕ → Option (Found A))
@@ -80,7 +82,7 @@ tells_at_all same d R sort found h ss all =
 pub tells_applied : (f : PlainOperator) (Q : List Tree → Type 0) (R : Tree → Type 0) (found : Found (List Tree))
     → ((ts : List Tree) → Q ts → R (app f (forest_of ts))) → ((t : Tree) → R t → (ts : List Tree) × Q ts × (t ≡ app f (forest_of ts)))
     → ((ts us : List Tree) → app f (forest_of ts) ≡ app f (forest_of us) → ts ≡ us)
-    → Tells (Some found) Q → Tells (Some (applied f found)) R
+    → Tells (Some found) Q → Tells (Some (application f found)) R
 tells_applied f Q R (One ts) to from inj h =
     (to ts h.0, λ y r. let w = from y r in w.2 ∙ ap (λ us. app f (forest_of us)) (h.1 w.0 w.1))
 tells_applied f Q R Several to from inj h =

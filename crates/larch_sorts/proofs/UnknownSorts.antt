@@ -5,15 +5,12 @@ use Rattle.std.specs.Option.{option_map, option_or}
 use Rattle.std.proofs.lemmas.List.Folds.{find-append}
 use Rattle.std.proofs.lemmas.List.{drop_more}
 use Rattle.larch_base.specs.declared.position.Pos.{Pos}
+use Rattle.larch_base.proofs.Options.{map_or}
 use Rattle.larch_raw.specs.RawTree.{RawTree, raw_forest}
 use Rattle.larch_raw.specs.declared.declared.RawWord.{RawWord}
 use Rattle.larch_term.specs.Operator.{PlainOperator}
 use Rattle.larch_operators.specs.Sorts.{exists_sort}
-use Rattle.larch_sorts.specs.Places.{unknown_among, sort_words, sort_words_of}
-
-map_or : {A B : Type 0} (f : A → B) (a b : Option A) → option_map f (option_or a b) ≡ option_or (option_map f a) (option_map f b)
-map_or f None b = refl
-map_or f (Some x) b = refl
+use Rattle.larch_sorts.specs.Unknown.{unknown_among, sort_words, sort_words_of}
 
 unknown_append : (fs : List PlainOperator) (xs ys : List RawWord) → unknown_among fs (xs ++ ys) ≡ option_or (unknown_among fs xs) (unknown_among fs ys)
 unfolding unknown_among

@@ -10,21 +10,24 @@ use Rattle.larch_raw.specs.RawTree.{RawTree, RawForest, apply, qualified, no_mor
 use Rattle.larch_term.specs.Operator.{PlainOperator}
 use Rattle.larch_term.specs.Sorts.{sort_of}
 use Rattle.larch_term.specs.Tree.{Tree}
-use Rattle.larch_sorts.specs.Answers.{is_empty, unread_in}
-use Rattle.larch_sorts.specs.Places.{head_of, parts, parts_of}
-use Rattle.larch_sorts.specs.Readings.{Variables, variable_sort, Reads}
+use Rattle.larch_sorts.specs.Read.{is_empty, unread_in}
+use Rattle.larch_sorts.specs.Parts.{head_of, parts, parts_of}
+use Rattle.larch_sorts.specs.Scope.{Variables}
+use Rattle.larch_sorts.specs.Readings.{variable_sort, Reads}
 use Rattle.larch_sorts.specs.ReadingLists.{readings}
-use Rattle.larch_sorts.specs.Tables.{Entries, reading_at, Tells, TableTells, AllTell, Unread, inner_parts}
+use Rattle.larch_sorts.specs.Table.{Entries, reading_at}
+use Rattle.larch_sorts.specs.Found.{Tells}
+use Rattle.larch_sorts.specs.Tabulate.{TableTells, AllTell, Unread}
+use Rattle.larch_sorts.specs.Parts.{inner_parts}
 use Rattle.larch_sorts.specs.declared.found.Found.{Found}
 use Rattle.larch_sorts.specs.declared.found.Found.TheVariants.{One, Several}
 use Rattle.larch_sorts.specs.declared.refusal.ReadRefusal.{ReadRefusal}
-use Rattle.larch_sorts.specs.declared.refusal.ReadRefusal.TheVariants.{UnknownSort, NoReading, Ambiguous, Memory}
-use Rattle.larch_sorts.proofs.Members.{contains_here, contains_none}
+use Rattle.larch_base.specs.declared.code.Code.TheVariants.{NoReading}
+use Rattle.larch_base.proofs.Options.{map_or}
+use Rattle.larch_sorts.specs.Faults.{fault_at}
+use Rattle.larch_sorts.proofs.Refusals.{told_weaker, fault_first}
+use Rattle.larch_base.proofs.Members.{contains_here, contains_none}
 use Rattle.larch_sorts.proofs.Listed.{listed, reads_listed}
-
-map_or : {A B : Type 0} (f : A → B) (a b : Option A) → option_map f (option_or a b) ≡ option_or (option_map f a) (option_map f b)
-map_or f None b = refl
-map_or f (Some x) b = refl
 
 pub unread_append : (fs : List PlainOperator) (vs : Variables) (xs ys : List RawTree) → unread_in fs vs (xs ++ ys) ≡ option_or (unread_in fs vs xs) (unread_in fs vs ys)
 unfolding unread_in
@@ -38,10 +41,9 @@ read_first fs vs xs ys e = unread_append fs vs xs ys ∙ ap (λ x. option_or x (
 
 -- what is unread among the first is unread among all
 pub unread_first : (fs : List PlainOperator) (vs : Variables) (refusal : ReadRefusal) (xs ys : List RawTree) → Unread refusal (unread_in fs vs xs) → Unread refusal (unread_in fs vs (xs ++ ys))
-unread_first fs vs Memory xs ys u = tt
-unread_first fs vs (NoReading pos) xs ys u = unread_append fs vs xs ys ∙ ap (λ x. option_or x (unread_in fs vs ys)) u
-unread_first fs vs (UnknownSort pos) xs ys u = absurd u
-unread_first fs vs (Ambiguous pos) xs ys u = absurd u
+unread_first fs vs refusal xs ys u =
+    told_weaker refusal (λ f. fault_at NoReading (unread_in fs vs xs) ≡ Some f) (λ f. fault_at NoReading (unread_in fs vs (xs ++ ys)) ≡ Some f)
+    (λ f e. ap (fault_at NoReading) (unread_append fs vs xs ys) ∙ fault_first NoReading (unread_in fs vs xs) (unread_in fs vs ys) f e) u
 
 parts_is : (raw : RawTree) → parts raw ≡ inner_parts raw ++ raw ∷ []
 parts_is (apply n raws p) = refl

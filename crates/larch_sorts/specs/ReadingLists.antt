@@ -1,28 +1,29 @@
 -- All readings of raw terms and equations, as lists.
-use Rattle.std.specs.Prelude.{ℕ, cond, Bool, List, [], ◌∷◌, map, filter, Option, Some, None, bytes_eq}
 use Rattle.std.specs.Cmp.Lexicographic.{pointwise}
 use Rattle.std.specs.List.{flat_map}
-use Rattle.larch_raw.specs.RawTree.{RawTree, RawForest, apply, qualified, no_more, one_more}
-use Rattle.larch_raw.specs.declared.equation.RawRight.{RawRight}
+use Rattle.std.specs.Prelude.{if◌then◌else◌, Bool, List, None, Option, Some, [], bytes_eq, filter, map, ℕ, ◌∷◌}
+use Rattle.larch_raw.specs.RawTree.{RawForest, RawTree, apply, no_more, one_more, qualified}
 use Rattle.larch_raw.specs.declared.equation.RawEquation.{RawEquation}
+use Rattle.larch_raw.specs.declared.equation.RawRight.{RawRight}
 use Rattle.larch_term.specs.Operator.{PlainOperator, plain}
 use Rattle.larch_term.specs.Sorts.{sort_of, sorts_of}
-use Rattle.larch_term.specs.Tree.{Tree, Forest, var, app, none, more}
+use Rattle.larch_term.specs.Tree.{Forest, Tree, app, more, none, var}
 use Rattle.larch_term.specs.BuiltIn.{bool_sort}
 use Rattle.larch_term.specs.declared.statement.Statement.{Statement}
 use Rattle.larch_term.specs.declared.statement.Statement.TheVariants.{Equation}
-use Rattle.larch_sorts.specs.Operators.{taking_part}
-use Rattle.larch_sorts.specs.Readings.{Variables, variable_sort}
-use Rattle.larch_term.specs.Truth.{truth}
 use Rattle.larch_term.specs.Equality.{same_name}
+use Rattle.larch_sorts.specs.Readings.{variable_sort}
+use Rattle.larch_term.specs.Truth.{truth}
+use Rattle.larch_sorts.specs.Scope.{Variables}
+use Rattle.larch_sorts.specs.Signature.{taking_part}
 
 -- whether arguments have these sorts
 abbrev pub have_sorts : List (List ℕ) → Forest → Bool
 have_sorts ss ts = pointwise bytes_eq (sorts_of ts) ss
 
 -- an operator with each of these lists of arguments that fits it, if it has this name
-abbrev pub applied : List ℕ → List Forest → PlainOperator → List Tree
-applied n choices f = cond (same_name f.name (plain n)) (map (app f) (filter (have_sorts f.domain) choices)) []
+abbrev pub applications : List ℕ → List Forest → PlainOperator → List Tree
+applications n choices f = if same_name f.name (plain n) then map (app f) (filter (have_sorts f.domain) choices) else []
 
 -- the variable that a name means, or else what it reads as among operators
 abbrev pub variable_or : Option (List ℕ) → List ℕ → List Tree → List Tree
@@ -32,7 +33,7 @@ variable_or None n others = others
 unfoldable mutual
   -- the readings of a term
   pub readings : List PlainOperator → Variables → RawTree → List Tree
-  readings fs vs (apply n raws p) = variable_or (variable_sort vs n raws) n (flat_map (applied n (choices fs vs raws)) (taking_part fs))
+  readings fs vs (apply n raws p) = variable_or (variable_sort vs n raws) n (flat_map (applications n (choices fs vs raws)) (taking_part fs))
   readings fs vs (qualified raw w p) = filter (λ t. bytes_eq (sort_of t) w.name) (readings fs vs raw)
 
   -- the lists with a reading of each argument
@@ -42,7 +43,7 @@ unfoldable mutual
 
 -- what stands right beside a left side
 abbrev pub right_readings : List PlainOperator → Variables → Option RawRight → Tree → List Tree
-right_readings fs vs None l = cond (bytes_eq (sort_of l) bool_sort) (truth ∷ []) []
+right_readings fs vs None l = if bytes_eq (sort_of l) bool_sort then truth ∷ [] else []
 right_readings fs vs (Some right) l = filter (λ r. bytes_eq (sort_of l) (sort_of r)) (readings fs vs right.term)
 
 -- the readings of an equation or formula

@@ -1,28 +1,21 @@
 -- What raw terms and equations are read as.
-use Rattle.std.specs.Prelude.{◌≡◌, ℕ, List, Contains, Option, Some, None, bytes_eq}
-use Rattle.std.specs.Map.{lookup}
+use Rattle.std.specs.Prelude.{Contains, List, None, Option, Some, ℕ, ◌≡◌}
 use Rattle.larch_base.specs.declared.position.Pos.{Pos}
-use Rattle.larch_raw.specs.RawTree.{RawTree, RawForest, apply, qualified, no_more, one_more}
+use Rattle.larch_raw.specs.RawTree.{RawForest, RawTree, apply, no_more, one_more, qualified}
 use Rattle.larch_raw.specs.declared.declared.RawWord.{RawWord}
-use Rattle.larch_raw.specs.declared.equation.RawRight.{RawRight}
 use Rattle.larch_raw.specs.declared.equation.RawEquation.{RawEquation}
+use Rattle.larch_raw.specs.declared.equation.RawRight.{RawRight}
+use Rattle.larch_term.specs.BuiltIn.{built_in}
 use Rattle.larch_term.specs.Operator.{PlainOperator, plain}
-use Rattle.larch_term.specs.BuiltIn.{built_in, bool_sort}
 use Rattle.larch_term.specs.Sorts.{sort_of, sorts_of}
-use Rattle.larch_term.specs.Tree.{Tree, Forest, var, app, none, more}
+use Rattle.larch_term.specs.Truth.{truth}
+use Rattle.larch_term.specs.Tree.{Forest, Tree, app, more, none, var}
+use Rattle.larch_term.specs.BuiltIn.{bool_sort}
 use Rattle.larch_term.specs.declared.built_in.BuiltIn.TheVariants.{True}
 use Rattle.larch_term.specs.declared.statement.Statement.{Statement}
 use Rattle.larch_term.specs.declared.statement.Statement.TheVariants.{Equation, Generated, Partitioned}
-use Rattle.larch_sorts.specs.Operators.{taking_part}
-pub use Rattle.larch_term.specs.Truth.{truth}
-
--- variables in scope: names with their sorts, in order
-abbrev pub Variables : Type 0
-Variables = List (List ℕ × List ℕ)
-
--- the sort of the variable of this name, if one is in scope
-abbrev pub sort_in : Variables → List ℕ → Option (List ℕ)
-sort_in vs n = lookup (bytes_eq n) vs
+use Rattle.larch_sorts.specs.Scope.{Variables, sort_in}
+use Rattle.larch_sorts.specs.Signature.{taking_part}
 
 -- the sort of the variable that a name with these arguments means: a name with arguments means none
 abbrev pub variable_sort : Variables → List ℕ → RawForest → Option (List ℕ)

@@ -1,10 +1,15 @@
-ghost use Rattle.std.specs.Prelude.{◌≡◌, ◌⊎◌, IfErr, IfOk, None, Ok};
+ghost use Rattle.std.specs.Prelude.{◌≡◌, IfErr, IfOk, IfSome, None};
 ghost use Rattle.std.specs.Option.{option_copied};
 ghost use Rattle.larch_term.specs.Sorts.{WellSorted, IsOver};
-ghost use Rattle.larch_sorts.specs.Answers.{read_term, first_unread, Refuses, HasVariablesOf};
-ghost use Rattle.larch_sorts.specs.Places.{unknown_sort, Stands};
+ghost use Rattle.larch_sorts.specs.Read.{read_term, first_unread};
+ghost use Rattle.larch_base.specs.Answering.{Answers};
+ghost use Rattle.larch_sorts.specs.Refusals.{told};
+ghost use Rattle.larch_sorts.specs.Scope.{HasVariablesOf};
+ghost use Rattle.larch_sorts.specs.Unknown.{unknown_sort};
+ghost use Rattle.larch_sorts.specs.Stands.{Stands};
 ghost use Rattle.larch_sorts.specs.Readings.{ReadsLone, IsOnly};
-ghost use Rattle.larch_sorts.specs.Tables.{Tells, Unread};
+ghost use Rattle.larch_sorts.specs.Found.{Tells};
+ghost use Rattle.larch_sorts.specs.Tabulate.{Unread};
 
 use crate::found::Found;
 use crate::reading::{Reading, term_of};
@@ -28,13 +33,12 @@ pub fn read_lone(
     sort: Option<&Sort>,
 ) -> Result<Term, ReadRefusal>
     requires { raw.now.right ≡ None }
-    ensures read { IfOk result (λ term. read_term signature.now scope.now (option_copied sort.entry) raw.now ≡ Ok term) }
-    ensures refused { IfErr result (λ refusal. Refuses refusal (read_term signature.now scope.now (option_copied sort.entry) raw.now)) }
+    ensures answers { Answers told result (read_term signature.now scope.now (option_copied sort.entry) raw.now) }
 
     // The same in terms of readings.
     ensures known { IfOk result (λ _. unknown_sort signature.now raw.now ≡ None) }
     ensures only { IfOk result (IsOnly (ReadsLone signature.now scope.now (option_copied sort.entry) raw.now)) }
-    ensures stands { IfErr result (λ refusal. (refusal ≡ ReadRefusal.Memory) ⊎ Stands signature.now scope.now raw.now (ReadsLone signature.now scope.now (option_copied sort.entry) raw.now) refusal) }
+    ensures stands { IfErr result (λ refusal. IfSome (told refusal) (Stands signature.now scope.now raw.now (ReadsLone signature.now scope.now (option_copied sort.entry) raw.now))) }
 
     // What a term that is read is made of.
     ensures well_sorted { IfOk result (λ term. WellSorted term × IsOver signature.now term) }
@@ -52,8 +56,7 @@ fn lone(
     sort: Option<&Sort>,
 ) -> Result<Term, ReadRefusal>
     requires { raw.now.right ≡ None }
-    ensures read { IfOk result (λ term. read_term signature.now scope.now (option_copied sort.entry) raw.now ≡ Ok term) }
-    ensures refused { IfErr result (λ refusal. Refuses refusal (read_term signature.now scope.now (option_copied sort.entry) raw.now)) }
+    ensures { Answers told result (read_term signature.now scope.now (option_copied sort.entry) raw.now) }
 {
     if let Some(pos) = unknown_sort(signature, raw) {
         return Err(ReadRefusal::UnknownSort(pos));

@@ -1,7 +1,8 @@
 ghost use Rattle.std.specs.Prelude.{◌≡◌, ℕ, List, Option, Some, IfOk, OnOk, map};
 ghost use Rattle.larch_term.specs.Tree.{Tree};
 ghost use Rattle.larch_sorts.specs.declared.found.Found.{Found};
-ghost use Rattle.larch_sorts.specs.Tables.{reading_at, arguments_at, operators_at, with_operator, with_argument, resumed};
+ghost use Rattle.larch_sorts.specs.Table.{reading_at};
+ghost use Rattle.larch_sorts.specs.Operators.{arguments_at, operators_at, with_operator, with_argument, resumed};
 
 use crate::found::{Found, Table};
 use crate::reading::Reading;

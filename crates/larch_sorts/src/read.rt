@@ -1,10 +1,16 @@
-ghost use Rattle.std.specs.Prelude.{◌≡◌, ◌⊎◌, IfErr, IfOk, None, Ok};
+ghost use Rattle.std.specs.Prelude.{◌≡◌, IfErr, IfOk, IfSome, None};
 ghost use Rattle.larch_term.specs.Statement.{IsStatementOver};
 ghost use Rattle.larch_term.specs.declared.statement.Statement.TheVariants.{Equation};
-ghost use Rattle.larch_sorts.specs.Answers.{read_equation, first_unread, Refuses, IsInScope};
-ghost use Rattle.larch_sorts.specs.Places.{unknown_sort, Stands};
+ghost use Rattle.larch_sorts.specs.Read.{read_equation, first_unread};
+ghost use Rattle.larch_base.specs.Answering.{Answers};
+ghost use Rattle.larch_sorts.specs.Refusals.{told};
+ghost use Rattle.larch_sorts.specs.Scope.{IsInScope};
+ghost use Rattle.larch_sorts.specs.Unknown.{unknown_sort};
+ghost use Rattle.larch_sorts.specs.Stands.{Stands};
 ghost use Rattle.larch_sorts.specs.Readings.{ReadsEquation, IsOnly};
-ghost use Rattle.larch_sorts.specs.Tables.{Tells, ReadsSides, Unread};
+ghost use Rattle.larch_sorts.specs.Found.{Tells};
+ghost use Rattle.larch_sorts.specs.Sides.{ReadsSides};
+ghost use Rattle.larch_sorts.specs.Tabulate.{Unread};
 
 use crate::found::{Found, Sides};
 use crate::reading::term_of;
@@ -26,13 +32,12 @@ pub fn read_in(
     scope: &Scope,
     raw: &RawEquation,
 ) -> Result<Statement, ReadRefusal>
-    ensures read { IfOk result (λ statement. read_equation signature.now scope.now raw.now ≡ Ok statement) }
-    ensures refused { IfErr result (λ refusal. Refuses refusal (read_equation signature.now scope.now raw.now)) }
+    ensures answers { Answers told result (read_equation signature.now scope.now raw.now) }
 
     // The same in terms of readings.
     ensures known { IfOk result (λ _. unknown_sort signature.now raw.now ≡ None) }
     ensures only { IfOk result (IsOnly (ReadsEquation signature.now scope.now raw.now)) }
-    ensures stands { IfErr result (λ refusal. (refusal ≡ ReadRefusal.Memory) ⊎ Stands signature.now scope.now raw.now (ReadsEquation signature.now scope.now raw.now) refusal) }
+    ensures stands { IfErr result (λ refusal. IfSome (told refusal) (Stands signature.now scope.now raw.now (ReadsEquation signature.now scope.now raw.now))) }
 
     // What a statement that is read is made of.
     ensures well_sorted { IfOk result (IsStatementOver signature.now) }
@@ -48,8 +53,7 @@ fn statement(
     scope: &Scope,
     raw: &RawEquation,
 ) -> Result<Statement, ReadRefusal>
-    ensures read { IfOk result (λ statement. read_equation signature.now scope.now raw.now ≡ Ok statement) }
-    ensures refused { IfErr result (λ refusal. Refuses refusal (read_equation signature.now scope.now raw.now)) }
+    ensures { Answers told result (read_equation signature.now scope.now raw.now) }
 {
     if let Some(pos) = unknown_sort(signature, raw) {
         return Err(ReadRefusal::UnknownSort(pos));

@@ -16,7 +16,7 @@ pub enum ReadRefusal {
     /// There are several readings.
     #[error("several readings")]
     Ambiguous(Pos),
-    /// Want of memory.
+    /// Out of memory.
     #[error("out of memory")]
     Memory,
 }

@@ -1,7 +1,7 @@
 ghost use Rattle.std.specs.Prelude.{◌≡◌, ◌++◌, ◌∷◌, [], true, false, None, is_some, not, IfOk, OnErr};
 ghost use Rattle.std.specs.Option.{option_copied};
-ghost use Rattle.larch_sorts.specs.Readings.{sort_in};
-ghost use Rattle.larch_sorts.specs.Scopes.{with_variable};
+ghost use Rattle.larch_sorts.specs.Scope.{sort_in};
+ghost use Rattle.larch_sorts.specs.Scope.{with_variable};
 
 use indexmap::IndexMap;
 use larch_base::{Memory, Name};
@@ -17,7 +17,7 @@ pub struct Scope {
 }
 
 impl Model for Scope {
-    ghost use Rattle.larch_sorts.specs.Readings.{Variables};
+    ghost use Rattle.larch_sorts.specs.Scope.{Variables};
 
     ghost Value = { Variables };
 

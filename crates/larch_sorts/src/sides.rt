@@ -2,7 +2,8 @@ ghost use Rattle.std.specs.Prelude.{◌≡◌, Some, None, IfOk};
 ghost use Rattle.larch_term.specs.BuiltIn.{bool_sort};
 ghost use Rattle.larch_term.specs.Truth.{truth};
 ghost use Rattle.larch_term.specs.Equality.{same_tree};
-ghost use Rattle.larch_sorts.specs.Tables.{reading_at, joined_by, with_found, found_anywhere, paired, same_sides, sides_found, formula_found};
+ghost use Rattle.larch_sorts.specs.Table.{reading_at, merged_by};
+ghost use Rattle.larch_sorts.specs.Sides.{with_found, found_anywhere, paired, same_sides, sides_found, formula_found};
 ghost use Rattle.larch_sorts.specs.declared.found.Found.TheVariants.{One};
 
 use crate::found::{Found, Sides, Table};
@@ -64,7 +65,7 @@ fn with_sides(before: Option<Found<Sides>>, now: Option<Found<Sides>>) -> Option
 }
 
 fn join_sides(before: Option<Found<Sides>>, now: Found<Sides>) -> Found<Sides>
-    ensures { result ≡ joined_by same_sides before now }
+    ensures { result ≡ merged_by same_sides before now }
 {
     match before {
         None => now,
@@ -74,7 +75,7 @@ fn join_sides(before: Option<Found<Sides>>, now: Found<Sides>) -> Found<Sides>
 }
 
 fn join_one(sides: Sides, now: Found<Sides>) -> Found<Sides>
-    ensures { result ≡ joined_by same_sides (Some (One sides)) now }
+    ensures { result ≡ merged_by same_sides (Some (One sides)) now }
 {
     match now {
         Found::Several => Found::Several,

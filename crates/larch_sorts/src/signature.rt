@@ -1,8 +1,8 @@
 ghost use Rattle.std.specs.Prelude.{◌≡◌, ℕ, List, ◌++◌, ◌∷◌, [], IfOk, OnOk};
-ghost use Rattle.larch_sorts.specs.Index.{kept_under};
+ghost use Rattle.larch_sorts.specs.Signature.{kept_under};
 ghost use Rattle.larch_operators.specs.Sorts.{exists_sort};
-ghost use Rattle.larch_sorts.specs.Operators.{taking_part};
-ghost use Rattle.larch_sorts.specs.Tables.{named};
+ghost use Rattle.larch_sorts.specs.Signature.{taking_part};
+ghost use Rattle.larch_sorts.specs.Signature.{named};
 
 use indexmap::IndexMap;
 use larch_base::{Memory, Name, Sequence};
@@ -22,9 +22,9 @@ pub struct Signature {
 impl Model for Signature {
     ghost use Rattle.std.specs.Prelude.{List, ◌≡◌};
     ghost use Rattle.larch_term.specs.Operator.{PlainOperator};
-    ghost use Rattle.larch_sorts.specs.Index.{IsIndex};
+    ghost use Rattle.larch_sorts.specs.Signature.{IsIndex};
     ghost use Rattle.larch_operators.specs.Sorts.{existing_sorts};
-    ghost use Rattle.larch_sorts.specs.Operators.{taking_part};
+    ghost use Rattle.larch_sorts.specs.Signature.{taking_part};
 
     ghost Value = { List PlainOperator };
 
@@ -34,20 +34,34 @@ impl Model for Signature {
 }
 
 impl Signature {
-    /// The signature of these operators. Any list does, also one with an operator twice.
-    pub fn from_operators(alloc: Global, operators: &[Operator]) -> Result<Signature, Memory>
-        ensures { IfOk result (λ signature. signature ≡ operators.now) }
+    /// The signature of these operators, which it keeps. Any list does, also one with an operator twice.
+    pub fn from_operators(alloc: Global, operators: Operators) -> Result<Signature, Memory>
+        ensures { IfOk result (λ signature. signature ≡ operators) }
     {
-        let sorts = existing_sorts(alloc, operators)?;
-        let mut all = copy_operators(alloc, operators)?;
+        let sorts = existing_sorts(alloc, operators.as_slice())?;
+        let mut all = copy_operators(alloc, operators.as_slice())?;
         push_built_ins(alloc, &mut all, sorts.as_slice())?;
         let index = index_of(alloc, all.as_slice())?;
-        let operators = copy_operators(alloc, operators)?;
         Ok(Signature {
             operators,
             sorts,
             index,
         })
+    }
+
+    /// Its operators, without the built-in ones. It takes no memory.
+    pub fn operators(&self) -> &[Operator]
+        ensures { result.now ≡ self.now }
+    {
+        self.operators.as_slice()
+    }
+
+    /// Its operators, when it is no longer needed. It takes no memory.
+    pub fn into_operators(self) -> Operators
+        ensures { result ≡ self }
+    {
+        let Signature { operators, .. } = self;
+        operators
     }
 
     /// Whether a sort exists: Bool, or one in the domain or range of an operator. It takes no memory.

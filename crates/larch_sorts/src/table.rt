@@ -2,7 +2,7 @@ ghost use Rattle.std.specs.Prelude.{◌≡◌, ℕ, List, IfOk, OnOk, cond, byte
 ghost use Rattle.std.specs.Option.{option_copied};
 ghost use Rattle.larch_term.specs.Equality.{same_tree};
 ghost use Rattle.larch_sorts.specs.declared.found.Found.TheVariants.{One};
-ghost use Rattle.larch_sorts.specs.Tables.{reading_at, joined, applied};
+ghost use Rattle.larch_sorts.specs.Table.{reading_at, merged, application};
 
 use crate::found::{Found, Table};
 use crate::reading::{Reading, same_reading};
@@ -24,12 +24,12 @@ pub(crate) fn add(
     operator: &Operator,
     arguments: Found<Sequence<Reading>>,
 ) -> Result<(), Memory>
-    ensures { OnOk result ((s : List ℕ) → reading_at table.new.found.value.entries s ≡ cond (bytes_eq operator.now.range s) (Some (joined (reading_at table.old.found.value.entries s) (applied operator.now arguments))) (reading_at table.old.found.value.entries s)) }
+    ensures { OnOk result ((s : List ℕ) → reading_at table.new.found.value.entries s ≡ cond (bytes_eq operator.now.range s) (Some (merged (reading_at table.old.found.value.entries s) (application operator.now arguments))) (reading_at table.old.found.value.entries s)) }
 {
     let added = apply(alloc, operator, arguments)?;
-    let joined = join(at(table, operator.range()), added);
+    let merged = join(at(table, operator.range()), added);
     let sort = operator.range().copy()?;
-    table.found.insert(sort, joined)?;
+    table.found.insert(sort, merged)?;
     Ok(())
 }
 
@@ -39,7 +39,7 @@ fn apply(
     operator: &Operator,
     arguments: Found<Sequence<Reading>>,
 ) -> Result<Found<Reading>, Memory>
-    ensures { IfOk result (λ found. found ≡ applied operator.now arguments) }
+    ensures { IfOk result (λ found. found ≡ application operator.now arguments) }
 {
     match arguments {
         Found::One(arguments) => {
@@ -53,7 +53,7 @@ fn apply(
 
 // What was found before together with what was found now.
 pub(crate) fn join(before: Option<&Found<Reading>>, now: Found<Reading>) -> Found<Reading>
-    ensures { result ≡ joined (option_copied before.entry) now }
+    ensures { result ≡ merged (option_copied before.entry) now }
 {
     match before {
         None => now,
@@ -64,7 +64,7 @@ pub(crate) fn join(before: Option<&Found<Reading>>, now: Found<Reading>) -> Foun
 
 // One reading together with what was found now.
 fn join_one(reading: &Reading, now: Found<Reading>) -> Found<Reading>
-    ensures { result ≡ joined (Some (One reading.now)) now }
+    ensures { result ≡ merged (Some (One reading.now)) now }
 {
     match now {
         Found::Several => Found::Several,
@@ -79,7 +79,6 @@ fn join_one(reading: &Reading, now: Found<Reading>) -> Found<Reading>
 }
 
 // Whether two readings are equal, as the definitions test it.
-
 pub(crate) fn is_same(left: &Reading, right: &Reading) -> bool
     ensures { result ≡ same_tree left.now right.now }
 {

@@ -2,12 +2,14 @@ ghost use Rattle.std.specs.Prelude.{◌≡◌, ℕ, List, IfOk, IfErr, Some, Non
 ghost use Rattle.std.specs.Option.{option_copied};
 ghost use Rattle.larch_base.specs.declared.position.Pos.{Pos};
 ghost use Rattle.larch_raw.specs.RawTree.{raw_forest};
-ghost use Rattle.larch_sorts.specs.Answers.{unread_in};
-ghost use Rattle.larch_sorts.specs.Places.{equation_head, head_of, parts, parts_of};
+ghost use Rattle.larch_sorts.specs.Read.{unread_in};
+ghost use Rattle.larch_sorts.specs.Parts.{equation_head, head_of, parts, parts_of};
 ghost use Rattle.larch_sorts.specs.Readings.{Reads, variable_sort};
 ghost use Rattle.larch_sorts.specs.declared.found.Found.TheVariants.{One};
 ghost use Rattle.larch_term.specs.Tree.{var};
-ghost use Rattle.larch_sorts.specs.Tables.{AllTell, TableTells, Unread, inner_parts, reading_at};
+ghost use Rattle.larch_sorts.specs.Tabulate.{AllTell, TableTells, Unread};
+ghost use Rattle.larch_sorts.specs.Parts.{inner_parts};
+ghost use Rattle.larch_sorts.specs.Table.{reading_at};
 
 use crate::found::{Found, Table};
 use crate::operators::by_operators;

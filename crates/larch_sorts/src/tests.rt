@@ -47,7 +47,7 @@ fn signature(alloc: Global) -> Result<Signature, Memory> {
         let operator = operator(alloc, text, count, range)?;
         operators.push(operator)?;
     }
-    Signature::from_operators(alloc, operators.as_slice())
+    Signature::from_operators(alloc, operators)
 }
 
 fn constant(alloc: Global, text: &str, column: u32) -> Result<RawTerm, Memory> {

@@ -1,6 +1,6 @@
 ghost use Rattle.std.specs.Prelude.{◌≡◌};
 ghost use Rattle.larch_raw.specs.RawTree.{raw_forest};
-ghost use Rattle.larch_sorts.specs.Places.{unknown_among, unknown_sort, sort_words, sort_words_of};
+ghost use Rattle.larch_sorts.specs.Unknown.{unknown_among, unknown_sort, sort_words, sort_words_of};
 
 use crate::signature::Signature;
 use larch_base::Pos;

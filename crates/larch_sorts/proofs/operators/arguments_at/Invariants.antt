@@ -1,5 +1,5 @@
 use Rattle.std.proofs.Common.{◌≡◌, drop, map}
-use Rattle.larch_sorts.specs.Tables.{arguments_at, resumed}
+use Rattle.larch_sorts.specs.Operators.{arguments_at, resumed}
 use Rattle.larch_sorts.proofs.operators.arguments_at.Given as goal
 
 -- the arguments so far together with those that are left are all

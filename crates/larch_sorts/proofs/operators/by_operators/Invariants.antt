@@ -1,6 +1,7 @@
 use Rattle.std.proofs.Common.{◌≡◌, ℕ, List, drop, map}
 use Rattle.std.specs.List.{fold}
-use Rattle.larch_sorts.specs.Tables.{reading_at, operators_at, with_operator}
+use Rattle.larch_sorts.specs.Table.{reading_at}
+use Rattle.larch_sorts.specs.Operators.{operators_at, with_operator}
 use Rattle.larch_sorts.proofs.operators.by_operators.Given as goal
 
 -- what the operators that are left add to what is there is what all make

@@ -1,6 +1,7 @@
 use Rattle.std.proofs.Common.{◌≡◌}
 use Rattle.std.specs.List.{fold}
-use Rattle.larch_sorts.specs.Tables.{reading_at, with_found, paired, same_sides, sides_found}
+use Rattle.larch_sorts.specs.Table.{reading_at}
+use Rattle.larch_sorts.specs.Sides.{with_found, paired, same_sides, sides_found}
 use Rattle.larch_sorts.proofs.sides.sides.Given as goal
 
 -- what was found so far, with the sorts that are left, is all

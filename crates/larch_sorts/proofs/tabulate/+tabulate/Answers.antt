@@ -3,10 +3,14 @@ use Rattle.std.specs.Option.{option_copied}
 use Rattle.std.proofs.lemmas.Result.{err_from_is_err_and}
 use Rattle.larch_raw.specs.RawTree.{apply, raw_forest, qualified}
 use Rattle.larch_raw.specs.RawView.{view_node}
-use Rattle.larch_sorts.specs.Answers.{unread_in}
-use Rattle.larch_sorts.specs.Places.{parts_of}
+use Rattle.larch_sorts.specs.Read.{unread_in}
+use Rattle.larch_sorts.specs.Parts.{parts_of}
 use Rattle.larch_sorts.specs.Readings.{Reads}
-use Rattle.larch_sorts.specs.Tables.{TableTells, inner_parts, operators_at}
+use Rattle.larch_sorts.specs.Tabulate.{TableTells}
+use Rattle.larch_sorts.specs.Parts.{inner_parts}
+use Rattle.larch_sorts.specs.Operators.{operators_at}
+use Rattle.larch_base.specs.declared.code.Code.TheVariants.{NoReading}
+use Rattle.larch_sorts.specs.Faults.{fault, fault_at}
 use Rattle.larch_sorts.proofs.Tables.{application_tells, variable_tells, narrowed_tells}
 use Rattle.larch_sorts.proofs.Unread.{variable_read, unread_here, read_here, argument_read, arguments_unread, all_tell_next, nothing_unread}
 use Rattle.larch_sorts.proofs.tabulate.+tabulate.Goals as goal
@@ -41,8 +45,8 @@ table_from_parts-returns-in_ok-narrow-in-Qualified-clause-tells t c =
 
 pub table_of-returns-then-is_empty-clause-unread : goal.table_of-returns-then-is_empty-clause-unread
 table_of-returns-then-is_empty-clause-unread t c =
-    unread_here c.args.signature.now c.args.scope.now c.args.raw.now c.in_ok-table.table.found.value.entries (ap (λ m. length m.entries) (sym c.deref.ensures) ∙ c.is_empty.ensures.0 c.if-is_empty.true) c.in_ok-table.ensures.read c.in_ok-table.ensures.tells
-    ∙ ap Some (sym c.head_of.ensures)
+    ap (fault_at NoReading) (unread_here c.args.signature.now c.args.scope.now c.args.raw.now c.in_ok-table.table.found.value.entries (ap (λ m. length m.entries) (sym c.deref.ensures) ∙ c.is_empty.ensures.0 c.if-is_empty.true) c.in_ok-table.ensures.read c.in_ok-table.ensures.tells)
+    ∙ ap (λ pos. Some (fault NoReading pos)) (sym c.head_of.ensures)
 
 pub table_of-returns-clause-read : goal.table_of-returns-clause-read
 table_of-returns-clause-read t c =

@@ -1,8 +1,8 @@
 use Rattle.std.proofs.Common.{◌≡◌, ◌+◌, ◌*◌, take, drop, map, sum_by}
 use Rattle.larch_raw.specs.RawTree.{raw_nodes, raw_forest}
-use Rattle.larch_sorts.specs.Answers.{unread_in}
-use Rattle.larch_sorts.specs.Places.{parts_of}
-use Rattle.larch_sorts.specs.Tables.{AllTell}
+use Rattle.larch_sorts.specs.Read.{unread_in}
+use Rattle.larch_sorts.specs.Parts.{parts_of}
+use Rattle.larch_sorts.specs.Tabulate.{AllTell}
 use Rattle.larch_sorts.proofs.tabulate.+tabulate.Given as goal
 
 -- the nodes that are left

@@ -1,0 +1,54 @@
+-- What was found of the sides of an equation.
+use Rattle.std.specs.Prelude.{Bool, List, None, Option, Some, fold, map, ℕ, ◌&&◌}
+use Rattle.larch_raw.specs.declared.equation.RawEquation.{RawEquation}
+use Rattle.larch_term.specs.Operator.{PlainOperator}
+use Rattle.larch_term.specs.Tree.{Tree}
+use Rattle.larch_term.specs.declared.statement.Statement.TheVariants.{Equation}
+use Rattle.larch_term.specs.Equality.{same_tree}
+use Rattle.larch_sorts.specs.Parts.{sides}
+use Rattle.larch_sorts.specs.Readings.{ReadsEquation}
+use Rattle.larch_term.specs.Truth.{truth}
+use Rattle.larch_sorts.specs.Scope.{Variables}
+use Rattle.larch_sorts.specs.Table.{Entries, merged_by, reading_at}
+use Rattle.larch_sorts.specs.declared.found.Found.{Found}
+use Rattle.larch_sorts.specs.declared.found.Found.TheVariants.{One, Several}
+use Rattle.larch_sorts.specs.declared.found.Sides.{Sides}
+
+-- what was found before together with what was found now, if anything
+abbrev pub with_found : {A : Type 0} → (A → A → Bool) → Option (Found A) → Option (Found A) → Option (Found A)
+with_found same before None = before
+with_found same before (Some now) = Some (merged_by same before now)
+
+-- the sorts that have an entry
+abbrev pub sorts_in : Entries → List (List ℕ)
+sorts_in es = map (λ e. e.0) es
+
+-- what was found of all sorts
+abbrev pub found_anywhere : Entries → Option (Found Tree)
+found_anywhere es = fold (λ before s. with_found same_tree before (reading_at es s)) None (sorts_in es)
+
+-- whether both sides of two equations are equal
+abbrev pub same_sides : Sides → Sides → Bool
+same_sides a b = same_tree a.left b.left && same_tree a.right b.right
+
+-- a left side together with a right side
+abbrev pub paired : Option (Found Tree) → Option (Found Tree) → Option (Found Sides)
+paired None right = None
+paired (Some left) None = None
+paired (Some Several) (Some right) = Some Several
+paired (Some (One l)) (Some Several) = Some Several
+paired (Some (One l)) (Some (One r)) = Some (One (record { left = l; right = r }))
+
+-- the sides of one sort
+abbrev pub sides_found : Entries → Entries → Option (Found Sides)
+sides_found left right = fold (λ before s. with_found same_sides before (paired (reading_at left s) (reading_at right s))) None (sorts_in left)
+
+-- a formula, beside which true stands
+abbrev pub formula_found : Option (Found Tree) → Option (Found Sides)
+formula_found None = None
+formula_found (Some Several) = Some Several
+formula_found (Some (One l)) = Some (One (record { left = l; right = truth }))
+
+-- an equation reads as these sides
+abbrev pub ReadsSides : List PlainOperator → Variables → RawEquation → Sides → Type 0
+ReadsSides fs vs raw sides = ReadsEquation fs vs raw (Equation sides.left sides.right)
