@@ -1,5 +1,7 @@
-pub mod Clauses
 pub mod Declarations
 pub mod Items
 pub mod Presentation
+pub mod References
 pub mod Refusals
+pub mod Steps
+pub mod Variables

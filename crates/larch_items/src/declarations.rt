@@ -1,59 +1,45 @@
-ghost use Rattle.std.specs.Prelude.{◌≡◌, ◌++◌, None, not, map, IfErr, IfOk, OnOk};
-ghost use Rattle.larch_items.specs.Declarations.{declaration_fault, declarations_fault, declares_truth, first_place, fits, operator_of, operators_of};
-ghost use Rattle.larch_items.specs.Refusals.{Tells};
+ghost use Rattle.std.specs.Prelude.{◌≡◌, not, map, IfOk};
+ghost use Rattle.larch_base.specs.Answering.{Answers};
+ghost use Rattle.larch_items.specs.Declarations.{declared, declared_by, fits, operator_of, own_operator};
+ghost use Rattle.larch_items.specs.Refusals.{told};
+ghost use Rattle.larch_items.specs.Steps.{each, first_position};
 
+use crate::append::append;
 use crate::refusal::TraitRefusal;
 use larch_base::{Code, Memory, Pos, Sequence};
 use larch_raw::{RawDecl, RawForm, RawSig, RawWord};
-use larch_term::{Operator, Operators, Sorts};
+use larch_term::{Operator, Operators, Sorts, is_built_in};
 use std::alloc::Global;
 
-// The operators of declarations, in order, or what is wrong with these first.
-pub(crate) fn declare(alloc: Global, decls: &[RawDecl]) -> Result<Operators, TraitRefusal>
-    ensures right { IfOk result (λ _. declarations_fault decls.now ≡ None) }
-    ensures operators { IfOk result (λ operators. operators ≡ operators_of decls.now) }
-    ensures wrong { IfErr result (λ refusal. Tells refusal (declarations_fault decls.now)) }
+/// The operators of declarations, in order. `Wrong` has ARITY at a form whose markers don't fit the domain, or else
+/// BUILT-IN at a form that makes a built-in operator; the first declaration with either decides.
+pub fn declare(alloc: Global, decls: &[RawDecl]) -> Result<Operators, TraitRefusal>
+    ensures { Answers told result (declared decls.now) }
 {
     let mut operators = Sequence::new(alloc);
     for decl in decls {
-        check(decl)?;
-        push_operators(alloc, &mut operators, decl)?;
+        let more = declare_forms(alloc, decl)?;
+        operators = append(operators, more)?;
     }
     Ok(operators)
 }
 
-// Whether nothing is wrong with a declaration.
-fn check(decl: &RawDecl) -> Result<(), TraitRefusal>
-    ensures right { IfOk result (λ _. declaration_fault decl.now ≡ None) }
-    ensures wrong { IfErr result (λ refusal. Tells refusal (declaration_fault decl.now)) }
+// The operators of a declaration.
+fn declare_forms(alloc: Global, decl: &RawDecl) -> Result<Operators, TraitRefusal>
+    ensures { Answers told result (declared_by decl.now) }
 {
     if let Some(pos) = unfit_form(&decl.sig, decl.forms.as_slice()) {
         return Err(TraitRefusal::Wrong(pos, Code::Arity));
     }
-    if let Some(pos) = truth_form(&decl.sig, decl.forms.as_slice()) {
-        return Err(TraitRefusal::Wrong(pos, Code::BuiltIn));
-    }
-    Ok(())
+    own_operators(alloc, &decl.sig, decl.forms.as_slice())
 }
 
 // Where the first form stands whose markers don't fit the domain.
 fn unfit_form(sig: &RawSig, forms: &[RawForm]) -> Option<Pos>
-    ensures { result ≡ first_place (λ f. not (fits sig.now f)) (λ f. f.pos) forms.now }
+    ensures { result ≡ first_position (λ form. not (fits sig.now form)) (λ form. form.pos) forms.now }
 {
     for form in forms {
         if !fits(sig, form) {
-            return Some(form.pos);
-        }
-    }
-    None
-}
-
-// Where the first form stands that would declare a built-in constant.
-fn truth_form(sig: &RawSig, forms: &[RawForm]) -> Option<Pos>
-    ensures { result ≡ first_place (declares_truth sig.now) (λ f. f.pos) forms.now }
-{
-    for form in forms {
-        if declares_truth(sig, form) {
             return Some(form.pos);
         }
     }
@@ -67,25 +53,27 @@ fn fits(sig: &RawSig, form: &RawForm) -> bool
     form.word || form.markers as usize == sig.domain.as_slice().len()
 }
 
-// Whether a form would declare one of the constants true and false of sort Bool.
-fn declares_truth(sig: &RawSig, form: &RawForm) -> bool
-    ensures { result ≡ declares_truth sig.now form.now }
+// The operators of forms with a signature, unless one is a built-in one.
+fn own_operators(alloc: Global, sig: &RawSig, forms: &[RawForm]) -> Result<Operators, TraitRefusal>
+    ensures { Answers told result (each (own_operator sig.now) forms.now) }
 {
-    let name = form.name.bytes();
-    (name == b"true".as_slice() || name == b"false".as_slice())
-        && sig.domain.as_slice().is_empty()
-        && sig.range.name.bytes() == b"Bool".as_slice()
-}
-
-// Puts the operators of a declaration at the end.
-fn push_operators(alloc: Global, operators: &mut Operators, decl: &RawDecl) -> Result<(), Memory>
-    ensures { OnOk result (operators.new ≡ operators.old ++ map (operator_of decl.now.sig) decl.now.forms) }
-{
-    for form in decl.forms.as_slice() {
-        let operator = operator_of(alloc, &decl.sig, form)?;
+    let mut operators = Sequence::new(alloc);
+    for form in forms {
+        let operator = own_operator(alloc, sig, form)?;
         operators.push(operator)?;
     }
-    Ok(())
+    Ok(operators)
+}
+
+// The operator of a form with a signature, unless it is a built-in one.
+fn own_operator(alloc: Global, sig: &RawSig, form: &RawForm) -> Result<Operator, TraitRefusal>
+    ensures { Answers told result (own_operator sig.now form.now) }
+{
+    let operator = operator_of(alloc, sig, form)?;
+    if is_built_in(&operator) {
+        return Err(TraitRefusal::Wrong(form.pos, Code::BuiltIn));
+    }
+    Ok(operator)
 }
 
 // The operator of a form with a signature.

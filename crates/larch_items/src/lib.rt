@@ -1,14 +1,21 @@
-//! What a trait declares and asserts: its operators and statements, or what is wrong with it first.
+//! What traits declare and state: operators, variables in scope and statements, or what is wrong with these first.
 #![tactic(auto)]
 
+mod append;
 mod declarations;
 mod items;
+pub mod laws;
 mod presentation;
 mod references;
 mod refusal;
+mod variables;
 
-pub use presentation::{Presentation, present};
+pub use declarations::declare;
+pub use items::{state_item, state_items};
+pub use presentation::present;
+pub use references::find_operator;
 pub use refusal::TraitRefusal;
+pub use variables::declare_variables;
 
 #[cfg(test)]
 mod tests;

@@ -1,74 +1,95 @@
-ghost use Rattle.std.specs.Prelude.{◌≡◌, ◌&&◌, ◌||◌, not, Ok, IfErr, IfOk, find, option_map};
-ghost use Rattle.std.specs.List.{list_all};
+ghost use Rattle.std.specs.Prelude.{◌≡◌, IfOk, find};
 ghost use Rattle.std.specs.Option.{option_copied};
+ghost use Rattle.larch_base.specs.Answering.{Answers};
 ghost use Rattle.larch_term.specs.Equality.{same_operator};
-ghost use Rattle.larch_items.specs.Clauses.{clause_code, suits};
-ghost use Rattle.larch_items.specs.Declarations.{operator_of};
-ghost use Rattle.larch_items.specs.Items.{names, only_operator, operators_named, takes};
-ghost use Rattle.larch_items.specs.Refusals.{MissesOne, PutsOne, Refuses};
+ghost use Rattle.larch_items.specs.References.{all_same, clause_code, is_meant, is_wanted, only_operator, operator_named, operators_named, suits, takes, wanted_of};
+ghost use Rattle.larch_items.specs.Refusals.{told};
 
 use crate::declarations::operator_of;
 use crate::refusal::TraitRefusal;
-use larch_base::{Code, Memory, Sequence};
+use larch_base::{Code, Memory, Name, Sequence};
 use larch_raw::{ClauseKind, RawOpRef};
+use larch_sorts::Signature;
 use larch_term::{Operator, Operators, Sort, same_operator};
 use std::alloc::Global;
 
-// The operators that the references of a clause name.
-pub(crate) fn resolve(
+/// What a reference of a clause is looked for as: the clause's kind and sort, the reference's name, and the one
+/// operator that it means where it has a signature.
+#[derive(Drop)]
+pub(crate) struct Wanted {
+    kind: ClauseKind,
+    sort: Sort,
+    name: Name,
+    exact: Option<Operator>,
+}
+
+// The operators that the references of a clause name, in order.
+pub(crate) fn find_operators(
     alloc: Global,
-    operators: &[Operator],
+    signature: &Signature,
     kind: ClauseKind,
     sort: &Sort,
     refs: &[RawOpRef],
 ) -> Result<Operators, TraitRefusal>
-    ensures ok { IfOk result (λ named. operators_named operators.now (suits kind sort.now) (clause_code kind) refs.now ≡ Ok named) }
-    ensures err { IfErr result (λ refusal. Refuses refusal (operators_named operators.now (suits kind sort.now) (clause_code kind) refs.now)) }
+    ensures { Answers told result (operators_named signature.now kind sort.now refs.now) }
 {
     let mut named = Sequence::new(alloc);
     for reference in refs {
-        push_named(alloc, operators, kind, sort, reference, &mut named)?;
+        let operator = find_operator(alloc, signature, kind, sort, reference)?;
+        named.push(operator)?;
     }
     Ok(named)
 }
 
-// Puts the operator that a reference names at the end.
-fn push_named(
+/// The one operator that a reference names among those that suit a clause of this sort: a generator has the sort as
+/// its range, an observer has it in its domain. `Wrong` has GENERATOR or PARTITION at the reference where none does,
+/// or several different ones do.
+pub fn find_operator(
     alloc: Global,
-    operators: &[Operator],
+    signature: &Signature,
     kind: ClauseKind,
     sort: &Sort,
     reference: &RawOpRef,
-    named: &mut Operators,
-) -> Result<(), TraitRefusal>
-    ensures ok { IfOk result (λ _. PutsOne (only_operator (λ f. names reference.now f && suits kind sort.now f) operators.now) named.old named.new) }
-    ensures err { IfErr result (λ refusal. MissesOne refusal (only_operator (λ f. names reference.now f && suits kind sort.now f) operators.now) reference.now.form.pos (clause_code kind)) }
+) -> Result<Operator, TraitRefusal>
+    ensures { Answers told result (operator_named signature.now kind sort.now reference.now) }
 {
-    let wanted = wanted(alloc, reference)?;
-    match only_named(operators, kind, sort, reference, &wanted) {
+    let wanted = wanted_of(alloc, kind, sort, reference)?;
+    match only_operator(signature.operators(), &wanted) {
         Some(operator) => {
             let operator = operator.copy()?;
-            named.push(operator)?;
-            Ok(())
+            Ok(operator)
         }
         None => Err(TraitRefusal::Wrong(reference.form.pos, code_of(kind))),
     }
 }
 
-// The operator that a reference with a signature means.
-fn wanted(alloc: Global, reference: &RawOpRef) -> Result<Option<Operator>, Memory>
-    ensures { IfOk result (λ wanted. wanted ≡ option_map (λ sig. operator_of sig reference.now.form) reference.now.sig) }
+// What a reference of a clause is looked for as.
+fn wanted_of(
+    alloc: Global,
+    kind: ClauseKind,
+    sort: &Sort,
+    reference: &RawOpRef,
+) -> Result<Wanted, Memory>
+    ensures { IfOk result (λ wanted. wanted ≡ wanted_of kind sort.now reference.now) }
 {
-    match &reference.sig {
-        None => Ok(None),
+    let sort = sort.copy()?;
+    let name = reference.form.name.copy()?;
+    let exact = match &reference.sig {
+        None => None,
         Some(sig) => {
             let operator = operator_of(alloc, sig, &reference.form)?;
-            Ok(Some(operator))
+            Some(operator)
         }
-    }
+    };
+    Ok(Wanted {
+        kind,
+        sort,
+        name,
+        exact,
+    })
 }
 
-// The code of a clause of which a reference names no such operator.
+// The code of a clause of which a reference names no one operator that suits.
 fn code_of(kind: ClauseKind) -> Code
     ensures { result ≡ clause_code kind }
 {
@@ -78,77 +99,57 @@ fn code_of(kind: ClauseKind) -> Code
     }
 }
 
-// The one operator that a reference of a clause names among those that suit, if there is one. What the reference
-// wants is given where it has a signature.
-fn only_named<'a>(
-    operators: &'a [Operator],
-    kind: ClauseKind,
-    sort: &Sort,
-    reference: &RawOpRef,
-    wanted: &Option<Operator>,
-) -> Option<&'a Operator>
-    requires { wanted.now ≡ option_map (λ sig. operator_of sig reference.now.form) reference.now.sig }
-    ensures { option_copied result ≡ only_operator (λ f. names reference.now f && suits kind sort.now f) operators.now }
+// The first operator that is wanted, if all that are wanted are equal to it.
+fn only_operator<'a>(operators: &'a [Operator], wanted: &Wanted) -> Option<&'a Operator>
+    ensures { option_copied result ≡ only_operator (is_wanted wanted.now) operators.now }
 {
-    let first = first_named(operators, kind, sort, reference, wanted)?;
-    if all_equal(first, operators, kind, sort, reference, wanted) {
+    let first = first_wanted(operators, wanted)?;
+    if all_same(first, operators, wanted) {
         Some(first)
     } else {
         None
     }
 }
 
-// The first operator that a reference names and that suits.
-fn first_named<'a>(
-    operators: &'a [Operator],
-    kind: ClauseKind,
-    sort: &Sort,
-    reference: &RawOpRef,
-    wanted: &Option<Operator>,
-) -> Option<&'a Operator>
-    requires { wanted.now ≡ option_map (λ sig. operator_of sig reference.now.form) reference.now.sig }
-    ensures { option_copied result ≡ find (λ f. names reference.now f && suits kind sort.now f) operators.now }
+// The first operator that is wanted.
+fn first_wanted<'a>(operators: &'a [Operator], wanted: &Wanted) -> Option<&'a Operator>
+    ensures { option_copied result ≡ find (is_wanted wanted.now) operators.now }
 {
     for operator in operators {
-        if is_named(kind, sort, reference, wanted, operator) {
+        if is_wanted(wanted, operator) {
             return Some(operator);
         }
     }
     None
 }
 
-// Whether all operators that a reference names and that suit are equal to one.
-fn all_equal(
-    first: &Operator,
-    operators: &[Operator],
-    kind: ClauseKind,
-    sort: &Sort,
-    reference: &RawOpRef,
-    wanted: &Option<Operator>,
-) -> bool
-    requires { wanted.now ≡ option_map (λ sig. operator_of sig reference.now.form) reference.now.sig }
-    ensures { result ≡ list_all (λ g. not (names reference.now g && suits kind sort.now g) || same_operator first.now g) operators.now }
+// Whether all operators that are wanted are equal to one.
+fn all_same(first: &Operator, operators: &[Operator], wanted: &Wanted) -> bool
+    ensures { result ≡ all_same (is_wanted wanted.now) first.now operators.now }
 {
     for operator in operators {
-        if is_named(kind, sort, reference, wanted, operator) && !is_same(first, operator) {
+        if is_wanted(wanted, operator) && !is_same(first, operator) {
             return false;
         }
     }
     true
 }
 
-// Whether a reference names an operator that suits.
-fn is_named(
-    kind: ClauseKind,
-    sort: &Sort,
-    reference: &RawOpRef,
-    wanted: &Option<Operator>,
-    operator: &Operator,
-) -> bool
-    requires { wanted.now ≡ option_map (λ sig. operator_of sig reference.now.form) reference.now.sig }
-    ensures { result ≡ (names reference.now operator.now && suits kind sort.now operator.now) }
+// Whether an operator is wanted.
+fn is_wanted(wanted: &Wanted, operator: &Operator) -> bool
+    ensures { result ≡ is_wanted wanted.now operator.now }
 {
-    names(reference, wanted, operator) && suits(kind, sort, operator)
+    is_meant(wanted, operator) && suits(wanted.kind, &wanted.sort, operator)
+}
+
+// Whether a reference means an operator.
+fn is_meant(wanted: &Wanted, operator: &Operator) -> bool
+    ensures { result ≡ is_meant wanted.now.exact wanted.now.name operator.now }
+{
+    match &wanted.exact {
+        Some(exact) => is_same(operator, exact),
+        None => *operator.name() == wanted.name,
+    }
 }
 
 // Whether an operator suits a clause of this sort.
@@ -166,17 +167,6 @@ fn takes(sort: &Sort, operator: &Operator) -> bool
     ensures { result ≡ takes sort.now operator.now }
 {
     operator.domain().iter().any(|taken| *sort == *taken)
-}
-
-// Whether a reference names an operator.
-fn names(reference: &RawOpRef, wanted: &Option<Operator>, operator: &Operator) -> bool
-    requires { wanted.now ≡ option_map (λ sig. operator_of sig reference.now.form) reference.now.sig }
-    ensures { result ≡ names reference.now operator.now }
-{
-    match wanted {
-        Some(wanted) => is_same(operator, wanted),
-        None => *operator.name() == reference.form.name,
-    }
 }
 
 // Whether two operators are equal, as the definitions test it.

@@ -10,7 +10,7 @@ pub enum TraitRefusal {
     /// Something is wrong.
     #[error("wrong")]
     Wrong(Pos, Code),
-    /// Want of memory.
+    /// Out of memory.
     #[error("out of memory")]
     Memory,
 }

@@ -11,9 +11,9 @@ use Rattle.larch_syntax.specs.Reading.{trait_of}
 use Rattle.larch_raw.specs.declared.equation.RawTrait.{RawTrait}
 use Rattle.larch_syntax.specs.declared.refusal.SyntaxRefusal.{SyntaxRefusal}
 use Rattle.larch_syntax.specs.declared.refusal.SyntaxRefusal.TheVariants as syntax_
-use Rattle.larch_items.specs.Declarations.{Fault}
+use Rattle.larch_base.specs.declared.fault.Fault.{Fault}
 use Rattle.larch_items.specs.Presentation.{presentation_of}
-use Rattle.larch_items.specs.declared.presentation.Presentation.{Presentation}
+use Rattle.larch_term.specs.declared.statement.Theory.{Theory}
 use Rattle.larch_main.specs.declared.check.Verdict.{Verdict}
 use Rattle.larch_main.specs.declared.check.Verdict.TheVariants.{Right, Wrong}
 use Rattle.larch_main.specs.FileTable.{Table}
@@ -27,9 +27,9 @@ syntax_verdict (syntax_.Large pos) = Wrong pos Size
 syntax_verdict syntax_.Memory = Right
 
 -- a trait is wrong where its declarations or items are
-abbrev pub presentation_verdict : Result Presentation Fault → Verdict
-presentation_verdict (Ok presentation) = Right
-presentation_verdict (Err fault) = Wrong fault.0 fault.1
+abbrev pub presentation_verdict : Result Theory Fault → Verdict
+presentation_verdict (Ok theory) = Right
+presentation_verdict (Err fault) = Wrong fault.pos fault.code
 
 -- a trait is wrong at its name where that isn't the stem of its file, or else where its declarations or items are
 abbrev pub name_verdict : List ℕ → RawTrait → Verdict

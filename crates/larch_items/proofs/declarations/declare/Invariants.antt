@@ -1,8 +1,8 @@
-use Rattle.std.proofs.Common.{◌≡◌, drop, take}
-use Rattle.larch_items.specs.Declarations.{declarations_fault, operators_of}
+use Rattle.std.proofs.Common.{◌≡◌, drop}
+use Rattle.larch_items.specs.Declarations.{declared, declared_by}
+use Rattle.larch_items.specs.Steps.{all_behind, all_taken}
 use Rattle.larch_items.proofs.declarations.declare.Given as goal
 
--- nothing is wrong so far, and the operators so far are there
+-- the operators so far, with those of the declarations that are left, are all
 abbrev pub invariant-loop-decl : goal.invariant-loop-decl
-invariant-loop-decl l =
-    (declarations_fault (drop l.decl-index l.decls) ≡ declarations_fault l.decls) × (l.operators ≡ operators_of (take l.decl-index l.decls))
+invariant-loop-decl l = all_taken (λ d. all_behind (declared_by d)) (drop l.decl-index l.decls) l.operators ≡ declared l.decls

@@ -1,7 +1,10 @@
 use Rattle.std.proofs.Common.{◌≡◌, not, drop}
-use Rattle.larch_items.specs.Declarations.{first_place, fits}
+use Rattle.larch_items.specs.Declarations.{fits}
+use Rattle.larch_items.specs.Steps.{first_position}
 use Rattle.larch_items.proofs.declarations.unfit_form.Given as goal
 
 -- what is left is answered as all forms are
 abbrev pub invariant-loop-form : goal.invariant-loop-form
-invariant-loop-form l = first_place (λ f. not (fits l.sig f)) (λ f. f.pos) (drop l.form-index l.forms) ≡ first_place (λ f. not (fits l.sig f)) (λ f. f.pos) l.forms
+invariant-loop-form l =
+    first_position (λ f. not (fits l.sig f)) (λ f. f.pos) (drop l.form-index l.forms)
+    ≡ first_position (λ f. not (fits l.sig f)) (λ f. f.pos) l.forms
