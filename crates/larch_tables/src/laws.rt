@@ -9,6 +9,10 @@ ghost use Rattle.larch_tables.specs.Statement.{offered, IsIdentityStatement};
 ghost use Rattle.larch_tables.specs.Tables.{built_in_rows, deduction_rows};
 ghost use Rattle.larch_term.specs.Substitution.{substituted_statement};
 
+use larch_calculus::laws::{
+    arguments, derivable_is_well_sorted, identity_with_terms, transitivity,
+};
+
 /// The built-in rows have the numbers 1 to 40, the deduction rows 1 to 7.
 pub fn numbers_of_rows()
     ensures built_in { (s : List ℕ) (n : ℕ) → (IsSome (numbered (built_in_rows s) n) ↔ ((1 ≤ n) × (n ≤ 40))) }
@@ -29,4 +33,9 @@ pub fn consequences_are_derivable()
     ensures { (t : Theory) (s : List ℕ) (es : List Entry) (n : ℕ) (row : PlainRow) →
         numbered (deduction_rows s) n ≡ Some row → Derivable t (substituted_statement es row.given) →
         All (λ c. Derivable t (substituted_statement es c)) row.consequences }
-{}
+{
+    identity_with_terms();
+    transitivity();
+    derivable_is_well_sorted();
+    arguments();
+}
