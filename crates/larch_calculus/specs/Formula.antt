@@ -6,7 +6,6 @@ use Rattle.larch_term.specs.BuiltIn.{bool_sort, built_in}
 use Rattle.larch_term.specs.Sorts.{sort_of}
 use Rattle.larch_term.specs.Truth.{is_truth}
 use Rattle.larch_term.specs.declared.built_in.BuiltIn.TheVariants.{False, Not, And, Or, Implies, Iff, Equal, Unequal, If}
-pub use Rattle.larch_term.specs.Truth.{truth}
 
 -- an operator without arguments
 abbrev pub constant : PlainOperator → Tree

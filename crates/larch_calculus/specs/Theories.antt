@@ -2,11 +2,9 @@
 use Rattle.std.specs.Prelude.{◌≡◌, ◌≢◌, ℕ, List, [], ◌++◌, All, AllPairs, Contains}
 use Rattle.larch_term.specs.Operator.{OperatorName, PlainOperator}
 use Rattle.larch_term.specs.Tree.{Tree}
-use Rattle.larch_term.specs.Sorts.{sort_of, IsKnown}
+use Rattle.larch_term.specs.Sorts.{sort_of, IsKnown, IsTermOver}
 use Rattle.larch_term.specs.declared.statement.Statement.{Statement}
 use Rattle.larch_term.specs.declared.statement.Theory.{Theory}
-pub use Rattle.larch_term.specs.Sorts.{IsTermOver}
-pub use Rattle.larch_term.specs.Statement.{IsWellSortedTheory}
 
 -- a well sorted term of a sort
 abbrev pub IsTermOf : List PlainOperator → List ℕ → Tree → Type 0
