@@ -74,7 +74,8 @@ shows_same m u v w =
 -- values of which all observations show the same are equal
 abbrev pub holds_partitioned : Interpretation → List ℕ → List PlainOperator → Bool
 holds_partitioned m s os =
-    all_up_to (m.last s) (λ u. all_up_to (m.last s) (λ v. not (list_all (shows_same m u v) (observations_of s os)) || u == v))
+    all_up_to (m.last s)
+    (λ u. all_up_to (m.last s) (λ v. not (list_all (shows_same m u v) (observations_of s os)) || u == v))
 
 -- whether a statement holds
 abbrev pub holds : Interpretation → Statement → Bool

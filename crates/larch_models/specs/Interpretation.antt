@@ -6,7 +6,7 @@ use Rattle.larch_term.specs.BuiltIn.{bool_sort, built_in}
 use Rattle.larch_term.specs.declared.built_in.BuiltIn.{BuiltIn}
 use Rattle.larch_term.specs.declared.built_in.BuiltIn.TheVariants.{True, False, Not, And, Or, Implies, Iff, Equal, Unequal, If}
 
--- the values of a sort are the numbers up to its last one, so that no sort is empty; an operator's table gives its value
+-- the values of a sort are the numbers up to its last one, so that no sort is empty; an operator's table has a value
 -- for each list of arguments
 pub record Interpretation : Type 0 where
   pub last : List ℕ → ℕ
@@ -74,4 +74,5 @@ InRange last a = (n s : List ℕ) → a n s ≤ last s
 pub record IsInterpretation (fs : List PlainOperator) (m : Interpretation) : Type 0 where
   pub two_truth_values : m.last bool_sort ≡ 1
   pub meanings : (b : BuiltIn) (s vs : List ℕ) → m.table (built_in b s) vs ≡ meaning b vs
-  pub within : (f : PlainOperator) → Contains fs f → (vs : List ℕ) → Within m.last f.domain vs → m.table f vs ≤ m.last f.range
+  pub within : (f : PlainOperator) → Contains fs f → (vs : List ℕ) → Within m.last f.domain vs
+      → m.table f vs ≤ m.last f.range

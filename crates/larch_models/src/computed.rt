@@ -7,10 +7,11 @@ ghost use Rattle.larch_term.specs.declared.built_in.BuiltIn.TheVariants.{True, F
 ghost use Rattle.larch_term.specs.declared.statement.Statement.TheVariants.{Generated};
 ghost use Rattle.larch_calculus.specs.Example.{numbers, numbers_generated, sum_from_nought};
 ghost use Rattle.larch_models.specs.Computed.{holds, all_hold};
-ghost use Rattle.larch_models.specs.Examples.{modulo_two, wrong_modulo_two, up_to_two, second_taken, sum_from_successor, generated_by_sums, partitioned_by_sums, implication_by_denial, choice_by_parts};
+ghost use Rattle.larch_models.specs.Examples.{modulo_two, wrong_modulo_two, up_to_two, two_steps_are_all, second_taken, sum_from_successor, generated_by_sums, partitioned_by_sums, implication_by_denial, choice_by_parts};
 ghost use Rattle.larch_models.specs.Standard.{standard};
 
-/// Numbers modulo 2: the statements of the example hold, and so do `0 + x == x` and `s(x) + y == s(x + y)`, which follow.
+/// Numbers modulo 2: the statements of the example hold, and so do `0 + x == x` and `s(x) + y == s(x + y)`, which
+/// follow from them.
 pub fn modulo_two_is_right()
     ensures theory { all_hold modulo_two numbers ≡ true }
     ensures from_nought { holds modulo_two sum_from_nought ≡ true }
@@ -27,6 +28,11 @@ pub fn a_step_for_each_value()
     ensures { holds up_to_two numbers_generated ≡ true }
 {}
 
+/// A table has the last value of the range in the place of a greater one: of three values `s(s(s(x))) == s(s(x))`.
+pub fn tables_end_at_the_last_value()
+    ensures { holds up_to_two two_steps_are_all ≡ true }
+{}
+
 /// A generator counts for arguments that are all made already: one that takes its second argument makes of 0 only 0.
 pub fn generators_take_what_is_made()
     ensures { holds second_taken generated_by_sums ≡ false }
@@ -39,7 +45,8 @@ pub fn observers_show_each_place()
 
 /// In a standard interpretation Bool has two values: `true` and `false` generate it, and neither does alone.
 pub fn two_truth_values()
-    ensures both { (last : List ℕ → ℕ) (tables : PlainOperator → List ℕ → ℕ) → holds (standard last tables) statement_zero ≡ true }
+    ensures both { (last : List ℕ → ℕ) (tables : PlainOperator → List ℕ → ℕ)
+        → holds (standard last tables) statement_zero ≡ true }
     ensures true_alone { (last : List ℕ → ℕ) (tables : PlainOperator → List ℕ → ℕ)
         → holds (standard last tables) (Generated bool_sort (built_in True bool_sort ∷ [])) ≡ false }
     ensures false_alone { (last : List ℕ → ℕ) (tables : PlainOperator → List ℕ → ℕ)
@@ -51,5 +58,6 @@ pub fn two_truth_values()
 pub fn meanings_of_operators()
     ensures implication { (last : List ℕ → ℕ) (tables : PlainOperator → List ℕ → ℕ)
         → holds (standard last tables) implication_by_denial ≡ true }
-    ensures choice { (last : List ℕ → ℕ) (tables : PlainOperator → List ℕ → ℕ) → holds (standard last tables) choice_by_parts ≡ true }
+    ensures choice { (last : List ℕ → ℕ) (tables : PlainOperator → List ℕ → ℕ)
+        → holds (standard last tables) choice_by_parts ≡ true }
 {}

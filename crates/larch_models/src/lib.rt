@@ -1,8 +1,6 @@
-//! Finite models of theories, and the law that nothing derivable fails in one. Definitions and laws alone; no function
-//! here does anything.
+//! Finite models of theories: interpretations, what holds in one, and whether it does as a computed truth value.
+//! Definitions, and small interpretations in which they are tried; no function here does anything.
 #![tactic(auto)]
 
 pub mod computed;
-pub mod conditions;
 pub mod examples;
-pub mod laws;

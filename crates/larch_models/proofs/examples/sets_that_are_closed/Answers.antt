@@ -5,20 +5,23 @@ use Rattle.larch_calculus.specs.Example.{number_sort, nought, plus}
 use Rattle.larch_models.specs.Interpretation.{Within}
 use Rattle.larch_models.specs.Models.{ArgumentsIn, IsClosedUnder}
 use Rattle.larch_models.specs.Examples.{second_taken}
-use Rattle.larch_models.proofs.Values.{same_numbers}
 use Rattle.larch_models.proofs.examples.sets_that_are_closed.Goals as goal
 
 -- the set of 0
 abbrev none_but_nought : ℕ → Bool
 none_but_nought v = v == 0
 
-sums_in : (vs : List ℕ) → Within second_taken.last plus.domain vs → ArgumentsIn none_but_nought number_sort plus.domain vs
+is_nought : (v : ℕ) → none_but_nought v ≡ true → v ≡ 0
+is_nought v e = grind arith
+
+sums_in : (vs : List ℕ) → Within second_taken.last plus.domain vs
+    → ArgumentsIn none_but_nought number_sort plus.domain vs
     → none_but_nought (second_taken.table plus vs) ≡ true
 unfolding same_operator
 sums_in [] w d = absurd w
 sums_in (u ∷ []) w d = absurd w.1
 sums_in (u ∷ v ∷ vs) w d =
-    subst (λ x. none_but_nought (second_taken.table plus (u ∷ x ∷ vs)) ≡ true) (sym (same_numbers v 0 (d.1.0 refl))) refl
+    subst (λ x. none_but_nought (second_taken.table plus (u ∷ x ∷ vs)) ≡ true) (sym (is_nought v (d.1.0 refl))) refl
 
 closed : IsClosedUnder second_taken number_sort (nought ∷ plus ∷ []) none_but_nought
 unfolding same_operator

@@ -1,9 +1,0 @@
-use Rattle.std.proofs.Common.{◌≡◌, true, false, sym}
-use Rattle.larch_term.specs.OperatorKey.{same_operator}
-use Rattle.larch_models.proofs.Computing.{model_if}
-use Rattle.larch_models.proofs.Counterexamples.{numbers_well_sorted}
-use Rattle.larch_models.proofs.examples.one_wrong_entry.Goals as goal
-
-pub returns : goal.returns
-unfolding same_operator
-returns c k = let wrong : true ≡ false = sym (model_if numbers_well_sorted k) in cc
