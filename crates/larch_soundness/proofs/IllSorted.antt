@@ -12,7 +12,7 @@ are_new : AreNew ill_sorted (box_constant 0 ∷ box_constant 1 ∷ [])
 are_new =
     record {
       names = both (λ f. IsNewName ill_sorted f.name) (box_constant 0) (box_constant 1) (box_is_new [] 0)
-      (box_is_new [] 1);
+          (box_is_new [] 1);
       different = pairs;
     }
   where

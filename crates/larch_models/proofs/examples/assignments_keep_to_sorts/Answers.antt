@@ -1,4 +1,4 @@
-use Rattle.std.proofs.Common.{◌≡◌, ◌≤◌, codes, arith}
+use Rattle.std.proofs.Common.{◌≤◌, codes, arith}
 use Rattle.larch_calculus.specs.Example.{number_sort}
 use Rattle.larch_models.proofs.examples.assignments_keep_to_sorts.Goals as goal
 

@@ -1,4 +1,4 @@
-use Rattle.std.proofs.Common.{◌≡◌, ◌≤◌, [], refl, arith}
+use Rattle.std.proofs.Common.{◌≤◌, [], refl, arith}
 use Rattle.larch_calculus.specs.Example.{nought}
 use Rattle.larch_models.proofs.examples.tables_keep_to_ranges.Goals as goal
 

@@ -1,4 +1,4 @@
-use Rattle.std.proofs.Common.{◌≡◌, ◌≤◌, ℕ, min, [], ◌∷◌, refl, sym, ◌∙◌, arith}
+use Rattle.std.proofs.Common.{◌≡◌, min, [], ◌∷◌, refl, sym, ◌∙◌, arith}
 use Rattle.std.proofs.Math.Nat.{min-eq_right}
 use Rattle.larch_term.specs.OperatorKey.{same_operator}
 use Rattle.larch_calculus.specs.Example.{plus}

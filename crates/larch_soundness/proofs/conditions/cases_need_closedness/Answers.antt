@@ -48,9 +48,9 @@ returns c =
         over = formula_over;
         sort = refl;
         if_true = equal number_sort
-        (axiom_ (4, omega arith, refl) (formula_over, (truth_over numbers.operators).0, refl));
+            (axiom_ (4, omega arith, refl) (formula_over, (truth_over numbers.operators).0, refl));
         if_false = if_false;
       };
       refuted = refutes two_values (bits sum_of_bits) numbers
-      (Equation x_number (constant nought)) numbers_well_sorted refl refl;
+          (Equation x_number (constant nought)) numbers_well_sorted refl refl;
     }

@@ -25,9 +25,11 @@ own = equal_pairs.operators
 -- q of a term is well sorted, over the theory's operators and further ones
 sent_over : (cs : List PlainOperator) (t : Tree) → IsTermOver (own ++ cs) t → sort_of t ≡ sort_n
     → IsStatementOver (own ++ cs) (sent_to_a t)
-sent_over cs t w e =
-    (((λ i. e i ∷ [], (w.0, tt)), (inl (3, omega arith, refl), (w.1, tt))),
-    ((refl, tt), (inl (0, omega arith, refl), tt)), refl)
+sent_over cs t w e = (
+  ((λ i. e i ∷ [], (w.0, tt)), (inl (3, omega arith, refl), (w.1, tt))),
+  ((refl, tt), (inl (0, omega arith, refl), tt)),
+  refl,
+)
 
 a_over : (cs : List PlainOperator) → IsTermOver (own ++ cs) (constant constant_a)
 a_over cs = ((refl, tt), (inl (0, omega arith, refl), tt))

@@ -62,7 +62,7 @@ returns c =
       different = λ i w e. subst (λ w. AreDifferent (other_variables (named_z i) w)) (got_one observation w i e)
           (no_pairs (λ v w. v ≢ w) (record { name = codes "z"; sort = sort_m }));
       refuted = refutes two_values own_tables observed_with_own
-      (Equation (applied operator_f term_z) (applied operator_g term_z))
+          (Equation (applied operator_f term_z) (applied operator_g term_z))
           (both (IsStatementOver own) (Partitioned sort_n (observer_of_pairs ∷ []))
           (Equation (joined observer_of_pairs (applied operator_f term_z) term_z)
           (joined observer_of_pairs (applied operator_g term_z) term_z))
