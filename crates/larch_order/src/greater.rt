@@ -183,8 +183,8 @@ impl Precedence {
     // Whether the terms are greater as a multiset.
     #[cycle(compare)]
     fn multiset_greater(&self, terms: &[Term], others: &[Term]) -> bool
-        ensures { result ≡
-            multiset_greater (λ u. some_beats self.now (forest_of terms.now) terms.now others.now u) terms.now others.now }
+        ensures { result ≡ multiset_greater
+            (λ u. some_beats self.now (forest_of terms.now) terms.now others.now u) terms.now others.now }
     {
         if !some_remains(terms, others) {
             return false;
