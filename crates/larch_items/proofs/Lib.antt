@@ -1,2 +1,5 @@
+pub mod Kept
 pub mod Presented
+pub mod Stated
 pub mod Steps
+pub mod Theories

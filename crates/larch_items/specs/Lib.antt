@@ -1,5 +1,6 @@
 pub mod Declarations
 pub mod Items
+pub mod Laws
 pub mod Presentation
 pub mod References
 pub mod Refusals

@@ -16,7 +16,7 @@ here_or_later s x xs true q later h = subst (Contains (x ∷ xs)) (sym ((bytes_e
 here_or_later s x xs false q later h = contains_later x s xs (later h)
 
 -- a sort that is found in a list stands in it
-any_contained : (s : List ℕ) (xs : List (List ℕ)) → list_any (bytes_eq s) xs ≡ true → Contains xs s
+pub any_contained : (s : List ℕ) (xs : List (List ℕ)) → list_any (bytes_eq s) xs ≡ true → Contains xs s
 any_contained s [] e = cc
 any_contained s (x ∷ xs) e = here_or_later s x xs (bytes_eq s x) refl (any_contained s xs) e
 
