@@ -8,7 +8,7 @@ use Rattle.larch_term.specs.Operator.{PlainOperator}
 use Rattle.larch_term.specs.Tree.{Tree, Forest, var, app, none, more, list_of, nodes}
 use Rattle.larch_order.specs.declared.precedence.Ranked.{Ranked}
 use Rattle.larch_order.specs.Precedence.{above, status_of}
-use Rattle.larch_order.specs.Greater.{Greater, AtLeast, ListsGreater, Beaten, by_argument, by_precedence, by_status, same, higher, first_greater_one, first_equal, further_equal, further_greater, as_multisets, beaten, greater, first_greater, last_greater}
+use Rattle.larch_order.specs.Greater.{Greater, AtLeast, ListsGreater, Beaten, by_argument, by_precedence, by_status, same, higher, first_higher, first_equal, rest_equal, rest_higher, as_multisets, beaten, greater, first_greater, last_greater}
 use Rattle.larch_order.proofs.Multisets.{In, Remains, remains_in}
 use Rattle.larch_order.proofs.Above.{HeadCases, ListsAbove, above_by_argument, above_by_heads, above_cases, heads_cases, heads_from, argument_nodes, remains_told, remains_from}
 use Rattle.larch_order.proofs.Transitive.{not_above, same_forests, first_cases, first_same, first_other, last_cases, last_here, last_before, last_irreflexive}
@@ -40,12 +40,12 @@ mutual
   at_least (higher g) = inr (computed g)
 
   lists_computed : {ranks : List Ranked} {w : Way} {ss ts : Forest} → ListsGreater ranks w ss ts → ListsAbove ranks w ss (list_of ts)
-  lists_computed (first_greater_one {ranks} {s} {t} {ss} {ts} g) =
+  lists_computed (first_higher {ranks} {s} {t} {ss} {ts} g) =
       first_other ranks s t ss (list_of ts) (apart ranks s t (computed g)) (computed g)
   lists_computed (first_equal {ranks} {s} {ss} {ts} l) = first_same ranks s s ss (list_of ts) refl (lists_computed l)
-  lists_computed (further_equal {ranks} {s} {t} {ss} g) =
+  lists_computed (rest_equal {ranks} {s} {t} {ss} g) =
       last_here ranks s t ss (list_of ss) refl (apart ranks s t (computed g)) (computed g)
-  lists_computed (further_greater {ranks} {s} {t} {ss} {ts} l) =
+  lists_computed (rest_higher {ranks} {s} {t} {ss} {ts} l) =
       last_before ranks s t ss (list_of ts)
       (λ e. last_irreflexive ranks ss (subst (λ us. last_greater ranks ss us ≡ true) (sym e) (lists_computed l)))
       (lists_computed l)
@@ -69,7 +69,7 @@ module _ (ranks : List Ranked) where
       ⊎_elim
       (λ p. subst (λ x. ListsGreater ranks LeftToRight (more s ss) (more x ts)) p.0
       (first_equal (first_shown ss ts (λ x y i j. k x y (inr i) (inr j)) p.1)))
-      (λ p. first_greater_one (k s t (inl refl) (inl refl) p.1))
+      (λ p. first_higher (k s t (inl refl) (inl refl) p.1))
       (first_cases ranks s t ss (list_of ts) e)
 
   last_shown : (ss ts : Forest) → Shown ss ts → last_greater ranks ss (list_of ts) ≡ true → ListsGreater ranks RightToLeft ss ts
@@ -78,8 +78,8 @@ module _ (ranks : List Ranked) where
   last_shown (more s ss) (more t ts) k e =
       ⊎_elim
       (λ p. subst (λ us. ListsGreater ranks RightToLeft (more s ss) (more t us)) (same_forests ss ts p.0)
-      (further_equal (k s t (inl refl) (inl refl) p.2)))
-      (λ p. further_greater (last_shown ss ts (λ x y i j. k x y (inr i) (inr j)) p.1))
+      (rest_equal (k s t (inl refl) (inl refl) p.2)))
+      (λ p. rest_higher (last_shown ss ts (λ x y i j. k x y (inr i) (inr j)) p.1))
       (last_cases ranks s t ss (list_of ts) e)
 
   lists_shown : (w : Way) (ss ts : Forest) → Shown ss ts → ListsAbove ranks w ss (list_of ts) → ListsGreater ranks w ss ts

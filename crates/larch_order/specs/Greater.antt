@@ -43,14 +43,14 @@ mutual
   -- Arguments are greater than others
   pub data ListsGreater : List Ranked → Way → Forest → Forest → Type 0 where
     -- from the left where the first ones are greater, or the first ones are equal and the further ones greater;
-    first_greater_one : {ranks : List Ranked} {s t : Tree} {ss ts : Forest} → Greater ranks s t
+    first_higher : {ranks : List Ranked} {s t : Tree} {ss ts : Forest} → Greater ranks s t
         → ListsGreater ranks LeftToRight (more s ss) (more t ts)
     first_equal : {ranks : List Ranked} {s : Tree} {ss ts : Forest} → ListsGreater ranks LeftToRight ss ts
         → ListsGreater ranks LeftToRight (more s ss) (more s ts)
     -- from the right where the first ones are greater and the further ones equal, or the further ones are greater;
-    further_equal : {ranks : List Ranked} {s t : Tree} {ss : Forest} → Greater ranks s t
+    rest_equal : {ranks : List Ranked} {s t : Tree} {ss : Forest} → Greater ranks s t
         → ListsGreater ranks RightToLeft (more s ss) (more t ss)
-    further_greater : {ranks : List Ranked} {s t : Tree} {ss ts : Forest} → ListsGreater ranks RightToLeft ss ts
+    rest_higher : {ranks : List Ranked} {s t : Tree} {ss ts : Forest} → ListsGreater ranks RightToLeft ss ts
         → ListsGreater ranks RightToLeft (more s ss) (more t ts)
     -- as multisets where something remains of them, and whatever remains of the others is below something of that.
     as_multisets : {ranks : List Ranked} {ss ts : Forest} (s : Tree) → IsTrue (remains (list_of ss) (list_of ts) s)
