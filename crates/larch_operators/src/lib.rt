@@ -1,5 +1,4 @@
-//! What definitions ask of operators: whether two of them, or two terms or statements, are equal; which sorts exist
-//! beside operators; and the built-in operators at those sorts.
+//! Which sorts exist beside operators, and the built-in operators at those sorts.
 #![tactic(auto)]
 
 mod built_ins;
@@ -7,3 +6,6 @@ mod sorts;
 
 pub use built_ins::push_built_ins;
 pub use sorts::{SortSet, existing_sorts};
+
+#[cfg(test)]
+mod tests;

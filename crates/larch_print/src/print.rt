@@ -95,7 +95,8 @@ fn write_placed(
     next: usize,
     inside: bool,
 ) -> Result<(), Memory>
-    ensures { OnOk result (text.new ≡ text.old ++ first_placed inside (pieces_of (forest_of (drop next arguments.now)))) }
+    ensures { OnOk result
+        (text.new ≡ text.old ++ first_placed inside (pieces_of (forest_of (drop next arguments.now)))) }
 {
     if next >= arguments.as_slice().len() {
         text.append(b"__")?;

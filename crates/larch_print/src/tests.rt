@@ -3,20 +3,22 @@ use larch_base::{Memory, Name, Sequence};
 use larch_term::{BuiltIn, Operator, Statement, Term, Terms, bool_sort};
 use std::alloc::Global;
 
+// An operator whose domain is one sort, some times over.
 fn operator(
     alloc: Global,
     form: &[u8],
-    domain: &[&[u8]],
+    sort: &[u8],
+    count: usize,
     range: &[u8],
 ) -> Result<Operator, Memory> {
-    let mut sorts = Sequence::new(alloc);
-    for sort in domain {
+    let mut domain = Sequence::new(alloc);
+    for _ in 0..count {
         let sort = Name::new(alloc, sort)?;
-        sorts.push(sort)?;
+        domain.push(sort)?;
     }
     let form = Name::new(alloc, form)?;
     let range = Name::new(alloc, range)?;
-    Operator::new(alloc, form, sorts, range)
+    Operator::new(alloc, form, domain, range)
 }
 
 fn variable(alloc: Global, name: &[u8]) -> Result<Term, Memory> {
@@ -25,19 +27,16 @@ fn variable(alloc: Global, name: &[u8]) -> Result<Term, Memory> {
     Ok(Term::var(name, sort))
 }
 
-fn one(alloc: Global, form: &[u8], argument: Term) -> Result<Term, Memory> {
-    let operator = operator(alloc, form, &[b"N"], b"N")?;
-    let mut arguments = Vec::with_capacity(alloc, 1)?;
-    arguments.push(argument)?;
+// The form with its arguments, all of sort N.
+fn applied(alloc: Global, form: &[u8], arguments: Vec<Term>) -> Result<Term, Memory> {
+    let operator = operator(alloc, form, b"N", arguments.len(), b"N")?;
     Ok(Term::app(operator, Terms::from_vec(arguments)))
 }
 
-fn two(alloc: Global, form: &[u8], first: Term, second: Term) -> Result<Term, Memory> {
-    let operator = operator(alloc, form, &[b"N", b"N"], b"N")?;
-    let mut arguments = Vec::with_capacity(alloc, 2)?;
-    arguments.push(first)?;
-    arguments.push(second)?;
-    Ok(Term::app(operator, Terms::from_vec(arguments)))
+fn one(alloc: Global, form: &[u8], argument: Term) -> Result<Term, Memory> {
+    let mut arguments = Vec::new(alloc);
+    arguments.push(argument)?;
+    applied(alloc, form, arguments)
 }
 
 fn truth(alloc: Global) -> Result<Term, Memory> {
@@ -48,9 +47,12 @@ fn truth(alloc: Global) -> Result<Term, Memory> {
 
 // The form inner of x and y, as the argument of the form outer.
 fn nested(alloc: Global, outer: &[u8], inner: &[u8]) -> Result<Term, Memory> {
-    let x = variable(alloc, b"x")?;
-    let y = variable(alloc, b"y")?;
-    let argument = two(alloc, inner, x, y)?;
+    let mut arguments = Vec::new(alloc);
+    for name in [b"x".as_slice(), b"y"] {
+        let argument = variable(alloc, name)?;
+        arguments.push(argument)?;
+    }
+    let argument = applied(alloc, inner, arguments)?;
     one(alloc, outer, argument)
 }
 
@@ -103,11 +105,8 @@ fn formula(alloc: Global) -> Result<Statement, Memory> {
 
 fn generated(alloc: Global) -> Result<Statement, Memory> {
     let mut generators = Sequence::new(alloc);
-    for (form, domain) in [
-        (b"0".as_slice(), [].as_slice()),
-        (b"s", [b"N".as_slice()].as_slice()),
-    ] {
-        let generator = operator(alloc, form, domain, b"N")?;
+    for (form, count) in [(b"0".as_slice(), 0), (b"s", 1)] {
+        let generator = operator(alloc, form, b"N", count, b"N")?;
         generators.push(generator)?;
     }
     let sort = Name::new(alloc, b"N")?;
@@ -127,7 +126,7 @@ fn prints_statements(rt: HostRuntime) -> Result<(), Memory> {
 
 #[test]
 fn prints_operators(rt: HostRuntime) -> Result<(), Memory> {
-    let field = operator(rt.alloc(), b"__.flag", &[b"U"], b"Bool")?;
+    let field = operator(rt.alloc(), b"__.flag", b"U", 1, b"Bool")?;
     let line = print_operator(rt.alloc(), &field)?;
     assert_eq!(rt; line.bytes(), b"op __.flag: U -> Bool".as_slice());
     Ok(())

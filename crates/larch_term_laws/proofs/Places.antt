@@ -17,7 +17,8 @@ at-append t [] q = refl
 at-append (var n s) (k ∷ p) q = refl
 at-append (app f ts) (k ∷ p) q = option_and_then_nested q p (argument ts k) (λ t. at-append t p q)
 
-argument_put_in : (ts : Forest) (k : ℕ) (p : List ℕ) (v : Tree) → argument (put_in ts k p v) k ≡ option_map (λ t. put t p v) (argument ts k)
+-- the argument in which something is put
+pub argument_put_in : (ts : Forest) (k : ℕ) (p : List ℕ) (v : Tree) → argument (put_in ts k p v) k ≡ option_map (λ t. put t p v) (argument ts k)
 argument_put_in none k p v = refl
 argument_put_in (more t ts) zero p v = refl
 argument_put_in (more t ts) (suc zero) p v = refl

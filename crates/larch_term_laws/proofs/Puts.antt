@@ -5,6 +5,7 @@ use Rattle.larch_term.specs.Operator.{PlainOperator}
 use Rattle.larch_term.specs.Place.{at, argument, put, put_in}
 use Rattle.larch_term.specs.Tree.{Tree, Forest, var, app, none, more}
 use Rattle.larch_term_laws.specs.Apart.{Part}
+use Rattle.larch_term_laws.proofs.Places.{argument_put_in}
 
 -- put at a place, then at a place below it: put there at once
 mutual
@@ -59,12 +60,6 @@ argument_elsewhere (more t ts) (suc (suc k)) zero p v h = refl
 argument_elsewhere (more t ts) (suc (suc k)) (suc zero) p v h = refl
 argument_elsewhere (more t ts) (suc (suc k)) (suc (suc j)) p v h = argument_elsewhere ts (suc k) (suc j) p v (λ e. h (ap suc e))
 
-argument_below : (ts : Forest) (k : ℕ) (p : List ℕ) (v : Tree) → argument (put_in ts k p v) k ≡ option_map (λ t. put t p v) (argument ts k)
-argument_below none k p v = refl
-argument_below (more t ts) zero p v = refl
-argument_below (more t ts) (suc zero) p v = refl
-argument_below (more t ts) (suc (suc k)) p v = argument_below ts (suc k) p v
-
 found_below : (p q : List ℕ) (v : Tree) (o : Option Tree) → ((t : Tree) → at (put t p v) q ≡ at t q)
     → option_and_then (λ x. at x q) (option_map (λ t. put t p v) o) ≡ option_and_then (λ x. at x q) o
 found_below p q v None h = refl
@@ -74,7 +69,7 @@ elsewhere_same : (ts : Forest) (k j : ℕ) (p q : List ℕ) (v : Tree) → k ≡
     → option_and_then (λ x. at x q) (argument (put_in ts k p v) j) ≡ option_and_then (λ x. at x q) (argument ts j)
 elsewhere_same ts k j p q v e h =
     ap (λ i. option_and_then (λ x. at x q) (argument (put_in ts i p v) j)) e
-    ∙ ap (option_and_then (λ x. at x q)) (argument_below ts j p v) ∙ found_below p q v (argument ts j) h
+    ∙ ap (option_and_then (λ x. at x q)) (argument_put_in ts j p v) ∙ found_below p q v (argument ts j) h
 
 -- what stands at a place that parts from it stays
 pub at_elsewhere : (t : Tree) (p q : List ℕ) (v : Tree) → Part p q → at (put t p v) q ≡ at t q
