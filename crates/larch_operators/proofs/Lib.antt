@@ -1,3 +1,2 @@
 -- Lemmas.
 pub mod InTurn
-pub mod Same

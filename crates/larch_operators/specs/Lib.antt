@@ -1,3 +1,2 @@
 pub mod BuiltIns
-pub mod Same
 pub mod Sorts

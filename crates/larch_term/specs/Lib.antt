@@ -1,6 +1,5 @@
 pub mod BuiltIn
 pub mod Equality
-pub mod Occurrence
 pub mod Operator
 pub mod OperatorKey
 pub mod OperatorView

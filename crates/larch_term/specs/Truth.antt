@@ -1,10 +1,9 @@
 -- The constant true, as a term, and the test for it.
 use Rattle.std.specs.Prelude.{◌==◌, ◌&&◌, Bool, false, length, codes, bytes_eq}
-use Rattle.larch_term.specs.BuiltIn.{built_in}
+use Rattle.larch_term.specs.BuiltIn.{bool_sort, built_in}
 use Rattle.larch_term.specs.Operator.{PlainOperator, name_bytes}
 use Rattle.larch_term.specs.Tree.{Tree, var, app, none, more}
 use Rattle.larch_term.specs.declared.built_in.BuiltIn.TheVariants.{True}
-pub use Rattle.larch_term.specs.BuiltIn.{bool_sort}
 
 -- the built-in constant true
 abbrev pub truth : Tree

@@ -1,9 +1,10 @@
 ghost use Rattle.std.specs.Prelude.{◌≡◌, IfOk};
+ghost use Rattle.larch_term.specs.Tree.{var};
 
-use crate::operator::Operator;
+use crate::operator::{Operator, Sort};
 use crate::statement::{Operators, Statement, Statements, Theory};
 use crate::term::{Node, Term, Terms};
-use larch_base::{Memory, Sequence};
+use larch_base::{Memory, Name, Sequence};
 use std::alloc::Global;
 
 /// The same term once more.
@@ -13,9 +14,8 @@ pub fn copy(alloc: Global, term: &Term) -> Result<Term, Memory>
 {
     match &term.node {
         Node::Var(name, sort) => {
-            let name = name.copy()?;
-            let sort = sort.copy()?;
-            Ok(Term::var(name, sort))
+            let copied = copy_variable(name, sort)?;
+            Ok(copied)
         }
         Node::App(operator, arguments) => {
             let arguments = copy_all(alloc, arguments)?;
@@ -23,6 +23,15 @@ pub fn copy(alloc: Global, term: &Term) -> Result<Term, Memory>
             Ok(Term::app(operator, arguments))
         }
     }
+}
+
+/// The variable with this name and sort, from copies of both.
+pub(crate) fn copy_variable(name: &Name, sort: &Sort) -> Result<Term, Memory>
+    ensures { IfOk result (λ t. t ≡ var name.now sort.now) }
+{
+    let name = name.copy()?;
+    let sort = sort.copy()?;
+    Ok(Term::var(name, sort))
 }
 
 #[cycle(copy)]

@@ -3,7 +3,7 @@ ghost use Rattle.larch_term.specs.Place.{at, argument, put, put_in};
 ghost use Rattle.larch_term.specs.Tree.{forest_of};
 ghost use Rattle.larch_term.specs.declared.place.ReplaceRefusal.TheVariants.{Memory as out_of_memory};
 
-use crate::copying::copy;
+use crate::copying::{copy, copy_variable};
 use crate::term::{Node, Term, Terms};
 use larch_base::Memory;
 use std::alloc::Global;
@@ -82,9 +82,8 @@ fn put(alloc: Global, term: &Term, place: &[u32], by: &Term) -> Result<Term, Mem
     };
     match &term.node {
         Node::Var(name, sort) => {
-            let name = name.copy()?;
-            let sort = sort.copy()?;
-            Ok(Term::var(name, sort))
+            let copied = copy_variable(name, sort)?;
+            Ok(copied)
         }
         Node::App(operator, arguments) => {
             let arguments = put_in(alloc, arguments, *number, rest, by)?;

@@ -2,7 +2,7 @@ ghost use Rattle.std.specs.Prelude.{◌≡◌, ◌++◌, ◌∷◌, [], IfOk, On
 ghost use Rattle.std.specs.List.{list_any};
 ghost use Rattle.larch_term.specs.Substitution.{is_entry_of, image, substituted};
 
-use crate::copying::copy;
+use crate::copying::{copy, copy_variable};
 use crate::operator::Sort;
 use crate::term::{Node, Term, Terms};
 use larch_base::{Memory, Name};
@@ -121,7 +121,6 @@ fn image(alloc: Global, by: &[Entry], name: &Name, sort: &Sort) -> Result<Term, 
             return Ok(image);
         }
     }
-    let name = name.copy()?;
-    let sort = sort.copy()?;
-    Ok(Term::var(name, sort))
+    let kept = copy_variable(name, sort)?;
+    Ok(kept)
 }
