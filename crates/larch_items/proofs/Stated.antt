@@ -132,7 +132,7 @@ named_is : (fs : List PlainOperator) (kind : ClauseKind) (sort : List ℕ) (ref 
 named_is fs kind sort ref g e =
     let w = wanted_of kind sort ref in
     let r = found_is (is_wanted w) fs g
-      (only_by (is_wanted w) fs g (find (is_wanted w) fs) (or_was (fault (clause_code kind) ref.form.pos) (only_operator (is_wanted w) fs) g e)) in
+    (only_by (is_wanted w) fs g (find (is_wanted w) fs) (or_was (fault (clause_code kind) ref.form.pos) (only_operator (is_wanted w) fs) g e)) in
     (r.0, and_right (is_meant w.exact w.name g) (suits kind sort g) r.1)
 
 -- what is stated over operators: well sorted, with clauses that name these alone, and of sorts that exist

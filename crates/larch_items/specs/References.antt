@@ -14,10 +14,14 @@ use Rattle.larch_items.specs.Declarations.{operator_of}
 use Rattle.larch_items.specs.Steps.{each}
 use Rattle.larch_items.specs.declared.references.Wanted.{Wanted}
 
+-- the one operator that a reference with a signature means
+abbrev pub exact_of : RawOpRef → Option PlainOperator
+exact_of ref = option_map (λ sig. operator_of sig ref.form) ref.sig
+
 -- what a reference of a clause of this sort is looked for as
 abbrev pub wanted_of : ClauseKind → List ℕ → RawOpRef → Wanted
 wanted_of kind sort ref =
-    record { kind = kind; sort = sort; name = ref.form.name; exact = option_map (λ sig. operator_of sig ref.form) ref.sig }
+    record { kind = kind; sort = sort; name = ref.form.name; exact = exact_of ref }
 
 -- an operator's name is these bytes
 abbrev pub is_named : OperatorName → List ℕ → Bool
@@ -66,5 +70,6 @@ operator_named fs kind sort ref =
     found_or (fault (clause_code kind) ref.form.pos) (only_operator (is_wanted (wanted_of kind sort ref)) fs)
 
 -- the operators that the references of a clause name, in order
-abbrev pub operators_named : List PlainOperator → ClauseKind → List ℕ → List RawOpRef → Result (List PlainOperator) Fault
+abbrev pub operators_named : List PlainOperator → ClauseKind → List ℕ → List RawOpRef
+    → Result (List PlainOperator) Fault
 operators_named fs kind sort refs = each (operator_named fs kind sort) refs

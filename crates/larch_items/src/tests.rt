@@ -1,9 +1,9 @@
 use super::*;
 use larch_base::{Code, Memory, Name, Pos, Sequence};
-use larch_term::Theory;
 use larch_raw::{
     RawDecl, RawDecls, RawForm, RawItem, RawItems, RawOpRef, RawSig, RawTrait, RawVar, RawWord,
 };
+use larch_term::Theory;
 use std::alloc::Global;
 
 fn at(column: u32) -> Pos {

@@ -28,7 +28,8 @@ pub fn declare_variables(
 
 // Where the first sort of a variable stands that doesn't exist.
 fn unknown_sort(signature: &Signature, variables: &[RawVar]) -> Option<Pos>
-    ensures { result ≡ first_position (λ v. not (exists_sort signature.now v.sort.name)) (λ v. v.sort.pos) variables.now }
+    ensures { result ≡ first_position (λ v. not (exists_sort signature.now v.sort.name))
+        (λ v. v.sort.pos) variables.now }
 {
     for variable in variables {
         if !signature.knows(&variable.sort.name) {

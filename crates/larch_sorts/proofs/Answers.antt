@@ -100,7 +100,7 @@ first_or_later fs vs raw raws pos false e later h =
     let r = later h in
     (raw ∷ r.0, r.1, r.2, ap (λ us. raw ∷ us) r.3, All-cons (HasReading fs vs) raw r.0 (something_reads fs vs raw (readings fs vs raw) refl e) r.4, r.5, r.6)
 
--- the place of the first part without a reading
+-- the position of the first part without a reading
 pub unread_at : (fs : List PlainOperator) (vs : Variables) (raws : List RawTree) (pos : Pos) → unread_in fs vs raws ≡ Some pos → FirstUnread fs vs raws pos
 unfolding unread_in
 unread_at fs vs [] pos e = cc

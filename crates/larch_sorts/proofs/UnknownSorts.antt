@@ -22,7 +22,7 @@ unknown_append fs xs ys =
 pub unknown_first : (fs : List PlainOperator) (xs ys : List RawWord) (pos : Pos) → Some pos ≡ unknown_among fs xs → unknown_among fs (xs ++ ys) ≡ Some pos
 unknown_first fs xs ys pos e = unknown_append fs xs ys ∙ ap (λ x. option_or x (unknown_among fs ys)) (sym e)
 
--- what is known first leaves the place to the rest
+-- what is known first leaves the position to the rest
 pub known_first : (fs : List PlainOperator) (xs ys : List RawWord) → None ≡ unknown_among fs xs → unknown_among fs (xs ++ ys) ≡ unknown_among fs ys
 known_first fs xs ys e = unknown_append fs xs ys ∙ ap (λ x. option_or x (unknown_among fs ys)) (sym e)
 

@@ -35,7 +35,7 @@ unread_append fs vs xs ys =
     ap (option_map head_of) (find-append (λ raw. is_empty (readings fs vs raw)) xs ys)
     ∙ map_or head_of (find (λ raw. is_empty (readings fs vs raw)) xs) (find (λ raw. is_empty (readings fs vs raw)) ys)
 
--- what is read first leaves the place to the rest
+-- what is read first leaves the position to the rest
 pub read_first : (fs : List PlainOperator) (vs : Variables) (xs ys : List RawTree) → unread_in fs vs xs ≡ None → unread_in fs vs (xs ++ ys) ≡ unread_in fs vs ys
 read_first fs vs xs ys e = unread_append fs vs xs ys ∙ ap (λ x. option_or x (unread_in fs vs ys)) e
 
@@ -121,9 +121,9 @@ all_tell_more fs vs (x ∷ tables) [] es raw h k = absurd h
 all_tell_more fs vs (x ∷ tables) (y ∷ raws) es raw h k = (h.0, all_tell_more fs vs tables raws es raw h.1 k)
 
 -- one argument is unread, so all arguments are
-pub arguments_unread : (fs : List PlainOperator) (vs : Variables) (refusal : ReadRefusal) (raws : List RawTree) (i : ℕ) (raw : RawTree) (place : Option Pos) → i < length raws → raw ≡ get_or raws i raw
-    → unread_in fs vs (parts_of (raw_forest (drop i raws))) ≡ place → Unread refusal (unread_in fs vs (parts raw)) → Unread refusal place
-arguments_unread fs vs refusal raws i raw place lt e is u = subst (Unread refusal) is (argument_unread fs vs refusal raws i raw lt e u)
+pub arguments_unread : (fs : List PlainOperator) (vs : Variables) (refusal : ReadRefusal) (raws : List RawTree) (i : ℕ) (raw : RawTree) (pos : Option Pos) → i < length raws → raw ≡ get_or raws i raw
+    → unread_in fs vs (parts_of (raw_forest (drop i raws))) ≡ pos → Unread refusal (unread_in fs vs (parts raw)) → Unread refusal pos
+arguments_unread fs vs refusal raws i raw pos lt e is u = subst (Unread refusal) is (argument_unread fs vs refusal raws i raw lt e u)
 
 -- arguments stand where there is no variable
 pub no_variable : (vs : Variables) (n : List ℕ) (raws : List RawTree) → (length raws ≡ 0 → ⊥) → None ≡ variable_sort vs n (raw_forest raws)

@@ -35,7 +35,8 @@ extended before f (Some arguments) = Some (merged before (application f argument
 
 -- what was found of a sort before together with what an operator makes of the arguments in tables
 abbrev pub with_operator : List Entries → List ℕ → Option (Found Tree) → PlainOperator → Option (Found Tree)
-with_operator tables s before f = if bytes_eq f.range s then extended before f (arguments_at tables f.domain) else before
+with_operator tables s before f =
+    if bytes_eq f.range s then extended before f (arguments_at tables f.domain) else before
 
 -- what operators make of the arguments in tables, at a sort
 abbrev pub operators_at : List Entries → List PlainOperator → List ℕ → Option (Found Tree)

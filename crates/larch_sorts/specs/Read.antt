@@ -35,7 +35,8 @@ only same raw [] = Err (fault NoReading (equation_head raw raw.right))
 only same raw (x ∷ xs) = if list_all (same x) xs then Ok x else Err (fault Ambiguous raw.first)
 
 -- the one of these readings of an equation, or what is wrong first
-abbrev pub answer : {A : Type 0} → List PlainOperator → Variables → RawEquation → (A → A → Bool) → List A → Result A Fault
+abbrev pub answer : {A : Type 0} → List PlainOperator → Variables → RawEquation → (A → A → Bool) → List A
+    → Result A Fault
 answer fs vs raw same found =
     unless (fault_at UnknownSort (unknown_sort fs raw))
     (unless (fault_at NoReading (first_unread fs vs raw)) (only same raw found))

@@ -33,7 +33,8 @@ variable_or None n others = others
 unfoldable mutual
   -- the readings of a term
   pub readings : List PlainOperator → Variables → RawTree → List Tree
-  readings fs vs (apply n raws p) = variable_or (variable_sort vs n raws) n (flat_map (applications n (choices fs vs raws)) (taking_part fs))
+  readings fs vs (apply n raws p) =
+      variable_or (variable_sort vs n raws) n (flat_map (applications n (choices fs vs raws)) (taking_part fs))
   readings fs vs (qualified raw w p) = filter (λ t. bytes_eq (sort_of t) w.name) (readings fs vs raw)
 
   -- the lists with a reading of each argument
@@ -48,7 +49,8 @@ right_readings fs vs (Some right) l = filter (λ r. bytes_eq (sort_of l) (sort_o
 
 -- the readings of an equation or formula
 abbrev pub equation_readings : List PlainOperator → Variables → RawEquation → List Statement
-equation_readings fs vs raw = flat_map (λ l. map (Equation l) (right_readings fs vs raw.right l)) (readings fs vs raw.left)
+equation_readings fs vs raw =
+    flat_map (λ l. map (Equation l) (right_readings fs vs raw.right l)) (readings fs vs raw.left)
 
 -- the readings of a lone term, of the wanted sort where one is wanted
 abbrev pub lone_readings : List PlainOperator → Variables → Option (List ℕ) → RawEquation → List Tree

@@ -26,17 +26,21 @@ variable_sort vs n (one_more raw raws) = None
 mutual
   pub data Reads (fs : List PlainOperator) (vs : Variables) : RawTree → Tree → Type 0 where
     -- a word without arguments that names a variable reads as that variable only
-    a_variable : {n s : List ℕ} {raws : RawForest} {p : Pos} → variable_sort vs n raws ≡ Some s → Reads fs vs (apply n raws p) (var n s)
+    a_variable : {n s : List ℕ} {raws : RawForest} {p : Pos} → variable_sort vs n raws ≡ Some s
+        → Reads fs vs (apply n raws p) (var n s)
     -- any other application reads as any operator of its name whose domain is the sorts of readings of its arguments
-    an_operator : {n : List ℕ} {raws : RawForest} {p : Pos} {f : PlainOperator} {ts : Forest} → variable_sort vs n raws ≡ None
-        → Contains (taking_part fs) f → f.name ≡ plain n → AllRead fs vs raws ts → sorts_of ts ≡ f.domain → Reads fs vs (apply n raws p) (app f ts)
+    an_operator : {n : List ℕ} {raws : RawForest} {p : Pos} {f : PlainOperator} {ts : Forest}
+        → variable_sort vs n raws ≡ None → Contains (taking_part fs) f → f.name ≡ plain n
+        → AllRead fs vs raws ts → sorts_of ts ≡ f.domain → Reads fs vs (apply n raws p) (app f ts)
     -- a qualification reads as the readings of its term that have its sort
-    of_sort : {raw : RawTree} {w : RawWord} {p : Pos} {t : Tree} → Reads fs vs raw t → sort_of t ≡ w.name → Reads fs vs (qualified raw w p) t
+    of_sort : {raw : RawTree} {w : RawWord} {p : Pos} {t : Tree} → Reads fs vs raw t → sort_of t ≡ w.name
+        → Reads fs vs (qualified raw w p) t
 
   -- each argument reads as one of these terms, in order
   pub data AllRead (fs : List PlainOperator) (vs : Variables) : RawForest → Forest → Type 0 where
     all_read : AllRead fs vs no_more none
-    one_read : {raw : RawTree} {raws : RawForest} {t : Tree} {ts : Forest} → Reads fs vs raw t → AllRead fs vs raws ts → AllRead fs vs (one_more raw raws) (more t ts)
+    one_read : {raw : RawTree} {raws : RawForest} {t : Tree} {ts : Forest} → Reads fs vs raw t → AllRead fs vs raws ts
+        → AllRead fs vs (one_more raw raws) (more t ts)
 
 -- what stands right beside a left side: a reading of its sort; or true, beside a formula of sort Bool
 abbrev pub ReadsRight : List PlainOperator → Variables → Option RawRight → Tree → Tree → Type 0

@@ -41,7 +41,8 @@ paired (Some (One l)) (Some (One r)) = Some (One (record { left = l; right = r }
 
 -- the sides of one sort
 abbrev pub sides_found : Entries → Entries → Option (Found Sides)
-sides_found left right = fold (λ before s. with_found same_sides before (paired (reading_at left s) (reading_at right s))) None (sorts_in left)
+sides_found left right =
+    fold (λ before s. with_found same_sides before (paired (reading_at left s) (reading_at right s))) None (sorts_in left)
 
 -- a formula, beside which true stands
 abbrev pub formula_found : Option (Found Tree) → Option (Found Sides)

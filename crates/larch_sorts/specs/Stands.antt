@@ -29,10 +29,13 @@ NoReadingStands fs vs raw P pos =
     ⊎ (All (HasReading fs vs) (in_sides parts (sides raw)) × IsNone P × (pos ≡ equation_head raw raw.right))
 
 -- this fault of an equation stands, where the equation reads as what has this property
-pub data Stands {A : Type 0} (fs : List PlainOperator) (vs : Variables) (raw : RawEquation) (P : A → Type 0) : Fault → Type 0 where
+pub data Stands {A : Type 0} (fs : List PlainOperator) (vs : Variables) (raw : RawEquation) (P : A → Type 0)
+    : Fault → Type 0 where
   -- at the first sort of a qualification that doesn't exist
   unknown_stands : {pos : Pos} → unknown_sort fs raw ≡ Some pos → Stands fs vs raw P (fault UnknownSort pos)
   -- at the first part that has no reading
-  unread_stands : {pos : Pos} → unknown_sort fs raw ≡ None → NoReadingStands fs vs raw P pos → Stands fs vs raw P (fault NoReading pos)
+  unread_stands : {pos : Pos} → unknown_sort fs raw ≡ None → NoReadingStands fs vs raw P pos
+      → Stands fs vs raw P (fault NoReading pos)
   -- at the first token of what has several readings
-  several_stand : {pos : Pos} → unknown_sort fs raw ≡ None → AreSeveral P → pos ≡ raw.first → Stands fs vs raw P (fault Ambiguous pos)
+  several_stand : {pos : Pos} → unknown_sort fs raw ≡ None → AreSeveral P → pos ≡ raw.first
+      → Stands fs vs raw P (fault Ambiguous pos)

@@ -38,7 +38,9 @@ pub fn read_lone(
     // The same in terms of readings.
     ensures known { IfOk result (λ _. unknown_sort signature.now raw.now ≡ None) }
     ensures only { IfOk result (IsOnly (ReadsLone signature.now scope.now (option_copied sort.entry) raw.now)) }
-    ensures stands { IfErr result (λ refusal. IfSome (told refusal) (Stands signature.now scope.now raw.now (ReadsLone signature.now scope.now (option_copied sort.entry) raw.now))) }
+    ensures stands { IfErr result (λ refusal. IfSome (told refusal)
+        (Stands signature.now scope.now raw.now
+        (ReadsLone signature.now scope.now (option_copied sort.entry) raw.now))) }
 
     // What a term that is read is made of.
     ensures well_sorted { IfOk result (λ term. WellSorted term × IsOver signature.now term) }
@@ -80,7 +82,8 @@ fn lone_found(
     sort: Option<&Sort>,
 ) -> Result<Option<Found<Reading>>, ReadRefusal>
     requires { raw.now.right ≡ None }
-    ensures tells { IfOk result (λ found. Tells found (ReadsLone signature.now scope.now (option_copied sort.entry) raw.now)) }
+    ensures tells { IfOk result (λ found. Tells found
+        (ReadsLone signature.now scope.now (option_copied sort.entry) raw.now)) }
     ensures read { IfOk result (λ _. first_unread signature.now scope.now raw.now ≡ None) }
     ensures unread { IfErr result (λ refusal. Unread refusal (first_unread signature.now scope.now raw.now)) }
 {

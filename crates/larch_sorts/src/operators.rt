@@ -17,7 +17,9 @@ pub(crate) fn by_operators(
     tables: &[Table],
     operators: &[Operator],
 ) -> Result<Table, Memory>
-    ensures { IfOk result (λ table. (s : List ℕ) → reading_at table.found.value.entries s ≡ operators_at (map (λ t. t.found.value.entries) tables.now) operators.now s) }
+    ensures { IfOk result (λ table. (s : List ℕ)
+        → reading_at table.found.value.entries s
+        ≡ operators_at (map (λ t. t.found.value.entries) tables.now) operators.now s) }
 {
     let mut table = Table::new(alloc)?;
     for operator in operators {
@@ -33,7 +35,10 @@ fn add_operator(
     operator: &Operator,
     table: &mut Table,
 ) -> Result<(), Memory>
-    ensures { OnOk result ((s : List ℕ) → reading_at table.new.found.value.entries s ≡ with_operator (map (λ t. t.found.value.entries) tables.now) s (reading_at table.old.found.value.entries s) operator.now) }
+    ensures { OnOk result ((s : List ℕ)
+        → reading_at table.new.found.value.entries s
+        ≡ with_operator (map (λ t. t.found.value.entries) tables.now) s
+        (reading_at table.old.found.value.entries s) operator.now) }
 {
     if let Some(arguments) = arguments_at(alloc, tables, operator.domain())? {
         add(alloc, table, operator, arguments)?;
@@ -73,7 +78,8 @@ fn push_found(
     several: bool,
     arguments: &mut Sequence<Reading>,
 ) -> Result<bool, Memory>
-    ensures { IfOk result (λ now. (rest : Option (Found (List Tree))) → resumed arguments.new now rest ≡ resumed arguments.old several (with_argument (Some found.now) rest)) }
+    ensures { IfOk result (λ now. (rest : Option (Found (List Tree)))
+        → resumed arguments.new now rest ≡ resumed arguments.old several (with_argument (Some found.now) rest)) }
 {
     match found {
         Found::Several => Ok(true),

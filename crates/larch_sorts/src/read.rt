@@ -37,7 +37,8 @@ pub fn read_in(
     // The same in terms of readings.
     ensures known { IfOk result (λ _. unknown_sort signature.now raw.now ≡ None) }
     ensures only { IfOk result (IsOnly (ReadsEquation signature.now scope.now raw.now)) }
-    ensures stands { IfErr result (λ refusal. IfSome (told refusal) (Stands signature.now scope.now raw.now (ReadsEquation signature.now scope.now raw.now))) }
+    ensures stands { IfErr result (λ refusal. IfSome (told refusal)
+        (Stands signature.now scope.now raw.now (ReadsEquation signature.now scope.now raw.now))) }
 
     // What a statement that is read is made of.
     ensures well_sorted { IfOk result (IsStatementOver signature.now) }

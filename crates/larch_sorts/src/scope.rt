@@ -42,7 +42,7 @@ impl Scope {
     }
 
     /// Puts a variable behind the others and answers true; answers false, and nothing changes, where its name is there.
-    /// Nothing changes where memory is wanting.
+    /// Nothing changes where memory runs out.
     pub fn insert(&mut self, name: Name, sort: Sort) -> Result<bool, Memory>
         ensures told { IfOk result (λ added. added ≡ not (is_some (sort_in self.old name))) }
         ensures added { IfOk result (λ added. self.new ≡ with_variable added self.old name sort) }

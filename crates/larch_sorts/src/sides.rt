@@ -41,7 +41,9 @@ pub(crate) fn sides(left: &Table, right: &Table) -> Result<Option<Found<Sides>>,
 
 // The sides of a sort.
 fn sides_at(left: &Table, right: &Table, sort: &Sort) -> Result<Option<Found<Sides>>, Memory>
-    ensures { IfOk result (λ found. found ≡ paired (reading_at left.now.found.value.entries sort.now) (reading_at right.now.found.value.entries sort.now)) }
+    ensures { IfOk result (λ found. found
+        ≡ paired (reading_at left.now.found.value.entries sort.now)
+        (reading_at right.now.found.value.entries sort.now)) }
 {
     match (at(left, sort), at(right, sort)) {
         (Some(Found::One(left)), Some(Found::One(right))) => {

@@ -99,7 +99,8 @@ fn keep(
     index: &mut IndexMap<Name, Operators>,
     operator: &Operator,
 ) -> Result<(), Memory>
-    ensures { OnOk result ((n : List ℕ) → kept_under index.new.entries n ≡ kept_under index.old.entries n ++ named n (operator.now ∷ [])) }
+    ensures { OnOk result ((n : List ℕ)
+        → kept_under index.new.entries n ≡ kept_under index.old.entries n ++ named n (operator.now ∷ [])) }
 {
     let mut operators = match index.swap_remove(operator.name()) {
         Some(operators) => operators,

@@ -24,7 +24,11 @@ pub(crate) fn add(
     operator: &Operator,
     arguments: Found<Sequence<Reading>>,
 ) -> Result<(), Memory>
-    ensures { OnOk result ((s : List ℕ) → reading_at table.new.found.value.entries s ≡ cond (bytes_eq operator.now.range s) (Some (merged (reading_at table.old.found.value.entries s) (application operator.now arguments))) (reading_at table.old.found.value.entries s)) }
+    ensures { OnOk result ((s : List ℕ)
+        → reading_at table.new.found.value.entries s
+        ≡ cond (bytes_eq operator.now.range s)
+        (Some (merged (reading_at table.old.found.value.entries s) (application operator.now arguments)))
+        (reading_at table.old.found.value.entries s)) }
 {
     let added = apply(alloc, operator, arguments)?;
     let merged = join(at(table, operator.range()), added);
@@ -100,7 +104,8 @@ pub(crate) fn copy_found(found: &Found<Reading>) -> Result<Found<Reading>, Memor
 
 // The table of what was found of one sort.
 pub(crate) fn single(alloc: Global, sort: &Sort, found: Found<Reading>) -> Result<Table, Memory>
-    ensures { IfOk result (λ table. (s : List ℕ) → reading_at table.found.value.entries s ≡ cond (bytes_eq sort.now s) (Some found) None) }
+    ensures { IfOk result (λ table. (s : List ℕ)
+        → reading_at table.found.value.entries s ≡ cond (bytes_eq sort.now s) (Some found) None) }
 {
     let mut table = Table::new(alloc)?;
     let sort = sort.copy()?;
@@ -110,7 +115,9 @@ pub(crate) fn single(alloc: Global, sort: &Sort, found: Found<Reading>) -> Resul
 
 // What a table has of a sort.
 pub(crate) fn narrowed(alloc: Global, table: &Table, sort: &Sort) -> Result<Table, Memory>
-    ensures { IfOk result (λ narrow. (s : List ℕ) → reading_at narrow.found.value.entries s ≡ cond (bytes_eq sort.now s) (reading_at table.now.found.value.entries sort.now) None) }
+    ensures { IfOk result (λ narrow. (s : List ℕ)
+        → reading_at narrow.found.value.entries s
+        ≡ cond (bytes_eq sort.now s) (reading_at table.now.found.value.entries sort.now) None) }
 {
     match at(table, sort) {
         None => {

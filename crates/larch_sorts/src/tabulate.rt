@@ -32,7 +32,8 @@ pub(crate) fn table_of(
     scope: &Scope,
     raw: &RawTerm,
 ) -> Result<Table, ReadRefusal>
-    ensures tells { IfOk result (λ table. TableTells table.found.value.entries (Reads signature.now scope.now raw.now)) }
+    ensures tells { IfOk result (λ table. TableTells table.found.value.entries
+        (Reads signature.now scope.now raw.now)) }
     ensures read { IfOk result (λ _. unread_in signature.now scope.now (parts raw.now) ≡ None) }
     ensures unread { IfErr result (λ refusal. Unread refusal (unread_in signature.now scope.now (parts raw.now))) }
 {
@@ -52,9 +53,11 @@ fn table_from_parts(
     scope: &Scope,
     raw: &RawTerm,
 ) -> Result<Table, ReadRefusal>
-    ensures tells { IfOk result (λ table. TableTells table.found.value.entries (Reads signature.now scope.now raw.now)) }
+    ensures tells { IfOk result (λ table. TableTells table.found.value.entries
+        (Reads signature.now scope.now raw.now)) }
     ensures read { IfOk result (λ _. unread_in signature.now scope.now (inner_parts raw.now) ≡ None) }
-    ensures unread { IfErr result (λ refusal. Unread refusal (unread_in signature.now scope.now (inner_parts raw.now))) }
+    ensures unread { IfErr result (λ refusal. Unread refusal
+        (unread_in signature.now scope.now (inner_parts raw.now))) }
 {
     match raw.node() {
         RawNode::Apply(name, arguments, _) => {
@@ -83,9 +86,11 @@ fn tables_of(
     scope: &Scope,
     arguments: &RawTerms,
 ) -> Result<Sequence<Table>, ReadRefusal>
-    ensures tell { IfOk result (λ tables. AllTell signature.now scope.now (map (λ t. t.found.value.entries) tables) arguments.now) }
+    ensures tell { IfOk result (λ tables. AllTell signature.now scope.now
+        (map (λ t. t.found.value.entries) tables) arguments.now) }
     ensures read { IfOk result (λ _. unread_in signature.now scope.now (parts_of (raw_forest arguments.now)) ≡ None) }
-    ensures unread { IfErr result (λ refusal. Unread refusal (unread_in signature.now scope.now (parts_of (raw_forest arguments.now)))) }
+    ensures unread { IfErr result (λ refusal. Unread refusal
+        (unread_in signature.now scope.now (parts_of (raw_forest arguments.now)))) }
 {
     let mut tables = Sequence::new(alloc);
     for argument in arguments.as_slice() {
@@ -107,7 +112,9 @@ fn variable_sort<'a>(scope: &'a Scope, name: &Name, arguments: &RawTerms) -> Opt
 
 // What a variable reads as.
 fn table_of_variable(alloc: Global, name: &Name, sort: &Sort) -> Result<Table, Memory>
-    ensures { IfOk result (λ table. (s : List ℕ) → reading_at table.found.value.entries s ≡ cond (bytes_eq sort.now s) (Some (One (var name.now sort.now))) None) }
+    ensures { IfOk result (λ table. (s : List ℕ)
+        → reading_at table.found.value.entries s
+        ≡ cond (bytes_eq sort.now s) (Some (One (var name.now sort.now))) None) }
 {
     let copied = sort.copy()?;
     let name = name.copy()?;
