@@ -11,7 +11,7 @@ use Rattle.larch_raw.specs.declared.equation.RawTrait.{RawTrait}
 use Rattle.larch_raw.specs.declared.equation.RawVar.{RawVar}
 use Rattle.larch_raw.specs.RawTree.{RawTree}
 use Rattle.larch_grammar.specs.Terminals.{terminal_of}
-use Rattle.larch_grammar.specs.Machine.{Taking, after_symbol, after_word, first_word, hand, step, step_at, word_behind, word_frames}
+use Rattle.larch_grammar.specs.Machine.{Taking, after_symbol, after_word, first_word, hand, step, step_at, word_behind, word_frames, open_item}
 use Rattle.larch_grammar.specs.Trees.{call_tree, if_tree, chain_tree, postfix_tree, prefix_tree}
 use Rattle.larch_grammar.specs.declared.terminal.Terminal.{Terminal}
 use Rattle.larch_grammar.specs.declared.terminal.Terminal.TheVariants.{Word, Symbol, Connective, Equality, Colon, Dot, Open, OpenBracket, Generated, Partitioned}
@@ -66,16 +66,16 @@ after_symbol_alike x r k t = hand_alike (InPostfixes ∷ k) (postfix_tree x r) t
 first_word_alike : (raw : RawTrait) (w : RawWord) (t : Terminal) → Alike (first_word true raw w t) (first_word false raw w t)
 first_word_alike raw w Generated = same _
 first_word_alike raw w Partitioned = same _
-first_word_alike raw w t = after_word_alike w (word_frames w (Item raw [] [])) t
+first_word_alike raw w t = after_word_alike w (word_frames w (Item (open_item raw [] []))) t
 
 word_behind_alike : (raw : RawTrait) (vs : List RawVar) (es : List RawEquation) (w : RawWord) (t : Terminal) → Alike (word_behind true raw vs es w t) (word_behind false raw vs es w t)
 word_behind_alike raw vs es w Generated = same _
 word_behind_alike raw vs es w Partitioned = same _
-word_behind_alike raw vs es w t = after_word_alike w (word_frames w (Item raw vs es)) t
+word_behind_alike raw vs es w t = after_word_alike w (word_frames w (Item (open_item raw vs es))) t
 
 alike : (n : State) (t : Terminal) → Alike (step true n t) (step false n t)
 alike (FirstWord raw w) t = first_word_alike raw w t
-alike (WordBehind raw vs es w) t = word_behind_alike raw vs es w t
+alike (WordBehind j w) t = word_behind_alike j.raw j.variables j.equations w t
 alike (AfterWord w k) t = after_word_alike w k t
 alike (AfterSymbol x r k) t = after_symbol_alike x r k t
 alike (Have r k) t = hand_alike k r t

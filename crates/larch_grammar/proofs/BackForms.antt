@@ -9,6 +9,7 @@ use Rattle.larch_grammar.specs.declared.terminal.Bracket.{Bracket}
 use Rattle.larch_grammar.specs.declared.terminal.Bracket.TheVariants.{Square, Curly}
 use Rattle.larch_grammar.specs.declared.terminal.Terminal.{Terminal}
 use Rattle.larch_grammar.specs.declared.terminal.Terminal.TheVariants.{Word, Symbol, Colon, Comma, Dot, Marker, OpenBracket, CloseBracket, Introduces, Asserts}
+use Rattle.larch_grammar.specs.declared.machine.FormBracket.{FormBracket}
 use Rattle.larch_grammar.specs.declared.machine.Naming.{Naming}
 use Rattle.larch_grammar.specs.declared.machine.Naming.TheVariants.{Declared, Referred}
 use Rattle.larch_grammar.specs.declared.machine.State.TheVariants.{AfterSymbolForm, AfterMarker, AfterMarkerSymbol, NeedMarks, AfterMark}
@@ -66,16 +67,16 @@ marks_end_back s n behind Curly m p (CloseBracket Curly) = λ i z f. (i, refl, f
 marks_end_back s n behind b m p _ = tt
 
 -- a bracket of a form is open
-pub marks_back : (s : Bool) (n : Naming) (behind : Bool) (b : Bracket) (p : Pos) (t : Terminal) → Back s (need_marks n behind b p t) t (Fits s (NeedMarks n behind b p))
-marks_back s n behind b p (Marker q) = λ i z f. (f.0, f.1, marked f.2, f.3)
-marks_back s n behind b p t =
-    passed s (end_marks n behind b 0 p t) t (MarksEnd s n behind b 0 p) (Fits s (NeedMarks n behind b p)) (λ m i z f. (f.0, 0, subst (λ x. Markers b x f.0 0) (sym f.1) empty, f.2)) (marks_end_back s n behind b 0 p t)
+pub marks_back : (s : Bool) (c : FormBracket) (t : Terminal) → Back s (need_marks c t) t (Fits s (NeedMarks c))
+marks_back s c (Marker q) = λ i z f. (f.0, f.1, marked f.2, f.3)
+marks_back s c t =
+    passed s (end_marks c.naming c.behind c.bracket 0 c.pos t) t (MarksEnd s c.naming c.behind c.bracket 0 c.pos) (Fits s (NeedMarks c)) (λ m i z f. (f.0, 0, subst (λ x. Markers c.bracket x f.0 0) (sym f.1) empty, f.2)) (marks_end_back s c.naming c.behind c.bracket 0 c.pos t)
 
 -- so many markers stand in it
-pub mark_back : (s : Bool) (n : Naming) (behind : Bool) (b : Bracket) (l : ℕ) (p : Pos) (t : Terminal) → Back s (after_mark n behind b l p t) t (Fits s (AfterMark n behind b l p))
-mark_back s n behind b l p Comma = λ i z f. f
-mark_back s n behind b l p t =
-    passed s (end_marks n behind b l p t) t (MarksEnd s n behind b l p) (Fits s (AfterMark n behind b l p)) (λ m i z f. (f.0, l, subst (λ x. AreMarkers b l x f.0 l) (sym f.1) no_marker, f.2)) (marks_end_back s n behind b l p t)
+pub mark_back : (s : Bool) (c : FormBracket) (l : ℕ) (t : Terminal) → Back s (after_mark c l t) t (Fits s (AfterMark c l))
+mark_back s c l Comma = λ i z f. f
+mark_back s c l t =
+    passed s (end_marks c.naming c.behind c.bracket l c.pos t) t (MarksEnd s c.naming c.behind c.bracket l c.pos) (Fits s (AfterMark c l)) (λ m i z f. (f.0, l, subst (λ x. AreMarkers c.bracket l x f.0 l) (sym f.1) no_marker, f.2)) (marks_end_back s c.naming c.behind c.bracket l c.pos t)
 
 -- a form of a declaration, where a declaration may begin
 decl_of_form : (s : Bool) (r : RawTrait) (i : List Marked) (z : Whole) → FitsNaming s (Declared r []) i z → FitsDecls s r i z

@@ -20,14 +20,14 @@ use Rattle.larch_grammar.specs.declared.machine.Waiting.{Waiting}
 use Rattle.larch_grammar.specs.declared.machine.Waiting.TheVariants.{Item}
 use Rattle.larch_grammar.specs.declared.machine.Whole.{Whole}
 use Rattle.larch_grammar.specs.Forms.{Marked, another_group, another_reference, no_group, no_reference}
-use Rattle.larch_grammar.specs.Machine.{after_group, after_reference, after_semicolon, after_word, begin_equation, begin_item, begin_part, clause_word, first_word, with_clause, word_behind, word_frames}
+use Rattle.larch_grammar.specs.Machine.{after_group, after_reference, after_semicolon, after_word, begin_equation, begin_item, begin_part, clause_word, first_word, with_clause, word_behind, word_frames, open_item}
 use Rattle.larch_grammar.specs.Terms.{equal, logic, plain}
 use Rattle.larch_grammar.specs.Traits.{IsClauseWord, a_clause, an_end, another_equation, clause, clause_mark, ended, generates, no_end, partitions, with_equations, without_variables}
 use Rattle.larch_grammar.proofs.Fits.{Fits, FitsBy, FitsEquation, FitsGroups, FitsItems, FitsNaming, FitsReferences, clause_terminal}
 use Rattle.larch_grammar.proofs.BackTerms.{Back, equation_back, equation_of_term, part_back, passed, word_back}
 
 -- an equation without variables, as the next item
-pub item_of_equation : (s : Bool) (r : RawTrait) (i : List Marked) (z : Whole) → FitsEquation s (Item r [] []) i z → FitsItems s before.Anything r i z
+pub item_of_equation : (s : Bool) (r : RawTrait) (i : List Marked) (z : Whole) → FitsEquation s (Item (open_item r [] [])) i z → FitsItems s before.Anything r i z
 item_of_equation s r i z f = (f.3.4.0, f.3.4.1, f.3.4.2, without_variables f.2 f.3.3 f.3.4.3, f.3.4.4, f.3.4.5)
 
 -- the first token of any item, or a part
@@ -35,7 +35,7 @@ pub item_back : (s : Bool) (r : RawTrait) (t : Terminal) → Back s (begin_item 
 item_back s r (Word w) = λ i z f. f
 item_back s r ForAll = part_back s before.Anything r ForAll
 item_back s r Asserts = part_back s before.Anything r Asserts
-item_back s r t = passed s (begin_equation t (Item r [] [])) t (FitsEquation s (Item r [] [])) (FitsItems s before.Anything r) (λ m i z f. item_of_equation s r ((t, m) ∷ i) z f) (equation_back s (Item r [] []) t)
+item_back s r t = passed s (begin_equation t (Item (open_item r [] []))) t (FitsEquation s (Item (open_item r [] []))) (FitsItems s before.Anything r) (λ m i z f. item_of_equation s r ((t, m) ∷ i) z f) (equation_back s (Item (open_item r [] [])) t)
 
 -- a reference is read, and a token stands behind it
 pub reference_back : (s : Bool) (c : Clause) (rs : List RawOpRef) (t : Terminal) → Back s (after_reference c rs t) t (FitsReferences s c rs)
@@ -71,39 +71,39 @@ pub first_back : (s : Bool) (r : RawTrait) (w : RawWord) (t : Terminal) → Back
 first_back s r w Generated = clause_back s before.Anything r w Generated
 first_back s r w Partitioned = clause_back s before.Anything r w Partitioned
 first_back s r w t =
-    passed s (after_word s w (word_frames w (Item r [] [])) t) t (Fits s (AfterWord w (word_frames w (Item r [] [])))) (Clauses s before.Anything r w)
-    (λ m i z f. item_of_equation s r ((Word w, Head) ∷ (t, m) ∷ i) z (equation_of_post s w (Item r [] []) ((t, m) ∷ i) z f)) (word_back s w (word_frames w (Item r [] [])) t)
+    passed s (after_word s w (word_frames w (Item (open_item r [] []))) t) t (Fits s (AfterWord w (word_frames w (Item (open_item r [] []))))) (Clauses s before.Anything r w)
+    (λ m i z f. item_of_equation s r ((Word w, Head) ∷ (t, m) ∷ i) z (equation_of_post s w (Item (open_item r [] [])) ((t, m) ∷ i) z f)) (word_back s w (word_frames w (Item (open_item r [] []))) t)
 
 -- behind the `;` of these equations another equation may stand
-pub ended_by_equation : (s : Bool) (r : RawTrait) (vs : List RawVar) (es : List RawEquation) (i : List Marked) (z : Whole) → FitsEquation s (Item r vs es) i z → Fits s (AfterSemicolon r vs es) i z
+pub ended_by_equation : (s : Bool) (r : RawTrait) (vs : List RawVar) (es : List RawEquation) (i : List Marked) (z : Whole) → FitsEquation s (Item (open_item r vs es)) i z → Fits s (AfterSemicolon (open_item r vs es)) i z
 ended_by_equation s r vs es i z f = (f.3.0, f.3.1, f.3.2, another_equation f.2 f.3.3, f.3.4)
 
 -- an item may stand there too
-pub ended_by_item : (s : Bool) (r : RawTrait) (vs : List RawVar) (es : List RawEquation) (i : List Marked) (z : Whole) → FitsItems s before.Semicolon (with_equations r vs es) i z → Fits s (AfterSemicolon r vs es) i z
+pub ended_by_item : (s : Bool) (r : RawTrait) (vs : List RawVar) (es : List RawEquation) (i : List Marked) (z : Whole) → FitsItems s before.Semicolon (with_equations r vs es) i z → Fits s (AfterSemicolon (open_item r vs es)) i z
 ended_by_item s r vs es i z f = (i, es, before.Semicolon, ended, f)
 
 -- the `;` of these equations is read
-pub semicolon_back : (s : Bool) (r : RawTrait) (vs : List RawVar) (es : List RawEquation) (t : Terminal) → Back s (after_semicolon r vs es t) t (Fits s (AfterSemicolon r vs es))
+pub semicolon_back : (s : Bool) (r : RawTrait) (vs : List RawVar) (es : List RawEquation) (t : Terminal) → Back s (after_semicolon r vs es t) t (Fits s (AfterSemicolon (open_item r vs es)))
 semicolon_back s r vs es (Word w) = λ i z f. f
-semicolon_back s r vs es ForAll = passed s (begin_part (with_equations r vs es) ForAll) ForAll (FitsItems s before.Semicolon (with_equations r vs es)) (Fits s (AfterSemicolon r vs es)) (λ m i z f. ended_by_item s r vs es ((ForAll, m) ∷ i) z f) (part_back s before.Semicolon (with_equations r vs es) ForAll)
-semicolon_back s r vs es Asserts = passed s (begin_part (with_equations r vs es) Asserts) Asserts (FitsItems s before.Semicolon (with_equations r vs es)) (Fits s (AfterSemicolon r vs es)) (λ m i z f. ended_by_item s r vs es ((Asserts, m) ∷ i) z f) (part_back s before.Semicolon (with_equations r vs es) Asserts)
-semicolon_back s r vs es t = passed s (begin_equation t (Item r vs es)) t (FitsEquation s (Item r vs es)) (Fits s (AfterSemicolon r vs es)) (λ m i z f. ended_by_equation s r vs es ((t, m) ∷ i) z f) (equation_back s (Item r vs es) t)
+semicolon_back s r vs es ForAll = passed s (begin_part (with_equations r vs es) ForAll) ForAll (FitsItems s before.Semicolon (with_equations r vs es)) (Fits s (AfterSemicolon (open_item r vs es))) (λ m i z f. ended_by_item s r vs es ((ForAll, m) ∷ i) z f) (part_back s before.Semicolon (with_equations r vs es) ForAll)
+semicolon_back s r vs es Asserts = passed s (begin_part (with_equations r vs es) Asserts) Asserts (FitsItems s before.Semicolon (with_equations r vs es)) (Fits s (AfterSemicolon (open_item r vs es))) (λ m i z f. ended_by_item s r vs es ((Asserts, m) ∷ i) z f) (part_back s before.Semicolon (with_equations r vs es) Asserts)
+semicolon_back s r vs es t = passed s (begin_equation t (Item (open_item r vs es))) t (FitsEquation s (Item (open_item r vs es))) (Fits s (AfterSemicolon (open_item r vs es))) (λ m i z f. ended_by_equation s r vs es ((t, m) ∷ i) z f) (equation_back s (Item (open_item r vs es)) t)
 
 -- a clause of which the word is read
-ended_clause : (s : Bool) (r : RawTrait) (vs : List RawVar) (es : List RawEquation) (w : RawWord) (i : List Marked) (z : Whole) → Clauses s before.Semicolon (with_equations r vs es) w i z → Fits s (WordBehind r vs es w) i z
+ended_clause : (s : Bool) (r : RawTrait) (vs : List RawVar) (es : List RawEquation) (w : RawWord) (i : List Marked) (z : Whole) → Clauses s before.Semicolon (with_equations r vs es) w i z → Fits s (WordBehind (open_item r vs es) w) i z
 ended_clause s r vs es w i z f = ended_by_item s r vs es ((Word w, Head) ∷ i) z f
 
 -- a word behind the `;` of these equations is read
-pub word_behind_back : (s : Bool) (r : RawTrait) (vs : List RawVar) (es : List RawEquation) (w : RawWord) (t : Terminal) → Back s (word_behind s r vs es w t) t (Fits s (WordBehind r vs es w))
+pub word_behind_back : (s : Bool) (r : RawTrait) (vs : List RawVar) (es : List RawEquation) (w : RawWord) (t : Terminal) → Back s (word_behind s r vs es w t) t (Fits s (WordBehind (open_item r vs es) w))
 word_behind_back s r vs es w Generated =
-    passed s (clause_word (with_equations r vs es) w Generated) Generated (Clauses s before.Semicolon (with_equations r vs es) w) (Fits s (WordBehind r vs es w)) (λ m i z f. ended_clause s r vs es w ((Generated, m) ∷ i) z f) (clause_back s before.Semicolon (with_equations r vs es) w Generated)
+    passed s (clause_word (with_equations r vs es) w Generated) Generated (Clauses s before.Semicolon (with_equations r vs es) w) (Fits s (WordBehind (open_item r vs es) w)) (λ m i z f. ended_clause s r vs es w ((Generated, m) ∷ i) z f) (clause_back s before.Semicolon (with_equations r vs es) w Generated)
 word_behind_back s r vs es w Partitioned =
-    passed s (clause_word (with_equations r vs es) w Partitioned) Partitioned (Clauses s before.Semicolon (with_equations r vs es) w) (Fits s (WordBehind r vs es w)) (λ m i z f. ended_clause s r vs es w ((Partitioned, m) ∷ i) z f) (clause_back s before.Semicolon (with_equations r vs es) w Partitioned)
+    passed s (clause_word (with_equations r vs es) w Partitioned) Partitioned (Clauses s before.Semicolon (with_equations r vs es) w) (Fits s (WordBehind (open_item r vs es) w)) (λ m i z f. ended_clause s r vs es w ((Partitioned, m) ∷ i) z f) (clause_back s before.Semicolon (with_equations r vs es) w Partitioned)
 word_behind_back s r vs es w t =
-    passed s (after_word s w (word_frames w (Item r vs es)) t) t (Fits s (AfterWord w (word_frames w (Item r vs es)))) (Fits s (WordBehind r vs es w))
-    (λ m i z f. ended_by_equation s r vs es ((Word w, Head) ∷ (t, m) ∷ i) z (equation_of_post s w (Item r vs es) ((t, m) ∷ i) z f)) (word_back s w (word_frames w (Item r vs es)) t)
+    passed s (after_word s w (word_frames w (Item (open_item r vs es))) t) t (Fits s (AfterWord w (word_frames w (Item (open_item r vs es))))) (Fits s (WordBehind (open_item r vs es) w))
+    (λ m i z f. ended_by_equation s r vs es ((Word w, Head) ∷ (t, m) ∷ i) z (equation_of_post s w (Item (open_item r vs es)) ((t, m) ∷ i) z f)) (word_back s w (word_frames w (Item (open_item r vs es))) t)
 
 -- variables with their sorts are read
 pub group_back : (s : Bool) (r : RawTrait) (vs : List RawVar) (t : Terminal) → Back s (after_group r vs t) t (FitsGroups s r vs)
 group_back s r vs Comma = λ i z f. (f.3.0, f.3.1, another_group f.2 f.3.2, f.3.3)
-group_back s r vs t = passed s (begin_equation t (Item r vs [])) t (FitsEquation s (Item r vs [])) (FitsGroups s r vs) (λ m i z f. ((t, m) ∷ i, vs, no_group, f)) (equation_back s (Item r vs []) t)
+group_back s r vs t = passed s (begin_equation t (Item (open_item r vs []))) t (FitsEquation s (Item (open_item r vs []))) (FitsGroups s r vs) (λ m i z f. ((t, m) ∷ i, vs, no_group, f)) (equation_back s (Item (open_item r vs [])) t)

@@ -90,10 +90,10 @@ part_back s b r _ = tt
 -- an equation is read, and a token stands behind it
 behind_back : (s : Bool) (e : RawEquation) (w : Waiting) (t : Terminal) → Back s (hand_equation e w t) t (FitsBehind s e w)
 behind_back s e Alone t = tt
-behind_back s e (Item r vs es) Semicolon = λ i z f. f
-behind_back s e (Item r vs es) (Word w) = λ i z f. (_, es ++ e ∷ [], before.Equations, no_equation, f)
-behind_back s e (Item r vs es) t =
-    passed s (begin_part (with_equations r vs (es ++ e ∷ [])) t) t (FitsItems s before.Equations (with_equations r vs (es ++ e ∷ []))) (FitsEquations s r vs (es ++ e ∷ [])) (λ m i z f. ((t, m) ∷ i, es ++ e ∷ [], before.Equations, no_equation, f)) (part_back s before.Equations (with_equations r vs (es ++ e ∷ [])) t)
+behind_back s e (Item j) Semicolon = λ i z f. f
+behind_back s e (Item j) (Word w) = λ i z f. (_, j.equations ++ e ∷ [], before.Equations, no_equation, f)
+behind_back s e (Item j) t =
+    passed s (begin_part (with_equations j.raw j.variables (j.equations ++ e ∷ [])) t) t (FitsItems s before.Equations (with_equations j.raw j.variables (j.equations ++ e ∷ []))) (FitsEquations s j.raw j.variables (j.equations ++ e ∷ [])) (λ m i z f. ((t, m) ∷ i, j.equations ++ e ∷ [], before.Equations, no_equation, f)) (part_back s before.Equations (with_equations j.raw j.variables (j.equations ++ e ∷ [])) t)
 
 -- a term of a list is read, and a token stands behind it
 list_back : (s : Bool) (r : RawTree) (h : Listing) (ts : List RawTree) (k : List Frame) (t : Terminal) → Back s (hand_list r h ts k t) t (FitsIn s r (InList h ts ∷ k))

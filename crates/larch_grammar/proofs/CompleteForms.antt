@@ -11,7 +11,7 @@ use Rattle.larch_raw.specs.declared.declared.RawWord.{RawWord}
 use Rattle.larch_raw.specs.declared.equation.RawTrait.{RawTrait}
 use Rattle.larch_raw.specs.declared.equation.RawVar.{RawVar}
 use Rattle.larch_grammar.specs.Forms.{Marked, a_word, AreWords, no_word, another_word, AreMarkers, no_marker, another_marker, Markers, empty, marked, IsForm, bare_word, bare_symbol, bare_field, field_form, prefix_form, postfix_form, infix_form, bracketed_form, bracket_behind, AreForms, no_form, another_form, no_sort, sorts, IsSig, signature, IsOpRef, by_form, by_signature, AreOpRefs, no_reference, another_reference, IsGroup, group, AreGroups, no_group, another_group}
-use Rattle.larch_grammar.specs.Machine.{Taking, after_form, end_marks, final, hand_sig, outside, step, with_reference}
+use Rattle.larch_grammar.specs.Machine.{form_bracket, Taking, after_form, end_marks, final, hand_sig, outside, step, with_reference}
 use Rattle.larch_grammar.specs.Traits.{IsDecl, declaration, with_declaration}
 use Rattle.larch_grammar.specs.Trees.{infix_name, postfix_name, mixfix, bracket_form}
 use Rattle.larch_grammar.specs.declared.terminal.Bracket.{Bracket}
@@ -58,11 +58,11 @@ marks_end : (n : Naming) (behind : Bool) (b : Bracket) (m : ℕ) (p : Pos) → e
 marks_end n behind Square m p = refl
 marks_end n behind Curly m p = refl
 
-marks_read : {b : Bracket} {m e : ℕ} {i o : List Marked} → AreMarkers b m i o e → (s : Bool) (n : Naming) (behind : Bool) (p : Pos) (z : Whole) → AcceptsFrom s (AfterForm n (bracket_form behind b e p)) o z → AcceptsFrom s (AfterMark n behind b m p) i z
+marks_read : {b : Bracket} {m e : ℕ} {i o : List Marked} → AreMarkers b m i o e → (s : Bool) (n : Naming) (behind : Bool) (p : Pos) (z : Whole) → AcceptsFrom s (AfterForm n (bracket_form behind b e p)) o z → AcceptsFrom s (AfterMark (form_bracket n behind b p) m) i z
 marks_read (no_marker {b = b} {n = m}) s n behind p z r = (_, marks_end n behind b m p, r)
 marks_read (another_marker more) s n behind p z r = (_, refl, (_, refl, marks_read more s n behind p z r))
 
-markers_read : {b : Bracket} {e : ℕ} {i o : List Marked} → Markers b i o e → (s : Bool) (n : Naming) (behind : Bool) (p : Pos) (z : Whole) → AcceptsFrom s (AfterForm n (bracket_form behind b e p)) o z → AcceptsFrom s (NeedMarks n behind b p) i z
+markers_read : {b : Bracket} {e : ℕ} {i o : List Marked} → Markers b i o e → (s : Bool) (n : Naming) (behind : Bool) (p : Pos) (z : Whole) → AcceptsFrom s (AfterForm n (bracket_form behind b e p)) o z → AcceptsFrom s (NeedMarks (form_bracket n behind b p)) i z
 markers_read (empty {b = b}) s n behind p z r = (_, marks_end n behind b 0 p, r)
 markers_read (marked more) s n behind p z r = (_, refl, marks_read more s n behind p z r)
 

@@ -15,7 +15,7 @@ use Rattle.larch_raw.specs.declared.equation.RawTrait.{RawTrait}
 use Rattle.larch_raw.specs.declared.equation.RawVar.{RawVar}
 use Rattle.larch_raw.specs.RawTree.{RawTree}
 use Rattle.larch_grammar.specs.Forms.{Marked, a_word}
-use Rattle.larch_grammar.specs.Machine.{Taking, at_head, begin_part, end_equation, final, hand_equation, outside, step_at, with_clause, word_frames}
+use Rattle.larch_grammar.specs.Machine.{Taking, at_head, begin_part, end_equation, final, hand_equation, outside, step_at, with_clause, word_frames, open_item}
 use Rattle.larch_grammar.specs.Terms.{IsEquation, formula, two_sides, first_position, formula_of, equation_of}
 use Rattle.larch_grammar.specs.Traits.{with_equations, with_item, clause_mark, generates, partitions, MayEnd, no_end, an_end, IsClause, clause, AreEquations, no_equation, ended, another_equation, AreItems, no_item, a_clause, for_all, without_variables, AreAssertions, no_assertion, asserted, AreDecls, no_declaration, another_declaration, AreParts, assertions, introduced, IsMarkedTrait, trait_of_parts, seen}
 use Rattle.larch_grammar.specs.declared.terminal.Terminal.{Terminal}
@@ -38,11 +38,11 @@ use Rattle.larch_grammar.proofs.CompleteTerms.{TermEnds, cond_reads}
 
 in_left : (s : Bool) (q : Pos) (w : Waiting) → TermEnds s (InLeft q w ∷ [])
 in_left s q Alone = (λ r p b. (refl, refl, refl, refl), λ r x. refl, λ r x. refl, λ r x. refl)
-in_left s q (Item raw vs es) = (λ r p b. (refl, refl, refl, refl), λ r x. refl, λ r x. refl, λ r x. refl)
+in_left s q (Item j) = (λ r p b. (refl, refl, refl, refl), λ r x. refl, λ r x. refl, λ r x. refl)
 
 in_right : (s : Bool) (q : Pos) (l : RawTree) (e : Pos) (w : Waiting) → TermEnds s (InRight q l e w ∷ [])
 in_right s q l e Alone = (λ r p b. (refl, refl, refl, refl), λ r x. refl, λ r x. refl, λ r x. refl)
-in_right s q l e (Item raw vs es) = (λ r p b. (refl, refl, refl, refl), λ r x. refl, λ r x. refl, λ r x. refl)
+in_right s q l e (Item j) = (λ r p b. (refl, refl, refl, refl), λ r x. refl, λ r x. refl, λ r x. refl)
 
 -- what is read behind an equation
 abbrev pub AcceptsBehind : Bool → RawEquation → Waiting → List Marked → Whole → Type 0
@@ -50,7 +50,7 @@ AcceptsBehind s e w o z = AcceptsBy s (hand_equation e w) (end_equation e w) o z
 
 no_equates : (e : RawEquation) (w : Waiting) (p : Pos) → hand_equation e w (Equates p) ≡ None
 no_equates e Alone p = refl
-no_equates e (Item raw vs es) p = refl
+no_equates e (Item j) p = refl
 
 behind_formula : (s : Bool) (o : List Marked) (l : RawTree) (p : Pos) (w : Waiting) (z : Whole) → AcceptsBehind s (formula_of l p) w o z → AcceptsFrom s (Have l (InLeft p w ∷ [])) o z
 behind_formula s [] l p w z h = h
@@ -79,13 +79,13 @@ equation_reads s {raw = raw} e = equation_read e Alone (whole.Equation raw) refl
 
 -- a word that begins an equation begins an item too: no clause goes on where an equation does
 
-first_word_read : (s : Bool) (i : List Marked) (raw : RawTrait) (w : RawWord) (z : Whole) → AcceptsFrom s (AfterWord w (word_frames w (Item raw [] []))) i z → AcceptsFrom s (FirstWord raw w) i z
+first_word_read : (s : Bool) (i : List Marked) (raw : RawTrait) (w : RawWord) (z : Whole) → AcceptsFrom s (AfterWord w (word_frames w (Item (open_item raw [] [])))) i z → AcceptsFrom s (FirstWord raw w) i z
 first_word_read s [] raw w z h = h
 first_word_read s ((Generated, m) ∷ i) raw w z h = absurd (none_some h.1)
 first_word_read s ((Partitioned, m) ∷ i) raw w z h = absurd (none_some h.1)
 first_word_read s ((t, m) ∷ i) raw w z h = h
 
-word_behind_read : (s : Bool) (i : List Marked) (raw : RawTrait) (vs : List RawVar) (es : List RawEquation) (w : RawWord) (z : Whole) → AcceptsFrom s (AfterWord w (word_frames w (Item raw vs es))) i z → AcceptsFrom s (WordBehind raw vs es w) i z
+word_behind_read : (s : Bool) (i : List Marked) (raw : RawTrait) (vs : List RawVar) (es : List RawEquation) (w : RawWord) (z : Whole) → AcceptsFrom s (AfterWord w (word_frames w (Item (open_item raw vs es)))) i z → AcceptsFrom s (WordBehind (open_item raw vs es) w) i z
 word_behind_read s [] raw vs es w z h = h
 word_behind_read s ((Generated, m) ∷ i) raw vs es w z h = absurd (none_some h.1)
 word_behind_read s ((Partitioned, m) ∷ i) raw vs es w z h = absurd (none_some h.1)
@@ -96,21 +96,21 @@ instead : (s : Bool) (i : List Marked) (z : Whole) (a b : State) (m : Mark) → 
     → (after : State) × (at_head b ≡ Some (m, after)) × AcceptsFrom s after i z
 instead s i z a b m go h = (b, ap (λ x. Some (x.0, b)) (some_equal h.1), go (subst (λ n. AcceptsFrom s n i z) (sym (ap (λ x. x.1) (some_equal h.1))) h.2))
 
-equation_begins : (s : Bool) (i : List Marked) (raw : RawTrait) (z : Whole) → AcceptsFrom s (NeedEquation (Item raw [] [])) i z → AcceptsFrom s (InItems raw) i z
+equation_begins : (s : Bool) (i : List Marked) (raw : RawTrait) (z : Whole) → AcceptsFrom s (NeedEquation (Item (open_item raw [] []))) i z → AcceptsFrom s (InItems raw) i z
 equation_begins s [] raw z h = absurd (none_some h)
-equation_begins s ((Word w, m) ∷ i) raw z h = instead s i z (AfterWord w (word_frames w (Item raw [] []))) (FirstWord raw w) m (first_word_read s i raw w z) h
+equation_begins s ((Word w, m) ∷ i) raw z h = instead s i z (AfterWord w (word_frames w (Item (open_item raw [] [])))) (FirstWord raw w) m (first_word_read s i raw w z) h
 equation_begins s ((ForAll, m) ∷ i) raw z h = absurd (none_some h.1)
 equation_begins s ((Asserts, m) ∷ i) raw z h = absurd (none_some h.1)
 equation_begins s ((t, m) ∷ i) raw z h = h
 
-equation_goes_on : (s : Bool) (i : List Marked) (raw : RawTrait) (vs : List RawVar) (es : List RawEquation) (z : Whole) → AcceptsFrom s (NeedEquation (Item raw vs es)) i z → AcceptsFrom s (AfterSemicolon raw vs es) i z
+equation_goes_on : (s : Bool) (i : List Marked) (raw : RawTrait) (vs : List RawVar) (es : List RawEquation) (z : Whole) → AcceptsFrom s (NeedEquation (Item (open_item raw vs es))) i z → AcceptsFrom s (AfterSemicolon (open_item raw vs es)) i z
 equation_goes_on s [] raw vs es z h = absurd (none_some h)
-equation_goes_on s ((Word w, m) ∷ i) raw vs es z h = instead s i z (AfterWord w (word_frames w (Item raw vs es))) (WordBehind raw vs es w) m (word_behind_read s i raw vs es w z) h
+equation_goes_on s ((Word w, m) ∷ i) raw vs es z h = instead s i z (AfterWord w (word_frames w (Item (open_item raw vs es)))) (WordBehind (open_item raw vs es) w) m (word_behind_read s i raw vs es w z) h
 equation_goes_on s ((ForAll, m) ∷ i) raw vs es z h = absurd (none_some h.1)
 equation_goes_on s ((Asserts, m) ∷ i) raw vs es z h = absurd (none_some h.1)
 equation_goes_on s ((t, m) ∷ i) raw vs es z h = h
 
-equation_of_group : (s : Bool) (i : List Marked) (raw : RawTrait) (vs : List RawVar) (z : Whole) → AcceptsFrom s (NeedEquation (Item raw vs [])) i z → AcceptsFrom s (AfterGroup raw vs) i z
+equation_of_group : (s : Bool) (i : List Marked) (raw : RawTrait) (vs : List RawVar) (z : Whole) → AcceptsFrom s (NeedEquation (Item (open_item raw vs []))) i z → AcceptsFrom s (AfterGroup raw vs) i z
 equation_of_group s [] raw vs z h = h
 equation_of_group s ((Comma, m) ∷ i) raw vs z h = absurd (none_some h.1)
 equation_of_group s ((t, m) ∷ i) raw vs z h = h
@@ -162,7 +162,7 @@ clause_first s ((Generated, m) ∷ i) raw w z h = h
 clause_first s ((Partitioned, m) ∷ i) raw w z h = h
 clause_first s ((t, m) ∷ i) raw w z h = absurd (none_some h.1)
 
-clause_behind : (s : Bool) (i : List Marked) (raw : RawTrait) (vs : List RawVar) (es : List RawEquation) (w : RawWord) (z : Whole) → AcceptsFrom s (ClauseWord (with_equations raw vs es) w) i z → AcceptsFrom s (WordBehind raw vs es w) i z
+clause_behind : (s : Bool) (i : List Marked) (raw : RawTrait) (vs : List RawVar) (es : List RawEquation) (w : RawWord) (z : Whole) → AcceptsFrom s (ClauseWord (with_equations raw vs es) w) i z → AcceptsFrom s (WordBehind (open_item raw vs es) w) i z
 clause_behind s [] raw vs es w z h = absurd (none_some h)
 clause_behind s ((Generated, m) ∷ i) raw vs es w z h = h
 clause_behind s ((Partitioned, m) ∷ i) raw vs es w z h = h
@@ -182,28 +182,28 @@ clause_reads (clause {m = m} {i = i} {sort = sort} {rs = rs} partitions q more e
     clause_begins s ((Partitioned, Outside) ∷ (By, Outside) ∷ i) b raw sort m z e (_, refl, (_, refl, references_read q more s c z (clause_ends end s c rs z h)))
 
 -- behind the last equation of an item, and behind its `;`
-behind_last : (s : Bool) (o : List Marked) (raw : RawTrait) (vs : List RawVar) (es : List RawEquation) (e : RawEquation) (z : Whole) → AcceptsItems s Equations (with_equations raw vs (es ++ e ∷ [])) o z → AcceptsBehind s e (Item raw vs es) o z
+behind_last : (s : Bool) (o : List Marked) (raw : RawTrait) (vs : List RawVar) (es : List RawEquation) (e : RawEquation) (z : Whole) → AcceptsItems s Equations (with_equations raw vs (es ++ e ∷ [])) o z → AcceptsBehind s e (Item (open_item raw vs es)) o z
 behind_last s [] raw vs es e z h = h
 behind_last s ((Word w, m) ∷ o) raw vs es e z h = h
 behind_last s ((Semicolon, m) ∷ o) raw vs es e z h = absurd (none_some h.1)
 behind_last s ((t, m) ∷ o) raw vs es e z h = h
 
-behind_semicolon : (s : Bool) (o : List Marked) (raw : RawTrait) (vs : List RawVar) (es : List RawEquation) (z : Whole) → AcceptsItems s semicolon (with_equations raw vs es) o z → AcceptsFrom s (AfterSemicolon raw vs es) o z
+behind_semicolon : (s : Bool) (o : List Marked) (raw : RawTrait) (vs : List RawVar) (es : List RawEquation) (z : Whole) → AcceptsItems s semicolon (with_equations raw vs es) o z → AcceptsFrom s (AfterSemicolon (open_item raw vs es)) o z
 behind_semicolon s [] raw vs es z h = h
-behind_semicolon s ((Word w, m) ∷ o) raw vs es z h = instead s o z (ClauseWord (with_equations raw vs es) w) (WordBehind raw vs es w) m (clause_behind s o raw vs es w z) h
+behind_semicolon s ((Word w, m) ∷ o) raw vs es z h = instead s o z (ClauseWord (with_equations raw vs es) w) (WordBehind (open_item raw vs es) w) m (clause_behind s o raw vs es w z) h
 behind_semicolon s ((ForAll, m) ∷ o) raw vs es z h = h
 behind_semicolon s ((Asserts, m) ∷ o) raw vs es z h = h
 behind_semicolon s ((t, m) ∷ o) raw vs es z h = absurd (none_some h.1)
 
 equations_read : {s : Bool} {ds fs : List RawEquation} {i o : List Marked} {b : Before} → AreEquations s ds i o fs b → (raw : RawTrait) (vs : List RawVar) (es : List RawEquation) (e : RawEquation) (z : Whole) → es ++ e ∷ [] ≡ ds
-    → AcceptsItems s b (with_equations raw vs fs) o z → AcceptsBehind s e (Item raw vs es) i z
+    → AcceptsItems s b (with_equations raw vs fs) o z → AcceptsBehind s e (Item (open_item raw vs es)) i z
 equations_read (no_equation {s = s} {o = o}) raw vs es e z u h = behind_last s o raw vs es e z (subst (λ y. AcceptsItems s Equations (with_equations raw vs y) o z) (sym u) h)
 equations_read (ended {s = s} {o = o}) raw vs es e z u h =
-    (AfterSemicolon raw vs (es ++ e ∷ []), refl, behind_semicolon s o raw vs (es ++ e ∷ []) z (subst (λ y. AcceptsItems s semicolon (with_equations raw vs y) o z) (sym u) h))
+    (AfterSemicolon (open_item raw vs (es ++ e ∷ [])), refl, behind_semicolon s o raw vs (es ++ e ∷ []) z (subst (λ y. AcceptsItems s semicolon (with_equations raw vs y) o z) (sym u) h))
 equations_read (another_equation {s = s} {e = a} {i = i} equation more) raw vs es e z u h = (
-  AfterSemicolon raw vs (es ++ e ∷ []),
+  AfterSemicolon (open_item raw vs (es ++ e ∷ [])),
   refl,
-  equation_goes_on s i raw vs (es ++ e ∷ []) z (equation_read equation (Item raw vs (es ++ e ∷ [])) z
+  equation_goes_on s i raw vs (es ++ e ∷ []) z (equation_read equation (Item (open_item raw vs (es ++ e ∷ []))) z
       (equations_read more raw vs (es ++ e ∷ []) a z (ap (λ y. y ++ a ∷ []) u) h)),
 )
 
@@ -216,10 +216,10 @@ items_read : {s : Bool} {b : Before} {r t : RawTrait} {i o : List Marked} → Ar
 items_read (no_item {s = s} {b = b} {r = r} {o = o}) z h = no_item_read s o b r z h
 items_read (a_clause {s = s} {b = b} {r = r} c more) z h = clause_reads c s b r z refl (items_read more z h)
 items_read (for_all {s = s} {b = b} {r = r} {vs = vs} {e = e} {i = i} {k = k} g gs equation equations more) z h =
-    variables_begin s i b r z (group_reads g s r [] z (groups_read gs s r z (equation_of_group s k r vs z (equation_read equation (Item r vs []) z
+    variables_begin s i b r z (group_reads g s r [] z (groups_read gs s r z (equation_of_group s k r vs z (equation_read equation (Item (open_item r vs [])) z
     (equations_read equations r vs [] e z refl (items_read more z h))))))
 items_read (without_variables {s = s} {r = r} {e = e} {i = i} equation equations more) z h =
-    equation_begins s i r z (equation_read equation (Item r [] []) z (equations_read equations r [] [] e z refl (items_read more z h)))
+    equation_begins s i r z (equation_read equation (Item (open_item r [] [])) z (equations_read equations r [] [] e z refl (items_read more z h)))
 
 -- parts
 

@@ -38,7 +38,7 @@ use Rattle.larch_grammar.specs.declared.machine.Whole.{Whole}
 use Rattle.larch_grammar.specs.declared.machine.Whole.TheVariants as whole
 use Rattle.larch_grammar.specs.Forms.{bare_symbol, by_form, no_reference, postfix_form}
 use Rattle.larch_grammar.specs.Terminals.{terminal_of}
-use Rattle.larch_grammar.specs.Machine.{Taking, end_equation, end_form, final, finish, step, with_clause, word_frames}
+use Rattle.larch_grammar.specs.Machine.{form_bracket, Taking, end_equation, end_form, final, finish, step, with_clause, word_frames, open_item}
 use Rattle.larch_grammar.specs.Terms.{behind, formula_of, equation_of, no_connective, no_equality, no_field, no_infix, no_postfix, no_stray, no_symbol, word_alone}
 use Rattle.larch_grammar.specs.Traits.{assertions, no_assertion, no_declaration, no_end, no_equation, no_item, seen, with_equations}
 use Rattle.larch_grammar.specs.Trees.{bracket_tree, call_tree, field_tree, if_tree, chain_tree, listing_tree, postfix_tree, prefix_tree}
@@ -63,7 +63,7 @@ form_fits s (Referred c rs) f z e = λ h form. ([], _, by_form form, references_
 -- the tokens may end behind an equation
 behind_fits : (s : Bool) (e : RawEquation) (w : Waiting) (z : Whole) → end_equation e w ≡ Some z → FitsBehind s e w [] z
 behind_fits s e Alone z q = (refl, some_equal q)
-behind_fits s e (Item r vs es) z q = ([], es ++ e ∷ [], before.Equations, no_equation, items_end s before.Equations (with_equations r vs (es ++ e ∷ [])) z q)
+behind_fits s e (Item j) z q = ([], j.equations ++ e ∷ [], before.Equations, no_equation, items_end s before.Equations (with_equations j.raw j.variables (j.equations ++ e ∷ [])) z q)
 
 -- the tokens may end behind a tree in these frames
 finish_fits : (s : Bool) (r : RawTree) (k : List Frame) (z : Whole) → finish r k ≡ Some z → FitsIn s r k [] z
@@ -97,9 +97,9 @@ final_fits s (AfterMarkerSymbol n p x) z e = ([], _, postfix_form, form_fits s n
 final_fits s (AfterForm n f) z e = form_fits s n f z e
 final_fits s (AfterReference c rs) z e = references_end s c rs z e
 final_fits s (InItems r) z e = items_end s before.Anything r z e
-final_fits s (FirstWord r w) z e = item_of_equation s r ((Word w, Head) ∷ []) z (equation_of_post s w (Item r [] []) [] z (word_fits s w (word_frames w (Item r [] [])) z e))
-final_fits s (AfterSemicolon r vs es) z e = ended_by_item s r vs es [] z (items_end s before.Semicolon (with_equations r vs es) z e)
-final_fits s (WordBehind r vs es w) z e = ended_by_equation s r vs es ((Word w, Head) ∷ []) z (equation_of_post s w (Item r vs es) [] z (word_fits s w (word_frames w (Item r vs es)) z e))
+final_fits s (FirstWord r w) z e = item_of_equation s r ((Word w, Head) ∷ []) z (equation_of_post s w (Item (open_item r [] [])) [] z (word_fits s w (word_frames w (Item (open_item r [] []))) z e))
+final_fits s (AfterSemicolon j) z e = ended_by_item s j.raw j.variables j.equations [] z (items_end s before.Semicolon (with_equations j.raw j.variables j.equations) z e)
+final_fits s (WordBehind j w) z e = ended_by_equation s j.raw j.variables j.equations ((Word w, Head) ∷ []) z (equation_of_post s w (Item (open_item j.raw j.variables j.equations)) [] z (word_fits s w (word_frames w (Item (open_item j.raw j.variables j.equations))) z e))
 final_fits s (AfterWord w k) z e = word_fits s w k z e
 final_fits s (AfterSymbol x r k) z e = ([], postfix_tree x r, behind tt no_postfix, finish_fits s (postfix_tree x r) k z e)
 final_fits s (Have r k) z e = finish_fits s r k z e
@@ -183,9 +183,9 @@ form_some s (Referred c rs) f = ended_in s (AfterForm (Referred c rs) f) _ refl
 naming_some : (s : Bool) (n : Naming) → Completes s (NeedForm n)
 naming_some s n = onward s (NeedForm n) word (form_some s n _)
 
-marks_some : (s : Bool) (n : Naming) (front : Bool) (b : Bracket) (m : ℕ) (p : Pos) → Completes s (AfterMark n front b m p)
-marks_some s n front Square m p = onward s (AfterMark n front Square m p) close_square (form_some s n _)
-marks_some s n front Curly m p = onward s (AfterMark n front Curly m p) close_curly (form_some s n _)
+marks_some : (s : Bool) (n : Naming) (front : Bool) (b : Bracket) (m : ℕ) (p : Pos) → Completes s (AfterMark (form_bracket n front b p) m)
+marks_some s n front Square m p = onward s (AfterMark (form_bracket n front Square p) m) close_square (form_some s n _)
+marks_some s n front Curly m p = onward s (AfterMark (form_bracket n front Curly p) m) close_curly (form_some s n _)
 
 by_some : (s : Bool) (c : Clause) → Completes s (NeedBy c)
 by_some s c = onward s (NeedBy c) by (naming_some s (Referred c []))
@@ -193,7 +193,7 @@ by_some s c = onward s (NeedBy c) by (naming_some s (Referred c []))
 -- an equation is read
 behind_some : (s : Bool) (e : RawEquation) (w : Waiting) → (z : Whole) × FitsBehind s e w [] z
 behind_some s e Alone = (_, behind_fits s e Alone _ refl)
-behind_some s e (Item r vs es) = (_, behind_fits s e (Item r vs es) _ refl)
+behind_some s e (Item j) = (_, behind_fits s e (Item (open_item j.raw j.variables j.equations)) _ refl)
 
 -- a word in the frames of a term
 word_done : (s : Bool) (w : RawWord) (k : List Frame) → Completes s (Have (call_tree w []) k) → Completes s (AfterWord w (InInfixes None ∷ InEqualities None ∷ InConnectives None ∷ k))
@@ -240,7 +240,7 @@ word_some : (s : Bool) (w : RawWord) (k : List Frame) → Completes s (AfterWord
 word_some s w k = let c = have_some s (call_tree w []) (InFields ∷ k) in (c.0, c.1, (c.2.0, c.2.1, word_alone c.2.2, c.2.3))
 
 group_some : (s : Bool) (r : RawTrait) (vs : List RawVar) → Completes s (AfterGroup r vs)
-group_some s r vs = onward s (AfterGroup r vs) word (word_some s the_word (word_frames the_word (Item r vs [])))
+group_some s r vs = onward s (AfterGroup r vs) word (word_some s the_word (word_frames the_word (Item (open_item r vs []))))
 
 names_some : (s : Bool) (r : RawTrait) (vs : List RawVar) (ws : List RawWord) → Completes s (AfterVariable r vs ws)
 names_some s r vs ws = onward s (AfterVariable r vs ws) colon (onward s (NeedVariableSort r vs ws) word (group_some s r _))
@@ -249,8 +249,8 @@ first_some : (s : Bool) (b : Bracket) (l : Option RawTree) (p : Pos) (k : List F
 first_some s Square l p k = onward s (NeedFirst Square l p k) close_square (have_some s (bracket_tree Square l p []) (InFields ∷ k))
 first_some s Curly l p k = onward s (NeedFirst Curly l p k) close_curly (have_some s (bracket_tree Curly l p []) (InFields ∷ k))
 
-brackets_some : (s : Bool) (n : Naming) (front : Bool) (b : Bracket) (p : Pos) → Completes s (NeedMarks n front b p)
-brackets_some s n front b p = onward s (NeedMarks n front b p) marker (marks_some s n front b 1 p)
+brackets_some : (s : Bool) (n : Naming) (front : Bool) (b : Bracket) (p : Pos) → Completes s (NeedMarks (form_bracket n front b p))
+brackets_some s n front b p = onward s (NeedMarks (form_bracket n front b p)) marker (marks_some s n front b 1 p)
 
 head_some : (s : Bool) (w : RawWord) → Completes s (NeedTrait w)
 head_some s w = onward s (NeedTrait w) the_trait (ended_in s (AfterHead _) _ refl)
@@ -270,9 +270,9 @@ some_fit s (AfterSymbolForm n x) = onward s (AfterSymbolForm n x) marker (form_s
 some_fit s (AfterDotForm n p) = onward s (AfterDotForm n p) word (form_some s n _)
 some_fit s (AfterMarker n p) = onward s (AfterMarker n p) symbol (onward s (AfterMarkerSymbol n p _) marker (form_some s n _))
 some_fit s (AfterMarkerSymbol n p x) = onward s (AfterMarkerSymbol n p x) marker (form_some s n _)
-some_fit s (NeedMarks n front b p) = brackets_some s n front b p
-some_fit s (AfterMark n front b m p) = marks_some s n front b m p
-some_fit s (NeedMark n front b m p) = onward s (NeedMark n front b m p) marker (marks_some s n front b _ p)
+some_fit s (NeedMarks c) = brackets_some s c.naming c.behind c.bracket c.pos
+some_fit s (AfterMark c m) = marks_some s c.naming c.behind c.bracket m c.pos
+some_fit s (NeedMark c m) = onward s (NeedMark c m) marker (marks_some s c.naming c.behind c.bracket _ c.pos)
 some_fit s (AfterForm n f) = form_some s n f
 some_fit s (NeedSig n) = sig_some s n
 some_fit s (AfterSort n ws) = sorts_some s n ws
@@ -281,8 +281,8 @@ some_fit s (NeedRange n ws) = range_some s n ws
 some_fit s (AfterReference c rs) = ended_in s (AfterReference c rs) _ refl
 some_fit s (InItems r) = ended_in s (InItems r) _ refl
 some_fit s (FirstWord r w) = ended_in s (FirstWord r w) _ refl
-some_fit s (AfterSemicolon r vs es) = ended_in s (AfterSemicolon r vs es) _ refl
-some_fit s (WordBehind r vs es w) = ended_in s (WordBehind r vs es w) _ refl
+some_fit s (AfterSemicolon j) = ended_in s (AfterSemicolon (open_item j.raw j.variables j.equations)) _ refl
+some_fit s (WordBehind j w) = ended_in s (WordBehind (open_item j.raw j.variables j.equations) w) _ refl
 some_fit s (ClauseWord r w) = onward s (ClauseWord r w) generated (by_some s (record { raw = r; kind = clause_kind.Generated; sort = w }))
 some_fit s (NeedBy c) = by_some s c
 some_fit s (NeedVariable r vs) = onward s (NeedVariable r vs) word (names_some s r vs _)

@@ -36,7 +36,7 @@ use Rattle.larch_grammar.specs.declared.machine.Whole.{Whole}
 use Rattle.larch_grammar.specs.declared.machine.Whole.TheVariants as whole
 use Rattle.larch_grammar.specs.Depth.{depth_of}
 use Rattle.larch_grammar.specs.Forms.{Marked, AreForms, AreGroups, AreMarkers, AreOpRefs, AreWords, IsForm, IsGroup, IsOpRef, IsSig, IsWord, Markers, variables_at}
-use Rattle.larch_grammar.specs.Machine.{symbol_of, with_clause}
+use Rattle.larch_grammar.specs.Machine.{symbol_of, with_clause, open_item}
 use Rattle.larch_grammar.specs.Terms.{Cond, Connectives, Equalities, Fields, InBracket, Infixes, IsEquation, Oper, Operand, Others, Post, Postfixes, Strays, Symbols, equation_of, formula_of, opens_head}
 use Rattle.larch_grammar.specs.Traits.{AreAssertions, AreDecls, AreEquations, AreItems, AreParts, IsClause, IsMarkedTrait, MayEnd, with_declaration, with_equations, with_item}
 use Rattle.larch_grammar.specs.Trees.{bracket_form, field_name, if_tree, chain_tree, listing_tree, mixfix, prefix_tree}
@@ -62,7 +62,7 @@ FitsEquations s r vs es i z = (j : List Marked) × (fs : List RawEquation) × (b
 -- what may follow an equation that waiting takes
 abbrev pub FitsBehind : Bool → RawEquation → Waiting → List Marked → Whole → Type 0
 FitsBehind s e Alone i z = (i ≡ []) × (whole.Equation e ≡ z)
-FitsBehind s e (Item r vs es) i z = FitsEquations s r vs (es ++ e ∷ []) i z
+FitsBehind s e (Item j) i z = FitsEquations s j.raw j.variables (j.equations ++ e ∷ []) i z
 
 -- what may follow where an equation is needed
 abbrev pub FitsEquation : Bool → Waiting → List Marked → Whole → Type 0
@@ -70,7 +70,7 @@ FitsEquation s w i z = (j : List Marked) × (e : RawEquation) × IsEquation s i 
 
 -- what may follow these variables
 abbrev pub FitsGroups : Bool → RawTrait → List RawVar → List Marked → Whole → Type 0
-FitsGroups s r vs i z = (j : List Marked) × (us : List RawVar) × AreGroups vs i j us × FitsEquation s (Item r us []) j z
+FitsGroups s r vs i z = (j : List Marked) × (us : List RawVar) × AreGroups vs i j us × FitsEquation s (Item (open_item r us [])) j z
 
 -- what may follow these variables, and these names that are to be variables too
 abbrev pub FitsNames : Bool → RawTrait → List RawVar → List RawWord → List Marked → Whole → Type 0
@@ -179,9 +179,9 @@ Fits s (AfterSymbolForm n x) i z = FitsNaming s n ((Symbol x, Outside) ∷ i) z
 Fits s (AfterDotForm n p) i z = (j : List Marked) × (w : RawWord) × IsWord i j w × FitsForm s n (mixfix (field_name w.name) 1 p) j z
 Fits s (AfterMarker n p) i z = FitsNaming s n ((Marker p, Outside) ∷ i) z
 Fits s (AfterMarkerSymbol n p x) i z = FitsNaming s n ((Marker p, Outside) ∷ (Symbol x, Outside) ∷ i) z
-Fits s (NeedMarks n behind b p) i z = (j : List Marked) × (m : ℕ) × Markers b i j m × FitsForm s n (bracket_form behind b m p) j z
-Fits s (AfterMark n behind b m p) i z = FitsMarks s n behind b m p i z
-Fits s (NeedMark n behind b m p) i z = FitsMarks s n behind b m p ((Comma, Outside) ∷ i) z
+Fits s (NeedMarks c) i z = (j : List Marked) × (m : ℕ) × Markers c.bracket i j m × FitsForm s c.naming (bracket_form c.behind c.bracket m c.pos) j z
+Fits s (AfterMark c m) i z = FitsMarks s c.naming c.behind c.bracket m c.pos i z
+Fits s (NeedMark c m) i z = FitsMarks s c.naming c.behind c.bracket m c.pos ((Comma, Outside) ∷ i) z
 Fits s (AfterForm n f) i z = FitsForm s n f i z
 Fits s (NeedSig n) i z = FitsSig s n i z
 Fits s (AfterSort n ws) i z = FitsSorts s n ws i z
@@ -190,8 +190,8 @@ Fits s (NeedRange n ws) i z = FitsRange s n ws i z
 Fits s (AfterReference c rs) i z = FitsReferences s c rs i z
 Fits s (InItems r) i z = FitsItems s before.Anything r i z
 Fits s (FirstWord r w) i z = FitsItems s before.Anything r ((Word w, Head) ∷ i) z
-Fits s (AfterSemicolon r vs es) i z = FitsEquations s r vs es ((Semicolon, Outside) ∷ i) z
-Fits s (WordBehind r vs es w) i z = FitsEquations s r vs es ((Semicolon, Outside) ∷ (Word w, Head) ∷ i) z
+Fits s (AfterSemicolon j) i z = FitsEquations s j.raw j.variables j.equations ((Semicolon, Outside) ∷ i) z
+Fits s (WordBehind j w) i z = FitsEquations s j.raw j.variables j.equations ((Semicolon, Outside) ∷ (Word w, Head) ∷ i) z
 Fits s (ClauseWord r w) i z = FitsItems s before.Equations r ((Word w, Outside) ∷ i) z
 Fits s (NeedBy c) i z = FitsBy s c i z
 Fits s (NeedVariable r vs) i z = (j : List Marked) × (gs : List RawVar) × IsGroup i j gs × FitsGroups s r (vs ++ gs) j z

@@ -10,3 +10,4 @@ pub mod Ends
 pub mod Fits
 pub mod Law
 pub mod Markers
+pub mod Words

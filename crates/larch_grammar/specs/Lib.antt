@@ -1,9 +1,10 @@
 pub mod Answers
 pub mod Depth
 pub mod Forms
-pub mod Terminals
 pub mod Machine
 pub mod Opening
+pub mod Terminals
 pub mod Terms
 pub mod Traits
 pub mod Trees
+pub mod WordTokens

@@ -20,6 +20,7 @@ use Rattle.larch_grammar.specs.declared.terminal.Bracket.TheVariants.{Square, Cu
 use Rattle.larch_grammar.specs.declared.terminal.Terminal.{Terminal}
 use Rattle.larch_grammar.specs.declared.terminal.Terminal.TheVariants.{Word, Symbol, Not, Connective, Equality, Equates, Arrow, Colon, Comma, Semicolon, Dot, Marker, Open, Close, OpenBracket, CloseBracket, ForAll, Trait, Introduces, Asserts, Generated, Partitioned, By, If, Then, Else}
 use Rattle.larch_grammar.specs.declared.machine.Clause.{Clause}
+use Rattle.larch_grammar.specs.declared.machine.FormBracket.{FormBracket}
 use Rattle.larch_grammar.specs.declared.machine.Frame.{Frame}
 use Rattle.larch_grammar.specs.declared.machine.Frame.TheVariants.{InFields, InStrays, Prefixed, InPostfixes, InInfixes, InEqualities, InConnectives, InParentheses, InList, InIf, InThen, InElse, InLeft, InRight}
 use Rattle.larch_grammar.specs.declared.machine.Link.{Link}
@@ -27,6 +28,7 @@ use Rattle.larch_grammar.specs.declared.machine.Listing.{Listing}
 use Rattle.larch_grammar.specs.declared.machine.Listing.TheVariants.{Call, Bracketed}
 use Rattle.larch_grammar.specs.declared.machine.Naming.{Naming}
 use Rattle.larch_grammar.specs.declared.machine.Naming.TheVariants.{Declared, Referred}
+use Rattle.larch_grammar.specs.declared.machine.OpenItem.{OpenItem}
 use Rattle.larch_grammar.specs.declared.machine.Signing.{Signing}
 use Rattle.larch_grammar.specs.declared.machine.Signing.TheVariants.{Declaration, Reference}
 use Rattle.larch_grammar.specs.declared.machine.State.{State}
@@ -94,6 +96,10 @@ begin_equation t w = begin_term t (InLeft (position_of t) w ∷ [])
 
 -- items: what may stand where an item may begin
 
+-- an open item: the trait before it, its variables and its equations
+abbrev pub open_item : RawTrait → List RawVar → List RawEquation → OpenItem
+open_item raw vs es = record { raw = raw; variables = vs; equations = es }
+
 -- a part, or an item that needs no `;` before it
 abbrev pub begin_part : RawTrait → Terminal → Taking
 begin_part raw ForAll = outside (NeedVariable raw [])
@@ -105,14 +111,14 @@ abbrev pub begin_item : RawTrait → Terminal → Taking
 begin_item raw (Word w) = at_head (FirstWord raw w)
 begin_item raw ForAll = begin_part raw ForAll
 begin_item raw Asserts = begin_part raw Asserts
-begin_item raw t = begin_equation t (Item raw [] [])
+begin_item raw t = begin_equation t (Item (open_item raw [] []))
 
 -- an equation is read, and a token stands behind it
 abbrev pub hand_equation : RawEquation → Waiting → Terminal → Taking
 hand_equation e Alone t = None
-hand_equation e (Item raw vs es) Semicolon = outside (AfterSemicolon raw vs (es ++ e ∷ []))
-hand_equation e (Item raw vs es) (Word w) = outside (ClauseWord (with_equations raw vs (es ++ e ∷ [])) w)
-hand_equation e (Item raw vs es) t = begin_part (with_equations raw vs (es ++ e ∷ [])) t
+hand_equation e (Item j) Semicolon = outside (AfterSemicolon (open_item j.raw j.variables (j.equations ++ e ∷ [])))
+hand_equation e (Item j) (Word w) = outside (ClauseWord (with_equations j.raw j.variables (j.equations ++ e ∷ [])) w)
+hand_equation e (Item j) t = begin_part (with_equations j.raw j.variables (j.equations ++ e ∷ [])) t
 
 -- the symbol of a chain
 abbrev pub symbol_of : Option Link → Option RawWord
@@ -162,7 +168,7 @@ hand s r (InRight p l q w ∷ k) t = hand_equation (equation_of l q r p) w t
 -- the whole, where the tokens may end behind an equation
 abbrev pub end_equation : RawEquation → Waiting → Option Whole
 end_equation e Alone = Some (whole.Equation e)
-end_equation e (Item raw vs es) = Some (whole.Trait (with_equations raw vs (es ++ e ∷ [])))
+end_equation e (Item j) = Some (whole.Trait (with_equations j.raw j.variables (j.equations ++ e ∷ [])))
 
 -- the whole, where the tokens may end behind a term
 abbrev pub finish : RawTree → List Frame → Option Whole
@@ -206,13 +212,17 @@ word_frames w e = InInfixes None ∷ InEqualities None ∷ InConnectives None �
 
 -- forms, signatures and clauses
 
+-- a bracket that is open in a form
+abbrev pub form_bracket : Naming → Bool → Bracket → Pos → FormBracket
+form_bracket n behind b p = record { naming = n; behind = behind; bracket = b; pos = p }
+
 -- the first token of a form
 abbrev pub begin_form : Naming → Terminal → Taking
 begin_form n (Word w) = outside (AfterForm n (plain_form w))
 begin_form n (Symbol x) = outside (AfterSymbolForm n x)
 begin_form n (Dot p) = outside (AfterDotForm n p)
 begin_form n (Marker p) = outside (AfterMarker n p)
-begin_form n (OpenBracket b p) = outside (NeedMarks n false b p)
+begin_form n (OpenBracket b p) = outside (NeedMarks (form_bracket n false b p))
 begin_form n _ = None
 
 -- the trait with a clause of these references
@@ -251,7 +261,7 @@ after_symbol_form n x t = after_form n (mixfix (infix_name x.name) 2 x.pos) t
 abbrev pub after_marker : Naming → Pos → Terminal → Taking
 after_marker n p (Dot q) = outside (AfterDotForm n p)
 after_marker n p (Symbol x) = outside (AfterMarkerSymbol n p x)
-after_marker n p (OpenBracket b q) = outside (NeedMarks n true b p)
+after_marker n p (OpenBracket b q) = outside (NeedMarks (form_bracket n true b p))
 after_marker n p _ = None
 
 -- a `__` and a symbol are read
@@ -266,14 +276,14 @@ end_marks n behind Curly m p (CloseBracket Curly) = outside (AfterForm n (bracke
 end_marks n behind b m p _ = None
 
 -- a bracket of a form is open
-abbrev pub need_marks : Naming → Bool → Bracket → Pos → Terminal → Taking
-need_marks n behind b p (Marker q) = outside (AfterMark n behind b 1 p)
-need_marks n behind b p t = end_marks n behind b 0 p t
+abbrev pub need_marks : FormBracket → Terminal → Taking
+need_marks c (Marker q) = outside (AfterMark c 1)
+need_marks c t = end_marks c.naming c.behind c.bracket 0 c.pos t
 
 -- so many markers stand in it
-abbrev pub after_mark : Naming → Bool → Bracket → ℕ → Pos → Terminal → Taking
-after_mark n behind b m p Comma = outside (NeedMark n behind b m p)
-after_mark n behind b m p t = end_marks n behind b m p t
+abbrev pub after_mark : FormBracket → ℕ → Terminal → Taking
+after_mark c m Comma = outside (NeedMark c m)
+after_mark c m t = end_marks c.naming c.behind c.bracket m c.pos t
 
 -- the word that begins a clause is read
 abbrev pub clause_word : RawTrait → RawWord → Terminal → Taking
@@ -285,25 +295,25 @@ clause_word raw w _ = None
 abbrev pub first_word : Bool → RawTrait → RawWord → Terminal → Taking
 first_word s raw w Generated = clause_word raw w Generated
 first_word s raw w Partitioned = clause_word raw w Partitioned
-first_word s raw w t = after_word s w (word_frames w (Item raw [] [])) t
+first_word s raw w t = after_word s w (word_frames w (Item (open_item raw [] []))) t
 
 -- a word behind the `;` of these equations is read
 abbrev pub word_behind : Bool → RawTrait → List RawVar → List RawEquation → RawWord → Terminal → Taking
 word_behind s raw vs es w Generated = clause_word (with_equations raw vs es) w Generated
 word_behind s raw vs es w Partitioned = clause_word (with_equations raw vs es) w Partitioned
-word_behind s raw vs es w t = after_word s w (word_frames w (Item raw vs es)) t
+word_behind s raw vs es w t = after_word s w (word_frames w (Item (open_item raw vs es))) t
 
 -- the `;` of these equations is read
 abbrev pub after_semicolon : RawTrait → List RawVar → List RawEquation → Terminal → Taking
-after_semicolon raw vs es (Word w) = at_head (WordBehind raw vs es w)
+after_semicolon raw vs es (Word w) = at_head (WordBehind (open_item raw vs es) w)
 after_semicolon raw vs es ForAll = begin_part (with_equations raw vs es) ForAll
 after_semicolon raw vs es Asserts = begin_part (with_equations raw vs es) Asserts
-after_semicolon raw vs es t = begin_equation t (Item raw vs es)
+after_semicolon raw vs es t = begin_equation t (Item (open_item raw vs es))
 
 -- variables with their sorts are read
 abbrev pub after_group : RawTrait → List RawVar → Terminal → Taking
 after_group raw vs Comma = outside (NeedVariable raw vs)
-after_group raw vs t = begin_equation t (Item raw vs [])
+after_group raw vs t = begin_equation t (Item (open_item raw vs []))
 
 -- `introduces` or a declaration is read
 abbrev pub in_part : RawTrait → Terminal → Taking
@@ -329,9 +339,9 @@ step s (AfterSymbolForm n x) t = after_symbol_form n x t
 step s (AfterDotForm n p) (Word w) = outside (AfterForm n (mixfix (field_name w.name) 1 p))
 step s (AfterMarker n p) t = after_marker n p t
 step s (AfterMarkerSymbol n p x) t = after_marker_symbol n p x t
-step s (NeedMarks n behind b p) t = need_marks n behind b p t
-step s (AfterMark n behind b m p) t = after_mark n behind b m p t
-step s (NeedMark n behind b m p) (Marker q) = outside (AfterMark n behind b (suc m) p)
+step s (NeedMarks c) t = need_marks c t
+step s (AfterMark c m) t = after_mark c m t
+step s (NeedMark c m) (Marker q) = outside (AfterMark c (suc m))
 step s (AfterForm n f) t = after_form n f t
 step s (NeedSig n) (Word w) = outside (AfterSort n (w ∷ []))
 step s (NeedSig n) Arrow = outside (NeedRange n [])
@@ -342,8 +352,8 @@ step s (NeedRange n ws) (Word w) = outside (hand_sig n (record { domain = ws; ra
 step s (AfterReference c rs) t = after_reference c rs t
 step s (InItems raw) t = begin_item raw t
 step s (FirstWord raw w) t = first_word s raw w t
-step s (AfterSemicolon raw vs es) t = after_semicolon raw vs es t
-step s (WordBehind raw vs es w) t = word_behind s raw vs es w t
+step s (AfterSemicolon j) t = after_semicolon j.raw j.variables j.equations t
+step s (WordBehind j w) t = word_behind s j.raw j.variables j.equations w t
 step s (ClauseWord raw w) t = clause_word raw w t
 step s (NeedBy c) By = outside (NeedForm (Referred c []))
 step s (NeedVariable raw vs) (Word w) = outside (AfterVariable raw vs (w ∷ []))
@@ -379,9 +389,9 @@ final (AfterMarkerSymbol n p x) = end_form n (mixfix (postfix_name x.name) 1 p)
 final (AfterForm n f) = end_form n f
 final (AfterReference c rs) = Some (whole.Trait (with_clause c rs))
 final (InItems raw) = Some (whole.Trait raw)
-final (FirstWord raw w) = finish (call_tree w []) (word_frames w (Item raw [] []))
-final (AfterSemicolon raw vs es) = Some (whole.Trait (with_equations raw vs es))
-final (WordBehind raw vs es w) = finish (call_tree w []) (word_frames w (Item raw vs es))
+final (FirstWord raw w) = finish (call_tree w []) (word_frames w (Item (open_item raw [] [])))
+final (AfterSemicolon j) = Some (whole.Trait (with_equations j.raw j.variables j.equations))
+final (WordBehind j w) = finish (call_tree w []) (word_frames w (Item (open_item j.raw j.variables j.equations)))
 final (AfterWord w k) = finish (call_tree w []) k
 final (AfterSymbol x r k) = finish (postfix_tree x r) k
 final (Have r k) = finish r k

@@ -14,7 +14,10 @@ mod traits;
 mod trees;
 
 pub use form::{bracket_form, field_form, infix_form, plain_form, postfix_form, prefix_form};
-pub use machine::{Before, Clause, Frame, Link, Listing, Naming, Signing, State, Waiting, Whole};
+pub use machine::{
+    Before, Clause, FormBracket, Frame, Link, Listing, Naming, OpenItem, Signing, State, Waiting,
+    Whole,
+};
 pub use stack::Stack;
 pub use terminal::{Bracket, Terminal, position_of, terminal_of};
 pub use traits::{

@@ -35,6 +35,16 @@ pub enum Naming {
     Referred(Clause, RawOpRefs),
 }
 
+/// A bracket that is open in a form: what waits for the form, whether a `__` stands in front, which bracket it is, and
+/// where the form begins.
+#[derive(Drop)]
+pub struct FormBracket {
+    pub naming: Naming,
+    pub behind: bool,
+    pub bracket: Bracket,
+    pub pos: Pos,
+}
+
 /// What waits for a signature.
 #[derive(Drop)]
 pub enum Signing {
@@ -44,13 +54,21 @@ pub enum Signing {
     Reference(Clause, RawOpRefs, RawForm),
 }
 
+/// An item of equations that is open: the trait before it, its variables, and its equations so far.
+#[derive(Drop)]
+pub struct OpenItem {
+    pub raw: RawTrait,
+    pub variables: RawVars,
+    pub equations: RawEquations,
+}
+
 /// What waits for an equation.
 #[derive(Drop)]
 pub enum Waiting {
     /// Nothing: it stands by itself.
     Alone,
-    /// An item of a trait, with these variables and equations.
-    Item(RawTrait, RawVars, RawEquations),
+    /// An item of a trait.
+    Item(OpenItem),
 }
 
 /// What stands before an item in its part.
@@ -136,12 +154,12 @@ pub enum State {
     AfterMarker(Naming, Pos),
     /// A `__` and a symbol: perhaps `__`.
     AfterMarkerSymbol(Naming, Pos, RawWord),
-    /// The bracket of a form, whether a `__` stands in front, and where the form begins: `__` or its end.
-    NeedMarks(Naming, bool, Bracket, Pos),
+    /// The bracket of a form: `__` or its end.
+    NeedMarks(FormBracket),
     /// So many `__` in it: `,` or its end.
-    AfterMark(Naming, bool, Bracket, u32, Pos),
+    AfterMark(FormBracket, u32),
     /// A `,` behind them: `__`.
-    NeedMark(Naming, bool, Bracket, u32, Pos),
+    NeedMark(FormBracket, u32),
     /// A form is read.
     AfterForm(Naming, RawForm),
     /// A signature.
@@ -158,10 +176,10 @@ pub enum State {
     InItems(RawTrait),
     /// A word that begins an item of either kind.
     FirstWord(RawTrait, RawWord),
-    /// A `;` behind these equations of an item: an equation, an item, a part, or the end.
-    AfterSemicolon(RawTrait, RawVars, RawEquations),
+    /// A `;` behind the equations of an item: an equation, an item, a part, or the end.
+    AfterSemicolon(OpenItem),
     /// The same and a word, which begins an equation or a clause.
-    WordBehind(RawTrait, RawVars, RawEquations, RawWord),
+    WordBehind(OpenItem, RawWord),
     /// A word directly behind an item of equations: it begins a clause.
     ClauseWord(RawTrait, RawWord),
     /// `generated` or `partitioned`: `by`.

@@ -2,29 +2,19 @@
 use Rattle.std.specs.Prelude.{ℕ, ◌==◌, cond, Bool, true, false, List, [], ◌++◌, length, flat_map, count_by, decimal, codes, Result, Ok, Err}
 use Rattle.std.specs.Str.{bytes_eq}
 use Rattle.larch_base.specs.declared.position.Pos.{Pos}
-use Rattle.larch_base.specs.declared.code.Code.TheVariants.{Lex, Syntax, Mixed, Deep, Size, TraitName}
+use Rattle.larch_base.specs.declared.code.Code.TheVariants.{Lex, TraitName}
 use Rattle.larch_base.specs.CodeText.{code_text}
 use Rattle.larch_base.specs.FileNames.{stem_of}
 use Rattle.larch_lexer.specs.TokenList.{TokenList}
 use Rattle.larch_lexer.specs.Lexing.{lexed}
-use Rattle.larch_syntax.specs.Reading.{trait_of}
+use Rattle.larch_syntax.specs.Read.{trait_of}
 use Rattle.larch_raw.specs.declared.equation.RawTrait.{RawTrait}
-use Rattle.larch_syntax.specs.declared.refusal.SyntaxRefusal.{SyntaxRefusal}
-use Rattle.larch_syntax.specs.declared.refusal.SyntaxRefusal.TheVariants as syntax_
 use Rattle.larch_base.specs.declared.fault.Fault.{Fault}
 use Rattle.larch_items.specs.Presentation.{presentation_of}
 use Rattle.larch_term.specs.declared.statement.Theory.{Theory}
 use Rattle.larch_main.specs.declared.check.Verdict.{Verdict}
 use Rattle.larch_main.specs.declared.check.Verdict.TheVariants.{Right, Wrong}
 use Rattle.larch_main.specs.FileTable.{Table}
-
--- tokens are wrong where they leave the grammar, or pass a limit
-abbrev pub syntax_verdict : SyntaxRefusal → Verdict
-syntax_verdict (syntax_.Syntax pos) = Wrong pos Syntax
-syntax_verdict (syntax_.Mixed pos) = Wrong pos Mixed
-syntax_verdict (syntax_.Deep pos) = Wrong pos Deep
-syntax_verdict (syntax_.Large pos) = Wrong pos Size
-syntax_verdict syntax_.Memory = Right
 
 -- a trait is wrong where its declarations or items are
 abbrev pub presentation_verdict : Result Theory Fault → Verdict
@@ -35,9 +25,9 @@ presentation_verdict (Err fault) = Wrong fault.pos fault.code
 abbrev pub name_verdict : List ℕ → RawTrait → Verdict
 name_verdict stem raw = cond (bytes_eq raw.name.name stem) (presentation_verdict (presentation_of raw)) (Wrong raw.name.pos TraitName)
 
-abbrev pub trait_verdict : List ℕ → Result RawTrait SyntaxRefusal → Verdict
+abbrev pub trait_verdict : List ℕ → Result RawTrait Fault → Verdict
 trait_verdict stem (Ok raw) = name_verdict stem raw
-trait_verdict stem (Err refusal) = syntax_verdict refusal
+trait_verdict stem (Err fault) = Wrong fault.pos fault.code
 
 abbrev pub text_verdict : List ℕ → Result TokenList Pos → Verdict
 text_verdict stem (Ok tokens) = trait_verdict stem (trait_of tokens)

@@ -1,5 +1,5 @@
 ghost use Rattle.std.specs.Prelude.{◌≡◌, ◌≤◌, length, IfOk};
-ghost use Rattle.larch_syntax.specs.Reading.{trait_of};
+ghost use Rattle.larch_syntax.specs.Read.{trait_of};
 ghost use Rattle.larch_main.specs.Reports.{verdict_of, name_verdict, presentation_verdict, trait_verdict};
 ghost use Rattle.larch_items.specs.Presentation.{presentation_of};
 

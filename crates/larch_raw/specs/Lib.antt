@@ -3,3 +3,4 @@ pub mod RawFalls
 pub mod RawListFalls
 pub mod RawTree
 pub mod RawView
+pub mod Worded

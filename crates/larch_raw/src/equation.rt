@@ -1,6 +1,8 @@
+ghost use Rattle.std.specs.Prelude.{◌≡◌};
+
 use crate::declared::{RawDecls, RawOpRefs, RawWord};
 use crate::term::RawTerm;
-use larch_base::{Pos, Sequence};
+use larch_base::{Name, Pos, Sequence};
 
 /// A variable with its sort.
 #[derive(Debug, Drop)]
@@ -57,4 +59,13 @@ pub struct RawTrait {
     pub name: RawWord,
     pub declarations: RawDecls,
     pub items: RawItems,
+}
+
+impl RawTrait {
+    /// The name of the trait, without its position.
+    pub fn title(&self) -> &Name
+        ensures { result.now ≡ self.now.name.name }
+    {
+        &self.name.name
+    }
 }

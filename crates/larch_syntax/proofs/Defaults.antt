@@ -8,20 +8,22 @@ use Rattle.larch_raw.specs.declared.declared.RawWord.{RawWord}
 use Rattle.larch_raw.specs.declared.equation.RawEquation.{RawEquation}
 use Rattle.larch_raw.specs.declared.equation.RawTrait.{RawTrait}
 use Rattle.larch_raw.specs.declared.equation.RawVar.{RawVar}
-use Rattle.larch_grammar.specs.Machine.{after_form, after_group, after_reference, after_semicolon, after_symbol, after_word, begin_bracket, begin_equation, begin_form, begin_item, begin_operand, begin_post, begin_prefixed, begin_term, first_word, hand, in_part, plainly, with_clause, with_reference, word_behind, word_frames}
+use Rattle.larch_grammar.specs.Machine.{after_form, after_group, after_reference, after_symbol, after_word, begin_bracket, begin_equation, begin_item, begin_operand, begin_post, begin_prefixed, begin_term, first_word, hand, hand_equation, plainly, with_clause, with_reference, word_behind, word_frames, open_item}
+use Rattle.larch_grammar.specs.Terms.{formula_of}
 use Rattle.larch_grammar.specs.Trees.{bracket_tree, call_tree, postfix_tree}
 use Rattle.larch_grammar.specs.declared.terminal.Bracket.{Bracket}
 use Rattle.larch_grammar.specs.declared.terminal.Bracket.TheVariants.{Square, Curly}
 use Rattle.larch_grammar.specs.declared.terminal.Terminal.{Terminal}
-use Rattle.larch_grammar.specs.declared.terminal.Terminal.TheVariants.{Word, Symbol, Not, Colon, Comma, Semicolon, Open, OpenBracket, CloseBracket, ForAll, Introduces, Asserts, Generated, Partitioned, If}
+use Rattle.larch_grammar.specs.declared.terminal.Terminal.TheVariants.{Word, Symbol, Not, Equates, Colon, Comma, Semicolon, Open, OpenBracket, CloseBracket, Generated, Partitioned, If}
 use Rattle.larch_grammar.specs.declared.machine.Clause.{Clause}
 use Rattle.larch_grammar.specs.declared.machine.Frame.{Frame}
-use Rattle.larch_grammar.specs.declared.machine.Frame.TheVariants.{InConnectives, InEqualities, InFields, InInfixes, InList, InPostfixes, InStrays}
+use Rattle.larch_grammar.specs.declared.machine.Frame.TheVariants.{InConnectives, InEqualities, InFields, InInfixes, InLeft, InList, InPostfixes, InStrays}
 use Rattle.larch_grammar.specs.declared.machine.Listing.TheVariants.{Bracketed}
-use Rattle.larch_grammar.specs.declared.machine.Naming.TheVariants.{Declared, Referred}
+use Rattle.larch_grammar.specs.declared.machine.Naming.TheVariants.{Referred}
 use Rattle.larch_grammar.specs.declared.machine.State.TheVariants.{Have}
+use Rattle.larch_grammar.specs.declared.machine.Waiting.{Waiting}
 use Rattle.larch_grammar.specs.declared.machine.Waiting.TheVariants.{Item}
-use Rattle.larch_syntax.specs.Steps.{closes}
+use Rattle.larch_syntax.specs.Outcome.{closes}
 
 pub other_operand : (t : Terminal) (k : List Frame) → ((y : RawWord) → t ≡ Symbol y → ⊥) → ((y : RawWord) → t ≡ Not y → ⊥) → begin_operand t k ≡ begin_post t (InInfixes None ∷ k)
 other_operand (Symbol y) k h i = absurd (h y refl)
@@ -37,26 +39,9 @@ pub other_term : (t : Terminal) (k : List Frame) → ((p : Pos) → t ≡ If p �
 other_term (If p) k h = absurd (h p refl)
 other_term t k h = refl
 
-pub other_part : (raw : RawTrait) (t : Terminal) → (t ≡ Introduces → ⊥) → (t ≡ Asserts → ⊥) → in_part raw t ≡ begin_form (Declared raw []) t
-other_part raw Introduces h i = absurd (h refl)
-other_part raw Asserts h i = absurd (i refl)
-other_part raw t h i = refl
-
-pub other_group : (raw : RawTrait) (vs : List RawVar) (t : Terminal) → (t ≡ Comma → ⊥) → after_group raw vs t ≡ begin_equation t (Item raw vs [])
+pub other_group : (raw : RawTrait) (vs : List RawVar) (t : Terminal) → (t ≡ Comma → ⊥) → after_group raw vs t ≡ begin_equation t (Item (open_item raw vs []))
 other_group raw vs Comma h = absurd (h refl)
 other_group raw vs t h = refl
-
-pub other_semicolon : (raw : RawTrait) (vs : List RawVar) (es : List RawEquation) (t : Terminal) → ((y : RawWord) → t ≡ Word y → ⊥) → (t ≡ ForAll → ⊥) → (t ≡ Asserts → ⊥) → after_semicolon raw vs es t ≡ begin_equation t (Item raw vs es)
-other_semicolon raw vs es (Word y) h i j = absurd (h y refl)
-other_semicolon raw vs es ForAll h i j = absurd (i refl)
-other_semicolon raw vs es Asserts h i j = absurd (j refl)
-other_semicolon raw vs es t h i j = refl
-
-pub other_item : (raw : RawTrait) (t : Terminal) → ((y : RawWord) → t ≡ Word y → ⊥) → (t ≡ ForAll → ⊥) → (t ≡ Asserts → ⊥) → begin_item raw t ≡ begin_equation t (Item raw [] [])
-other_item raw (Word y) h i j = absurd (h y refl)
-other_item raw ForAll h i j = absurd (i refl)
-other_item raw Asserts h i j = absurd (j refl)
-other_item raw t h i j = refl
 
 pub other_reference : (c : Clause) (rs : List RawOpRef) (t : Terminal) → (t ≡ Comma → ⊥) → (t ≡ Semicolon → ⊥) → after_reference c rs t ≡ begin_item (with_clause c rs) t
 other_reference c rs Comma h i = absurd (h refl)
@@ -77,12 +62,12 @@ pub other_word : (w : RawWord) (k : List Frame) (t : Terminal) → ((p : Pos) �
 other_word w k (Open p) h = absurd (h p refl)
 other_word w k t h = refl
 
-pub other_first : (raw : RawTrait) (w : RawWord) (t : Terminal) → (t ≡ Generated → ⊥) → (t ≡ Partitioned → ⊥) → first_word true raw w t ≡ after_word true w (word_frames w (Item raw [] [])) t
+pub other_first : (raw : RawTrait) (w : RawWord) (t : Terminal) → (t ≡ Generated → ⊥) → (t ≡ Partitioned → ⊥) → first_word true raw w t ≡ after_word true w (word_frames w (Item (open_item raw [] []))) t
 other_first raw w Generated h i = absurd (h refl)
 other_first raw w Partitioned h i = absurd (i refl)
 other_first raw w t h i = refl
 
-pub other_behind : (raw : RawTrait) (vs : List RawVar) (es : List RawEquation) (w : RawWord) (t : Terminal) → (t ≡ Generated → ⊥) → (t ≡ Partitioned → ⊥) → word_behind true raw vs es w t ≡ after_word true w (word_frames w (Item raw vs es)) t
+pub other_behind : (raw : RawTrait) (vs : List RawVar) (es : List RawEquation) (w : RawWord) (t : Terminal) → (t ≡ Generated → ⊥) → (t ≡ Partitioned → ⊥) → word_behind true raw vs es w t ≡ after_word true w (word_frames w (Item (open_item raw vs es))) t
 other_behind raw vs es w Generated h i = absurd (h refl)
 other_behind raw vs es w Partitioned h i = absurd (i refl)
 other_behind raw vs es w t h i = refl
@@ -98,3 +83,7 @@ bracket_open Square l p k (CloseBracket Square) h = let n : ⊥ = cc in absurd n
 bracket_open Curly l p k (CloseBracket Curly) h = let n : ⊥ = cc in absurd n
 bracket_open Square l p k t h = refl
 bracket_open Curly l p k t h = refl
+
+pub other_left : (r : RawTree) (p : Pos) (w : Waiting) (k : List Frame) (t : Terminal) → ((q : Pos) → t ≡ Equates q → ⊥) → hand true r (InLeft p w ∷ k) t ≡ hand_equation (formula_of r p) w t
+other_left r p w k (Equates q) h = absurd (h q refl)
+other_left r p w k t h = refl

@@ -1,23 +1,109 @@
 -- What taking a token makes of the answer.
-use Rattle.std.proofs.Common.{◌≡◌, ◌+◌, ℕ, suc, List, ◌∷◌, ◌∙◌, ap, arith}
+use Rattle.std.proofs.Common.{◌≡◌, ◌+◌, ℕ, suc, true, Option, Some, None, IfSome, Result, Ok, Err, List, ◌∷◌, ◌∙◌, refl, sym, ap, arith}
+use Rattle.larch_base.specs.declared.fault.Fault.{Fault}
 use Rattle.larch_base.specs.declared.position.Pos.{Pos}
-use Rattle.larch_grammar.specs.Answers.{term_from}
-use Rattle.larch_grammar.specs.Machine.{as_equation, final}
+use Rattle.larch_grammar.specs.Answers.{term_from, trait_from}
+use Rattle.larch_grammar.specs.Machine.{Taking, as_equation, final, step_at}
 use Rattle.larch_grammar.specs.declared.machine.State.{State}
+use Rattle.larch_grammar.specs.declared.machine.Whole.{Whole}
 use Rattle.larch_lexer.specs.declared.token.Token.{Token}
-use Rattle.larch_fronts.specs.Answer.{at_mark, front_at, front_on}
-use Rattle.larch_syntax.specs.Takes.{Takes}
-use Rattle.larch_syntax.specs.declared.read.Taken.TheVariants.{On}
+use Rattle.larch_fronts.specs.Answer.{at_front, at_mark, at_step, front_at, front_on, go_on}
+use Rattle.larch_fronts.specs.Mark.{admitted}
+use Rattle.larch_fronts.specs.declared.mark.Flaw.{Flaw}
+use Rattle.larch_fronts.specs.declared.mark.Flaw.TheVariants as flaw
+use Rattle.larch_raw.specs.declared.equation.RawEquation.{RawEquation}
+use Rattle.larch_raw.specs.declared.equation.RawTrait.{RawTrait}
+use Rattle.larch_syntax.specs.Outcome.{outcome}
+use Rattle.larch_syntax.specs.Read.{counted, fault_at, leads_to, taken_at, with_fault}
+use Rattle.larch_syntax.specs.Refusals.{fault_of, told}
+use Rattle.larch_syntax.specs.declared.read.Taken.{Taken}
+use Rattle.larch_syntax.specs.declared.read.Taken.TheVariants.{On, Stops}
+use Rattle.larch_syntax.specs.declared.refusal.SyntaxRefusal.{SyntaxRefusal}
 
-front_on_more : (end : Pos) (heads more taken : ℕ) (state after : State) (token : Token) (rest : List Token) → Takes heads state token (On more after)
-    → term_from end heads taken state (token ∷ rest) ≡ term_from end more (suc taken) after rest
-front_on_more end heads more taken state after token rest (mark, s, j) =
-    ap (λ o. front_at token.pos heads taken (as_equation (final state)) o (λ m a. term_from end m (suc taken) a rest)) s
-    ∙ ap (λ r. front_on (at_mark token.pos after r) (λ m a. term_from end m (suc taken) a rest)) j
+-- how a trait goes on behind a token, by what the token does
+abbrev trait_behind : Pos → Result Taken Fault → (ℕ → State → Result RawTrait Fault) → Result RawTrait Fault
+trait_behind pos (Ok (On more after)) further = further more after
+trait_behind pos (Ok (Stops whole)) further = Err (fault_of (flaw.Syntax, pos))
+trait_behind pos (Err fault) further = Err fault
+
+trait_marked : (pos : Pos) (after : State) (r : Result ℕ Flaw) (further : ℕ → State → Result RawTrait (Flaw × Pos))
+    → with_fault (go_on (at_mark pos after r) further) ≡ trait_behind pos (leads_to after (fault_at pos r)) (λ m a. with_fault (further m a))
+trait_marked pos after (Ok more) further = refl
+trait_marked pos after (Err f) further = refl
+
+trait_taken : (pos : Pos) (heads : ℕ) (whole : Option Whole) (s : Taking) (further : ℕ → State → Result RawTrait (Flaw × Pos))
+    → with_fault (go_on (at_step pos heads s) further) ≡ trait_behind pos (counted pos heads (outcome s whole)) (λ m a. with_fault (further m a))
+trait_taken pos heads whole None further = refl
+trait_taken pos heads whole (Some step) further = trait_marked pos step.1 (admitted heads step.0) further
+
+trait_step : (end : Pos) (heads : ℕ) (state : State) (token : Token) (rest : List Token) (t : Result Taken Fault) → taken_at heads state token ≡ t
+    → with_fault (trait_from end heads state (token ∷ rest)) ≡ trait_behind token.pos t (λ m a. with_fault (trait_from end m a rest))
+trait_step end heads state token rest t e =
+    trait_taken token.pos heads (final state) (step_at true state token) (λ m a. trait_from end m a rest)
+    ∙ ap (λ x. trait_behind token.pos x (λ m a. with_fault (trait_from end m a rest))) e
+
+-- a trait goes on behind a token that is taken
+pub trait_goes_on : (end : Pos) (heads more : ℕ) (state after : State) (token : Token) (rest ts : List Token) (answer : Result RawTrait Fault) → taken_at heads state token ≡ Ok (On more after)
+    → ts ≡ token ∷ rest → with_fault (trait_from end heads state ts) ≡ answer → with_fault (trait_from end more after rest) ≡ answer
+trait_goes_on end heads more state after token rest ts answer e l h =
+    sym (trait_step end heads state token rest (Ok (On more after)) e) ∙ ap (λ x. with_fault (trait_from end heads state x)) (sym l) ∙ h
+
+-- it is refused at a token that no step takes
+pub trait_stops : (end : Pos) (heads : ℕ) (state : State) (whole : Option Whole) (token : Token) (rest ts : List Token) (answer : Result RawTrait Fault) → taken_at heads state token ≡ Ok (Stops whole)
+    → ts ≡ token ∷ rest → with_fault (trait_from end heads state ts) ≡ answer → answer ≡ Err (fault_of (flaw.Syntax, token.pos))
+trait_stops end heads state whole token rest ts answer e l h =
+    sym h ∙ ap (λ x. with_fault (trait_from end heads state x)) l ∙ trait_step end heads state token rest (Ok (Stops whole)) e
+
+-- what is true of each fault is true of the one that is told
+told_on : (o : Option Fault) (P Q : Fault → Type 0) → ((f : Fault) → P f → Q f) → IfSome o P → IfSome o Q
+told_on None P Q k h = tt
+told_on (Some f) P Q k h = k f h
+
+-- it is refused by what is counted at a token
+pub trait_counted : (end : Pos) (heads : ℕ) (state : State) (refusal : SyntaxRefusal) (token : Token) (rest ts : List Token) (answer : Result RawTrait Fault) → IfSome (told refusal) (λ fault. taken_at heads state token ≡ Err fault)
+    → ts ≡ token ∷ rest → with_fault (trait_from end heads state ts) ≡ answer → IfSome (told refusal) (λ fault. answer ≡ Err fault)
+trait_counted end heads state refusal token rest ts answer e l h =
+    told_on (told refusal) (λ fault. taken_at heads state token ≡ Err fault) (λ fault. answer ≡ Err fault)
+    (λ fault q. sym h ∙ ap (λ x. with_fault (trait_from end heads state x)) l ∙ trait_step end heads state token rest (Err fault) q) e
+
+-- how an equation at a front goes on behind a token, so many being before it
+abbrev front_behind : Pos → ℕ → Result Taken Fault → (ℕ → State → Result (RawEquation × ℕ) Fault) → Result (RawEquation × ℕ) Fault
+front_behind pos taken (Ok (On more after)) further = further more after
+front_behind pos taken (Ok (Stops whole)) further = with_fault (at_front pos taken (as_equation whole))
+front_behind pos taken (Err fault) further = Err fault
+
+front_marked : (pos : Pos) (taken : ℕ) (after : State) (r : Result ℕ Flaw) (further : ℕ → State → Result (RawEquation × ℕ) (Flaw × Pos))
+    → with_fault (front_on (at_mark pos after r) further) ≡ front_behind pos taken (leads_to after (fault_at pos r)) (λ m a. with_fault (further m a))
+front_marked pos taken after (Ok more) further = refl
+front_marked pos taken after (Err f) further = refl
+
+front_taken : (pos : Pos) (heads taken : ℕ) (whole : Option Whole) (s : Taking) (further : ℕ → State → Result (RawEquation × ℕ) (Flaw × Pos))
+    → with_fault (front_at pos heads taken (as_equation whole) s further) ≡ front_behind pos taken (counted pos heads (outcome s whole)) (λ m a. with_fault (further m a))
+front_taken pos heads taken whole None further = refl
+front_taken pos heads taken whole (Some step) further = front_marked pos taken step.1 (admitted heads step.0) further
+
+front_step : (end : Pos) (heads taken : ℕ) (state : State) (token : Token) (rest : List Token) (t : Result Taken Fault) → taken_at heads state token ≡ t
+    → with_fault (term_from end heads taken state (token ∷ rest)) ≡ front_behind token.pos taken t (λ m a. with_fault (term_from end m (suc taken) a rest))
+front_step end heads taken state token rest t e =
+    front_taken token.pos heads taken (final state) (step_at true state token) (λ m a. term_from end m (suc taken) a rest)
+    ∙ ap (λ x. front_behind token.pos taken x (λ m a. with_fault (term_from end m (suc taken) a rest))) e
 
 -- an equation goes on behind a token that is taken
-pub front_goes_on : (end : Pos) (heads more taken : ℕ) (state after : State) (token : Token) (rest : List Token) → Takes heads state token (On more after)
-    → term_from end heads taken state (token ∷ rest) ≡ term_from end more (taken + 1) after rest
-front_goes_on end heads more taken state after token rest t =
-    let next : suc taken ≡ taken + 1 = omega arith in
-    front_on_more end heads more taken state after token rest t ∙ ap (λ n. term_from end more n after rest) next
+pub front_goes_on : (end : Pos) (heads more taken : ℕ) (state after : State) (token : Token) (rest ts : List Token) (answer : Result (RawEquation × ℕ) Fault) → taken_at heads state token ≡ Ok (On more after)
+    → ts ≡ token ∷ rest → with_fault (term_from end heads taken state ts) ≡ answer → with_fault (term_from end more (taken + 1) after rest) ≡ answer
+front_goes_on end heads more taken state after token rest ts answer e l h =
+    let next : taken + 1 ≡ suc taken = omega arith in
+    ap (λ n. with_fault (term_from end more n after rest)) next ∙ sym (front_step end heads taken state token rest (Ok (On more after)) e) ∙ ap (λ x. with_fault (term_from end heads taken state x)) (sym l) ∙ h
+
+-- it ends before a token that no step takes, or is refused there
+pub front_stops : (end : Pos) (heads taken : ℕ) (state : State) (whole : Option Whole) (token : Token) (rest ts : List Token) (answer : Result (RawEquation × ℕ) Fault) → taken_at heads state token ≡ Ok (Stops whole)
+    → ts ≡ token ∷ rest → with_fault (term_from end heads taken state ts) ≡ answer → with_fault (at_front token.pos taken (as_equation whole)) ≡ answer
+front_stops end heads taken state whole token rest ts answer e l h =
+    sym (front_step end heads taken state token rest (Ok (Stops whole)) e) ∙ ap (λ x. with_fault (term_from end heads taken state x)) (sym l) ∙ h
+
+-- it is refused by what is counted at a token
+pub front_counted : (end : Pos) (heads taken : ℕ) (state : State) (refusal : SyntaxRefusal) (token : Token) (rest ts : List Token) (answer : Result (RawEquation × ℕ) Fault) → IfSome (told refusal) (λ fault. taken_at heads state token ≡ Err fault)
+    → ts ≡ token ∷ rest → with_fault (term_from end heads taken state ts) ≡ answer → IfSome (told refusal) (λ fault. answer ≡ Err fault)
+front_counted end heads taken state refusal token rest ts answer e l h =
+    told_on (told refusal) (λ fault. taken_at heads state token ≡ Err fault) (λ fault. answer ≡ Err fault)
+    (λ fault q. sym h ∙ ap (λ x. with_fault (term_from end heads taken state x)) l ∙ front_step end heads taken state token rest (Err fault) q) e

@@ -1,6 +1,5 @@
+pub mod AtEnd
 pub mod Defaults
-pub mod Endings
-pub mod Forbidden
 pub mod Fronts
 pub mod Stacks
 pub mod Told

@@ -1,4 +1,3 @@
-pub mod Reading
+pub mod Outcome
+pub mod Read
 pub mod Refusals
-pub mod Steps
-pub mod Takes

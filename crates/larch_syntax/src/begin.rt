@@ -1,18 +1,19 @@
-ghost use Rattle.std.specs.Prelude.{◌≡◌, ◌∷◌, [], suc, IfOk};
+ghost use Rattle.std.specs.Prelude.{◌≡◌, ◌∷◌, [], suc, IfOk, None};
 ghost use Rattle.larch_grammar.specs.Depth.{depth_of};
-ghost use Rattle.larch_grammar.specs.Machine.{at_head, begin_bracket, begin_equation, begin_operand, begin_post, begin_prefixed, begin_term, open_bracket, plainly, word_frames};
-ghost use Rattle.larch_grammar.specs.Trees.{bracket_tree};
-ghost use Rattle.larch_syntax.specs.Steps.{closes};
+ghost use Rattle.larch_grammar.specs.Machine.{at_head, open_bracket, plainly, word_frames};
 ghost use Rattle.larch_grammar.specs.Terms.{opens, opens_head};
+ghost use Rattle.larch_grammar.specs.Trees.{bracket_tree};
 ghost use Rattle.larch_grammar.specs.declared.machine.Frame.TheVariants.{Prefixed};
 ghost use Rattle.larch_grammar.specs.declared.machine.State.TheVariants.{NeedPrefixed};
+ghost use Rattle.larch_syntax.specs.Outcome.{Settles, closes, outcome, settled, stepped};
 
-use crate::taking::{Taking, at_head, plainly};
+use crate::outcome::{Outcome, at_head, plainly, stops};
 use larch_base::{Memory, Pos};
-use larch_grammar::{Bracket, Frame, Terminal, Listing, Stack, State, Waiting};
 use larch_fronts::Mark;
+use larch_grammar::{
+    Bracket, Frame, Listing, Stack, State, Terminal, Waiting, bracket_tree, no_terms, position_of,
+};
 use larch_raw::{RawTerm, RawWord};
-use larch_grammar::{bracket_tree, no_terms, position_of};
 use std::alloc::Global;
 
 // A token that opens a construct.
@@ -35,32 +36,32 @@ pub(crate) fn open_bracket(
     pos: Pos,
     front: Option<RawTerm>,
     stack: Stack,
-) -> Taking
-    ensures { result ≡ open_bracket bracket pos front stack }
+) -> Outcome
+    ensures { result ≡ outcome (open_bracket bracket pos front stack) None }
 {
     let mark = opens_head(&stack);
-    Some((mark, State::NeedFirst(bracket, front, pos, stack)))
+    Outcome::Taken(mark, State::NeedFirst(bracket, front, pos, stack))
 }
 
 // The first token of a Post.
-pub(crate) fn begin_post(terminal: Terminal, stack: Stack) -> Result<Taking, Memory>
-    ensures { IfOk result (λ taking. taking ≡ begin_post terminal stack) }
+pub(crate) fn begin_post(terminal: Terminal, stack: Stack) -> Result<Outcome, Memory>
+    ensures { Settles result (stepped (State.NeedPost stack) terminal) }
 {
     match terminal {
         Terminal::Word(word) => Ok(at_head(State::AfterWord(word, stack))),
         Terminal::Open(_pos) => {
             let mark = opens(&stack);
             let inside = stack.with(Frame::InFields)?.with(Frame::InParentheses)?;
-            Ok(Some((mark, State::NeedTerm(inside))))
+            Ok(Outcome::Taken(mark, State::NeedTerm(inside)))
         }
         Terminal::OpenBracket(bracket, pos) => Ok(open_bracket(bracket, pos, None, stack)),
-        _ => Ok(None),
+        _ => Ok(stops()),
     }
 }
 
 // A prefix symbol.
-fn begin_prefix(symbol: RawWord, stack: Stack) -> Result<Taking, Memory>
-    ensures { IfOk result (λ taking. taking ≡ at_head (NeedPrefixed (Prefixed symbol ∷ stack))) }
+fn begin_prefix(symbol: RawWord, stack: Stack) -> Result<Outcome, Memory>
+    ensures { Settles result (outcome (at_head (NeedPrefixed (Prefixed symbol ∷ stack))) None) }
 {
     let behind = stack.with(Frame::Prefixed(symbol))?;
     Ok(at_head(State::NeedPrefixed(behind)))
@@ -68,8 +69,8 @@ fn begin_prefix(symbol: RawWord, stack: Stack) -> Result<Taking, Memory>
 
 // The first token behind a prefix symbol.
 #[tactic(auto, using(crate::proofs::Defaults::other_prefixed))]
-pub(crate) fn begin_prefixed(terminal: Terminal, stack: Stack) -> Result<Taking, Memory>
-    ensures { IfOk result (λ taking. taking ≡ begin_prefixed terminal stack) }
+pub(crate) fn begin_prefixed(terminal: Terminal, stack: Stack) -> Result<Outcome, Memory>
+    ensures { Settles result (stepped (State.NeedPrefixed stack) terminal) }
 {
     match terminal {
         Terminal::Symbol(symbol) | Terminal::Not(symbol) => begin_prefix(symbol, stack),
@@ -79,8 +80,8 @@ pub(crate) fn begin_prefixed(terminal: Terminal, stack: Stack) -> Result<Taking,
 
 // The first token of an Oper.
 #[tactic(auto, using(crate::proofs::Defaults::other_operand))]
-pub(crate) fn begin_operand(terminal: Terminal, stack: Stack) -> Result<Taking, Memory>
-    ensures { IfOk result (λ taking. taking ≡ begin_operand terminal stack) }
+pub(crate) fn begin_operand(terminal: Terminal, stack: Stack) -> Result<Outcome, Memory>
+    ensures { Settles result (stepped (State.NeedOperand stack) terminal) }
 {
     match terminal {
         Terminal::Symbol(symbol) | Terminal::Not(symbol) => begin_prefix(symbol, stack),
@@ -90,14 +91,14 @@ pub(crate) fn begin_operand(terminal: Terminal, stack: Stack) -> Result<Taking, 
 
 // The first token of a term.
 #[tactic(auto, using(crate::proofs::Defaults::other_term))]
-pub(crate) fn begin_term(terminal: Terminal, stack: Stack) -> Result<Taking, Memory>
-    ensures { IfOk result (λ taking. taking ≡ begin_term terminal stack) }
+pub(crate) fn begin_term(terminal: Terminal, stack: Stack) -> Result<Outcome, Memory>
+    ensures { Settles result (stepped (State.NeedTerm stack) terminal) }
 {
     match terminal {
         Terminal::If(pos) => {
             let mark = opens_head(&stack);
             let condition = stack.with(Frame::InIf(pos))?;
-            Ok(Some((mark, State::NeedTerm(condition))))
+            Ok(Outcome::Taken(mark, State::NeedTerm(condition)))
         }
         other => {
             let chains = stack
@@ -113,13 +114,12 @@ pub(crate) fn begin_equation(
     alloc: Global,
     terminal: Terminal,
     waiting: Waiting,
-) -> Result<Taking, Memory>
-    ensures { IfOk result (λ taking. taking ≡ begin_equation terminal waiting) }
+) -> Result<Outcome, Memory>
+    ensures { Settles result (stepped (State.NeedEquation waiting) terminal) }
 {
     let left = Frame::InLeft(position_of(&terminal), waiting);
     let stack = Stack::new(alloc).with(left)?;
-    let taking = begin_term(terminal, stack)?;
-    Ok(taking)
+    begin_term(terminal, stack)
 }
 
 // A bracket is open: it ends, or its first term begins.
@@ -130,8 +130,8 @@ pub(crate) fn begin_bracket(
     pos: Pos,
     stack: Stack,
     terminal: Terminal,
-) -> Result<Taking, Memory>
-    ensures { IfOk result (λ taking. taking ≡ begin_bracket bracket front pos stack terminal) }
+) -> Result<Outcome, Memory>
+    ensures { Settles result (stepped (State.NeedFirst bracket front pos stack) terminal) }
 {
     let stack = stack.with(Frame::InFields)?;
     if closes(bracket, &terminal) {
@@ -159,8 +159,8 @@ fn end_bracket(
     front: Option<RawTerm>,
     pos: Pos,
     stack: Stack,
-) -> Result<Taking, Memory>
-    ensures { IfOk result (λ taking. taking ≡ plainly (State.Have (bracket_tree bracket front pos []) stack)) }
+) -> Result<Outcome, Memory>
+    ensures { Settles result (outcome (plainly (State.Have (bracket_tree bracket front pos []) stack)) None) }
 {
     let term = bracket_tree(alloc, bracket, front, pos, no_terms(alloc))?;
     Ok(plainly(State::Have(term, stack)))
@@ -174,13 +174,12 @@ fn begin_first(
     pos: Pos,
     stack: Stack,
     terminal: Terminal,
-) -> Result<Taking, Memory>
-    ensures { IfOk result (λ taking. taking ≡ begin_term terminal (Frame.InList (Listing.Bracketed bracket front pos) [] ∷ stack)) }
+) -> Result<Outcome, Memory>
+    ensures { Settles result (stepped (State.NeedTerm (Frame.InList (Listing.Bracketed bracket front pos) [] ∷ stack)) terminal) }
 {
     let listing = Listing::Bracketed(bracket, front, pos);
     let inside = stack.with(Frame::InList(listing, no_terms(alloc)))?;
-    let taking = begin_term(terminal, inside)?;
-    Ok(taking)
+    begin_term(terminal, inside)
 }
 
 // The frames of an equation that begins with a word.

@@ -1,17 +1,15 @@
-ghost use Rattle.std.specs.Prelude.{◌≡◌, ◌∷◌, IfOk, true};
-ghost use Rattle.larch_grammar.specs.Machine.{as_equation, finish, hand, symbol_of};
+ghost use Rattle.std.specs.Prelude.{◌≡◌, ◌∷◌, IfOk};
+ghost use Rattle.larch_grammar.specs.Machine.{symbol_of};
 ghost use Rattle.larch_grammar.specs.Terms.{chained};
 ghost use Rattle.larch_grammar.specs.Trees.{chain_tree};
 ghost use Rattle.larch_grammar.specs.declared.machine.Frame.TheVariants.{InConnectives, InEqualities, InInfixes, InPostfixes, InStrays};
-ghost use Rattle.larch_syntax.specs.Steps.{EndsWith, Leaves, passed_on};
+ghost use Rattle.larch_syntax.specs.Outcome.{Leaves, Settles, handed};
 
-use crate::hand::{Passed, done};
-use crate::taking::at_head;
+use crate::outcome::{Outcome, at_head};
 use larch_base::Memory;
-use larch_grammar::{Frame, Terminal, Link, Stack, State};
 use larch_fronts::Mark;
+use larch_grammar::{Frame, Link, Stack, State, Terminal, chain_tree, postfix_tree};
 use larch_raw::{RawTerm, RawWord};
-use larch_grammar::{chain_tree, postfix_tree};
 use std::alloc::Global;
 
 // Symbols behind a term with prefix symbols.
@@ -20,18 +18,17 @@ pub(crate) fn in_strays(
     term: RawTerm,
     stack: Stack,
     terminal: Terminal,
-) -> Result<Passed, Memory>
-    ensures hands { IfOk result (λ passed. passed_on passed ≡ hand true term (InStrays ∷ stack) terminal) }
-    ensures ends { IfOk result (λ passed. EndsWith (as_equation (finish term (InStrays ∷ stack))) passed) }
-    ensures frames { IfOk result (λ passed. Leaves stack passed) }
+) -> Result<Outcome, Memory>
+    ensures outcome { Settles result (handed term (InStrays ∷ stack) terminal) }
+    ensures frames { IfOk result (Leaves stack) }
 {
     match terminal {
         Terminal::Symbol(symbol) => {
             let whole = postfix_tree(alloc, symbol, term)?;
             let stack = stack.with(Frame::InStrays)?;
-            Ok(done(Some((Mark::Chained(true), State::Have(whole, stack)))))
+            Ok(Outcome::Taken(Mark::Chained(true), State::Have(whole, stack)))
         }
-        other => Ok(Passed::On(term, stack, other)),
+        other => Ok(Outcome::Handed(term, stack, other)),
     }
 }
 
@@ -41,18 +38,17 @@ pub(crate) fn in_postfixes(
     term: RawTerm,
     stack: Stack,
     terminal: Terminal,
-) -> Result<Passed, Memory>
-    ensures hands { IfOk result (λ passed. passed_on passed ≡ hand true term (InPostfixes ∷ stack) terminal) }
-    ensures ends { IfOk result (λ passed. EndsWith (as_equation (finish term (InPostfixes ∷ stack))) passed) }
-    ensures frames { IfOk result (λ passed. Leaves stack passed) }
+) -> Result<Outcome, Memory>
+    ensures outcome { Settles result (handed term (InPostfixes ∷ stack) terminal) }
+    ensures frames { IfOk result (Leaves stack) }
 {
     match terminal {
         Terminal::Symbol(symbol) => {
             let whole = postfix_tree(alloc, symbol, term)?;
             let stack = stack.with(Frame::InPostfixes)?;
-            Ok(done(at_head(State::Have(whole, stack))))
+            Ok(at_head(State::Have(whole, stack)))
         }
-        other => Ok(Passed::On(term, stack, other)),
+        other => Ok(Outcome::Handed(term, stack, other)),
     }
 }
 
@@ -63,24 +59,21 @@ pub(crate) fn in_infixes(
     term: RawTerm,
     stack: Stack,
     terminal: Terminal,
-) -> Result<Passed, Memory>
-    ensures hands { IfOk result (λ passed. passed_on passed ≡ hand true term ((InInfixes link) ∷ stack) terminal) }
-    ensures ends { IfOk result (λ passed. EndsWith (as_equation (finish term ((InInfixes link) ∷ stack))) passed) }
-    ensures frames { IfOk result (λ passed. Leaves stack passed) }
+) -> Result<Outcome, Memory>
+    ensures outcome { Settles result (handed term (InInfixes link ∷ stack) terminal) }
+    ensures frames { IfOk result (Leaves stack) }
 {
     match (link, terminal) {
-        (None, Terminal::Symbol(symbol)) => {
-            Ok(done(at_head(State::AfterSymbol(symbol, term, stack))))
-        }
-        (None, other) => Ok(Passed::On(term, stack, other)),
+        (None, Terminal::Symbol(symbol)) => { Ok(at_head(State::AfterSymbol(symbol, term, stack))) }
+        (None, other) => Ok(Outcome::Handed(term, stack, other)),
         (Some(link), Terminal::Symbol(symbol)) => {
             let (mark, link) = next_link(alloc, Some(link), term, symbol)?;
             let stack = stack.with(Frame::InInfixes(Some(link)))?;
-            Ok(done(Some((mark, State::NeedPost(stack)))))
+            Ok(Outcome::Taken(mark, State::NeedPost(stack)))
         }
         (Some(link), other) => {
             let whole = chain_tree(alloc, Some(link), term)?;
-            Ok(Passed::On(whole, stack, other))
+            Ok(Outcome::Handed(whole, stack, other))
         }
     }
 }
@@ -110,20 +103,19 @@ pub(crate) fn in_equalities(
     term: RawTerm,
     stack: Stack,
     terminal: Terminal,
-) -> Result<Passed, Memory>
-    ensures hands { IfOk result (λ passed. passed_on passed ≡ hand true term ((InEqualities link) ∷ stack) terminal) }
-    ensures ends { IfOk result (λ passed. EndsWith (as_equation (finish term ((InEqualities link) ∷ stack))) passed) }
-    ensures frames { IfOk result (λ passed. Leaves stack passed) }
+) -> Result<Outcome, Memory>
+    ensures outcome { Settles result (handed term (InEqualities link ∷ stack) terminal) }
+    ensures frames { IfOk result (Leaves stack) }
 {
     match terminal {
         Terminal::Equality(symbol) => {
             let (mark, link) = next_link(alloc, link, term, symbol)?;
             let stack = stack.with(Frame::InEqualities(Some(link)))?;
-            Ok(done(Some((mark, State::NeedOperand(stack)))))
+            Ok(Outcome::Taken(mark, State::NeedOperand(stack)))
         }
         other => {
             let whole = chain_tree(alloc, link, term)?;
-            Ok(Passed::On(whole, stack, other))
+            Ok(Outcome::Handed(whole, stack, other))
         }
     }
 }
@@ -135,10 +127,9 @@ pub(crate) fn in_connectives(
     term: RawTerm,
     stack: Stack,
     terminal: Terminal,
-) -> Result<Passed, Memory>
-    ensures hands { IfOk result (λ passed. passed_on passed ≡ hand true term ((InConnectives link) ∷ stack) terminal) }
-    ensures ends { IfOk result (λ passed. EndsWith (as_equation (finish term ((InConnectives link) ∷ stack))) passed) }
-    ensures frames { IfOk result (λ passed. Leaves stack passed) }
+) -> Result<Outcome, Memory>
+    ensures outcome { Settles result (handed term (InConnectives link ∷ stack) terminal) }
+    ensures frames { IfOk result (Leaves stack) }
 {
     match terminal {
         Terminal::Connective(symbol) => {
@@ -146,11 +137,11 @@ pub(crate) fn in_connectives(
             let stack = stack
                 .with(Frame::InConnectives(Some(link)))?
                 .with(Frame::InEqualities(None))?;
-            Ok(done(Some((mark, State::NeedOperand(stack)))))
+            Ok(Outcome::Taken(mark, State::NeedOperand(stack)))
         }
         other => {
             let whole = chain_tree(alloc, link, term)?;
-            Ok(Passed::On(whole, stack, other))
+            Ok(Outcome::Handed(whole, stack, other))
         }
     }
 }

@@ -1,24 +1,24 @@
-ghost use Rattle.std.specs.Prelude.{◌≡◌, IfOk, true};
-ghost use Rattle.larch_grammar.specs.Machine.{after_form, after_mark, after_marker, after_marker_symbol, after_reference, after_symbol_form, begin_form, end_marks, hand_sig, need_marks, step};
+ghost use Rattle.std.specs.Prelude.{◌≡◌, IfOk, None};
+ghost use Rattle.larch_grammar.specs.Machine.{end_marks, hand_sig};
 ghost use Rattle.larch_grammar.specs.declared.machine.Naming.TheVariants.{Declared, Referred};
-ghost use Rattle.larch_grammar.specs.declared.machine.State.{State};
+ghost use Rattle.larch_syntax.specs.Outcome.{Settles, outcome, settled, stepped};
 
 use crate::items::begin_item;
-use crate::taking::{Taking, outside};
+use crate::outcome::{Outcome, outside, stops};
 use larch_base::{Memory, Pos, Sequence};
-use larch_grammar::{Bracket, Clause, Terminal, Naming, Signing, State};
+use larch_grammar::{
+    Bracket, Clause, FormBracket, Naming, Signing, State, Terminal, bracket_form, field_form,
+    infix_form, plain_form, postfix_form, prefix_form, with_clause, with_declaration,
+    with_reference, with_word,
+};
 use larch_raw::{
     RawDecl, RawForm, RawForms, RawOpRef, RawOpRefs, RawSig, RawTrait, RawWord, RawWords,
-};
-use larch_grammar::{
-    bracket_form, field_form, infix_form, plain_form, postfix_form, prefix_form, with_clause,
-    with_declaration, with_reference, with_word,
 };
 use std::alloc::Global;
 
 // The first token of a form.
-pub(crate) fn begin_form(naming: Naming, terminal: Terminal) -> Taking
-    ensures { result ≡ begin_form naming terminal }
+pub(crate) fn begin_form(naming: Naming, terminal: Terminal) -> Outcome
+    ensures { settled result ≡ stepped (State.NeedForm naming) terminal }
 {
     match terminal {
         Terminal::Word(word) => outside(State::AfterForm(naming, plain_form(word))),
@@ -26,9 +26,14 @@ pub(crate) fn begin_form(naming: Naming, terminal: Terminal) -> Taking
         Terminal::Dot(pos) => outside(State::AfterDotForm(naming, pos)),
         Terminal::Marker(pos) => outside(State::AfterMarker(naming, pos)),
         Terminal::OpenBracket(bracket, pos) => {
-            outside(State::NeedMarks(naming, false, bracket, pos))
+            outside(State::NeedMarks(FormBracket {
+                naming,
+                behind: false,
+                bracket,
+                pos,
+            }))
         }
-        _ => None,
+        _ => stops(),
     }
 }
 
@@ -38,8 +43,8 @@ pub(crate) fn after_symbol_form(
     naming: Naming,
     symbol: RawWord,
     terminal: Terminal,
-) -> Result<Taking, Memory>
-    ensures { IfOk result (λ taking. taking ≡ after_symbol_form naming symbol terminal) }
+) -> Result<Outcome, Memory>
+    ensures { Settles result (stepped (State.AfterSymbolForm naming symbol) terminal) }
 {
     match terminal {
         Terminal::Marker(_pos) => {
@@ -59,29 +64,34 @@ pub(crate) fn after_dot_form(
     naming: Naming,
     pos: Pos,
     terminal: Terminal,
-) -> Result<Taking, Memory>
-    ensures { IfOk result (λ taking. taking ≡ step true (State.AfterDotForm naming pos) terminal) }
+) -> Result<Outcome, Memory>
+    ensures { Settles result (stepped (State.AfterDotForm naming pos) terminal) }
 {
     match terminal {
         Terminal::Word(word) => {
             let form = field_form(alloc, pos, word)?;
             Ok(outside(State::AfterForm(naming, form)))
         }
-        _ => Ok(None),
+        _ => Ok(stops()),
     }
 }
 
 // A `__` that begins a form is read.
-pub(crate) fn after_marker(naming: Naming, pos: Pos, terminal: Terminal) -> Taking
-    ensures { result ≡ after_marker naming pos terminal }
+pub(crate) fn after_marker(naming: Naming, pos: Pos, terminal: Terminal) -> Outcome
+    ensures { settled result ≡ stepped (State.AfterMarker naming pos) terminal }
 {
     match terminal {
         Terminal::Dot(_dot) => outside(State::AfterDotForm(naming, pos)),
         Terminal::Symbol(symbol) => outside(State::AfterMarkerSymbol(naming, pos, symbol)),
         Terminal::OpenBracket(bracket, _open) => {
-            outside(State::NeedMarks(naming, true, bracket, pos))
+            outside(State::NeedMarks(FormBracket {
+                naming,
+                behind: true,
+                bracket,
+                pos,
+            }))
         }
-        _ => None,
+        _ => stops(),
     }
 }
 
@@ -92,8 +102,8 @@ pub(crate) fn after_marker_symbol(
     pos: Pos,
     symbol: RawWord,
     terminal: Terminal,
-) -> Result<Taking, Memory>
-    ensures { IfOk result (λ taking. taking ≡ after_marker_symbol naming pos symbol terminal) }
+) -> Result<Outcome, Memory>
+    ensures { Settles result (stepped (State.AfterMarkerSymbol naming pos symbol) terminal) }
 {
     match terminal {
         Terminal::Marker(_behind) => {
@@ -107,80 +117,74 @@ pub(crate) fn after_marker_symbol(
     }
 }
 
-// The bracket of a form ends.
+// The bracket of a form ends, behind so many markers.
 fn end_marks(
     alloc: Global,
-    naming: Naming,
-    behind: bool,
-    bracket: Bracket,
+    form: FormBracket,
     markers: u32,
-    pos: Pos,
     terminal: Terminal,
-) -> Result<Taking, Memory>
-    ensures { IfOk result (λ taking. taking ≡ end_marks naming behind bracket markers pos terminal) }
+) -> Result<Outcome, Memory>
+    ensures { Settles result (outcome (end_marks form.naming form.behind form.bracket markers form.pos terminal) None) }
 {
+    let FormBracket {
+        naming,
+        behind,
+        bracket,
+        pos,
+    } = form;
     match (bracket, terminal) {
         (Bracket::Square, Terminal::CloseBracket(Bracket::Square))
         | (Bracket::Curly, Terminal::CloseBracket(Bracket::Curly)) => {
             let form = bracket_form(alloc, behind, bracket, markers, pos)?;
             Ok(outside(State::AfterForm(naming, form)))
         }
-        _ => Ok(None),
+        _ => Ok(stops()),
     }
 }
 
 // A bracket of a form is open.
 pub(crate) fn need_marks(
     alloc: Global,
-    naming: Naming,
-    behind: bool,
-    bracket: Bracket,
-    pos: Pos,
+    form: FormBracket,
     terminal: Terminal,
-) -> Result<Taking, Memory>
-    ensures { IfOk result (λ taking. taking ≡ need_marks naming behind bracket pos terminal) }
+) -> Result<Outcome, Memory>
+    ensures { Settles result (stepped (State.NeedMarks form) terminal) }
 {
     match terminal {
-        Terminal::Marker(_marker) => Ok(outside(State::AfterMark(naming, behind, bracket, 1, pos))),
-        other => end_marks(alloc, naming, behind, bracket, 0, pos, other),
+        Terminal::Marker(_marker) => Ok(outside(State::AfterMark(form, 1))),
+        other => end_marks(alloc, form, 0, other),
     }
 }
 
 // So many markers stand in it.
 pub(crate) fn after_mark(
     alloc: Global,
-    naming: Naming,
-    behind: bool,
-    bracket: Bracket,
+    form: FormBracket,
     markers: u32,
-    pos: Pos,
     terminal: Terminal,
-) -> Result<Taking, Memory>
-    ensures { IfOk result (λ taking. taking ≡ after_mark naming behind bracket markers pos terminal) }
+) -> Result<Outcome, Memory>
+    ensures { Settles result (stepped (State.AfterMark form markers) terminal) }
 {
     match terminal {
-        Terminal::Comma => Ok(outside(State::NeedMark(naming, behind, bracket, markers, pos))),
-        other => end_marks(alloc, naming, behind, bracket, markers, pos, other),
+        Terminal::Comma => Ok(outside(State::NeedMark(form, markers))),
+        other => end_marks(alloc, form, markers, other),
     }
 }
 
 // A `,` behind them is read.
 pub(crate) fn need_mark(
-    naming: Naming,
-    behind: bool,
-    bracket: Bracket,
+    form: FormBracket,
     markers: u32,
-    pos: Pos,
     terminal: Terminal,
-) -> Result<Taking, Memory>
-    ensures { IfOk result (λ taking. taking ≡ step true (State.NeedMark naming behind bracket markers pos) terminal) }
+) -> Result<Outcome, Memory>
+    ensures { Settles result (stepped (State.NeedMark form markers) terminal) }
 {
     match terminal {
         Terminal::Marker(_marker) => {
             let more = markers.checked_add(1).ok_or(Memory)?;
-            Ok(outside(State::AfterMark(naming, behind, bracket, more, pos)))
+            Ok(outside(State::AfterMark(form, more)))
         }
-        _ => Ok(None),
+        _ => Ok(stops()),
     }
 }
 
@@ -190,8 +194,8 @@ pub(crate) fn after_form(
     naming: Naming,
     form: RawForm,
     terminal: Terminal,
-) -> Result<Taking, Memory>
-    ensures { IfOk result (λ taking. taking ≡ after_form naming form terminal) }
+) -> Result<Outcome, Memory>
+    ensures { Settles result (stepped (State.AfterForm naming form) terminal) }
 {
     match naming {
         Naming::Declared(raw, forms) => after_declared(raw, forms, form, terminal),
@@ -205,15 +209,15 @@ fn after_declared(
     forms: RawForms,
     form: RawForm,
     terminal: Terminal,
-) -> Result<Taking, Memory>
-    ensures { IfOk result (λ taking. taking ≡ after_form (Declared raw forms) form terminal) }
+) -> Result<Outcome, Memory>
+    ensures { Settles result (stepped (State.AfterForm (Declared raw forms) form) terminal) }
 {
     let mut forms = forms;
     forms.push(form)?;
     match terminal {
         Terminal::Comma => Ok(outside(State::NeedForm(Naming::Declared(raw, forms)))),
         Terminal::Colon(_pos) => Ok(outside(State::NeedSig(Signing::Declaration(raw, forms)))),
-        _ => Ok(None),
+        _ => Ok(stops()),
     }
 }
 
@@ -225,11 +229,13 @@ fn after_referred(
     refs: RawOpRefs,
     form: RawForm,
     terminal: Terminal,
-) -> Result<Taking, Memory>
-    ensures { IfOk result (λ taking. taking ≡ after_form (Referred clause refs) form terminal) }
+) -> Result<Outcome, Memory>
+    ensures { Settles result (stepped (State.AfterForm (Referred clause refs) form) terminal) }
 {
     match terminal {
-        Terminal::Colon(_pos) => Ok(outside(State::NeedSig(Signing::Reference(clause, refs, form)))),
+        Terminal::Colon(_pos) => Ok(outside(State::NeedSig(Signing::Reference(
+            clause, refs, form,
+        )))),
         other => {
             let refs = with_reference(refs, form)?;
             after_reference(alloc, clause, refs, other)
@@ -244,8 +250,8 @@ pub(crate) fn after_reference(
     clause: Clause,
     refs: RawOpRefs,
     terminal: Terminal,
-) -> Result<Taking, Memory>
-    ensures { IfOk result (λ taking. taking ≡ after_reference clause refs terminal) }
+) -> Result<Outcome, Memory>
+    ensures { Settles result (stepped (State.AfterReference clause refs) terminal) }
 {
     match terminal {
         Terminal::Comma => Ok(outside(State::NeedForm(Naming::Referred(clause, refs)))),
@@ -261,8 +267,12 @@ pub(crate) fn after_reference(
 }
 
 // A signature is needed.
-pub(crate) fn need_sig(alloc: Global, signing: Signing, terminal: Terminal) -> Result<Taking, Memory>
-    ensures { IfOk result (λ taking. taking ≡ step true (State.NeedSig signing) terminal) }
+pub(crate) fn need_sig(
+    alloc: Global,
+    signing: Signing,
+    terminal: Terminal,
+) -> Result<Outcome, Memory>
+    ensures { Settles result (stepped (State.NeedSig signing) terminal) }
 {
     match terminal {
         Terminal::Word(word) => {
@@ -270,31 +280,35 @@ pub(crate) fn need_sig(alloc: Global, signing: Signing, terminal: Terminal) -> R
             Ok(outside(State::AfterSort(signing, sorts)))
         }
         Terminal::Arrow => Ok(outside(State::NeedRange(signing, Sequence::new(alloc)))),
-        _ => Ok(None),
+        _ => Ok(stops()),
     }
 }
 
 // A sort of a domain is read.
-pub(crate) fn after_sort(signing: Signing, sorts: RawWords, terminal: Terminal) -> Taking
-    ensures { result ≡ step true (State.AfterSort signing sorts) terminal }
+pub(crate) fn after_sort(signing: Signing, sorts: RawWords, terminal: Terminal) -> Outcome
+    ensures { settled result ≡ stepped (State.AfterSort signing sorts) terminal }
 {
     match terminal {
         Terminal::Comma => outside(State::NeedSort(signing, sorts)),
         Terminal::Arrow => outside(State::NeedRange(signing, sorts)),
-        _ => None,
+        _ => stops(),
     }
 }
 
 // A `,` behind a sort is read.
-pub(crate) fn need_sort(signing: Signing, sorts: RawWords, terminal: Terminal) -> Result<Taking, Memory>
-    ensures { IfOk result (λ taking. taking ≡ step true (State.NeedSort signing sorts) terminal) }
+pub(crate) fn need_sort(
+    signing: Signing,
+    sorts: RawWords,
+    terminal: Terminal,
+) -> Result<Outcome, Memory>
+    ensures { Settles result (stepped (State.NeedSort signing sorts) terminal) }
 {
     match terminal {
         Terminal::Word(word) => {
             let sorts = with_word(sorts, word)?;
             Ok(outside(State::AfterSort(signing, sorts)))
         }
-        _ => Ok(None),
+        _ => Ok(stops()),
     }
 }
 
@@ -303,15 +317,15 @@ pub(crate) fn need_range(
     signing: Signing,
     domain: RawWords,
     terminal: Terminal,
-) -> Result<Taking, Memory>
-    ensures { IfOk result (λ taking. taking ≡ step true (State.NeedRange signing domain) terminal) }
+) -> Result<Outcome, Memory>
+    ensures { Settles result (stepped (State.NeedRange signing domain) terminal) }
 {
     match terminal {
         Terminal::Word(range) => {
             let after = hand_sig(signing, RawSig { domain, range })?;
             Ok(outside(after))
         }
-        _ => Ok(None),
+        _ => Ok(stops()),
     }
 }
 

@@ -1,43 +1,19 @@
-ghost use Rattle.std.specs.Prelude.{◌≡◌, ◌∷◌, [], List, None, IfOk, true};
-ghost use Rattle.larch_grammar.specs.Machine.{after_symbol, after_word, as_equation, finish, hand, step};
-ghost use Rattle.larch_grammar.specs.Trees.{call_tree, postfix_tree};
-ghost use Rattle.larch_grammar.specs.declared.machine.Frame.{Frame};
+ghost use Rattle.std.specs.Prelude.{◌≡◌, ◌∷◌, IfOk};
 ghost use Rattle.larch_grammar.specs.declared.machine.Frame.TheVariants.{InFields, InIf, InLeft, InList, InParentheses, InThen};
-ghost use Rattle.larch_grammar.specs.declared.machine.State.{State};
-ghost use Rattle.larch_syntax.specs.Steps.{EndsWith, Leaves, StopsWith, passed_on, taken_or_stuck, taking_of};
-ghost use Rattle.larch_syntax.specs.declared.hand.Passed.TheVariants.{Done};
+ghost use Rattle.larch_syntax.specs.Outcome.{Leaves, Settles, handed, settled, stepped};
 
 use crate::begin::{begin_post, open_bracket, opens};
 use crate::chains::{in_connectives, in_equalities, in_infixes, in_postfixes, in_strays};
 use crate::items::hand_equation;
-use crate::taking::{Stepped, Taking, at_head, plainly, taken_or_stuck};
+use crate::outcome::{Outcome, at_head, plainly, stops};
 use larch_base::{Memory, Pos};
-use larch_grammar::{Bracket, Frame, Terminal, Link, Listing, Stack, State, Waiting};
-use larch_raw::{RawTerm, RawTerms, RawWord};
 use larch_grammar::{
-    bracket_tree, call_tree, equation_of, field_tree, formula_of, if_tree, no_terms, postfix_tree,
-    prefix_tree, qualified, with_term,
+    Bracket, Frame, Link, Listing, Stack, State, Terminal, Waiting, bracket_tree, call_tree,
+    equation_of, field_tree, formula_of, if_tree, no_terms, postfix_tree, prefix_tree, qualified,
+    with_term,
 };
+use larch_raw::{RawTerm, RawTerms, RawWord};
 use std::alloc::Global;
-
-/// What a frame does with a term and the token behind it.
-#[derive(Drop)]
-pub(crate) enum Passed {
-    /// It hands what it makes of the term on to the frames around it, with the token.
-    On(RawTerm, Stack, Terminal),
-    /// It takes the token, or nothing does.
-    Done(Stepped),
-}
-
-// A frame that takes the token, or no text goes on so.
-pub(crate) fn done(taking: Taking) -> Passed
-    ensures hands { passed_on result ≡ taking }
-    ensures taken { result ≡ Done (taken_or_stuck taking) }
-    ensures ends { EndsWith None result }
-    ensures frames { (frames : List Frame) → Leaves frames result }
-{
-    Passed::Done(taken_or_stuck(taking))
-}
 
 // A term is read, and a token stands behind it: the innermost frame takes the token, or hands on what it makes of
 // the term.
@@ -47,24 +23,24 @@ pub(crate) fn hand(
     term: RawTerm,
     stack: Stack,
     terminal: Terminal,
-) -> Result<Stepped, Memory>
-    ensures step { IfOk result (λ stepped. taking_of stepped ≡ hand true term stack terminal) }
-    ensures stops { IfOk result (λ stepped. StopsWith (as_equation (finish term stack)) stepped) }
+) -> Result<Outcome, Memory>
+    ensures { IfOk result (λ answer. answer ≡ handed term stack terminal) }
 {
     let mut term = term;
     let mut stack = stack;
     let mut terminal = terminal;
     while let Some(frame) = stack.pop() {
         match pass(alloc, frame, term, stack, terminal)? {
-            Passed::On(whole, frames, token) => {
+            Outcome::Handed(whole, frames, token) => {
                 term = whole;
                 stack = frames;
                 terminal = token;
             }
-            Passed::Done(stepped) => return Ok(stepped),
+            Outcome::Taken(mark, after) => return Ok(Outcome::Taken(mark, after)),
+            Outcome::Stops(whole) => return Ok(Outcome::Stops(whole)),
         }
     }
-    Ok(Stepped::Stops(None))
+    Ok(stops())
 }
 
 // The same for one frame.
@@ -74,17 +50,16 @@ fn pass(
     term: RawTerm,
     stack: Stack,
     terminal: Terminal,
-) -> Result<Passed, Memory>
-    ensures hands { IfOk result (λ passed. passed_on passed ≡ hand true term (frame ∷ stack) terminal) }
-    ensures ends { IfOk result (λ passed. EndsWith (as_equation (finish term (frame ∷ stack))) passed) }
-    ensures frames { IfOk result (λ passed. Leaves stack passed) }
+) -> Result<Outcome, Memory>
+    ensures outcome { Settles result (handed term (frame ∷ stack) terminal) }
+    ensures frames { IfOk result (Leaves stack) }
 {
     match frame {
         Frame::InFields => Ok(in_fields(term, stack, terminal)),
         Frame::InStrays => in_strays(alloc, term, stack, terminal),
         Frame::Prefixed(symbol) => {
             let whole = prefix_tree(alloc, symbol, term)?;
-            Ok(Passed::On(whole, stack, terminal))
+            Ok(Outcome::Handed(whole, stack, terminal))
         }
         Frame::InPostfixes => in_postfixes(alloc, term, stack, terminal),
         Frame::InInfixes(link) => in_infixes(alloc, link, term, stack, terminal),
@@ -96,40 +71,37 @@ fn pass(
         Frame::InThen(pos, condition) => in_then(pos, condition, term, stack, terminal),
         Frame::InElse(pos, condition, first) => {
             let whole = if_tree(alloc, pos, condition, first, term)?;
-            Ok(Passed::On(whole, stack, terminal))
+            Ok(Outcome::Handed(whole, stack, terminal))
         }
         Frame::InLeft(pos, waiting) => in_left(alloc, pos, waiting, term, stack, terminal),
         Frame::InRight(pos, left, equates, waiting) => {
             let equation = equation_of(left, equates, term, pos);
-            let stepped = hand_equation(alloc, equation, waiting, terminal)?;
-            Ok(Passed::Done(stepped))
+            hand_equation(alloc, equation, waiting, terminal)
         }
     }
 }
 
 // Fields, brackets and a sort may follow.
-fn in_fields(term: RawTerm, stack: Stack, terminal: Terminal) -> Passed
-    ensures hands { passed_on result ≡ hand true term (InFields ∷ stack) terminal }
-    ensures ends { EndsWith (as_equation (finish term (InFields ∷ stack))) result }
+fn in_fields(term: RawTerm, stack: Stack, terminal: Terminal) -> Outcome
+    ensures outcome { settled result ≡ handed term (InFields ∷ stack) terminal }
     ensures frames { Leaves stack result }
 {
     match terminal {
-        Terminal::Dot(pos) => done(at_head(State::NeedField(term, pos, stack))),
-        Terminal::Colon(pos) => done(at_head(State::NeedSortOf(term, pos, stack))),
-        Terminal::OpenBracket(bracket, pos) => done(open_bracket(bracket, pos, Some(term), stack)),
-        other => Passed::On(term, stack, other),
+        Terminal::Dot(pos) => (at_head(State::NeedField(term, pos, stack))),
+        Terminal::Colon(pos) => (at_head(State::NeedSortOf(term, pos, stack))),
+        Terminal::OpenBracket(bracket, pos) => open_bracket(bracket, pos, Some(term), stack),
+        other => Outcome::Handed(term, stack, other),
     }
 }
 
 // Inside parentheses.
-fn in_parentheses(term: RawTerm, stack: Stack, terminal: Terminal) -> Passed
-    ensures hands { passed_on result ≡ hand true term (InParentheses ∷ stack) terminal }
-    ensures ends { EndsWith (as_equation (finish term (InParentheses ∷ stack))) result }
+fn in_parentheses(term: RawTerm, stack: Stack, terminal: Terminal) -> Outcome
+    ensures outcome { settled result ≡ handed term (InParentheses ∷ stack) terminal }
     ensures frames { Leaves stack result }
 {
     match terminal {
-        Terminal::Close => done(plainly(State::Have(term, stack))),
-        _ => done(None),
+        Terminal::Close => (plainly(State::Have(term, stack))),
+        _ => stops(),
     }
 }
 
@@ -141,45 +113,46 @@ fn in_list(
     term: RawTerm,
     stack: Stack,
     terminal: Terminal,
-) -> Result<Passed, Memory>
-    ensures hands { IfOk result (λ passed. passed_on passed ≡ hand true term (InList listing terms ∷ stack) terminal) }
-    ensures ends { IfOk result (λ passed. EndsWith (as_equation (finish term (InList listing terms ∷ stack))) passed) }
-    ensures frames { IfOk result (λ passed. Leaves stack passed) }
+) -> Result<Outcome, Memory>
+    ensures outcome { Settles result (handed term (InList listing terms ∷ stack) terminal) }
+    ensures frames { IfOk result (Leaves stack) }
 {
     let terms = with_term(terms, term)?;
     match (listing, terminal) {
         (listing, Terminal::Comma) => {
             let stack = stack.with(Frame::InList(listing, terms))?;
-            Ok(done(plainly(State::NeedTerm(stack))))
+            Ok(plainly(State::NeedTerm(stack)))
         }
         (Listing::Call(word), Terminal::Close) => {
-            Ok(done(plainly(State::Have(call_tree(word, terms), stack))))
+            Ok(plainly(State::Have(call_tree(word, terms), stack)))
         }
-        (Listing::Bracketed(Bracket::Square, front, pos), Terminal::CloseBracket(Bracket::Square)) =>
+        (
+            Listing::Bracketed(Bracket::Square, front, pos),
+            Terminal::CloseBracket(Bracket::Square),
+        ) => {
+            let whole = bracket_tree(alloc, Bracket::Square, front, pos, terms)?;
+            Ok(plainly(State::Have(whole, stack)))
+        }
+        (Listing::Bracketed(Bracket::Curly, front, pos), Terminal::CloseBracket(Bracket::Curly)) =>
             {
-                let whole = bracket_tree(alloc, Bracket::Square, front, pos, terms)?;
-                Ok(done(plainly(State::Have(whole, stack))))
+                let whole = bracket_tree(alloc, Bracket::Curly, front, pos, terms)?;
+                Ok(plainly(State::Have(whole, stack)))
             }
-        (Listing::Bracketed(Bracket::Curly, front, pos), Terminal::CloseBracket(Bracket::Curly)) => {
-            let whole = bracket_tree(alloc, Bracket::Curly, front, pos, terms)?;
-            Ok(done(plainly(State::Have(whole, stack))))
-        }
-        _ => Ok(done(None)),
+        _ => Ok(stops()),
     }
 }
 
 // `if`: its condition ends with `then`.
-fn in_if(pos: Pos, term: RawTerm, stack: Stack, terminal: Terminal) -> Result<Passed, Memory>
-    ensures hands { IfOk result (λ passed. passed_on passed ≡ hand true term (InIf pos ∷ stack) terminal) }
-    ensures ends { IfOk result (λ passed. EndsWith (as_equation (finish term (InIf pos ∷ stack))) passed) }
-    ensures frames { IfOk result (λ passed. Leaves stack passed) }
+fn in_if(pos: Pos, term: RawTerm, stack: Stack, terminal: Terminal) -> Result<Outcome, Memory>
+    ensures outcome { Settles result (handed term (InIf pos ∷ stack) terminal) }
+    ensures frames { IfOk result (Leaves stack) }
 {
     match terminal {
         Terminal::Then => {
             let stack = stack.with(Frame::InThen(pos, term))?;
-            Ok(done(plainly(State::NeedTerm(stack))))
+            Ok(plainly(State::NeedTerm(stack)))
         }
-        _ => Ok(done(None)),
+        _ => Ok(stops()),
     }
 }
 
@@ -190,17 +163,16 @@ fn in_then(
     term: RawTerm,
     stack: Stack,
     terminal: Terminal,
-) -> Result<Passed, Memory>
-    ensures hands { IfOk result (λ passed. passed_on passed ≡ hand true term (InThen pos condition ∷ stack) terminal) }
-    ensures ends { IfOk result (λ passed. EndsWith (as_equation (finish term (InThen pos condition ∷ stack))) passed) }
-    ensures frames { IfOk result (λ passed. Leaves stack passed) }
+) -> Result<Outcome, Memory>
+    ensures outcome { Settles result (handed term (InThen pos condition ∷ stack) terminal) }
+    ensures frames { IfOk result (Leaves stack) }
 {
     match terminal {
         Terminal::Else => {
             let stack = stack.with(Frame::InElse(pos, condition, term))?;
-            Ok(done(plainly(State::NeedTerm(stack))))
+            Ok(plainly(State::NeedTerm(stack)))
         }
-        _ => Ok(done(None)),
+        _ => Ok(stops()),
     }
 }
 
@@ -212,20 +184,16 @@ fn in_left(
     term: RawTerm,
     stack: Stack,
     terminal: Terminal,
-) -> Result<Passed, Memory>
-    ensures hands { IfOk result (λ passed. passed_on passed ≡ hand true term (InLeft pos waiting ∷ stack) terminal) }
-    ensures ends { IfOk result (λ passed. EndsWith (as_equation (finish term (InLeft pos waiting ∷ stack))) passed) }
-    ensures frames { IfOk result (λ passed. Leaves stack passed) }
+) -> Result<Outcome, Memory>
+    ensures outcome { Settles result (handed term (InLeft pos waiting ∷ stack) terminal) }
+    ensures frames { IfOk result (Leaves stack) }
 {
     match terminal {
         Terminal::Equates(equates) => {
             let stack = stack.with(Frame::InRight(pos, term, equates, waiting))?;
-            Ok(done(at_head(State::NeedTerm(stack))))
+            Ok(at_head(State::NeedTerm(stack)))
         }
-        other => {
-            let stepped = hand_equation(alloc, formula_of(term, pos), waiting, other)?;
-            Ok(Passed::Done(stepped))
-        }
+        other => { hand_equation(alloc, formula_of(term, pos), waiting, other) }
     }
 }
 
@@ -236,8 +204,8 @@ pub(crate) fn need_field(
     pos: Pos,
     stack: Stack,
     terminal: Terminal,
-) -> Result<Taking, Memory>
-    ensures { IfOk result (λ taking. taking ≡ step true (State.NeedField term pos stack) terminal) }
+) -> Result<Outcome, Memory>
+    ensures { Settles result (stepped (State.NeedField term pos stack) terminal) }
 {
     match terminal {
         Terminal::Word(word) => {
@@ -245,7 +213,7 @@ pub(crate) fn need_field(
             let stack = stack.with(Frame::InFields)?;
             Ok(plainly(State::Have(whole, stack)))
         }
-        _ => Ok(None),
+        _ => Ok(stops()),
     }
 }
 
@@ -256,15 +224,15 @@ pub(crate) fn need_sort_of(
     pos: Pos,
     stack: Stack,
     terminal: Terminal,
-) -> Result<Taking, Memory>
-    ensures { IfOk result (λ taking. taking ≡ step true (State.NeedSortOf term pos stack) terminal) }
+) -> Result<Outcome, Memory>
+    ensures { Settles result (stepped (State.NeedSortOf term pos stack) terminal) }
 {
     match terminal {
         Terminal::Word(sort) => {
             let whole = qualified(alloc, term, sort, pos)?;
             Ok(plainly(State::Have(whole, stack)))
         }
-        _ => Ok(None),
+        _ => Ok(stops()),
     }
 }
 
@@ -275,20 +243,19 @@ pub(crate) fn after_word(
     word: RawWord,
     stack: Stack,
     terminal: Terminal,
-) -> Result<Stepped, Memory>
-    ensures step { IfOk result (λ stepped. taking_of stepped ≡ after_word true word stack terminal) }
-    ensures stops { IfOk result (λ stepped. StopsWith (as_equation (finish (call_tree word []) stack)) stepped) }
+) -> Result<Outcome, Memory>
+    ensures { Settles result (stepped (State.AfterWord word stack) terminal) }
 {
     match terminal {
         Terminal::Open(_pos) => {
             let mark = opens(&stack);
             let arguments = Frame::InList(Listing::Call(word), no_terms(alloc));
             let stack = stack.with(Frame::InFields)?.with(arguments)?;
-            Ok(Stepped::Taken(mark, State::NeedTerm(stack)))
+            Ok(Outcome::Taken(mark, State::NeedTerm(stack)))
         }
         other => {
             let stack = stack.with(Frame::InFields)?;
-            hand(alloc, call_tree(word, no_terms(alloc)), stack, other)
+            Ok(Outcome::Handed(call_tree(word, no_terms(alloc)), stack, other))
         }
     }
 }
@@ -301,21 +268,19 @@ pub(crate) fn after_symbol(
     term: RawTerm,
     stack: Stack,
     terminal: Terminal,
-) -> Result<Stepped, Memory>
-    ensures step { IfOk result (λ stepped. taking_of stepped ≡ after_symbol true symbol term stack terminal) }
-    ensures stops { IfOk result (λ stepped. StopsWith (as_equation (finish (postfix_tree symbol term) stack)) stepped) }
+) -> Result<Outcome, Memory>
+    ensures { Settles result (stepped (State.AfterSymbol symbol term stack) terminal) }
 {
     match terminal {
         Terminal::Word(_) | Terminal::Open(_) | Terminal::OpenBracket(_, _) => {
             let link = Link { symbol, left: term };
             let stack = stack.with(Frame::InInfixes(Some(link)))?;
-            let taking = begin_post(terminal, stack)?;
-            Ok(taken_or_stuck(taking))
+            begin_post(terminal, stack)
         }
         other => {
             let whole = postfix_tree(alloc, symbol, term)?;
             let stack = stack.with(Frame::InPostfixes)?;
-            hand(alloc, whole, stack, other)
+            Ok(Outcome::Handed(whole, stack, other))
         }
     }
 }

@@ -1,100 +1,121 @@
-ghost use Rattle.std.specs.Prelude.{◌≡◌, [], None, IfOk, true};
-ghost use Rattle.larch_grammar.specs.Machine.{after_group, after_head, after_semicolon, after_word, as_equation, begin_item, begin_part, clause_word, end_equation, finish, first_word, hand_equation, in_part, step, word_behind, word_frames};
-ghost use Rattle.larch_grammar.specs.Trees.{call_tree};
-ghost use Rattle.larch_grammar.specs.declared.machine.State.{State};
+ghost use Rattle.std.specs.Prelude.{◌≡◌, [], IfOk, List, Some};
+ghost use Rattle.larch_grammar.specs.Machine.{begin_part, end_equation, hand_equation, open_item, word_frames};
+ghost use Rattle.larch_grammar.specs.Traits.{with_equations};
+ghost use Rattle.larch_grammar.specs.declared.machine.Frame.{Frame};
 ghost use Rattle.larch_grammar.specs.declared.machine.Waiting.TheVariants.{Item};
-ghost use Rattle.larch_syntax.specs.Steps.{StopsWith, taking_of};
+ghost use Rattle.larch_syntax.specs.Outcome.{Leaves, Settles, outcome, settled, stepped};
 
 use crate::begin::{begin_equation, word_frames};
 use crate::forms::begin_form;
 use crate::hand::after_word;
-use crate::taking::{Stepped, Taking, at_head, outside, taken_or_stuck};
+use crate::outcome::{Outcome, at_head, ends, outside, stops};
 use larch_base::{Memory, Sequence};
-use larch_grammar::{Clause, Terminal, Naming, State, Waiting};
-use larch_raw::{ClauseKind, RawEquation, RawEquations, RawTrait, RawVars, RawWord, RawWords};
-use larch_grammar::{named, with_equations, with_group, with_word};
+use larch_grammar::{
+    Clause, Naming, OpenItem, State, Terminal, Waiting, Whole, named, with_equations, with_group,
+    with_word,
+};
+use larch_raw::{ClauseKind, RawEquation, RawTrait, RawVars, RawWord, RawWords};
 use std::alloc::Global;
 
 // A name is needed.
-pub(crate) fn at_start(terminal: Terminal) -> Taking
-    ensures { result ≡ step true State.Start terminal }
+pub(crate) fn at_start(terminal: Terminal) -> Outcome
+    ensures { settled result ≡ stepped State.Start terminal }
 {
     match terminal {
         Terminal::Word(name) => outside(State::AfterName(name)),
-        _ => None,
+        _ => stops(),
     }
 }
 
 // A name is read.
-pub(crate) fn after_name(name: RawWord, terminal: Terminal) -> Taking
-    ensures { result ≡ step true (State.AfterName name) terminal }
+pub(crate) fn after_name(name: RawWord, terminal: Terminal) -> Outcome
+    ensures { settled result ≡ stepped (State.AfterName name) terminal }
 {
     match terminal {
         Terminal::Colon(_pos) => outside(State::NeedTrait(name)),
-        _ => None,
+        _ => stops(),
     }
 }
 
 // A name and `:` are read.
-pub(crate) fn need_trait(alloc: Global, name: RawWord, terminal: Terminal) -> Taking
-    ensures { result ≡ step true (State.NeedTrait name) terminal }
+pub(crate) fn need_trait(alloc: Global, name: RawWord, terminal: Terminal) -> Outcome
+    ensures { settled result ≡ stepped (State.NeedTrait name) terminal }
 {
     match terminal {
         Terminal::Trait => outside(State::AfterHead(named(alloc, name))),
-        _ => None,
+        _ => stops(),
     }
 }
 
 // The head of a trait is read.
-pub(crate) fn after_head(raw: RawTrait, terminal: Terminal) -> Taking
-    ensures { result ≡ after_head raw terminal }
+pub(crate) fn after_head(raw: RawTrait, terminal: Terminal) -> Outcome
+    ensures { settled result ≡ stepped (State.AfterHead raw) terminal }
 {
     match terminal {
         Terminal::Introduces => outside(State::InPart(raw)),
         Terminal::Asserts => outside(State::InItems(raw)),
-        _ => None,
+        _ => ends(raw),
     }
 }
 
 // `introduces` or a declaration is read.
-#[tactic(auto, using(crate::proofs::Defaults::other_part))]
-pub(crate) fn in_part(alloc: Global, raw: RawTrait, terminal: Terminal) -> Taking
-    ensures { result ≡ in_part raw terminal }
+pub(crate) fn in_part(alloc: Global, raw: RawTrait, terminal: Terminal) -> Outcome
+    ensures { settled result ≡ stepped (State.InPart raw) terminal }
 {
     match terminal {
         Terminal::Introduces => outside(State::InPart(raw)),
         Terminal::Asserts => outside(State::InItems(raw)),
-        other => begin_form(Naming::Declared(raw, Sequence::new(alloc)), other),
+        Terminal::Word(_)
+        | Terminal::Symbol(_)
+        | Terminal::Dot(_)
+        | Terminal::Marker(_)
+        | Terminal::OpenBracket(_, _) => {
+            begin_form(Naming::Declared(raw, Sequence::new(alloc)), terminal)
+        }
+        _ => ends(raw),
     }
 }
 
 // A part, or an item that needs no `;` before it.
-fn begin_part(alloc: Global, raw: RawTrait, terminal: Terminal) -> Taking
-    ensures { result ≡ begin_part raw terminal }
+fn begin_part(alloc: Global, raw: RawTrait, terminal: Terminal) -> Outcome
+    ensures outcome { settled result ≡ outcome (begin_part raw terminal) (Some (Whole.Trait raw)) }
+    ensures frames { (frames : List Frame) → Leaves frames result }
 {
     match terminal {
         Terminal::ForAll => outside(State::NeedVariable(raw, Sequence::new(alloc))),
         Terminal::Asserts => outside(State::InItems(raw)),
-        _ => None,
+        _ => ends(raw),
     }
 }
 
 // An equation of an item over no variables, which is its first.
 fn first_of_item(alloc: Global, raw: RawTrait) -> Waiting
-    ensures { result ≡ Item raw [] [] }
+    ensures { result ≡ Item (open_item raw [] []) }
 {
-    Waiting::Item(raw, Sequence::new(alloc), Sequence::new(alloc))
+    Waiting::Item(OpenItem {
+        raw,
+        variables: Sequence::new(alloc),
+        equations: Sequence::new(alloc),
+    })
 }
 
 // The first token of any item, or a part.
-#[tactic(auto, using(crate::proofs::Defaults::other_item))]
-pub(crate) fn begin_item(alloc: Global, raw: RawTrait, terminal: Terminal) -> Result<Taking, Memory>
-    ensures { IfOk result (λ taking. taking ≡ begin_item raw terminal) }
+pub(crate) fn begin_item(
+    alloc: Global,
+    raw: RawTrait,
+    terminal: Terminal,
+) -> Result<Outcome, Memory>
+    ensures { Settles result (stepped (State.InItems raw) terminal) }
 {
     match terminal {
         Terminal::Word(word) => Ok(at_head(State::FirstWord(raw, word))),
         Terminal::ForAll | Terminal::Asserts => Ok(begin_part(alloc, raw, terminal)),
-        other => begin_equation(alloc, other, first_of_item(alloc, raw)),
+        Terminal::Symbol(_)
+        | Terminal::Not(_)
+        | Terminal::Open(_)
+        | Terminal::OpenBracket(_, _)
+        | Terminal::If(_) => begin_equation(alloc, terminal, first_of_item(alloc, raw)),
+        _ => Ok(ends(raw)),
     }
 }
 
@@ -104,43 +125,54 @@ pub(crate) fn hand_equation(
     equation: RawEquation,
     waiting: Waiting,
     terminal: Terminal,
-) -> Result<Stepped, Memory>
-    ensures step { IfOk result (λ stepped. taking_of stepped ≡ hand_equation equation waiting terminal) }
-    ensures stops { IfOk result (λ stepped. StopsWith (as_equation (end_equation equation waiting)) stepped) }
+) -> Result<Outcome, Memory>
+    ensures outcome { Settles result (outcome (hand_equation equation waiting terminal) (end_equation equation waiting)) }
+    ensures frames { (frames : List Frame) → IfOk result (Leaves frames) }
 {
     match waiting {
-        Waiting::Alone => Ok(Stepped::Stops(Some(equation))),
-        Waiting::Item(raw, variables, equations) => {
-            let taking = behind_equation(alloc, raw, variables, equations, equation, terminal)?;
-            Ok(taken_or_stuck(taking))
-        }
+        Waiting::Alone => Ok(Outcome::Stops(Some(Whole::Equation(equation)))),
+        Waiting::Item(item) => behind_equation(alloc, item, equation, terminal),
     }
 }
 
-// The same where it is the last of these equations of an item.
+// The trait with an item that is open no more.
+fn close_item(item: OpenItem) -> Result<RawTrait, Memory>
+    ensures { IfOk result (λ raw. raw ≡ with_equations item.raw item.variables item.equations) }
+{
+    let OpenItem {
+        raw,
+        variables,
+        equations,
+    } = item;
+    with_equations(raw, variables, equations)
+}
+
+// The same where it is the last equation of this item.
 fn behind_equation(
     alloc: Global,
-    raw: RawTrait,
-    variables: RawVars,
-    equations: RawEquations,
+    item: OpenItem,
     equation: RawEquation,
     terminal: Terminal,
-) -> Result<Taking, Memory>
-    ensures { IfOk result (λ taking. taking ≡ hand_equation equation (Item raw variables equations) terminal) }
+) -> Result<Outcome, Memory>
+    ensures outcome { Settles result (outcome (hand_equation equation (Item item) terminal) (end_equation equation (Item item))) }
+    ensures frames { (frames : List Frame) → IfOk result (Leaves frames) }
 {
-    let mut equations = equations;
-    equations.push(equation)?;
+    let mut item = item;
+    item.equations.push(equation)?;
     match terminal {
-        Terminal::Semicolon => Ok(outside(State::AfterSemicolon(raw, variables, equations))),
+        Terminal::Semicolon => Ok(outside(State::AfterSemicolon(item))),
         Terminal::Word(word) => {
-            let raw = with_equations(raw, variables, equations)?;
+            let raw = close_item(item)?;
             Ok(outside(State::ClauseWord(raw, word)))
         }
         Terminal::ForAll | Terminal::Asserts => {
-            let raw = with_equations(raw, variables, equations)?;
+            let raw = close_item(item)?;
             Ok(begin_part(alloc, raw, terminal))
         }
-        _ => Ok(None),
+        _ => {
+            let raw = close_item(item)?;
+            Ok(ends(raw))
+        }
     }
 }
 
@@ -151,14 +183,11 @@ pub(crate) fn first_word(
     raw: RawTrait,
     word: RawWord,
     terminal: Terminal,
-) -> Result<Stepped, Memory>
-    ensures step { IfOk result (λ stepped. taking_of stepped ≡ first_word true raw word terminal) }
-    ensures stops { IfOk result (λ stepped. StopsWith None stepped) }
+) -> Result<Outcome, Memory>
+    ensures { Settles result (stepped (State.FirstWord raw word) terminal) }
 {
     match terminal {
-        Terminal::Generated | Terminal::Partitioned => {
-            Ok(taken_or_stuck(clause_word(raw, word, terminal)))
-        }
+        Terminal::Generated | Terminal::Partitioned => { Ok(clause_word(raw, word, terminal)) }
         other => word_of_equation(alloc, word, first_of_item(alloc, raw), other),
     }
 }
@@ -169,83 +198,80 @@ fn word_of_equation(
     word: RawWord,
     waiting: Waiting,
     terminal: Terminal,
-) -> Result<Stepped, Memory>
-    ensures step { IfOk result (λ stepped. taking_of stepped ≡ after_word true word (word_frames word waiting) terminal) }
-    ensures stops { IfOk result (λ stepped. StopsWith (as_equation (finish (call_tree word []) (word_frames word waiting))) stepped) }
+) -> Result<Outcome, Memory>
+    ensures { Settles result (stepped (State.AfterWord word (word_frames word waiting)) terminal) }
 {
     let frames = word_frames(alloc, &word, waiting)?;
-    let stepped = after_word(alloc, word, frames, terminal)?;
-    Ok(stepped)
+    after_word(alloc, word, frames, terminal)
 }
 
 // A word behind the `;` of these equations is read.
 #[tactic(auto, using(crate::proofs::Defaults::other_behind))]
 pub(crate) fn word_behind(
     alloc: Global,
-    raw: RawTrait,
-    variables: RawVars,
-    equations: RawEquations,
+    item: OpenItem,
     word: RawWord,
     terminal: Terminal,
-) -> Result<Stepped, Memory>
-    ensures step { IfOk result (λ stepped. taking_of stepped ≡ word_behind true raw variables equations word terminal) }
-    ensures stops { IfOk result (λ stepped. StopsWith None stepped) }
+) -> Result<Outcome, Memory>
+    ensures { Settles result (stepped (State.WordBehind item word) terminal) }
 {
     match terminal {
         Terminal::Generated | Terminal::Partitioned => {
-            let raw = with_equations(raw, variables, equations)?;
-            Ok(taken_or_stuck(clause_word(raw, word, terminal)))
+            let raw = close_item(item)?;
+            Ok(clause_word(raw, word, terminal))
         }
-        other => {
-            let waiting = Waiting::Item(raw, variables, equations);
-            word_of_equation(alloc, word, waiting, other)
-        }
+        other => { word_of_equation(alloc, word, Waiting::Item(item), other) }
     }
 }
 
 // The word that begins a clause is read.
-pub(crate) fn clause_word(raw: RawTrait, sort: RawWord, terminal: Terminal) -> Taking
-    ensures { result ≡ clause_word raw sort terminal }
+pub(crate) fn clause_word(raw: RawTrait, sort: RawWord, terminal: Terminal) -> Outcome
+    ensures { settled result ≡ stepped (State.ClauseWord raw sort) terminal }
 {
     let kind = match terminal {
         Terminal::Generated => ClauseKind::Generated,
         Terminal::Partitioned => ClauseKind::Partitioned,
-        _ => return None,
+        _ => return stops(),
     };
     outside(State::NeedBy(Clause { raw, kind, sort }))
 }
 
 // `generated` or `partitioned` is read.
-pub(crate) fn need_by(alloc: Global, clause: Clause, terminal: Terminal) -> Taking
-    ensures { result ≡ step true (State.NeedBy clause) terminal }
+pub(crate) fn need_by(alloc: Global, clause: Clause, terminal: Terminal) -> Outcome
+    ensures { settled result ≡ stepped (State.NeedBy clause) terminal }
 {
     match terminal {
         Terminal::By => {
             let naming = Naming::Referred(clause, Sequence::new(alloc));
             outside(State::NeedForm(naming))
         }
-        _ => None,
+        _ => stops(),
     }
 }
 
 // The `;` of these equations is read.
-#[tactic(auto, using(crate::proofs::Defaults::other_semicolon))]
 pub(crate) fn after_semicolon(
     alloc: Global,
-    raw: RawTrait,
-    variables: RawVars,
-    equations: RawEquations,
+    item: OpenItem,
     terminal: Terminal,
-) -> Result<Taking, Memory>
-    ensures { IfOk result (λ taking. taking ≡ after_semicolon raw variables equations terminal) }
+) -> Result<Outcome, Memory>
+    ensures { Settles result (stepped (State.AfterSemicolon item) terminal) }
 {
     match terminal {
-        Terminal::Word(word) => Ok(at_head(State::WordBehind(raw, variables, equations, word))),
+        Terminal::Word(word) => Ok(at_head(State::WordBehind(item, word))),
         Terminal::ForAll | Terminal::Asserts => {
-            let raw = with_equations(raw, variables, equations)?;
+            let raw = close_item(item)?;
             Ok(begin_part(alloc, raw, terminal))
         }
-        other => begin_equation(alloc, other, Waiting::Item(raw, variables, equations)),
+        Terminal::Symbol(_)
+        | Terminal::Not(_)
+        | Terminal::Open(_)
+        | Terminal::OpenBracket(_, _)
+        | Terminal::If(_) => { begin_equation(alloc, terminal, Waiting::Item(item)) }
+        _ => {
+            let raw = close_item(item)?;
+            Ok(ends(raw))
+        }
     }
 }
 
@@ -255,15 +281,15 @@ pub(crate) fn need_variable(
     raw: RawTrait,
     variables: RawVars,
     terminal: Terminal,
-) -> Result<Taking, Memory>
-    ensures { IfOk result (λ taking. taking ≡ step true (State.NeedVariable raw variables) terminal) }
+) -> Result<Outcome, Memory>
+    ensures { Settles result (stepped (State.NeedVariable raw variables) terminal) }
 {
     match terminal {
         Terminal::Word(name) => {
             let names = with_word(Sequence::new(alloc), name)?;
             Ok(outside(State::AfterVariable(raw, variables, names)))
         }
-        _ => Ok(None),
+        _ => Ok(stops()),
     }
 }
 
@@ -273,13 +299,13 @@ pub(crate) fn after_variable(
     variables: RawVars,
     names: RawWords,
     terminal: Terminal,
-) -> Taking
-    ensures { result ≡ step true (State.AfterVariable raw variables names) terminal }
+) -> Outcome
+    ensures { settled result ≡ stepped (State.AfterVariable raw variables names) terminal }
 {
     match terminal {
         Terminal::Comma => outside(State::NeedFurtherVariable(raw, variables, names)),
         Terminal::Colon(_pos) => outside(State::NeedVariableSort(raw, variables, names)),
-        _ => None,
+        _ => stops(),
     }
 }
 
@@ -289,15 +315,15 @@ pub(crate) fn need_further_variable(
     variables: RawVars,
     names: RawWords,
     terminal: Terminal,
-) -> Result<Taking, Memory>
-    ensures { IfOk result (λ taking. taking ≡ step true (State.NeedFurtherVariable raw variables names) terminal) }
+) -> Result<Outcome, Memory>
+    ensures { Settles result (stepped (State.NeedFurtherVariable raw variables names) terminal) }
 {
     match terminal {
         Terminal::Word(name) => {
             let names = with_word(names, name)?;
             Ok(outside(State::AfterVariable(raw, variables, names)))
         }
-        _ => Ok(None),
+        _ => Ok(stops()),
     }
 }
 
@@ -307,15 +333,15 @@ pub(crate) fn need_variable_sort(
     variables: RawVars,
     names: RawWords,
     terminal: Terminal,
-) -> Result<Taking, Memory>
-    ensures { IfOk result (λ taking. taking ≡ step true (State.NeedVariableSort raw variables names) terminal) }
+) -> Result<Outcome, Memory>
+    ensures { Settles result (stepped (State.NeedVariableSort raw variables names) terminal) }
 {
     match terminal {
         Terminal::Word(sort) => {
             let variables = with_group(variables, &names, &sort)?;
             Ok(outside(State::AfterGroup(raw, variables)))
         }
-        _ => Ok(None),
+        _ => Ok(stops()),
     }
 }
 
@@ -326,14 +352,18 @@ pub(crate) fn after_group(
     raw: RawTrait,
     variables: RawVars,
     terminal: Terminal,
-) -> Result<Taking, Memory>
-    ensures { IfOk result (λ taking. taking ≡ after_group raw variables terminal) }
+) -> Result<Outcome, Memory>
+    ensures { Settles result (stepped (State.AfterGroup raw variables) terminal) }
 {
     match terminal {
         Terminal::Comma => Ok(outside(State::NeedVariable(raw, variables))),
         other => {
-            let waiting = Waiting::Item(raw, variables, Sequence::new(alloc));
-            begin_equation(alloc, other, waiting)
+            let item = OpenItem {
+                raw,
+                variables,
+                equations: Sequence::new(alloc),
+            };
+            begin_equation(alloc, other, Waiting::Item(item))
         }
     }
 }

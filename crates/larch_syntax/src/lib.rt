@@ -5,19 +5,18 @@
 
 mod begin;
 mod chains;
-mod finish;
 mod forms;
 mod hand;
 mod items;
+mod outcome;
 mod read;
 mod refusal;
 mod step;
-mod taking;
 
 pub use larch_raw::{
-    ClauseKind, RawDecl, RawDecls, RawEquation, RawEquations, RawForm, RawForms, RawItem, RawItems, RawNode,
-    RawOpRef, RawOpRefs, RawRight, RawSig, RawTerm, RawTerms, RawTrait, RawVar, RawVars, RawWord,
-    RawWords,
+    ClauseKind, RawDecl, RawDecls, RawEquation, RawEquations, RawForm, RawForms, RawItem, RawItems,
+    RawNode, RawOpRef, RawOpRefs, RawRight, RawSig, RawTerm, RawTerms, RawTrait, RawVar, RawVars,
+    RawWord, RawWords,
 };
 pub use read::{read_term, read_trait};
 pub use refusal::SyntaxRefusal;

@@ -1,69 +1,66 @@
-ghost use Rattle.std.specs.Prelude.{◌≡◌, ◌+◌, ◌≤◌, length, Err, IfErr, IfOk, None, Ok, Some};
-ghost use Rattle.larch_grammar.specs.Answers.{Traits, position_of_token, term_from};
-ghost use Rattle.larch_grammar.specs.Machine.{as_equation, as_trait, final};
-ghost use Rattle.larch_fronts.specs.Claims.{Means};
-ghost use Rattle.larch_syntax.specs.Takes.{Forbids, Takes};
-ghost use Rattle.larch_fronts.specs.Mark.{admitted};
+ghost use Rattle.std.specs.Prelude.{◌≡◌, ◌+◌, ◌≤◌, length, IfOk};
+ghost use Rattle.larch_base.specs.Answering.{Answers};
 ghost use Rattle.larch_fronts.specs.Answer.{at_front};
-ghost use Rattle.larch_syntax.specs.Reading.{FrontStands, IsFront, Refuses, TraitStands, refused_at, refused_or, term_of, trait_of};
+ghost use Rattle.larch_fronts.specs.Claims.{Means};
+ghost use Rattle.larch_fronts.specs.Mark.{admitted};
+ghost use Rattle.larch_grammar.specs.Answers.{Traits, position_of_token, term_from};
+ghost use Rattle.larch_grammar.specs.Machine.{as_equation, as_trait};
+ghost use Rattle.larch_syntax.specs.Read.{MeansFrom, Says, fault_at, taken_at, term_of, trait_of, with_fault};
+ghost use Rattle.larch_syntax.specs.Refusals.{told};
 
-use crate::finish::last;
+use crate::outcome::Outcome;
 use crate::refusal::{SyntaxRefusal, refusal_of};
-use crate::step::step;
-use crate::taking::Stepped;
+use crate::step::{last, step};
 use larch_base::{Memory, Pos};
-use larch_grammar::{State, Waiting, Whole};
-use larch_lexer::{Token, Tokens};
 use larch_fronts::{Mark, admit};
+use larch_grammar::{State, Waiting, Whole, terminal_of};
+use larch_lexer::{Token, Tokens};
 use larch_raw::{RawEquation, RawTrait};
-use larch_grammar::terminal_of;
 use std::alloc::Global;
 
 /// The raw trait that these tokens are, all of them; or the first refusal. Of several that stand at one token the order
 /// is MIXED, SYNTAX, DEEP, SIZE. One pass over the tokens, without recursion.
 pub fn read_trait(alloc: Global, tokens: &Tokens) -> Result<RawTrait, SyntaxRefusal>
-    ensures read { IfOk result (λ raw. trait_of tokens.now ≡ Ok raw) }
-    ensures refused { IfErr result (λ refusal. Refuses refusal (trait_of tokens.now)) }
+    ensures answer { Answers told result (trait_of tokens.now) }
 
     // The grammar says the same without a machine.
-    ensures is_trait { IfOk result (λ raw. Means Traits position_of_token tokens.now.end tokens.now.tokens (Ok raw)) }
-    ensures stands { IfErr result (λ refusal. TraitStands tokens.now refusal) }
+    ensures grammar { Says (Means Traits position_of_token tokens.now.end tokens.now.tokens) result }
 {
     trait_by_steps(alloc, tokens)
 }
 
 // The same, by the machine.
 fn trait_by_steps(alloc: Global, tokens: &Tokens) -> Result<RawTrait, SyntaxRefusal>
-    ensures read { IfOk result (λ raw. trait_of tokens.now ≡ Ok raw) }
-    ensures refused { IfErr result (λ refusal. Refuses refusal (trait_of tokens.now)) }
+    ensures { Answers told result (trait_of tokens.now) }
 {
     let mut state = State::Start;
     let mut heads: u32 = 0;
     for token in tokens.as_slice() {
-        match take(alloc, heads, state, token)? {
-            Taken::On(more, after) => {
+        match take(alloc, heads, state, token) {
+            Ok(Taken::On(more, after)) => {
                 heads = more;
                 state = after;
             }
-            Taken::Stops(_equation) => return Err(SyntaxRefusal::Syntax(token.pos)),
+            Ok(Taken::Stops(_whole)) => return Err(SyntaxRefusal::Syntax(token.pos)),
+            Err(refusal) => return Err(refusal),
         }
     }
-    let raw = last_trait(alloc, state)?;
-    raw.ok_or(SyntaxRefusal::Syntax(tokens.end()))
+    let whole = last(alloc, state)?;
+    as_trait(whole).ok_or(SyntaxRefusal::Syntax(tokens.end()))
 }
 
-// The trait that ends in this state, if one does.
-fn last_trait(alloc: Global, state: State) -> Result<Option<RawTrait>, Memory>
-    ensures { IfOk result (λ raw. raw ≡ as_trait (final state)) }
+// The whole as a trait.
+fn as_trait(whole: Option<Whole>) -> Option<RawTrait>
+    ensures { result ≡ as_trait whole }
 {
-    match last(alloc, state)? {
-        Some(Whole::Trait(raw)) => Ok(Some(raw)),
-        _ => Ok(None),
+    match whole {
+        Some(Whole::Trait(raw)) => Some(raw),
+        _ => None,
     }
 }
 
-/// The raw equation at the front of the tokens from this position on, and the position behind it, both counted from 0 in
-/// tokens; or the first refusal, as of `read_trait`. The equation ends where no equation goes on so: before `then` in
+/// The raw equation at the front of the tokens from this one on, and the number of the token behind it, both counted
+/// from 0; or the first refusal, as of `read_trait`. The equation ends where no equation goes on so: before `then` in
 /// `x + y then z`, and before the second `==` in `x == y == z`.
 pub fn read_term(
     alloc: Global,
@@ -71,12 +68,10 @@ pub fn read_term(
     from: u32,
 ) -> Result<(RawEquation, u32), SyntaxRefusal>
     requires { from ≤ length tokens.now.tokens }
-    ensures read { IfOk result (λ read. term_of tokens.now from ≡ Ok read) }
-    ensures refused { IfErr result (λ refusal. Refuses refusal (term_of tokens.now from)) }
+    ensures answer { Answers told result (term_of tokens.now from) }
 
     // The grammar says the same without a machine.
-    ensures is_front { IfOk result (λ read. IsFront tokens.now from read) }
-    ensures stands { IfErr result (λ refusal. FrontStands tokens.now from refusal) }
+    ensures grammar { Says (MeansFrom tokens.now from) result }
 {
     front_by_steps(alloc, tokens, from)
 }
@@ -88,17 +83,16 @@ fn front_by_steps(
     from: u32,
 ) -> Result<(RawEquation, u32), SyntaxRefusal>
     requires { from ≤ length tokens.now.tokens }
-    ensures read { IfOk result (λ read. term_of tokens.now from ≡ Ok read) }
-    ensures refused { IfErr result (λ refusal. Refuses refusal (term_of tokens.now from)) }
+    ensures { Answers told result (term_of tokens.now from) }
 {
     let (equation, taken) = front(alloc, &tokens.as_slice()[from as usize..], tokens.end())?;
-    let position = behind(from, taken)?;
-    Ok((equation, position))
+    let next = behind(from, taken)?;
+    Ok((equation, next))
 }
 
-// The position so many tokens behind this one.
+// The number of the token so many behind this one.
 fn behind(from: u32, taken: usize) -> Result<u32, Memory>
-    ensures { IfOk result (λ position. position ≡ from + taken) }
+    ensures { IfOk result (λ next. next ≡ from + taken) }
 {
     let taken = u32::try_from(taken).map_err(|_| Memory)?;
     from.checked_add(taken).ok_or(Memory)
@@ -106,22 +100,22 @@ fn behind(from: u32, taken: usize) -> Result<u32, Memory>
 
 // The equation at the front of these tokens and its number of tokens, where the text ends there.
 fn front(alloc: Global, tokens: &[Token], end: Pos) -> Result<(RawEquation, usize), SyntaxRefusal>
-    ensures read { IfOk result (λ read. term_from end 0 0 (State.NeedEquation Waiting.Alone) tokens.now ≡ Ok read) }
-    ensures refused { IfErr result (λ refusal. Refuses refusal (refused_or (term_from end 0 0 (State.NeedEquation Waiting.Alone) tokens.now))) }
+    ensures { Answers told result (with_fault (term_from end 0 0 (State.NeedEquation Waiting.Alone) tokens.now)) }
 {
     let mut state = State::NeedEquation(Waiting::Alone);
     let mut heads: u32 = 0;
     for (taken, token) in tokens.iter().enumerate() {
-        match take(alloc, heads, state, token)? {
-            Taken::On(more, after) => {
+        match take(alloc, heads, state, token) {
+            Ok(Taken::On(more, after)) => {
                 heads = more;
                 state = after;
             }
-            Taken::Stops(equation) => return front_at(equation, taken, token.pos),
+            Ok(Taken::Stops(whole)) => return front_at(as_equation(whole), taken, token.pos),
+            Err(refusal) => return Err(refusal),
         }
     }
-    let equation = last_equation(alloc, state)?;
-    front_at(equation, tokens.len(), end)
+    let whole = last(alloc, state)?;
+    front_at(as_equation(whole), tokens.len(), end)
 }
 
 // The equation with its number of tokens, or SYNTAX behind them.
@@ -130,8 +124,7 @@ fn front_at(
     taken: usize,
     pos: Pos,
 ) -> Result<(RawEquation, usize), SyntaxRefusal>
-    ensures read { IfOk result (λ read. at_front pos taken equation ≡ Ok read) }
-    ensures refused { IfErr result (λ refusal. Refuses refusal (refused_or (at_front pos taken equation))) }
+    ensures { Answers told result (with_fault (at_front pos taken equation)) }
 {
     match equation {
         Some(equation) => Ok((equation, taken)),
@@ -139,13 +132,13 @@ fn front_at(
     }
 }
 
-// The equation by itself that ends in this state, if one does.
-fn last_equation(alloc: Global, state: State) -> Result<Option<RawEquation>, Memory>
-    ensures { IfOk result (λ equation. equation ≡ as_equation (final state)) }
+// The whole as an equation by itself.
+fn as_equation(whole: Option<Whole>) -> Option<RawEquation>
+    ensures { result ≡ as_equation whole }
 {
-    match last(alloc, state)? {
-        Some(Whole::Equation(equation)) => Ok(Some(equation)),
-        _ => Ok(None),
+    match whole {
+        Some(Whole::Equation(equation)) => Some(equation),
+        _ => None,
     }
 }
 
@@ -154,31 +147,30 @@ fn last_equation(alloc: Global, state: State) -> Result<Option<RawEquation>, Mem
 pub(crate) enum Taken {
     /// It is taken: the number of head tokens and the state behind it.
     On(u32, State),
-    /// No text of the grammar goes on so: the equation by itself that ends before it, if there is one.
-    Stops(Option<RawEquation>),
+    /// No text of the grammar goes on so: the whole that ends before it, if there is one.
+    Stops(Option<Whole>),
 }
 
 // Takes a token in a state, or answers what is counted at it.
 fn take(alloc: Global, heads: u32, state: State, token: &Token) -> Result<Taken, SyntaxRefusal>
-    ensures ok { IfOk result (λ taken. Takes heads state token.now taken) }
-    ensures err { IfErr result (λ refusal. Forbids heads state token.now refusal) }
+    ensures { Answers told result (taken_at heads state token.now) }
 {
     let terminal = terminal_of(token)?;
     match step(alloc, state, terminal)? {
-        Stepped::Taken(mark, after) => {
+        Outcome::Taken(mark, after) => {
             match count(heads, mark, token.pos) {
                 Ok(more) => Ok(Taken::On(more, after)),
                 Err(refusal) => Err(refusal),
             }
         }
-        Stepped::Stops(equation) => Ok(Taken::Stops(equation)),
+        Outcome::Stops(whole) => Ok(Taken::Stops(whole)),
+        Outcome::Handed(_term, _stack, _terminal) => Ok(Taken::Stops(None)),
     }
 }
 
 // The number of head tokens behind a token with this mark, or the refusal by what is counted at it.
 fn count(heads: u32, mark: Mark, pos: Pos) -> Result<u32, SyntaxRefusal>
-    ensures ok { IfOk result (λ more. admitted heads mark ≡ Ok more) }
-    ensures err { IfErr result (λ refusal. refused_at pos (admitted heads mark) ≡ Err refusal) }
+    ensures { Answers told result (fault_at pos (admitted heads mark)) }
 {
     match admit(heads, mark) {
         Ok(more) => Ok(more),

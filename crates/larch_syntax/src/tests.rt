@@ -93,27 +93,23 @@ fn read(alloc: Global, text: &[u8]) -> Option<(&'static str, u32)> {
 #[test]
 fn refuses_at_the_first_wrong_token(rt: HostRuntime) {
     for (text, code, column) in NEAR_MISSES {
-        assert!(rt;
-            read(rt.alloc(), text.as_bytes()) == Some((code, column)),
-            "{text}"
-        );
+        let answer = read(rt.alloc(), text.as_bytes());
+        assert!(rt; answer == Some((code, column)), "{text}: {answer:?}");
     }
 }
 
-// The position behind the equation at the front of a text.
+// The number of tokens of the equation at the front of a text.
 fn behind(alloc: Global, text: &[u8]) -> Option<u32> {
     let tokens = tokens_of(alloc, text)?;
-    let (_equation, position) = read_term(alloc, &tokens, 0).ok()?;
-    Some(position)
+    let (_equation, tokens) = read_term(alloc, &tokens, 0).ok()?;
+    Some(tokens)
 }
 
 #[test]
 fn reads_the_longest_front(rt: HostRuntime) {
-    for (text, position) in FRONTS {
-        assert!(rt;
-            behind(rt.alloc(), text.as_bytes()) == Some(position),
-            "{text}"
-        );
+    for (text, tokens) in FRONTS {
+        let answer = behind(rt.alloc(), text.as_bytes());
+        assert!(rt; answer == Some(tokens), "{text}: {answer:?}");
     }
 }
 
@@ -138,28 +134,24 @@ fn repeated(
 
 #[test]
 fn nests_two_hundred_deep(rt: HostRuntime) {
+    let answer = repeated(rt.alloc(), b"(", b")", 200);
+    assert!(rt; answer == Some(("", 0)), "200 parentheses: {answer:?}");
+    let answer = repeated(rt.alloc(), b"(", b")", 201);
     assert!(rt;
-        repeated(rt.alloc(), b"(", b")", 200) == Some(("", 0)),
-        "200 parentheses"
+        answer == Some(("DEEP", 219)),
+        "201 parentheses: {answer:?}"
     );
-    assert!(rt;
-        repeated(rt.alloc(), b"(", b")", 201) == Some(("DEEP", 219)),
-        "201 parentheses"
-    );
-    assert!(rt;
-        repeated(rt.alloc(), b"if a then b else ", b"", 201) == Some(("DEEP", 3419)),
-        "201 times if"
-    );
+    let answer = repeated(rt.alloc(), b"if a then b else ", b"", 201);
+    assert!(rt; answer == Some(("DEEP", 3419)), "201 times if: {answer:?}");
 }
 
 #[test]
 fn takes_five_thousand_head_tokens(rt: HostRuntime) {
+    let answer = repeated(rt.alloc(), b"-", b"", 1);
+    assert!(rt; answer == Some(("", 0)), "one symbol: {answer:?}");
+    let answer = repeated(rt.alloc(), b"- ", b"", 5000);
     assert!(rt;
-        repeated(rt.alloc(), b"-", b"", 1) == Some(("", 0)),
-        "one symbol"
-    );
-    assert!(rt;
-        repeated(rt.alloc(), b"- ", b"", 5000) == Some(("SIZE", 10019)),
-        "5,001 head tokens"
+        answer == Some(("SIZE", 10019)),
+        "5,001 head tokens: {answer:?}"
     );
 }

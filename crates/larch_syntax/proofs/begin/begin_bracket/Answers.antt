@@ -1,8 +1,8 @@
-use Rattle.std.proofs.Common.{◌≡◌, ◌∷◌, [], false, IfOk, ap, sym, subst, ◌∙◌}
+use Rattle.std.proofs.Common.{◌≡◌, ◌∷◌, [], false, None, ap, sym, subst, ◌∙◌}
 use Rattle.larch_grammar.specs.Machine.{begin_term}
 use Rattle.larch_grammar.specs.declared.machine.Frame.TheVariants.{InFields, InList}
 use Rattle.larch_grammar.specs.declared.machine.Listing.TheVariants.{Bracketed}
-use Rattle.larch_syntax.specs.Steps.{closes}
+use Rattle.larch_syntax.specs.Outcome.{Settles, closes, outcome}
 use Rattle.larch_syntax.proofs.Defaults.{bracket_open}
 use Rattle.larch_syntax.proofs.begin.begin_bracket.Goals as goal
 
@@ -10,6 +10,7 @@ pub returns-else-closes : goal.returns-else-closes
 returns-else-closes c =
     let is_open : closes c.args.bracket c.args.terminal ≡ false = sym c.closes.ensures ∙ c.if-closes.false in
     let inside : c.in_ok-stack.stack ≡ InFields ∷ c.args.stack = c.in_ok-stack.ensures in
-    subst (λ whole. IfOk c.begin_first.result (λ taking. taking ≡ whole))
-    (ap (λ k. begin_term c.args.terminal (InList (Bracketed c.args.bracket c.args.front c.args.pos) [] ∷ k)) inside ∙ sym (bracket_open c.args.bracket c.args.front c.args.pos c.args.stack c.args.terminal is_open))
+    subst (Settles c.begin_first.result)
+    (ap (λ taking. outcome taking None)
+    (ap (λ k. begin_term c.args.terminal (InList (Bracketed c.args.bracket c.args.front c.args.pos) [] ∷ k)) inside ∙ sym (bracket_open c.args.bracket c.args.front c.args.pos c.args.stack c.args.terminal is_open)))
     c.begin_first.ensures

@@ -1,10 +1,13 @@
-use Rattle.std.proofs.Common.{◌≡◌, IfOk, ap, sym, subst, ◌∙◌}
-use Rattle.larch_grammar.specs.Machine.{begin_item}
+use Rattle.std.proofs.Common.{ap, sym, subst, ◌∙◌}
+use Rattle.larch_grammar.specs.Machine.{final}
+use Rattle.larch_grammar.specs.declared.machine.State.TheVariants.{AfterReference, InItems}
+use Rattle.larch_syntax.specs.Outcome.{Settles, outcome, stepped}
 use Rattle.larch_syntax.proofs.Defaults.{other_reference}
 use Rattle.larch_syntax.proofs.forms.after_reference.Goals as goal
 
 pub returns-in_ok-raw-in_default : goal.returns-in_ok-raw-in_default
 returns-in_ok-raw-in_default c =
-    subst (λ whole. IfOk c.begin_item.result (λ taking. taking ≡ whole))
-    (ap (λ raw. begin_item raw c.args.terminal) c.in_ok-raw-in_default.ensures ∙ sym (other_reference c.args.clause c.args.refs c.args.terminal c.in_default.not-Comma c.in_default.not-Semicolon))
+    subst (Settles c.begin_item.result)
+    (ap (λ raw. stepped (InItems raw) c.args.terminal) c.in_ok-raw-in_default.ensures
+    ∙ ap (λ taking. outcome taking (final (AfterReference c.args.clause c.args.refs))) (sym (other_reference c.args.clause c.args.refs c.args.terminal c.in_default.not-Comma c.in_default.not-Semicolon)))
     c.begin_item.ensures

@@ -1,0 +1,353 @@
+-- Where the words of a text are words, so are those of what it is read as. By induction over the grammar: each phrase
+-- is read from tokens whose words are words, and leaves such tokens behind.
+use Rattle.std.proofs.Common.{◌≡◌, ℕ, suc, Bool, true, false, cond, IsTrue, Option, Some, None, List, [], ◌∷◌, ◌++◌, map, All, codes, ◌||◌, refl, subst, sym, arith}
+use Rattle.std.proofs.lemmas.List.Elements.{All-append, All-map, All-nil, All-push}
+use Rattle.std.specs.Str.{bytes_eq}
+use Rattle.larch_base.specs.Word.{is_word}
+use Rattle.larch_base.specs.declared.position.Pos.{Pos}
+use Rattle.larch_lexer.specs.declared.token.Kind.{Kind}
+use Rattle.larch_lexer.specs.declared.token.Kind.TheVariants as kind
+use Rattle.larch_lexer.specs.declared.token.Token.{Token}
+use Rattle.larch_fronts.specs.Claims.{Spells, tokens_of}
+use Rattle.larch_fronts.specs.declared.mark.Mark.{Mark}
+use Rattle.larch_raw.specs.RawTree.{RawTree, raw_forest}
+use Rattle.larch_raw.specs.Worded.{Worded, WordedDecl, WordedEquation, WordedItem, WordedRef, WordedSig, WordedTerm, WordedTerms, WordedTrait, WordedVar}
+use Rattle.larch_raw.specs.declared.declared.RawDecl.{RawDecl}
+use Rattle.larch_raw.specs.declared.declared.RawForm.{RawForm}
+use Rattle.larch_raw.specs.declared.declared.RawOpRef.{RawOpRef}
+use Rattle.larch_raw.specs.declared.declared.RawSig.{RawSig}
+use Rattle.larch_raw.specs.declared.declared.RawWord.{RawWord}
+use Rattle.larch_raw.specs.declared.equation.RawEquation.{RawEquation}
+use Rattle.larch_raw.specs.declared.equation.RawItem.{RawItem}
+use Rattle.larch_raw.specs.declared.equation.RawTrait.{RawTrait}
+use Rattle.larch_raw.specs.declared.equation.RawVar.{RawVar}
+use Rattle.larch_grammar.specs.Answers.{Traits}
+use Rattle.larch_grammar.specs.Forms.{Marked, IsWord, a_word, AreWords, no_word, another_word, AreMarkers, no_marker, another_marker, Markers, empty, marked, IsForm, bare_word, bare_symbol, bare_field, field_form, prefix_form, postfix_form, infix_form, bracketed_form, bracket_behind, AreForms, no_form, another_form, IsDomain, no_sort, sorts, IsSig, signature, IsOpRef, by_form, by_signature, AreOpRefs, no_reference, another_reference, variables_at, IsGroup, group, AreGroups, no_group, another_group}
+use Rattle.larch_grammar.specs.Terminals.{stands_nowhere, bracket_terminal, punctuation_terminal, run_terminal, term_word, terminal_by, terminal_of, word_terminal}
+use Rattle.larch_grammar.specs.Terms.{Cond, conditional, logic, Connectives, no_connective, connective, Equal, equal, Equalities, no_equality, equality, Oper, prefixed, plain, Operand, another_prefix, operand, Symbols, no_symbol, behind, between, Infixes, no_infix, another_infix, Postfixes, no_postfix, another_postfix, Strays, no_stray, stray, Post, word_alone, call, parentheses, bracketed, Fields, no_field, of_sort, field, bracket, InBracket, no_operand, operands, Others, no_other, another, IsEquation, formula, two_sides}
+use Rattle.larch_grammar.specs.Traits.{IsMarkedTrait, trait_of_parts, AreParts, assertions, introduced, AreAssertions, no_assertion, asserted, AreItems, no_item, a_clause, for_all, without_variables, AreEquations, no_equation, ended, another_equation, IsClause, clause, MayEnd, no_end, an_end, AreDecls, no_declaration, another_declaration, IsDecl, declaration, seen}
+use Rattle.larch_grammar.specs.Trees.{bracket_tree}
+use Rattle.larch_grammar.specs.WordTokens.{AreWordTokens, IsWordToken}
+use Rattle.larch_grammar.specs.declared.machine.Before.{Before}
+use Rattle.larch_grammar.specs.declared.terminal.Bracket.{Bracket}
+use Rattle.larch_grammar.specs.declared.terminal.Bracket.TheVariants.{Square, Curly}
+use Rattle.larch_grammar.specs.declared.terminal.Terminal.{Terminal}
+use Rattle.larch_grammar.specs.declared.terminal.Terminal.TheVariants as terminal
+
+-- a terminal that is a word is one
+abbrev Lettered : Terminal → Type 0
+Lettered (terminal.Word w) = Worded w
+Lettered _ = Unit {0}
+
+-- so is each of these
+abbrev AllLettered : List Marked → Type 0
+AllLettered [] = Unit {0}
+AllLettered (t ∷ i) = Lettered t.0 × AllLettered i
+
+-- words, forms and signatures
+
+word_lettered : {i o : List Marked} {w : RawWord} → IsWord i o w → AllLettered i → Worded w × AllLettered o
+word_lettered a_word h = h
+
+words_lettered : {ws vs : List RawWord} {i o : List Marked} → AreWords ws i o vs → All Worded ws → AllLettered i → All Worded vs × AllLettered o
+words_lettered no_word a h = (a, h)
+words_lettered (another_word {ws = ws} {w = w} q more) a h =
+    let r = word_lettered q h.1 in
+    words_lettered more (All-push Worded ws w a r.0) r.1
+
+markers_left : {b : Bracket} {n m : ℕ} {i o : List Marked} → AreMarkers b n i o m → AllLettered i → AllLettered o
+markers_left no_marker h = h.1
+markers_left (another_marker more) h = markers_left more h.1.1
+
+marks_left : {b : Bracket} {n : ℕ} {i o : List Marked} → Markers b i o n → AllLettered i → AllLettered o
+marks_left empty h = h.1
+marks_left (marked more) h = markers_left more h.1
+
+form_left : {i o : List Marked} {f : RawForm} → IsForm i o f → AllLettered i → AllLettered o
+form_left (bare_word q) h = (word_lettered q h).1
+form_left bare_symbol h = h.1
+form_left (bare_field q) h = (word_lettered q h.1).1
+form_left (field_form q) h = (word_lettered q h.1.1).1
+form_left prefix_form h = h.1.1
+form_left postfix_form h = h.1.1
+form_left infix_form h = h.1.1.1
+form_left (bracketed_form q) h = marks_left q h.1
+form_left (bracket_behind q) h = marks_left q h.1.1
+
+forms_left : {fs gs : List RawForm} {i o : List Marked} → AreForms fs i o gs → AllLettered i → AllLettered o
+forms_left no_form h = h
+forms_left (another_form q more) h = forms_left more (form_left q h.1)
+
+domain_lettered : {i o : List Marked} {ws : List RawWord} → IsDomain i o ws → AllLettered i → All Worded ws × AllLettered o
+domain_lettered no_sort h = (All-nil Worded, h)
+domain_lettered (sorts {w = w} q more) h =
+    let r = word_lettered q h in
+    words_lettered more (All-push Worded [] w (All-nil Worded) r.0) r.1
+
+sig_lettered : {i o : List Marked} {s : RawSig} → IsSig i o s → AllLettered i → WordedSig s × AllLettered o
+sig_lettered (signature q range) h =
+    let d = domain_lettered q h in
+    let r = word_lettered range d.1.1 in
+    ((d.0, r.0), r.1)
+
+ref_lettered : {i o : List Marked} {r : RawOpRef} → IsOpRef i o r → AllLettered i → WordedRef r × AllLettered o
+ref_lettered (by_form q) h = (tt, form_left q h)
+ref_lettered (by_signature q sig) h = sig_lettered sig (form_left q h).1
+
+refs_lettered : {rs qs : List RawOpRef} {i o : List Marked} → AreOpRefs rs i o qs → All WordedRef rs → AllLettered i → All WordedRef qs × AllLettered o
+refs_lettered no_reference a h = (a, h)
+refs_lettered (another_reference {rs = rs} {r = r} q more) a h =
+    let p = ref_lettered q h.1 in
+    refs_lettered more (All-push WordedRef rs r a p.0) p.1
+
+-- variables
+
+variables_worded : (sort : RawWord) → Worded sort → (ws : List RawWord) → All Worded ws → All WordedVar (variables_at ws sort)
+variables_worded sort s ws a = All-map WordedVar (λ name. record { name = name; sort = sort }) ws (λ k d lt. (a k d lt, s))
+
+group_lettered : {i o : List Marked} {gs : List RawVar} → IsGroup i o gs → AllLettered i → All WordedVar gs × AllLettered o
+group_lettered (group {w = w} {sort = sort} {ws = ws} q more range) h =
+    let n = word_lettered q h in
+    let ns = words_lettered more (All-push Worded [] w (All-nil Worded) n.0) n.1 in
+    let s = word_lettered range ns.1.1 in
+    (variables_worded sort s.0 ws ns.0, s.1)
+
+groups_lettered : {vs us : List RawVar} {i o : List Marked} → AreGroups vs i o us → All WordedVar vs → AllLettered i → All WordedVar us × AllLettered o
+groups_lettered no_group a h = (a, h)
+groups_lettered (another_group {vs = vs} {gs = gs} q more) a h =
+    let p = group_lettered q h.1 in
+    groups_lettered more (All-append WordedVar vs gs a p.0) p.1
+
+-- terms
+
+terms_push : (ts : List RawTree) (a : RawTree) → WordedTerms (raw_forest ts) → WordedTerm a → WordedTerms (raw_forest (ts ++ a ∷ []))
+terms_push [] a h w = (w, tt)
+terms_push (t ∷ ts) a h w = (h.0, terms_push ts a h.1 w)
+
+-- what stands in front of a bracket
+abbrev WordedFront : Option RawTree → Type 0
+WordedFront None = Unit {0}
+WordedFront (Some l) = WordedTerm l
+
+bracket_worded : (b : Bracket) (l : Option RawTree) (p : Pos) (ts : List RawTree) → WordedFront l → WordedTerms (raw_forest ts) → WordedTerm (bracket_tree b l p ts)
+bracket_worded b None p ts f h = h
+bracket_worded b (Some l) p ts f h = (f, h)
+
+postfixes_lettered : {l q : RawTree} {i o : List Marked} → Postfixes l i o q → WordedTerm l → AllLettered i → WordedTerm q × AllLettered o
+postfixes_lettered no_postfix w h = (w, h)
+postfixes_lettered (another_postfix more) w h = postfixes_lettered more (w, tt) h.1
+
+strays_lettered : {s : Bool} {l q : RawTree} {i o : List Marked} → Strays s l i o q → WordedTerm l → AllLettered i → WordedTerm q × AllLettered o
+strays_lettered no_stray w h = (w, h)
+strays_lettered (stray let_in more) w h = strays_lettered more (w, tt) h.1
+
+mutual
+  cond_lettered : {s : Bool} {d : ℕ} {i o : List Marked} {q : RawTree} → Cond s d i o q → AllLettered i → WordedTerm q × AllLettered o
+  cond_lettered (conditional a b c) h =
+      let x = cond_lettered a h.1 in
+      let y = cond_lettered b x.1.1 in
+      let z = cond_lettered c y.1.1 in
+      ((x.0, (y.0, (z.0, tt))), z.1)
+  cond_lettered (logic q more) h = let x = equal_lettered q h in connectives_lettered more x.0 x.1
+
+  connectives_lettered : {s : Bool} {d : ℕ} {x : Option RawWord} {l q : RawTree} {i o : List Marked} → Connectives s d x l i o q → WordedTerm l → AllLettered i → WordedTerm q × AllLettered o
+  connectives_lettered no_connective w h = (w, h)
+  connectives_lettered (connective q more) w h = let x = equal_lettered q h.1 in connectives_lettered more (w, (x.0, tt)) x.1
+
+  equal_lettered : {s : Bool} {d : ℕ} {i o : List Marked} {q : RawTree} → Equal s d i o q → AllLettered i → WordedTerm q × AllLettered o
+  equal_lettered (equal q more) h = let x = oper_lettered q h in equalities_lettered more x.0 x.1
+
+  equalities_lettered : {s : Bool} {d : ℕ} {x : Option RawWord} {l q : RawTree} {i o : List Marked} → Equalities s d x l i o q → WordedTerm l → AllLettered i → WordedTerm q × AllLettered o
+  equalities_lettered no_equality w h = (w, h)
+  equalities_lettered (equality q more) w h = let x = oper_lettered q h.1 in equalities_lettered more (w, (x.0, tt)) x.1
+
+  oper_lettered : {s : Bool} {d : ℕ} {i o : List Marked} {q : RawTree} → Oper s d i o q → AllLettered i → WordedTerm q × AllLettered o
+  oper_lettered (prefixed sign q) h = let x = operand_lettered q h.1 in ((x.0, tt), x.1)
+  oper_lettered (plain q more) h = let x = post_lettered q h in symbols_lettered more x.0 x.1
+
+  operand_lettered : {s : Bool} {d : ℕ} {i o : List Marked} {q : RawTree} → Operand s d i o q → AllLettered i → WordedTerm q × AllLettered o
+  operand_lettered (another_prefix sign q) h = let x = operand_lettered q h.1 in ((x.0, tt), x.1)
+  operand_lettered (operand q more) h = let x = post_lettered q h in strays_lettered more x.0 x.1
+
+  symbols_lettered : {s : Bool} {d : ℕ} {l q : RawTree} {i o : List Marked} → Symbols s d l i o q → WordedTerm l → AllLettered i → WordedTerm q × AllLettered o
+  symbols_lettered no_symbol w h = (w, h)
+  symbols_lettered (behind none more) w h = postfixes_lettered more (w, tt) h.1
+  symbols_lettered (between q more) w h = let x = post_lettered q h.1 in infixes_lettered more (w, (x.0, tt)) x.1
+
+  infixes_lettered : {s : Bool} {d : ℕ} {x : RawWord} {l q : RawTree} {i o : List Marked} → Infixes s d x l i o q → WordedTerm l → AllLettered i → WordedTerm q × AllLettered o
+  infixes_lettered no_infix w h = (w, h)
+  infixes_lettered (another_infix q more) w h = let x = post_lettered q h.1 in infixes_lettered more (w, (x.0, tt)) x.1
+
+  post_lettered : {s : Bool} {d : ℕ} {i o : List Marked} {q : RawTree} → Post s d i o q → AllLettered i → WordedTerm q × AllLettered o
+  post_lettered (word_alone more) h = fields_lettered more tt h.1
+  post_lettered (call q list more) h =
+      let x = cond_lettered q h.1.1 in
+      let y = others_lettered list (x.0, tt) x.1 in
+      fields_lettered more y.0 y.1
+  post_lettered (parentheses q more) h = let x = cond_lettered q h.1 in fields_lettered more x.0 x.1.1
+  post_lettered (bracketed q more) h = let x = bracket_lettered q tt h in fields_lettered more x.0 x.1
+
+  fields_lettered : {s : Bool} {d : ℕ} {l q : RawTree} {i o : List Marked} → Fields s d l i o q → WordedTerm l → AllLettered i → WordedTerm q × AllLettered o
+  fields_lettered no_field w h = (w, h)
+  fields_lettered of_sort w h = ((w, h.1.0), h.1.1)
+  fields_lettered (field more) w h = fields_lettered more (w, tt) h.1.1
+  fields_lettered (bracket q more) w h = let x = bracket_lettered q w h in fields_lettered more x.0 x.1
+
+  bracket_lettered : {s : Bool} {d : ℕ} {l : Option RawTree} {q : RawTree} {i o : List Marked} → InBracket s d l i o q → WordedFront l → AllLettered i → WordedTerm q × AllLettered o
+  bracket_lettered (no_operand {b = b} {l = l} {p = p}) f h = (bracket_worded b l p [] f tt, h.1.1)
+  bracket_lettered (operands {b = b} {l = l} {p = p} {ts = ts} q list) f h =
+      let x = cond_lettered q h.1 in
+      let y = others_lettered list (x.0, tt) x.1 in
+      (bracket_worded b l p ts f y.0, y.1)
+
+  others_lettered : {s : Bool} {d : ℕ} {c : Terminal} {ts us : List RawTree} {i o : List Marked} → Others s d c ts i o us → WordedTerms (raw_forest ts) → AllLettered i → WordedTerms (raw_forest us) × AllLettered o
+  others_lettered no_other w h = (w, h.1)
+  others_lettered (another {a = a} {ts = ts} q more) w h = let x = cond_lettered q h.1 in others_lettered more (terms_push ts a w x.0) x.1
+
+equation_lettered : {s : Bool} {i o : List Marked} {e : RawEquation} → IsEquation s i o e → AllLettered i → WordedEquation e × AllLettered o
+equation_lettered (formula q) h = let x = cond_lettered q h in ((x.0, tt), x.1)
+equation_lettered (two_sides q r) h =
+    let x = cond_lettered q h in
+    let y = cond_lettered r x.1.1 in
+    ((x.0, y.0), y.1)
+
+-- declarations, items and traits
+
+decl_lettered : {i o : List Marked} {d : RawDecl} → IsDecl i o d → AllLettered i → WordedDecl d × AllLettered o
+decl_lettered (declaration q more sig) h = sig_lettered sig (forms_left more (form_left q h)).1
+
+decls_lettered : {r z : RawTrait} {i o : List Marked} → AreDecls r i o z → WordedTrait r → AllLettered i → WordedTrait z × AllLettered o
+decls_lettered no_declaration w h = (w, h)
+decls_lettered (another_declaration {r = r} {d = d} q more) w h =
+    let x = decl_lettered q h in
+    decls_lettered more (w.0, All-push WordedDecl r.declarations d w.1 x.0, w.2) x.1
+
+end_left : {i o : List Marked} → MayEnd i o → AllLettered i → AllLettered o
+end_left no_end h = h
+end_left an_end h = h.1
+
+clause_lettered : {m : Mark} {i o : List Marked} {c : RawItem} → IsClause m i o c → AllLettered i → WordedItem c × AllLettered o
+clause_lettered (clause {r = r} word q more end) h =
+    let x = ref_lettered q h.1.1.1 in
+    let y = refs_lettered more (All-push WordedRef [] r (All-nil WordedRef) x.0) x.1 in
+    ((h.0, y.0), end_left end y.1)
+
+equations_lettered : {s : Bool} {es fs : List RawEquation} {b : Before} {i o : List Marked} → AreEquations s es i o fs b → All WordedEquation es → AllLettered i → All WordedEquation fs × AllLettered o
+equations_lettered no_equation a h = (a, h)
+equations_lettered ended a h = (a, h.1)
+equations_lettered (another_equation {es = es} {e = e} q more) a h =
+    let x = equation_lettered q h.1 in
+    equations_lettered more (All-push WordedEquation es e a x.0) x.1
+
+-- a trait with an item more
+item_worded : (r : RawTrait) (c : RawItem) → WordedTrait r → WordedItem c → All WordedItem (r.items ++ c ∷ [])
+item_worded r c w h = All-push WordedItem r.items c w.2 h
+
+items_lettered : {s : Bool} {b : Before} {r z : RawTrait} {i o : List Marked} → AreItems s b r i o z → WordedTrait r → AllLettered i → WordedTrait z × AllLettered o
+items_lettered no_item w h = (w, h)
+items_lettered (a_clause {r = r} {c = c} q more) w h =
+    let x = clause_lettered q h in
+    items_lettered more (w.0, w.1, item_worded r c w x.0) x.1
+items_lettered (for_all {r = r} {e = e} q groups first es more) w h =
+    let g = group_lettered q h.1 in
+    let gs = groups_lettered groups g.0 g.1 in
+    let x = equation_lettered first gs.1 in
+    let y = equations_lettered es (All-push WordedEquation [] e (All-nil WordedEquation) x.0) x.1 in
+    items_lettered more (w.0, w.1, item_worded r _ w (gs.0, y.0)) y.1
+items_lettered (without_variables {r = r} {e = e} first es more) w h =
+    let x = equation_lettered first h in
+    let y = equations_lettered es (All-push WordedEquation [] e (All-nil WordedEquation) x.0) x.1 in
+    items_lettered more (w.0, w.1, item_worded r _ w (All-nil WordedVar, y.0)) y.1
+
+assertions_lettered : {s : Bool} {r z : RawTrait} {i o : List Marked} → AreAssertions s r i o z → WordedTrait r → AllLettered i → WordedTrait z × AllLettered o
+assertions_lettered no_assertion w h = (w, h)
+assertions_lettered (asserted q more) w h = let x = items_lettered q w h.1 in assertions_lettered more x.0 x.1
+
+parts_lettered : {s : Bool} {r z : RawTrait} {i o : List Marked} → AreParts s r i o z → WordedTrait r → AllLettered i → WordedTrait z × AllLettered o
+parts_lettered (assertions q) w h = assertions_lettered q w h
+parts_lettered (introduced q more) w h = let x = decls_lettered q w h.1 in parts_lettered more x.0 x.1
+
+trait_lettered : {s : Bool} {i : List Marked} {z : RawTrait} → IsMarkedTrait s i z → AllLettered i → WordedTrait z
+trait_lettered (trait_of_parts q parts) h =
+    let n = word_lettered q h in
+    (parts_lettered parts (n.0, All-nil WordedDecl, All-nil WordedItem) n.1.1.1).0
+
+-- tokens
+
+record Sealed (t : Terminal) : Type 0 where
+  pub inside : Lettered t
+
+choice : (b : Bool) (x y : Terminal) → Lettered x → Sealed y → Sealed (cond b x y)
+choice true x y p q = record { inside = p }
+choice false x y p q = q
+
+other : (t : Terminal) → Lettered t → Sealed t
+other t h = record { inside = h }
+
+bracket_choice : (text : List ℕ) (pos : Pos) → Sealed (bracket_terminal text pos)
+bracket_choice text pos =
+    choice (bytes_eq text (codes "(")) (terminal.Open pos) _ tt
+    (choice (bytes_eq text (codes ")")) (terminal.Close) _ tt
+    (choice (bytes_eq text (codes "[")) (terminal.OpenBracket Square pos) _ tt
+    (choice (bytes_eq text (codes "]")) (terminal.CloseBracket Square) _ tt
+    (choice (bytes_eq text (codes "{")) (terminal.OpenBracket Curly pos) _ tt
+    (choice (bytes_eq text (codes "}")) (terminal.CloseBracket Curly) _ tt
+    (other terminal.Other tt))))))
+
+punctuation_choice : (text : List ℕ) (pos : Pos) → Sealed (punctuation_terminal text pos)
+punctuation_choice text pos =
+    choice (bytes_eq text (codes ":")) (terminal.Colon pos) _ tt
+    (choice (bytes_eq text (codes ",")) (terminal.Comma) _ tt
+    (choice (bytes_eq text (codes ";")) (terminal.Semicolon) _ tt
+    (choice (bytes_eq text (codes ".")) (terminal.Dot pos) _ tt
+    (bracket_choice text pos))))
+
+run_choice : (text : List ℕ) (pos : Pos) → Sealed (run_terminal text pos)
+run_choice text pos =
+    choice (bytes_eq text (codes "->")) (terminal.Arrow) _ tt
+    (choice (bytes_eq text (codes "==")) (terminal.Equates pos) _ tt
+    (choice (bytes_eq text (codes "=") || bytes_eq text (codes "~=")) (terminal.Equality (record { name = text; pos = pos })) _ tt
+    (choice (bytes_eq text (codes "~")) (terminal.Not (record { name = text; pos = pos })) _ tt
+    (choice (bytes_eq text (codes "=>") || bytes_eq text (codes "<=>")) (terminal.Connective (record { name = text; pos = pos })) _ tt
+    (other (terminal.Symbol (record { name = text; pos = pos })) tt)))))
+
+backslash_choice : (text : List ℕ) (pos : Pos) → Sealed (terminal_by kind.Backslash text pos)
+backslash_choice text pos =
+    choice (bytes_eq text (codes "\\forall")) (terminal.ForAll) _ tt
+    (other (terminal.Symbol (record { name = text; pos = pos })) tt)
+
+term_choice : (text : List ℕ) (pos : Pos) → IsTrue (is_word text) → Sealed (term_word text pos)
+term_choice text pos w =
+    choice (bytes_eq text (codes "if")) (terminal.If pos) _ tt
+    (choice (bytes_eq text (codes "then")) (terminal.Then) _ tt
+    (choice (bytes_eq text (codes "else")) (terminal.Else) _ tt
+    (choice (stands_nowhere text) (terminal.Other) _ tt
+    (other (terminal.Word (record { name = text; pos = pos })) w))))
+
+word_choice : (text : List ℕ) (pos : Pos) → IsTrue (is_word text) → Sealed (word_terminal text pos)
+word_choice text pos w =
+    choice (bytes_eq text (codes "trait")) (terminal.Trait) _ tt
+    (choice (bytes_eq text (codes "introduces")) (terminal.Introduces) _ tt
+    (choice (bytes_eq text (codes "asserts")) (terminal.Asserts) _ tt
+    (choice (bytes_eq text (codes "generated")) (terminal.Generated) _ tt
+    (choice (bytes_eq text (codes "partitioned")) (terminal.Partitioned) _ tt
+    (choice (bytes_eq text (codes "by")) (terminal.By) _ tt
+    (term_choice text pos w))))))
+
+lettered_by : (k : Kind) (text : List ℕ) (pos : Pos) → (k ≡ kind.Word → IsTrue (is_word text)) → Sealed (terminal_by k text pos)
+lettered_by kind.Word text pos w = word_choice text pos (w refl)
+lettered_by kind.Marker text pos w = other (terminal.Marker pos) tt
+lettered_by kind.Backslash text pos w = backslash_choice text pos
+lettered_by kind.Connective text pos w = other (terminal.Connective (record { name = text; pos = pos })) tt
+lettered_by kind.Run text pos w = run_choice text pos
+lettered_by kind.Punctuation text pos w = punctuation_choice text pos
+
+token_lettered : (t : Token) → IsWordToken t → Lettered (terminal_of t)
+token_lettered t w = (lettered_by t.kind t.text t.pos w).inside
+
+tokens_lettered : (ms : List (Token × Mark)) → AreWordTokens (tokens_of ms) → AllLettered (map seen ms)
+tokens_lettered [] a = tt
+tokens_lettered (m ∷ ms) a = (token_lettered m.0 (a 0 m.0 (omega arith)), tokens_lettered ms (λ k d lt. a (suc k) d (omega arith)))
+
+pub trait_worded : (tokens : List Token) (raw : RawTrait) → AreWordTokens tokens → Spells Traits tokens raw → WordedTrait raw
+trait_worded tokens raw a s = trait_lettered s.1 (tokens_lettered s.0 (subst AreWordTokens (sym s.2) a))

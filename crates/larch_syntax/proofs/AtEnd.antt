@@ -1,0 +1,66 @@
+-- No state takes a token that stands nowhere, so what it does there is how the text ends.
+use Rattle.std.proofs.Common.{◌≡◌, ℕ, Bool, true, Some, None, List, [], ◌∷◌, refl, ap}
+use Rattle.larch_base.specs.declared.position.Pos.{Pos}
+use Rattle.larch_raw.specs.RawTree.{RawTree}
+use Rattle.larch_raw.specs.declared.declared.RawForm.{RawForm}
+use Rattle.larch_grammar.specs.Machine.{after_form, end_marks, final, hand, step}
+use Rattle.larch_grammar.specs.Trees.{chain_tree, if_tree, infix_name, mixfix, postfix_name, postfix_tree, prefix_tree, call_tree}
+use Rattle.larch_grammar.specs.declared.machine.Frame.{Frame}
+use Rattle.larch_grammar.specs.declared.machine.Frame.TheVariants.{InFields, InStrays, Prefixed, InPostfixes, InInfixes, InEqualities, InConnectives, InParentheses, InList, InIf, InThen, InElse, InLeft, InRight}
+use Rattle.larch_grammar.specs.declared.machine.Listing.TheVariants.{Call, Bracketed}
+use Rattle.larch_grammar.specs.declared.machine.Naming.{Naming}
+use Rattle.larch_grammar.specs.declared.machine.Naming.TheVariants.{Declared, Referred}
+use Rattle.larch_grammar.specs.declared.machine.State.{State}
+use Rattle.larch_grammar.specs.declared.machine.State.TheVariants.{AfterSymbolForm, AfterMarkerSymbol, NeedMarks, AfterMark, AfterForm, AfterWord, NeedFirst, AfterSymbol, Have}
+use Rattle.larch_grammar.specs.declared.machine.Waiting.TheVariants.{Alone, Item}
+use Rattle.larch_grammar.specs.declared.terminal.Bracket.{Bracket}
+use Rattle.larch_grammar.specs.declared.terminal.Bracket.TheVariants.{Square, Curly}
+use Rattle.larch_grammar.specs.declared.terminal.Terminal.TheVariants.{Other}
+use Rattle.larch_syntax.specs.Outcome.{outcome, stepped}
+use Rattle.larch_syntax.specs.declared.outcome.Outcome.TheVariants.{Stops}
+
+hand_nothing : (r : RawTree) (k : List Frame) → hand true r k Other ≡ None
+hand_nothing r [] = refl
+hand_nothing r (InFields ∷ k) = hand_nothing r k
+hand_nothing r (InStrays ∷ k) = hand_nothing r k
+hand_nothing r (Prefixed x ∷ k) = hand_nothing (prefix_tree x r) k
+hand_nothing r (InPostfixes ∷ k) = hand_nothing r k
+hand_nothing r (InInfixes None ∷ k) = hand_nothing r k
+hand_nothing r (InInfixes (Some l) ∷ k) = hand_nothing (chain_tree (Some l) r) k
+hand_nothing r (InEqualities l ∷ k) = hand_nothing (chain_tree l r) k
+hand_nothing r (InConnectives l ∷ k) = hand_nothing (chain_tree l r) k
+hand_nothing r (InParentheses ∷ k) = refl
+hand_nothing r (InList (Call w) ts ∷ k) = refl
+hand_nothing r (InList (Bracketed Square l p) ts ∷ k) = refl
+hand_nothing r (InList (Bracketed Curly l p) ts ∷ k) = refl
+hand_nothing r (InIf p ∷ k) = refl
+hand_nothing r (InThen p a ∷ k) = refl
+hand_nothing r (InElse p a b ∷ k) = hand_nothing (if_tree p a b r) k
+hand_nothing r (InLeft p Alone ∷ k) = refl
+hand_nothing r (InLeft p (Item j) ∷ k) = refl
+hand_nothing r (InRight p l q Alone ∷ k) = refl
+hand_nothing r (InRight p l q (Item j) ∷ k) = refl
+
+form_nothing : (n : Naming) (f : RawForm) → after_form n f Other ≡ None
+form_nothing (Declared raw fs) f = refl
+form_nothing (Referred c rs) f = refl
+
+marks_nothing : (n : Naming) (behind : Bool) (b : Bracket) (m : ℕ) (p : Pos) → end_marks n behind b m p Other ≡ None
+marks_nothing n behind Square m p = refl
+marks_nothing n behind Curly m p = refl
+
+step_nothing : (n : State) → step true n Other ≡ None
+step_nothing (AfterSymbolForm n x) = form_nothing n (mixfix (infix_name x.name) 2 x.pos)
+step_nothing (AfterMarkerSymbol n p x) = form_nothing n (mixfix (postfix_name x.name) 1 p)
+step_nothing (NeedMarks c) = marks_nothing c.naming c.behind c.bracket 0 c.pos
+step_nothing (AfterMark c m) = marks_nothing c.naming c.behind c.bracket m c.pos
+step_nothing (AfterForm n f) = form_nothing n f
+step_nothing (AfterWord w k) = hand_nothing (call_tree w []) k
+step_nothing (NeedFirst Square l p k) = refl
+step_nothing (NeedFirst Curly l p k) = refl
+step_nothing (AfterSymbol x r k) = hand_nothing (postfix_tree x r) k
+step_nothing (Have r k) = hand_nothing r k
+step_nothing n = refl
+
+pub stops_at_end : (n : State) → stepped n Other ≡ Stops (final n)
+stops_at_end n = ap (λ o. outcome o (final n)) (step_nothing n)

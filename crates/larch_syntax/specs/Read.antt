@@ -1,0 +1,73 @@
+-- What reading tokens as a trait or a term answers.
+use Rattle.std.specs.Prelude.{◌≡◌, ℕ, ◌+◌, None, IfSome, Result, Ok, Err, drop}
+use Rattle.larch_base.specs.declared.fault.Fault.{Fault}
+use Rattle.larch_base.specs.declared.position.Pos.{Pos}
+use Rattle.larch_fronts.specs.Claims.{MeansFront}
+use Rattle.larch_fronts.specs.Mark.{admitted}
+use Rattle.larch_fronts.specs.declared.mark.Flaw.{Flaw}
+use Rattle.larch_grammar.specs.Answers.{Equations, position_of_token, term_answer, trait_answer}
+use Rattle.larch_grammar.specs.Terminals.{terminal_of}
+use Rattle.larch_grammar.specs.declared.machine.State.{State}
+use Rattle.larch_lexer.specs.TokenList.{TokenList}
+use Rattle.larch_lexer.specs.declared.token.Token.{Token}
+use Rattle.larch_raw.specs.declared.equation.RawEquation.{RawEquation}
+use Rattle.larch_raw.specs.declared.equation.RawTrait.{RawTrait}
+use Rattle.larch_syntax.specs.Outcome.{stepped}
+use Rattle.larch_syntax.specs.Refusals.{fault_of, flaw_told}
+use Rattle.larch_syntax.specs.declared.outcome.Outcome.{Outcome}
+use Rattle.larch_syntax.specs.declared.outcome.Outcome.TheVariants as outcome
+use Rattle.larch_syntax.specs.declared.read.Taken.{Taken}
+use Rattle.larch_syntax.specs.declared.read.Taken.TheVariants.{On, Stops}
+use Rattle.larch_syntax.specs.declared.refusal.SyntaxRefusal.{SyntaxRefusal}
+
+-- an answer with a fault in place of a flaw and its position
+abbrev pub with_fault : {Value : Type 0} → Result Value (Flaw × Pos) → Result Value Fault
+with_fault (Ok value) = Ok value
+with_fault (Err found) = Err (fault_of found)
+
+-- the same of what is counted at a token that stands there
+abbrev pub fault_at : {Value : Type 0} → Pos → Result Value Flaw → Result Value Fault
+fault_at pos (Ok value) = Ok value
+fault_at pos (Err flaw) = Err (fault_of (flaw, pos))
+
+-- the raw trait of a token list, or the first fault
+abbrev pub trait_of : TokenList → Result RawTrait Fault
+trait_of tokens = with_fault (trait_answer tokens)
+
+-- an equation with its number of tokens, as the equation with the number of the token behind it
+abbrev pub from_there : ℕ → Result (RawEquation × ℕ) Fault → Result (RawEquation × ℕ) Fault
+from_there from (Ok read) = Ok (read.0, from + read.1)
+from_there from (Err fault) = Err fault
+
+-- the raw equation at the front of the tokens from this one on, and the number of the token behind it; or the first
+-- fault
+abbrev pub term_of : TokenList → ℕ → Result (RawEquation × ℕ) Fault
+term_of tokens from = from_there from (with_fault (term_answer tokens from))
+
+-- what the grammar claims of an answer holds of what is answered; out of memory is free
+abbrev pub Says : {Value : Type 0} → (Result Value (Flaw × Pos) → Type 0) → Result Value SyntaxRefusal → Type 0
+Says claim (Ok value) = claim (Ok value)
+Says claim (Err refusal) = IfSome (flaw_told refusal) (λ found. claim (Err found))
+
+-- the equation is that of the longest front of the tokens from this one on, with the number of the token behind it; or
+-- the flaw stands where the grammar of equations says of that front
+abbrev pub MeansFrom : TokenList → ℕ → Result (RawEquation × ℕ) (Flaw × Pos) → Type 0
+MeansFrom tokens from (Ok read) =
+    (taken : ℕ) × MeansFront Equations position_of_token tokens.end (drop from tokens.tokens) (Ok (read.0, taken)) ×
+    (read.1 ≡ from + taken)
+MeansFrom tokens from (Err found) = MeansFront Equations position_of_token tokens.end (drop from tokens.tokens) (Err found)
+
+-- a token that is taken leads to a state, with so many head tokens behind it, unless something is counted at it
+abbrev pub leads_to : State → Result ℕ Fault → Result Taken Fault
+leads_to after (Ok more) = Ok (On more after)
+leads_to after (Err fault) = Err fault
+
+-- what comes of a token that stands there, behind so many head tokens
+abbrev pub counted : Pos → ℕ → Outcome → Result Taken Fault
+counted pos heads (outcome.Taken mark after) = leads_to after (fault_at pos (admitted heads mark))
+counted pos heads (outcome.Handed term frames terminal) = Ok (Stops None)
+counted pos heads (outcome.Stops whole) = Ok (Stops whole)
+
+-- what a token does in a state behind so many head tokens
+abbrev pub taken_at : ℕ → State → Token → Result Taken Fault
+taken_at heads state token = counted token.pos heads (stepped state (terminal_of token))
