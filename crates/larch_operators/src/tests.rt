@@ -27,7 +27,11 @@ fn lists_existing_sorts_once(rt: HostRuntime) -> Result<(), Memory> {
     let operators = one_operator(rt.alloc())?;
     let sorts = existing_sorts(rt.alloc(), operators.as_slice())?;
     assert_eq!(rt; sorts.as_slice().len(), 3);
-    for (sort, expected) in sorts.as_slice().iter().zip([b"Bool".as_slice(), b"N", b"M"]) {
+    for (sort, expected) in sorts
+        .as_slice()
+        .iter()
+        .zip([b"Bool".as_slice(), b"N", b"M"])
+    {
         assert_eq!(rt; sort.bytes(), expected);
     }
     Ok(())

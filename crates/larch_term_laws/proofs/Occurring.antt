@@ -106,7 +106,7 @@ with_has vs v =
 with_only : (vs : List Variable) (v w : Variable) → Contains (with_variable vs v) w → Contains vs w ⊎ (v ≡ w)
 with_only vs v w =
     with_by (λ us. Contains us w → Contains vs w ⊎ (v ≡ w)) vs v (list_any (same_variable v) vs) refl (λ _ c. inl c)
-    (λ _ c. elim (contains_either vs (v ∷ []) w c) [ | inl a ↦ inl a | inr b ↦ inr (contains_one v w b) ])
+    (λ _ c. elim (contains_either vs (v ∷ []) w c) [ inl a ↦ inl a | inr b ↦ inr (contains_one v w b) ])
 
 all_keep : (vs ws : List Variable) (w : Variable) → Contains vs w → Contains (fold with_variable vs ws) w
 all_keep vs [] w c = c
@@ -124,7 +124,7 @@ all_only : (vs ws : List Variable) (w : Variable) → Contains (fold with_variab
 all_only vs [] w c = inl c
 all_only vs (v ∷ ws) w c =
     elim (all_only (with_variable vs v) ws w c) [
-      | inl a ↦ elim (with_only vs v w a) [ | inl b ↦ inl b | inr e ↦ inr (subst (Contains (v ∷ ws)) e (contains_here v ws)) ]
+      | inl a ↦ elim (with_only vs v w a) [ inl b ↦ inl b | inr e ↦ inr (subst (Contains (v ∷ ws)) e (contains_here v ws)) ]
       | inr b ↦ inr (contains_later v w ws b)
     ]
 
@@ -133,7 +133,7 @@ with_different vs v h =
     with_by (AllPairs (λ x y. x ≢ y)) vs v (list_any (same_variable v) vs) refl (λ _. h)
     (λ e. all_pairs_push (λ x y. x ≢ y) vs v h
     (λ k d lt i. let c : list_any (same_variable v) vs ≡ true = contains_found v vs (subst (Contains vs) i (Contains-get_or vs k d lt)) in
-      let x : true ≡ false = sym c ∙ e in cc))
+    let x : true ≡ false = sym c ∙ e in cc))
 
 all_different : (vs ws : List Variable) → AllPairs (λ x y. x ≢ y) vs → AllPairs (λ x y. x ≢ y) (fold with_variable vs ws)
 all_different vs [] h = h
@@ -142,7 +142,7 @@ all_different vs (v ∷ ws) h = all_different (with_variable vs v) ws (with_diff
 -- the list of a term's variables has those that occur
 pub listed_occurs : (t : Tree) (v : Variable) → Contains (variables_of t) v ↔ Contains (occurrences t) v
 listed_occurs t v = (
-  λ c. elim (all_only [] (occurrences t) v c) [ | inl a ↦ absurd (contains_none v a) | inr b ↦ b ],
+  λ c. elim (all_only [] (occurrences t) v c) [ inl a ↦ absurd (contains_none v a) | inr b ↦ b ],
   λ c. all_have [] (occurrences t) v c,
 )
 

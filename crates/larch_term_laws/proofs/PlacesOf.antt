@@ -110,7 +110,7 @@ mutual
 pub stands_at_listed : (t : Tree) (p : List ℕ) → Contains (places t) p → (u : Tree) × (at t p ≡ Some u)
 stands_at_listed t p c =
     let m = contained_in_map Some (preorder t) (at t p)
-        (subst (λ os. Contains os (at t p)) (subterms_at_places t) (contains_map (at t) (places t) p c)) in
+    (subst (λ os. Contains os (at t p)) (subterms_at_places t) (contains_map (at t) (places t) p c)) in
     (m.0, sym m.2)
 
 nil_not_cons : (k : ℕ) (p : List ℕ) → [] ≡ k ∷ p → ⊥
