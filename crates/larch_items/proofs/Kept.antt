@@ -1,5 +1,5 @@
 -- What steps keep, and what was taken where a chain of steps answers.
-use Rattle.std.proofs.Common.{◌≡◌, Bool, true, false, cond, not, Option, Some, None, Result, Ok, Err, List, [], ◌∷◌, ◌++◌, All, Contains, find, option_map, refl, sym, ap, subst}
+use Rattle.std.proofs.Common.{◌≡◌, Bool, true, false, cond, not, Option, Some, None, Result, Ok, Err, List, [], ◌∷◌, ◌++◌, All, Contains, find, option_map, refl, subst}
 use Rattle.std.proofs.lemmas.List.Elements.{All-nil, All-cons, All-append, All-push, All-head, All-tail}
 use Rattle.larch_base.specs.declared.code.Code.{Code}
 use Rattle.larch_base.specs.declared.fault.Fault.{Fault}

@@ -1,16 +1,15 @@
 -- What a trait presents, by what it declares and what it states.
-use Rattle.std.proofs.Common.{◌≡◌, Option, IfSome, Result, Ok, Err, List, sym, ◌∙◌, ap, ap₂}
+use Rattle.std.proofs.Common.{◌≡◌, Option, IfSome, Ok, Err, List, sym, ◌∙◌, ap, ap₂}
 use Rattle.larch_base.specs.declared.fault.Fault.{Fault}
 use Rattle.larch_raw.specs.declared.equation.RawItem.{RawItem}
 use Rattle.larch_raw.specs.declared.equation.RawTrait.{RawTrait}
 use Rattle.larch_term.specs.Operator.{PlainOperator}
 use Rattle.larch_term.specs.declared.statement.Statement.{Statement}
-use Rattle.larch_term.specs.declared.statement.Theory.{Theory}
 use Rattle.larch_items.specs.Declarations.{declared}
 use Rattle.larch_items.specs.Items.{items_state}
 use Rattle.larch_items.specs.Presentation.{presentation_of}
 use Rattle.larch_items.specs.Steps.{after}
-use Rattle.larch_items.proofs.Steps.{after_refused, told_weaker}
+use Rattle.larch_items.proofs.Steps.{told_weaker}
 
 module _ (raw : RawTrait) (fs gs : List PlainOperator) (items : List RawItem) (declares : declared raw.declarations ≡ Ok fs) (same : gs ≡ fs)
     (all : items ≡ raw.items) where

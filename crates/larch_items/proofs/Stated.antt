@@ -1,5 +1,5 @@
 -- What is declared and stated over operators.
-use Rattle.std.proofs.Common.{◌≡◌, if◌then◌else◌, ℕ, inl, inr, Bool, true, false, ◌&&◌, not, is_some, Option, Some, None, Result, Ok, Err, List, [], ◌∷◌, ◌++◌, map, All, Contains, bytes_eq, find, refl, sym, ◌∙◌, ap, subst}
+use Rattle.std.proofs.Common.{◌≡◌, if◌then◌else◌, ℕ, inl, Bool, true, false, not, is_some, Option, Some, None, Ok, Err, List, [], ◌∷◌, ◌++◌, map, All, Contains, find, refl, sym, ap, subst}
 use Rattle.std.specs.Option.{option_and_then}
 use Rattle.std.proofs.lemmas.List.Elements.{All-nil, All-cons, All-push, All-contains}
 use Rattle.std.proofs.lemmas.Slice.Eq.{bytes_eq-Decides}
@@ -8,7 +8,6 @@ use Rattle.larch_base.specs.declared.fault.Fault.{Fault}
 use Rattle.larch_base.proofs.Bools.{and_right}
 use Rattle.larch_base.proofs.Lists.{all_from}
 use Rattle.larch_base.proofs.Members.{contained_in_map}
-use Rattle.larch_base.proofs.Options.{some_inj}
 use Rattle.larch_raw.specs.declared.declared.RawDecl.{RawDecl}
 use Rattle.larch_raw.specs.declared.declared.RawForm.{RawForm}
 use Rattle.larch_raw.specs.declared.declared.RawOpRef.{RawOpRef}
@@ -20,7 +19,7 @@ use Rattle.larch_raw.specs.declared.equation.RawEquation.{RawEquation}
 use Rattle.larch_raw.specs.declared.equation.RawItem.{RawItem}
 use Rattle.larch_raw.specs.declared.equation.RawItem.TheVariants.{Clause, Equations}
 use Rattle.larch_raw.specs.declared.equation.RawVar.{RawVar}
-use Rattle.larch_term.specs.BuiltIn.{IsBuiltIn, bool_sort, is_built_in}
+use Rattle.larch_term.specs.BuiltIn.{IsBuiltIn, is_built_in}
 use Rattle.larch_term.specs.Operator.{PlainOperator}
 use Rattle.larch_term.specs.Sorts.{IsKnown}
 use Rattle.larch_term.specs.Statement.{IsStatementOver}
@@ -29,7 +28,7 @@ use Rattle.larch_term.specs.declared.statement.Statement.TheVariants as statemen
 use Rattle.larch_term.proofs.BuiltIns.{is_built_in_Decides}
 use Rattle.larch_operators.specs.Sorts.{exists_sort}
 use Rattle.larch_sorts.specs.Faults.{fault, fault_at}
-use Rattle.larch_sorts.specs.Laws.{IsSortOf, OperatorSorts, StatementSorts, StatementVariables, sorts_of_operator}
+use Rattle.larch_sorts.specs.Laws.{IsSortOf, OperatorSorts, StatementSorts, StatementVariables}
 use Rattle.larch_sorts.specs.Read.{read_equation}
 use Rattle.larch_sorts.specs.Readings.{ReadsEquation}
 use Rattle.larch_sorts.specs.Scope.{Variables, sort_in}
@@ -38,7 +37,7 @@ use Rattle.larch_sorts.proofs.ReadAnswers.{equation_ok}
 use Rattle.larch_sorts.proofs.Sorted.{statement_in_scope, statement_over}
 use Rattle.larch_sorts.proofs.SortsRead.{own_sorts, statement_names, statement_sorts_exist}
 use Rattle.larch_items.specs.Declarations.{declared, declared_by, fits, operator_of, own_operator}
-use Rattle.larch_items.specs.Items.{clause_statement, clause_states, equations_state, item_states, items_state}
+use Rattle.larch_items.specs.Items.{clause_statement, clause_states, item_states, items_state}
 use Rattle.larch_items.specs.Laws.{BindsWords, DeclaresWords, IsWord, NamesOwn}
 use Rattle.larch_items.specs.References.{all_same, clause_code, found_or, is_meant, is_wanted, only_operator, operator_named, operators_named, suits, wanted_of}
 use Rattle.larch_items.specs.Steps.{after, all_taken, each, first_position}

@@ -1,10 +1,10 @@
 -- What a trait presents is a theory.
-use Rattle.std.proofs.Common.{◌≡◌, ◌≢◌, ℕ, inl, inr, Ok, List, All, AllPairs, Contains, refl, sym, subst}
+use Rattle.std.proofs.Common.{◌≡◌, ◌≢◌, ℕ, inl, inr, Ok, List, All, AllPairs, refl, sym, subst}
 use Rattle.std.proofs.lemmas.List.Elements.{All-contains}
 use Rattle.larch_base.proofs.Lists.{all_from}
 use Rattle.larch_raw.specs.declared.equation.RawItem.{RawItem}
 use Rattle.larch_raw.specs.declared.equation.RawTrait.{RawTrait}
-use Rattle.larch_term.specs.BuiltIn.{IsBuiltIn, bool_sort}
+use Rattle.larch_term.specs.BuiltIn.{IsBuiltIn}
 use Rattle.larch_term.specs.Operator.{PlainOperator}
 use Rattle.larch_term.specs.Statement.{IsStatementOver, IsTheory, IsWellSortedTheory}
 use Rattle.larch_term.specs.Tree.{Tree, Forest, var, app, none, more}

@@ -1,5 +1,5 @@
 -- The operators that declarations declare, or what is wrong with these first.
-use Rattle.std.specs.Prelude.{if◌then◌else◌, ◌==◌, ◌||◌, Bool, not, List, [], length, map, Result, Ok, Err}
+use Rattle.std.specs.Prelude.{if◌then◌else◌, ◌==◌, ◌||◌, Bool, not, List, length, map, Result, Ok, Err}
 use Rattle.larch_base.specs.declared.code.Code.TheVariants.{Arity, BuiltIn}
 use Rattle.larch_base.specs.declared.fault.Fault.{Fault}
 use Rattle.larch_raw.specs.declared.declared.RawDecl.{RawDecl}

@@ -16,7 +16,6 @@ use Rattle.larch_term.specs.declared.statement.Statement.TheVariants as statemen
 use Rattle.larch_operators.specs.Sorts.{exists_sort}
 use Rattle.larch_sorts.specs.Faults.{fault}
 use Rattle.larch_sorts.specs.Read.{read_equation}
-use Rattle.larch_sorts.specs.Scope.{Variables}
 use Rattle.larch_items.specs.References.{operators_named}
 use Rattle.larch_items.specs.Steps.{after, each, each_several}
 use Rattle.larch_items.specs.Variables.{variables_declared}

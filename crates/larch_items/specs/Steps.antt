@@ -1,5 +1,5 @@
 -- Steps that may be refused, one after the other.
-use Rattle.std.specs.Prelude.{Bool, List, [], ◌∷◌, ◌++◌, Option, Some, None, option_map, find, Result, Ok, Err}
+use Rattle.std.specs.Prelude.{Bool, List, [], ◌∷◌, ◌++◌, Option, option_map, find, Result, Ok, Err}
 use Rattle.larch_base.specs.declared.position.Pos.{Pos}
 
 -- what comes after a step, unless that is refused

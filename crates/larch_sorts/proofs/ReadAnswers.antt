@@ -1,5 +1,5 @@
 -- What reading equations and lone terms answers.
-use Rattle.std.proofs.Common.{◌≡◌, ℕ, ◌⊎◌, inl, inr, List, Option, Some, None, Result, Ok, Err, IfOk, IfErr, refl, ap}
+use Rattle.std.proofs.Common.{◌≡◌, ℕ, List, Option, Some, None, Result, Ok, Err, IfOk, IfErr, ap}
 use Rattle.std.proofs.Common.{IfSome}
 use Rattle.larch_base.specs.Answering.{Answers}
 use Rattle.larch_base.specs.declared.code.Code.TheVariants.{UnknownSort, NoReading}

@@ -1,5 +1,5 @@
 -- What refusals tell.
-use Rattle.std.proofs.Common.{◌≡◌, Option, Some, None, IfSome, refl}
+use Rattle.std.proofs.Common.{◌≡◌, Option, Some, None, IfSome}
 use Rattle.std.specs.Option.{option_or}
 use Rattle.larch_base.specs.declared.code.Code.{Code}
 use Rattle.larch_base.specs.declared.fault.Fault.{Fault}

@@ -5,13 +5,11 @@ use Rattle.larch_raw.specs.RawTree.{RawForest, RawTree, apply, no_more, one_more
 use Rattle.larch_raw.specs.declared.declared.RawWord.{RawWord}
 use Rattle.larch_raw.specs.declared.equation.RawEquation.{RawEquation}
 use Rattle.larch_raw.specs.declared.equation.RawRight.{RawRight}
-use Rattle.larch_term.specs.BuiltIn.{built_in}
 use Rattle.larch_term.specs.Operator.{PlainOperator, plain}
 use Rattle.larch_term.specs.Sorts.{sort_of, sorts_of}
 use Rattle.larch_term.specs.Truth.{truth}
 use Rattle.larch_term.specs.Tree.{Forest, Tree, app, more, none, var}
 use Rattle.larch_term.specs.BuiltIn.{bool_sort}
-use Rattle.larch_term.specs.declared.built_in.BuiltIn.TheVariants.{True}
 use Rattle.larch_term.specs.declared.statement.Statement.{Statement}
 use Rattle.larch_term.specs.declared.statement.Statement.TheVariants.{Equation, Generated, Partitioned}
 use Rattle.larch_sorts.specs.Scope.{Variables, sort_in}

@@ -1,4 +1,4 @@
-use Rattle.std.proofs.Common.{◌≡◌, if◌then◌else◌, Ok, Err, sym, ◌∙◌, ap}
+use Rattle.std.proofs.Common.{if◌then◌else◌, Ok, Err, sym, ◌∙◌, ap}
 use Rattle.larch_base.specs.declared.code.Code.TheVariants.{BuiltIn}
 use Rattle.larch_term.specs.BuiltIn.{is_built_in}
 use Rattle.larch_term.proofs.BuiltIns.{built_in_told}
