@@ -3,43 +3,50 @@
 
 ghost use Rattle.std.specs.Prelude.{◌≡◌, ◌<◌};
 
-use larch_base::Steps;
+use larch_base::{Memory, Steps};
 use larch_io::{CleanFolder, StandardInput, StandardOutput};
 use larch_main::{Status, run};
 use std::alloc::Global;
 use std::marker::Brand;
 use std::process::ExitCode;
 use std::sync::ledger::{Blank, Ledger};
-use std::{env, io};
+use std::env;
+use std::io::ErrorKind;
 
-// The words behind the program's name.
-fn words(rt: &HostRuntime, alloc: Global) -> io::Result<Vec<String>> {
+// The words behind the program's name. Where they are no texts there are none, and so no command.
+fn words(rt: &HostRuntime, alloc: Global) -> Result<Vec<String>, Memory> {
     let mut words = Vec::new(alloc);
-    for word in env::args(rt)?.skip(1) {
-        words.push(word)?;
+    match env::args(rt) {
+        Ok(all) => {
+            for word in all.skip(1) {
+                words.push(word)?;
+            }
+            Ok(words)
+        }
+        Err(error) => {
+            if error.kind() == ErrorKind::OutOfMemory {
+                Err(Memory)
+            } else {
+                Ok(words)
+            }
+        }
     }
-    Ok(words)
 }
 
-// Runs the words' command over the standard streams, its steps being counted in a ledger of their own. Words that
-// can't be had mean no command.
-fn start<L: Ledger>(rt: &HostRuntime, blank: Blank) -> Status
+// Runs the words' command over the standard streams, its steps being counted in a ledger of their own.
+fn start<L: Ledger>(rt: &HostRuntime, blank: Blank, words: &[String]) -> Status
     requires name { blank.name ≡ L.name }
     requires parts { blank.parts ≡ L.parts }
     requires some { 0 < L.parts }
 {
     let alloc = rt.alloc();
-    let words = match words(rt, alloc) {
-        Ok(words) => words,
-        Err(_) => Vec::new(alloc),
-    };
     let mut folder = CleanFolder::new(alloc);
     let mut source = StandardInput::new(rt);
     let mut sink = StandardOutput::new(rt);
     let mut steps: Steps<L> = Steps::start(blank, rt);
     run(
         alloc,
-        &words,
+        words,
         &mut folder,
         &mut source,
         &mut sink,
@@ -47,7 +54,11 @@ fn start<L: Ledger>(rt: &HostRuntime, blank: Blank) -> Status
     )
 }
 
+// Where memory runs out while the words are copied, the status says so.
 fn main(rt: HostRuntime) -> ExitCode {
-    let status = start::<Brand>(&rt, Blank::new(1));
+    let status = match words(&rt, rt.alloc()) {
+        Ok(words) => start::<Brand>(&rt, Blank::new(1), &words),
+        Err(Memory) => Status::Memory,
+    };
     ExitCode::from(status.number())
 }

@@ -1,31 +1,23 @@
 -- Numbers that digits spell.
 use Rattle.std.proofs.Common.{◌≡◌, ℕ, suc, zero, ◌+◌, ◌-◌, ◌*◌, ◌^◌, ◌<◌, ◌≤◌, ◌&&◌, Bool, true, false, List, [], ◌∷◌, length, get_or, take, refl, ap, ◌∙◌, arith}
-use Rattle.std.specs.Str.{all_ascii_digits}
 use Rattle.std.specs.Char.{is_ascii_digit}
 use Rattle.std.proofs.lemmas.List.{take_more}
 use Rattle.std.proofs.lemmas.List.Sums.{fold_push}
 use Rattle.std.proofs.lemmas.Bool.Decides.{nat_tests}
 use Rattle.std.proofs.Math.Nat.{pow-le-pow_right, pow-suc}
 use Rattle.std.proofs.Math.Numerals.{add-one}
-use Rattle.larch_main.specs.CommandLine.{number_of_digits}
+use Rattle.larch_base.proofs.Bools.{and_left, and_right}
+use Rattle.larch_main.specs.Command.{are_digits, number_of_digits}
 
 -- a digit's byte
 digit_range : (d : ℕ) → is_ascii_digit d ≡ true → (48 ≤ d) × (d ≤ 57)
 digit_range d h = grind (arith, nat_tests)
 
-first_is : (a b : Bool) → (a && b) ≡ true → a ≡ true
-first_is true b h = refl
-first_is false b h = h
-
-rest_is : (a b : Bool) → (a && b) ≡ true → b ≡ true
-rest_is true b h = h
-rest_is false b h = cc
-
 -- each of them is a digit
-pub digit_at : (digits : List ℕ) (i : ℕ) → all_ascii_digits digits ≡ true → i < length digits → (48 ≤ get_or digits i 0) × (get_or digits i 0 ≤ 57)
+pub digit_at : (digits : List ℕ) (i : ℕ) → are_digits digits ≡ true → i < length digits → (48 ≤ get_or digits i 0) × (get_or digits i 0 ≤ 57)
 digit_at [] i all h = absurd (omega arith)
-digit_at (d ∷ ds) zero all h = digit_range d (first_is _ _ all)
-digit_at (d ∷ ds) (suc i) all h = digit_at ds i (rest_is (is_ascii_digit d) _ all) (omega arith)
+digit_at (d ∷ ds) zero all h = digit_range d (and_left _ _ all)
+digit_at (d ∷ ds) (suc i) all h = digit_at ds i (and_right (is_ascii_digit d) _ all) (omega arith)
 
 -- one digit more
 pub number_more : (digits : List ℕ) (i : ℕ) → i < length digits → number_of_digits (take (i + 1) digits) ≡ 10 * number_of_digits (take i digits) + (get_or digits i 0 - 48)

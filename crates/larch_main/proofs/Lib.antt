@@ -1,6 +1,7 @@
 pub mod Digits
 pub mod Endings
 pub mod Found
+pub mod Once
 pub mod Shapes
 pub mod Steps
 pub mod Usage

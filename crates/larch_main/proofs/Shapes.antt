@@ -7,26 +7,17 @@ use Rattle.larch_main.specs.declared.status.Status.{Status}
 use Rattle.larch_main.specs.declared.status.Status.TheVariants.{Good, Remains, Words, ReadFault, WriteFault, Memory, Malformed, Size, NoFile}
 use Rattle.larch_main.specs.declared.command.Command.{Command}
 use Rattle.larch_main.specs.declared.command.Command.TheVariants.{Skip, Put, Report, Quit}
-use Rattle.larch_main.specs.CommandLine.{command_of}
-use Rattle.larch_main.specs.Lines.{is_newline, LineFound, line, no_line, long_line, full, unfinished, line_at, line_of_size, BytesFound, bytes, cut, too_many, wanting, bytes_at}
-use Rattle.larch_main.specs.Sessions.{State, took, Step, goes, stops, waits, step, on_line, on_command, on_bytes, put_is_refused, room_left, status_of, too_large_text, with_status, Session, goes_on, ends}
-
--- a session ends by itself with one of these
-abbrev pub IsEnd : Status → Type 0
-IsEnd Good = Unit {0}
-IsEnd Remains = Unit {0}
-IsEnd Malformed = Unit {0}
-IsEnd Size = Unit {0}
-IsEnd Words = ⊥
-IsEnd ReadFault = ⊥
-IsEnd WriteFault = ⊥
-IsEnd Memory = ⊥
-IsEnd NoFile = ⊥
+use Rattle.larch_base.specs.declared.limits.TheConstants.{MAX_FILE_BYTES, MAX_LINE_BYTES}
+use Rattle.larch_main.specs.Command.{command_of}
+use Rattle.larch_main.specs.Laws.{IsEnd, Ends}
+use Rattle.larch_main.specs.Report.{report_text}
+use Rattle.larch_main.specs.Lines.{is_newline, passes_room, LineFound, line, no_line, long_line, full, unfinished, line_at, line_of_size, BytesFound, bytes, cut, too_many, wanting, bytes_at}
+use Rattle.larch_main.specs.Session.{State, took, Step, goes, stops, waits, step, on_line, on_command, on_bytes, put_is_refused, room_left, status_of, Reply, said, reported, Spells, too_large, with_status, Session, goes_on, ends}
 
 -- a step on so many bytes that goes on leaves fewer, one that stops has such a status, and one waits only where more may come
 abbrev pub Shape : Bool → ℕ → Step → Type 0
 Shape ended size (goes state reply rest) = length rest < size
-Shape ended size (stops text status) = IsEnd status
+Shape ended size (stops last reply status) = IsEnd status
 Shape ended size waits = ended ≡ false
 
 abbrev LineShape : Bool → ℕ → LineFound → Type 0
@@ -59,8 +50,8 @@ eq_false a e = grind (arith, nat_tests)
 
 line_shape : (ended : Bool) (room size : ℕ) (input : List ℕ) → size ≤ length input → LineShape ended (length input) (line_of_size ended room size input)
 line_shape ended room size input within =
-    chosen (LineShape ended (length input)) (nat_lt room (length input) && nat_le room (min size 200)) full _ (λ _. tt) (λ _.
-    chosen (LineShape ended (length input)) (nat_lt 200 size) long_line _ (λ _. tt) (λ _.
+    chosen (LineShape ended (length input)) (passes_room room size input) full _ (λ _. tt) (λ _.
+    chosen (LineShape ended (length input)) (nat_lt MAX_LINE_BYTES size) long_line _ (λ _. tt) (λ _.
     chosen (LineShape ended (length input)) (nat_lt size (length input)) (line (take size input) (drop (size + 1) input)) _
     (λ e. let inside = lt_true size (length input) e in omega (arith, length-drop (size + 1) input)) (λ e.
     chosen (LineShape ended (length input)) (not ended) unfinished _ (λ n. not_true ended n) (λ _.
@@ -77,7 +68,7 @@ status_shape state = chosen IsEnd state.good Good Remains (λ _. tt) (λ _. tt)
 
 bytes_step : (ended : Bool) (size before : ℕ) (state : State) (name input : List ℕ) (found : BytesFound) → length input < size → BytesShape ended (length input) found → Shape ended size (on_bytes before state name input found)
 bytes_step ended size before state name input (bytes text rest) less shape =
-    chosen (Shape ended size) (put_is_refused state.files name) (stops too_large_text Size) _ (λ _. tt) (λ _. let p : length rest ≤ length input = shape in omega arith)
+    chosen (Shape ended size) (put_is_refused state.files name) (stops (took state input rest) too_large Size) _ (λ _. tt) (λ _. let p : length rest ≤ length input = shape in omega arith)
 bytes_step ended size before state name input cut less shape = tt
 bytes_step ended size before state name input too_many less shape = tt
 bytes_step ended size before state name input wanting less shape = shape
@@ -88,7 +79,7 @@ command_step ended size before state rest (Some Skip) less = less
 command_step ended size before state rest (Some Report) less = less
 command_step ended size before state rest (Some Quit) less = status_shape state
 command_step ended size before state rest (Some (Put name count)) less =
-    chosen (Shape ended size) (nat_lt 1048576 count) (stops too_large_text Size) _ (λ _. tt)
+    chosen (Shape ended size) (nat_lt MAX_FILE_BYTES count) (stops state too_large Size) _ (λ _. tt)
     (λ _. bytes_step ended size before state name rest (bytes_at ended (room_left state) count rest) less (bytes_shape ended (room_left state) count rest))
 
 line_step : (ended : Bool) (state : State) (input : List ℕ) (found : LineFound) → LineShape ended (length input) found → Shape ended (length input) (on_line ended state input found)
@@ -103,14 +94,20 @@ step_shape ended state input =
     line_step ended state input (line_at ended (room_left state) input)
     (line_shape ended (room_left state) (position_or_len is_newline input) input (prefix_len-le-length (λ byte. not (is_newline byte)) input))
 
--- a session that ends by itself
-abbrev pub Ends : State → List ℕ → Type 0
-Ends state input = (output : List ℕ) × (status : Status) × Session true state input output (with_status status)
+-- each reply has a text
+spelled : (reply : Reply) → (written : List ℕ) × Spells reply written
+spelled (said these) = (these, refl)
+spelled (reported lines) = (report_text lines, refl)
 
 ends_after : (state : State) (input : List ℕ) (made : Step) → step true state input ≡ made → Shape true (length input) made
     → ((next : State) (rest : List ℕ) → length rest < length input → Ends next rest) → Ends state input
-ends_after state input (goes next reply rest) is shape more = let last = more next rest shape in (reply ++ last.0, last.1, goes_on reply is last.2)
-ends_after state input (stops text status) is shape more = (text, status, ends is)
+ends_after state input (goes next reply rest) is shape more =
+    let end = more next rest shape in
+    let first = spelled reply in
+    (first.0 ++ end.0, end.1, end.2, end.3, goes_on reply first.0 is first.1 end.4)
+ends_after state input (stops last reply status) is shape more =
+    let only = spelled reply in
+    (only.0, status, last, shape, ends reply is only.1)
 ends_after state input waits is shape more = cc
 
 ends_within : (size : ℕ) (state : State) (input : List ℕ) → length input < size → Ends state input

@@ -1,27 +1,30 @@
 -- How steps of the code follow one another.
-use Rattle.std.proofs.Common.{◌≡◌, ℕ, ◌+◌, ◌-◌, ◌<◌, ◌≤◌, inl, inr, Bool, true, false, cond, List, [], ◌∷◌, ◌++◌, length, Option, Some, Result, Ok, Err, IfOk, IfErr, OnOk, nat_lt, refl, sym, ap, ap₂, subst, ◌∙◌, arith, append_assoc, append-nil, length-append}
+use Rattle.std.proofs.Common.{◌≡◌, ℕ, ◌+◌, ◌-◌, ◌<◌, ◌≤◌, inl, inr, Bool, true, false, cond, List, [], ◌∷◌, ◌++◌, length, Option, Some, None, Result, Ok, Err, IfOk, IfErr, OnOk, nat_lt, refl, sym, ap, ap₂, subst, ◌∙◌, arith, append_assoc, append-nil, length-append}
 use Rattle.std.specs.Io.KnownBytes.{IsAtEnd}
 use Rattle.std.proofs.lemmas.Bool.Decides.{nat_tests}
 use Rattle.std.proofs.KnownBytes.{Consumes-nil, Consumes-trans}
-use Rattle.larch_io.specs.Taking.{Taken}
-use Rattle.larch_io.specs.Taking.{Reads, Takes, TakesLine, LineRefused, BytesRefused, room_of}
+use Rattle.larch_base.specs.declared.limits.TheConstants.{MAX_FILE_BYTES, MAX_LINE_BYTES, MAX_SOURCE_BYTES}
+use Rattle.larch_io.specs.Reader.{Taken, Reads, Takes, room_of}
+use Rattle.larch_io.specs.Refusals.{LineRefused, BytesRefused}
+use Rattle.larch_io.specs.Take.{TakesLine}
+use Rattle.larch_traits.specs.Files.{Table}
 use Rattle.larch_io.specs.declared.refusal.TakeRefusal.{TakeRefusal}
-use Rattle.larch_io.specs.declared.refusal.TakeRefusal.TheVariants as takes
+use Rattle.larch_io.specs.declared.refusal.TakeRefusal.TheVariants as take_
 use Rattle.larch_main.specs.declared.progress.Progress.{Progress}
 use Rattle.larch_main.specs.declared.progress.Move.{Move}
 use Rattle.larch_main.specs.declared.progress.Move.TheVariants.{Goes, Stops}
 use Rattle.larch_main.specs.declared.progress.Halt.{Halt}
 use Rattle.larch_main.specs.declared.progress.Halt.TheVariants.{ReadFault, Memory}
 use Rattle.larch_main.specs.declared.command.Command.{Command}
-use Rattle.larch_main.specs.declared.command.Command.TheVariants.{Put, Report}
+use Rattle.larch_main.specs.declared.command.Command.TheVariants.{Put, Quit, Report, Skip}
 use Rattle.larch_main.specs.declared.status.Status.{Status}
-use Rattle.larch_main.specs.declared.status.Status.TheVariants.{Size}
-use Rattle.larch_main.specs.CommandLine.{command_of}
+use Rattle.larch_main.specs.declared.status.Status.TheVariants.{Malformed, Size}
+use Rattle.larch_main.specs.Command.{command_of}
 use Rattle.larch_main.specs.Lines.{line, line_at, bytes_at}
-use Rattle.larch_main.specs.FileTable.{Table}
-use Rattle.larch_main.specs.Reports.{report_text, is_good}
-use Rattle.larch_main.specs.Sessions.{State, took, Step, goes, stops, step, on_line, on_command, on_bytes, on_file, room_left, malformed_text, too_large_text}
-use Rattle.larch_main.specs.Moves.{state_of, MayFollow, Makes, Wants, Moves, IsStop, Refuses, CutsOff, PutsIn}
+use Rattle.larch_main.specs.Report.{report_of, report_text, is_good}
+use Rattle.larch_main.specs.Session.{State, took, Reply, nothing, reported, Spells, Step, goes, stops, step, on_line, on_command, on_bytes, on_file}
+use Rattle.larch_main.specs.Session.{status_of, room_left, malformed, too_large}
+use Rattle.larch_main.specs.Progress.{state_of, Machine, at_line, at_command, at_bytes, at_file, MayFollow, Makes, Wants, Moves, IsStop, Never, Refuses, PutsIn}
 use Rattle.larch_main.proofs.Found.{line_found, last_found, none_found, long_found, full_found, unfinished_found, bytes_found, cut_found, wanting_found, too_many_found}
 
 true_is_false : {P : Type 0} → true ≡ false → P
@@ -49,19 +52,19 @@ reads_then {a} {b} {c} {x} {y} {z} g h r s = record {
 }
 
 -- what one machine does on what was kept and given is what another does on what is kept now
-pub record Passes (first second : Bool → List ℕ → Step) (old new : Taken) (before after : Option (List ℕ)) : Type 0 where
+pub record Passes (first second : Machine) (old new : Taken) (before after : Option (List ℕ)) : Type 0 where
   pub given : List ℕ
   pub reads : Reads old new before after given
   pub same : (ended : Bool) (rest : List ℕ) → MayFollow new.ended ended rest → first ended (old.kept ++ (given ++ rest)) ≡ second ended (new.kept ++ rest)
 
 -- what may follow what was given later may follow, with that, what was given earlier
-may_follow_both : {b c : Taken} {y z : Option (List ℕ)} (h : List ℕ) (ended : Bool) (rest : List ℕ) → Reads b c y z h → MayFollow c.ended ended rest → MayFollow b.ended ended (h ++ rest)
+pub may_follow_both : {b c : Taken} {y z : Option (List ℕ)} (h : List ℕ) (ended : Bool) (rest : List ℕ) → Reads b c y z h → MayFollow c.ended ended rest → MayFollow b.ended ended (h ++ rest)
 may_follow_both h ended rest s m = λ over.
     let quiet = s.quiet over in
     let follows = m quiet.2 in
     (follows.0, nothing_and_nothing h rest quiet.0 follows.1)
 
-makes_after : {first second : Bool → List ℕ → Step} {a b c : Taken} {x y z : Option (List ℕ)} (made : List ℕ → Step) → Passes first second a b x y → Makes second b c y z made → Makes first a c x z made
+makes_after : {first second : Machine} {a b c : Taken} {x y z : Option (List ℕ)} (made : List ℕ → Step) → Passes first second a b x y → Makes second b c y z made → Makes first a c x z made
 makes_after {first} {second} {a} {b} {c} made p m = record {
   given = p.given ++ m.given;
   reads = reads_then p.given m.given p.reads m.reads;
@@ -71,7 +74,7 @@ makes_after {first} {second} {a} {b} {c} made p m = record {
       ∙ m.step_is ended rest follows;
 }
 
-wants_after : {first second : Bool → List ℕ → Step} {a b c : Taken} {x y z : Option (List ℕ)} → Passes first second a b x y → Wants second b c y z → Wants first a c x z
+wants_after : {first second : Machine} {a b c : Taken} {x y z : Option (List ℕ)} → Passes first second a b x y → Wants second b c y z → Wants first a c x z
 wants_after {first} {second} {a} {b} {c} p w = record {
   given = p.given ++ w.given;
   reads = reads_then p.given w.given p.reads w.reads;
@@ -80,21 +83,24 @@ wants_after {first} {second} {a} {b} {c} p w = record {
 }
 
 -- the step of a machine is that of the one that it passes to
-pub moves_after : {first second : Bool → List ℕ → Step} (p q r : Progress) (x y z : Option (List ℕ)) (result : Result Move Halt)
+pub moves_after : {first second : Machine} (p q r : Progress) (x y z : Option (List ℕ)) (result : Result Move Halt)
     → Passes first second p.reader q.reader x y → Moves second q r y z result → Moves first p r x z result
-moves_after p q r x y z (Ok (Goes reply)) passes m = makes_after (λ rest. goes (state_of r) reply rest) passes m
-moves_after p q r x y z (Ok (Stops text status)) passes m = makes_after (λ rest. stops text status) passes m
+moves_after p q r x y z (Ok (Goes written)) passes m =
+    (m.0, m.1, makes_after (λ rest. goes (state_of r) m.0 rest) passes m.2)
+moves_after p q r x y z (Ok (Stops written status)) passes m =
+    (m.0, m.1, makes_after (λ rest. stops (state_of r) m.0 status) passes m.2)
 moves_after p q r x y z (Err ReadFault) passes m = wants_after passes m
 moves_after p q r x y z (Err Memory) passes m = tt
 
 -- a machine that stops whatever follows
-stop_moves : (machine : Bool → List ℕ → Step) (p q : Progress) (x y : Option (List ℕ)) (given text : List ℕ) (status : Status) (result : Result Move Halt)
-    → Reads p.reader q.reader x y given → ((ended : Bool) (rest : List ℕ) → MayFollow q.reader.ended ended rest → machine ended (p.reader.kept ++ (given ++ rest)) ≡ stops text status)
-    → IsStop text status result → Moves machine p q x y result
-stop_moves machine p q x y given text status (Ok (Goes reply)) reads stop is = absurd is
-stop_moves machine p q x y given text status (Ok (Stops said ended)) reads stop is = record { given = given; reads = reads; step_is = λ e rest follows. stop e rest follows ∙ ap₂ stops (sym is.0) (sym is.1) }
-stop_moves machine p q x y given text status (Err ReadFault) reads stop is = absurd is
-stop_moves machine p q x y given text status (Err Memory) reads stop is = tt
+stop_moves : (machine : Machine) (p q : Progress) (x y : Option (List ℕ)) (given : List ℕ) (reply : Reply) (status : Status) (result : Result Move Halt)
+    → Reads p.reader q.reader x y given → ((ended : Bool) (rest : List ℕ) → MayFollow q.reader.ended ended rest → machine ended (p.reader.kept ++ (given ++ rest)) ≡ stops (state_of q) reply status)
+    → IsStop reply status result → Moves machine p q x y result
+stop_moves machine p q x y given reply status (Ok (Goes written)) reads stop is = absurd is
+stop_moves machine p q x y given reply status (Ok (Stops written ended)) reads stop is =
+    (reply, is.0, record { given = given; reads = reads; step_is = λ e rest follows. stop e rest follows ∙ ap (stops (state_of q) reply) (sym is.1) })
+stop_moves machine p q x y given reply status (Err ReadFault) reads stop is = absurd is
+stop_moves machine p q x y given reply status (Err Memory) reads stop is = tt
 
 -- what was kept and given, and what follows
 seam : (kept given front now rest : List ℕ) → kept ++ given ≡ front ++ now → kept ++ (given ++ rest) ≡ front ++ (now ++ rest)
@@ -106,7 +112,17 @@ state_behind p reader front rest counted =
     let e : p.reader.count + (length (front ++ rest) - length rest) ≡ reader.count = omega (arith, length-append front rest) in
     λ i. record { files = p.files; taken = e i; good = p.good }
 
--- a line and its byte 10
+-- a reader from which nothing was taken stands for the same state
+state_kept : (p : Progress) (reader : Taken) → reader.count ≡ p.reader.count + 0 → state_of p ≡ state_of (record p { reader = reader })
+state_kept p reader counted =
+    let e : p.reader.count ≡ reader.count = omega arith in
+    λ i. record { files = p.files; taken = e i; good = p.good }
+
+-- a step that stops in one state stops in an equal one
+stops_in : {made : Step} {a b : State} (reply : Reply) (status : Status) → made ≡ stops a reply status → a ≡ b → made ≡ stops b reply status
+stops_in reply status is same = is ∙ ap (λ state. stops state reply status) same
+
+-- a line and its newline
 with_newline : (front rest : List ℕ) → (front ++ 10 ∷ []) ++ rest ≡ front ++ 10 ∷ rest
 with_newline front rest = append_assoc front (10 ∷ []) rest
 
@@ -118,8 +134,8 @@ line_step p reader text rest ended input taken is counted found =
     ap (on_line ended (state_of p) input) found
     ∙ ap (λ state. on_command ended p.reader.count state rest (command_of text)) (ap (λ bytes. took (state_of p) bytes rest) is ∙ state_behind p reader taken rest counted)
 
-pub line_passes : (p : Progress) (reader : Taken) (x y : Option (List ℕ)) (text : List ℕ) → TakesLine p.reader reader x y text → reader.count ≤ 67108864
-    → Passes (λ ended input. step ended (state_of p) input) (λ ended input. on_command ended p.reader.count (state_of (record p { reader = reader })) input (command_of text)) p.reader reader x y
+pub line_passes : (p : Progress) (reader : Taken) (x y : Option (List ℕ)) (text : List ℕ) → TakesLine p.reader reader x y text → reader.count ≤ MAX_SOURCE_BYTES
+    → Passes (at_line (state_of p)) (at_command p.reader.count (state_of (record p { reader = reader })) (command_of text)) p.reader reader x y
 line_passes p reader x y text t limit = elim t.1 [
   | inl whole ↦ record {
     given = whole.given;
@@ -153,43 +169,46 @@ nothing_taken kept given now rest moved = seam kept given [] now rest moved
 
 -- no line could be taken: the session stops, or waits
 pub line_refused : (p : Progress) (reader : Taken) (x y : Option (List ℕ)) (refusal : TakeRefusal) (result : Result Move Halt)
-    → Takes p.reader reader x y [] → LineRefused refusal (room_of p.reader) reader.kept reader.ended → Refuses refusal (malformed_text p.reader.count) p.good result
-    → Moves (λ ended input. step ended (state_of p) input) p (record p { reader = reader }) x y result
-line_refused p reader x y takes.ReadFault result t why is =
-    subst (Moves (λ ended input. step ended (state_of p) input) p (record p { reader = reader }) x y) (sym is) (record {
+    → Takes p.reader reader x y [] → LineRefused refusal p.reader reader
+    → Refuses refusal (IsStop nothing (status_of (state_of p))) (IsStop (malformed p.reader.count) Malformed) result
+    → Moves (at_line (state_of p)) p (record p { reader = reader }) x y result
+line_refused p reader x y take_.ReadFault result t why is =
+    subst (Moves (at_line (state_of p)) p (record p { reader = reader }) x y) (sym is) (record {
       given = t.given;
       reads = t.reads;
       open_still = why.0;
-      step_is = ap (λ bytes. step false (state_of p) bytes) t.moved ∙ ap (on_line false (state_of p) reader.kept) (unfinished_found _ reader.kept why.1 why.2 why.3);
+      step_is = ap (λ bytes. step false (state_of p) bytes) t.moved ∙ ap (on_line false (state_of p) reader.kept) (unfinished_found _ reader.kept (let few : length reader.kept ≤ MAX_LINE_BYTES = why.1.1 in omega arith) why.2 why.1.0);
     })
-line_refused p reader x y takes.End result t why is =
-    stop_moves _ p (record p { reader = reader }) x y t.given [] _ result t.reads
+line_refused p reader x y take_.End result t why is =
+    stop_moves _ p (record p { reader = reader }) x y t.given nothing _ result t.reads
     (λ ended rest follows.
     let at_end = follows why.1 in
     let none : p.reader.kept ++ (t.given ++ rest) ≡ [] = nothing_taken p.reader.kept t.given reader.kept rest t.moved ∙ nothing_and_nothing reader.kept rest why.0 at_end.1 in
-    ap₂ (λ e bytes. step e (state_of p) bytes) at_end.0 none ∙ ap (on_line true (state_of p) []) (none_found (room_left (state_of p))))
+    stops_in nothing (status_of (state_of p))
+    (ap₂ (λ e bytes. step e (state_of p) bytes) at_end.0 none ∙ ap (on_line true (state_of p) []) (none_found (room_left (state_of p))))
+    (state_kept p reader t.counted))
     is
-line_refused p reader x y takes.TooLong result t why is =
+line_refused p reader x y take_.TooLong result t why is =
     stop_moves _ p (record p { reader = reader }) x y t.given _ _ result t.reads
     (λ ended rest follows.
-    ap (λ bytes. step ended (state_of p) bytes) (nothing_taken p.reader.kept t.given reader.kept rest t.moved)
+    stops_in (malformed p.reader.count) Malformed
+    (ap (λ bytes. step ended (state_of p) bytes) (nothing_taken p.reader.kept t.given reader.kept rest t.moved)
     ∙ ap (on_line ended (state_of p) (reader.kept ++ rest)) (long_found ended _ reader.kept rest why.0 why.1 why.2))
+    (state_kept p reader t.counted))
     is
-line_refused p reader x y takes.Full result t why is =
+line_refused p reader x y take_.Full result t why is =
     stop_moves _ p (record p { reader = reader }) x y t.given _ _ result t.reads
     (λ ended rest follows.
-    ap (λ bytes. step ended (state_of p) bytes) (nothing_taken p.reader.kept t.given reader.kept rest t.moved)
-    ∙ ap (on_line ended (state_of p) (reader.kept ++ rest)) (full_found ended _ reader.kept rest why.0 why.1 why.2))
+    stops_in too_large Size
+    (ap (λ bytes. step ended (state_of p) bytes) (nothing_taken p.reader.kept t.given reader.kept rest t.moved)
+    ∙ ap (on_line ended (state_of p) (reader.kept ++ rest)) (full_found ended _ reader.kept rest why.0 (let few : room_of p.reader ≤ MAX_LINE_BYTES = why.1 in omega arith) why.2))
+    (state_kept p reader t.counted))
     is
-line_refused p reader x y takes.Memory result t why is = subst (Moves (λ ended input. step ended (state_of p) input) p (record p { reader = reader }) x y) (sym is) tt
-
--- the machine at the bytes of a `put`
-abbrev pub takes_bytes : ℕ → State → List ℕ → ℕ → Bool → List ℕ → Step
-takes_bytes before state name count ended input = on_bytes before state name input (bytes_at ended (room_left state) count input)
+line_refused p reader x y take_.Memory result t why is = subst (Moves (at_line (state_of p)) p (record p { reader = reader }) x y) (sym is) tt
 
 -- so many bytes were found: they are put in as a file in the state behind them
-pub bytes_pass : (p : Progress) (reader : Taken) (x y : Option (List ℕ)) (before : ℕ) (name text : List ℕ) → Takes p.reader reader x y text → reader.count ≤ 67108864
-    → Passes (takes_bytes before (state_of p) name (length text)) (λ ended input. on_file (state_of (record p { reader = reader })) name text input) p.reader reader x y
+pub bytes_pass : (p : Progress) (reader : Taken) (x y : Option (List ℕ)) (before : ℕ) (name text : List ℕ) → Takes p.reader reader x y text → reader.count ≤ MAX_SOURCE_BYTES
+    → Passes (at_bytes before (state_of p) name (length text)) (at_file (state_of (record p { reader = reader })) name text) p.reader reader x y
 bytes_pass p reader x y before name text t limit = record {
   given = t.given;
   reads = t.reads;
@@ -197,93 +216,116 @@ bytes_pass p reader x y before name text t limit = record {
       let is = seam p.reader.kept t.given text reader.kept rest t.moved in
       let counted : reader.count ≡ p.reader.count + length text = t.counted in
       let few : length text ≤ room_left (state_of p) = omega arith in
-      ap (takes_bytes before (state_of p) name (length text) ended) is
+      ap (at_bytes before (state_of p) name (length text) ended) is
       ∙ ap (on_bytes before (state_of p) name (text ++ (reader.kept ++ rest))) (bytes_found ended (room_left (state_of p)) text (reader.kept ++ rest) few)
       ∙ ap (λ state. on_file state name text (reader.kept ++ rest)) (state_behind p reader text (reader.kept ++ rest) counted);
 }
 
 -- the file is put in, or is one too many
 pub file_moves : (p : Progress) (files : Table) (x : Option (List ℕ)) (name text : List ℕ) (result : Result Move Halt) → PutsIn p.files files name text result
-    → Moves (λ ended input. on_file (state_of p) name text input) p (record p { files = files }) x x result
-file_moves p files x name text (Ok (Goes reply)) puts = record {
-  given = [];
-  reads = reads_none p.reader x;
-  step_is = λ ended rest follows. rw puts.1 (λ i. goes (record { files = sym puts.2 i; taken = p.reader.count; good = p.good }) (sym puts.0 i) (p.reader.kept ++ rest));
-}
-file_moves p files x name text (Ok (Stops said status)) puts = record {
-  given = [];
-  reads = reads_none p.reader x;
-  step_is = λ ended rest follows. rw puts.2 (ap₂ stops (sym puts.0) (sym puts.1));
-}
+    → Moves (at_file (state_of p) name text) p (record p { files = files }) x x result
+file_moves p files x name text (Ok (Goes written)) puts = (
+  nothing,
+  puts.0,
+  record {
+    given = [];
+    reads = reads_none p.reader x;
+    step_is = λ ended rest follows. rw puts.1 (λ i. goes (record { files = sym puts.2 i; taken = p.reader.count; good = p.good }) nothing (p.reader.kept ++ rest));
+  },
+)
+file_moves p files x name text (Ok (Stops written status)) puts = (
+  too_large,
+  puts.0,
+  record {
+    given = [];
+    reads = reads_none p.reader x;
+    step_is = λ ended rest follows. rw puts.2 (λ i. stops (record { files = sym puts.3 i; taken = p.reader.count; good = p.good }) too_large (sym puts.1 i));
+  },
+)
 file_moves p files x name text (Err ReadFault) puts = absurd puts
 file_moves p files x name text (Err Memory) puts = tt
 
 -- the bytes of a file couldn't be taken
 pub bytes_refused : (p : Progress) (reader : Taken) (x y : Option (List ℕ)) (before : ℕ) (name : List ℕ) (count : ℕ) (refusal : TakeRefusal) (result : Result Move Halt)
-    → Takes p.reader reader x y [] → BytesRefused refusal count (room_of p.reader) reader.kept reader.ended → CutsOff refusal (malformed_text before) result
-    → Moves (takes_bytes before (state_of p) name count) p (record p { reader = reader }) x y result
-bytes_refused p reader x y before name count takes.ReadFault result t why is =
-    subst (Moves (takes_bytes before (state_of p) name count) p (record p { reader = reader }) x y) (sym is) (record {
+    → Takes p.reader reader x y [] → BytesRefused refusal count p.reader reader → Refuses refusal (IsStop (malformed before) Malformed) Never result
+    → Moves (at_bytes before (state_of p) name count) p (record p { reader = reader }) x y result
+bytes_refused p reader x y before name count take_.ReadFault result t why is =
+    subst (Moves (at_bytes before (state_of p) name count) p (record p { reader = reader }) x y) (sym is) (record {
       given = t.given;
       reads = t.reads;
       open_still = why.0;
-      step_is = ap (takes_bytes before (state_of p) name count false) t.moved ∙ ap (on_bytes before (state_of p) name reader.kept) (wanting_found _ count reader.kept why.1 why.2);
+      step_is = ap (at_bytes before (state_of p) name count false) t.moved ∙ ap (on_bytes before (state_of p) name reader.kept) (wanting_found _ count reader.kept why.1 why.2);
     })
-bytes_refused p reader x y before name count takes.End result t why is =
+bytes_refused p reader x y before name count take_.End result t why is =
     stop_moves _ p (record p { reader = reader }) x y t.given _ _ result t.reads
     (λ ended rest follows.
-    let at_end = follows why.2 in
+    let at_end = follows why.0 in
     let all : p.reader.kept ++ (t.given ++ rest) ≡ reader.kept = nothing_taken p.reader.kept t.given reader.kept rest t.moved ∙ ap (λ bytes. reader.kept ++ bytes) at_end.1 ∙ append-nil reader.kept in
-    ap₂ (takes_bytes before (state_of p) name count) at_end.0 all ∙ ap (on_bytes before (state_of p) name reader.kept) (cut_found _ count reader.kept why.0 why.1))
+    stops_in (malformed before) Malformed
+    (ap₂ (at_bytes before (state_of p) name count) at_end.0 all ∙ ap (on_bytes before (state_of p) name reader.kept) (cut_found _ count reader.kept why.1 why.2))
+    (state_kept p reader t.counted))
     is
-bytes_refused p reader x y before name count takes.TooLong result t why is = absurd why
-bytes_refused p reader x y before name count takes.Full result t why is =
+bytes_refused p reader x y before name count take_.TooLong result t why is = absurd why
+bytes_refused p reader x y before name count take_.Full result t why is =
     stop_moves _ p (record p { reader = reader }) x y t.given _ _ result t.reads
     (λ ended rest follows.
-    ap (takes_bytes before (state_of p) name count ended) (nothing_taken p.reader.kept t.given reader.kept rest t.moved)
+    stops_in too_large Size
+    (ap (at_bytes before (state_of p) name count ended) (nothing_taken p.reader.kept t.given reader.kept rest t.moved)
     ∙ ap (on_bytes before (state_of p) name (reader.kept ++ rest)) (too_many_found ended _ count reader.kept rest why.0 why.1))
+    (state_kept p reader t.counted))
     is
-bytes_refused p reader x y before name count takes.Memory result t why is = subst (Moves (takes_bytes before (state_of p) name count) p (record p { reader = reader }) x y) (sym is) tt
+bytes_refused p reader x y before name count take_.Memory result t why is = subst (Moves (at_bytes before (state_of p) name count) p (record p { reader = reader }) x y) (sym is) tt
 
--- the machine at a command
-abbrev pub carries_out : ℕ → State → Option Command → Bool → List ℕ → Step
-carries_out before state command ended input = on_command ended before state input command
+-- the line is no command
+pub none_moves : (p : Progress) (x : Option (List ℕ)) (before : ℕ) (result : Result Move Halt) → IsStop (malformed before) Malformed result
+    → Moves (at_command before (state_of p) None) p p x x result
+none_moves p x before result is =
+    stop_moves (at_command before (state_of p) None) p p x x [] (malformed before) Malformed result (reads_none p.reader x) (λ ended rest follows. refl) is
+
+-- the line is empty
+pub skip_moves : (p : Progress) (x : Option (List ℕ)) (before : ℕ) (written : List ℕ) → written ≡ []
+    → Moves (at_command before (state_of p) (Some Skip)) p p x x (Ok (Goes written))
+skip_moves p x before written is = (nothing, is, record { given = []; reads = reads_none p.reader x; step_is = λ ended rest follows. refl })
+
+-- `quit` ends the session
+pub quit_moves : (p : Progress) (x : Option (List ℕ)) (before : ℕ) (command : Option Command) (move : Move) → command ≡ Some Quit
+    → move ≡ Stops [] (status_of (state_of p)) → Moves (at_command before (state_of p) command) p p x x (Ok move)
+quit_moves p x before command move quits is =
+    subst (λ asked. Moves (at_command before (state_of p) asked) p p x x (Ok move)) (sym quits)
+    (subst (λ made. Moves (at_command before (state_of p) (Some Quit)) p p x x (Ok made)) (sym is)
+    (nothing, refl, record { given = []; reads = reads_none p.reader x; step_is = λ ended rest follows. refl }))
 
 -- `report` was answered
 pub report_moves : (p q : Progress) (x : Option (List ℕ)) (before : ℕ) (result : Result Move Halt)
-    → IfOk result (λ move. move ≡ Goes (report_text p.files)) → OnOk result (q ≡ record p { good = is_good p.files }) → IfErr result (λ halt. halt ≡ Memory)
-    → Moves (carries_out before (state_of p) (Some Report)) p q x x result
-report_moves p q x before (Ok (Goes reply)) said good memory =
-    let same : reply ≡ report_text p.files = cc in
-    subst (λ r. Moves (carries_out before (state_of p) (Some Report)) p r x x (Ok (Goes reply))) (sym good) (record {
-      given = [];
-      reads = reads_none p.reader x;
-      step_is = λ ended rest follows. ap (λ text. goes (state_of (record p { good = is_good p.files })) text (p.reader.kept ++ rest)) (sym same);
-    })
+    → IfOk result (λ move. move ≡ Goes (report_text (report_of p.files))) → OnOk result (q ≡ record p { good = is_good (report_of p.files) }) → IfErr result (λ halt. halt ≡ Memory)
+    → Moves (at_command before (state_of p) (Some Report)) p q x x result
+report_moves p q x before (Ok (Goes written)) said good memory =
+    let same : written ≡ report_text (report_of p.files) = cc in (
+      reported (report_of p.files),
+      same,
+      subst (λ r. Makes (at_command before (state_of p) (Some Report)) p.reader r.reader x x (λ rest. goes (state_of r) (reported (report_of p.files)) rest)) (sym good) (record {
+        given = [];
+        reads = reads_none p.reader x;
+        step_is = λ ended rest follows. refl;
+      }),
+    )
 report_moves p q x before (Ok (Stops text status)) said good memory = cc
 report_moves p q x before (Err ReadFault) said good memory = cc
 report_moves p q x before (Err Memory) said good memory = tt
 
 -- a length above the limit
 pub put_too_large : (p : Progress) (x : Option (List ℕ)) (before : ℕ) (name : List ℕ) (count : ℕ) (result : Result Move Halt)
-    → 1048576 < count → IfOk result (λ move. move ≡ Stops too_large_text Size) → IfErr result (λ halt. halt ≡ Memory)
-    → Moves (carries_out before (state_of p) (Some (Put name count))) p p x x result
-put_too_large p x before name count (Ok (Goes reply)) large said memory = cc
-put_too_large p x before name count (Ok (Stops text status)) large said memory =
-    let test : nat_lt 1048576 count ≡ true = grind (arith, nat_tests) in
-    let text_is : text ≡ too_large_text = cc in
-    let status_is : status ≡ Size = cc in
-    record {
-      given = [];
-      reads = reads_none p.reader x;
-      step_is = λ ended rest follows. rw test (ap₂ stops (sym text_is) (sym status_is));
-    }
-put_too_large p x before name count (Err ReadFault) large said memory = cc
-put_too_large p x before name count (Err Memory) large said memory = tt
+    → MAX_FILE_BYTES < count → IsStop too_large Size result
+    → Moves (at_command before (state_of p) (Some (Put name count))) p p x x result
+put_too_large p x before name count result large is =
+    let test : nat_lt MAX_FILE_BYTES count ≡ true = grind (arith, nat_tests) in
+    stop_moves _ p p x x [] too_large Size result (reads_none p.reader x)
+    (λ ended rest follows. ap (λ larger. cond larger (stops (state_of p) too_large Size) (at_bytes before (state_of p) name count ended (p.reader.kept ++ rest))) test)
+    is
 
 -- a length within it
 pub put_passes : (p q : Progress) (x y : Option (List ℕ)) (before : ℕ) (name : List ℕ) (count : ℕ) (result : Result Move Halt)
-    → count ≤ 1048576 → Moves (takes_bytes before (state_of p) name count) p q x y result → Moves (carries_out before (state_of p) (Some (Put name count))) p q x y result
+    → count ≤ MAX_FILE_BYTES → Moves (at_bytes before (state_of p) name count) p q x y result → Moves (at_command before (state_of p) (Some (Put name count))) p q x y result
 put_passes p q x y before name count result within moves =
-    let test : nat_lt 1048576 count ≡ false = grind (arith, nat_tests) in
-    subst (λ large. Moves (λ ended input. cond large (stops too_large_text Size) (takes_bytes before (state_of p) name count ended input)) p q x y result) (sym test) moves
+    let test : nat_lt MAX_FILE_BYTES count ≡ false = grind (arith, nat_tests) in
+    subst (λ large. Moves (λ ended input. cond large (stops (state_of p) too_large Size) (at_bytes before (state_of p) name count ended input)) p q x y result) (sym test) moves

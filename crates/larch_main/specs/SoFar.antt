@@ -2,8 +2,8 @@
 use Rattle.std.specs.Prelude.{◌≡◌, Bool, true, ℕ, List, ◌++◌, Option}
 use Rattle.std.specs.Io.KnownBytes.{Appends, Consumes, IsAtEnd}
 use Rattle.larch_main.specs.declared.progress.Progress.{Progress}
-use Rattle.larch_main.specs.Moves.{state_of, MayFollow}
-use Rattle.larch_main.specs.Sessions.{start, Ending, Session}
+use Rattle.larch_main.specs.Progress.{state_of, MayFollow}
+use Rattle.larch_main.specs.Session.{State, start, Ending, Session}
 
 -- What the source gave and what was written since the session began, and that the rest of any session that goes on
 -- from here completes one from the start.
@@ -13,5 +13,7 @@ pub record SoFar (progress : Progress) (left leaves held holds : Option (List �
   pub gave : Consumes left leaves given
   pub over : progress.reader.ended ≡ true → IsAtEnd leaves
   pub wrote : Appends held holds written
-  pub next : (ended : Bool) (rest output : List ℕ) (ending : Ending) → MayFollow progress.reader.ended ended rest
-      → Session ended (state_of progress) (progress.reader.kept ++ rest) output ending → Session ended start (given ++ rest) (written ++ output) ending
+  pub next : (ended : Bool) (rest output : List ℕ) (ending : Ending) (last : State)
+      → MayFollow progress.reader.ended ended rest
+      → Session ended (state_of progress) (progress.reader.kept ++ rest) output ending last
+      → Session ended start (given ++ rest) (written ++ output) ending last

@@ -1,8 +1,7 @@
 ghost use Rattle.std.specs.Prelude.{◌≡◌, ◌≤◌, ◌<◌, ◌^◌, length, IfOk, Some, None, IsTrue};
 ghost use Rattle.std.specs.List.{before_first, after_first, position_or_len};
-ghost use Rattle.std.specs.Str.{all_ascii_digits};
 ghost use Rattle.larch_base.specs.FileNames.{is_trait_file};
-ghost use Rattle.larch_main.specs.CommandLine.{is_blank, is_length, number_of_digits, put_of, command_of};
+ghost use Rattle.larch_main.specs.Command.{is_blank, are_digits, is_length, number_of_digits, put_of, command_of};
 
 use larch_base::{FileName, Memory, NameRefusal};
 use std::alloc::Global;
@@ -24,20 +23,18 @@ pub enum Command {
 pub fn command_of(alloc: Global, line: &[u8]) -> Result<Option<Command>, Memory>
     ensures { IfOk result (λ command. command ≡ command_of line.now) }
 {
-    if line.is_empty() {
-        return Ok(Some(Command::Skip));
-    }
-    if line == b"report".as_slice() {
-        return Ok(Some(Command::Report));
-    }
-    if line == b"quit".as_slice() {
-        return Ok(Some(Command::Quit));
-    }
-    let (first, words) = split_at_blank(line);
-    if first == b"put".as_slice() {
-        put_of(alloc, words)
-    } else {
-        Ok(None)
+    match line {
+        b"" => Ok(Some(Command::Skip)),
+        b"report" => Ok(Some(Command::Report)),
+        b"quit" => Ok(Some(Command::Quit)),
+        _ => {
+            let (first, words) = split_at_blank(line);
+            if first == b"put".as_slice() {
+                put_of(alloc, words)
+            } else {
+                Ok(None)
+            }
+        }
     }
 }
 
@@ -102,22 +99,15 @@ fn is_length(bytes: &[u8]) -> bool
 }
 
 fn are_digits(bytes: &[u8]) -> bool
-    ensures { result ≡ all_ascii_digits bytes.now }
+    ensures { result ≡ are_digits bytes.now }
 {
-    let mut rest = bytes;
-    while let [digit, digits @ ..] = rest {
-        if !digit.is_ascii_digit() {
-            return false;
-        }
-        rest = digits;
-    }
-    true
+    bytes.iter().all(|byte| byte.is_ascii_digit())
 }
 
 // The number that the digits spell.
 fn number_of_digits(digits: &[u8]) -> u32
     requires few { length digits.now ≤ 8 }
-    requires digits { IsTrue (all_ascii_digits digits.now) }
+    requires digits { IsTrue (are_digits digits.now) }
     ensures { result ≡ number_of_digits digits.now }
 {
     let mut number = 0;

@@ -1,20 +1,21 @@
-ghost use Rattle.std.specs.Prelude.{◌≡◌, ◌≤◌, [], length, true, false, IfOk, IfErr, OnOk, if◌then◌else◌};
-ghost use Rattle.larch_main.specs.CommandLine.{command_of};
-ghost use Rattle.larch_main.specs.Lines.{bytes_at};
-ghost use Rattle.larch_main.specs.Reports.{report_text, is_good};
-ghost use Rattle.larch_main.specs.Sessions.{start, step, on_command, on_bytes, room_left, malformed_text, too_large_text};
-ghost use Rattle.larch_main.specs.Moves.{state_of, Moves, HaltFaults, Advances, Follows, Refuses, CutsOff, PutsIn};
+ghost use Rattle.std.specs.Prelude.{◌≡◌, ◌≢◌, ◌≤◌, [], length, true, false, IfOk, IfErr, OnOk};
+ghost use Rattle.larch_base.specs.declared.limits.TheConstants.{MAX_FILE_BYTES, MAX_SOURCE_BYTES};
+ghost use Rattle.larch_main.specs.Command.{command_of};
+ghost use Rattle.larch_main.specs.Progress.{state_of, at_line, at_command, at_bytes, Moves, HaltFaults, Advances};
+ghost use Rattle.larch_main.specs.Progress.{Follows, IsStop, Never, PutsIn, Refuses};
+ghost use Rattle.larch_main.specs.Report.{report_of, report_text, is_good};
+ghost use Rattle.larch_main.specs.Session.{start, status_of, nothing, malformed, too_large};
 
 use crate::command::{Command, command_of};
-use crate::files::{Files, Text};
-use crate::report::{Report, report_on};
+use crate::report::{is_good, report_on, report_text};
 use crate::status::Status;
 use larch_base::limits::{MAX_FILE_BYTES, MAX_FILES};
 use larch_base::{Bytes, FileName, Memory};
 use larch_io::{Reader, Source, TakeRefusal, take_exact, take_line};
+use larch_traits::Files;
 use std::alloc::{AllocError, Global};
 
-/// A session between two commands: its reader, its files, and whether the last report counted no error.
+/// A session between two commands: its reader, its files, and whether the last report said of nothing that it is wrong.
 #[derive(Drop)]
 pub struct Progress {
     pub reader: Reader,
@@ -36,14 +37,14 @@ pub enum Move {
 pub enum Halt {
     /// The source failed before the next command was whole.
     ReadFault,
-    /// Want of memory.
+    /// Out of memory.
     Memory,
 }
 
 impl From<Memory> for Halt {
-    ghost use Rattle.larch_main.specs.declared.progress.Halt.TheVariants.{Memory as wants_memory};
+    ghost use Rattle.larch_main.specs.declared.progress.Halt.TheVariants.{Memory as out_of_memory};
 
-    ghost from_gives = { λ _ halt. halt ≡ wants_memory };
+    ghost from_gives = { λ _ halt. halt ≡ out_of_memory };
 
     fn from(_memory: Memory) -> Halt {
         Halt::Memory
@@ -51,9 +52,9 @@ impl From<Memory> for Halt {
 }
 
 impl From<AllocError> for Halt {
-    ghost use Rattle.larch_main.specs.declared.progress.Halt.TheVariants.{Memory as wants_memory};
+    ghost use Rattle.larch_main.specs.declared.progress.Halt.TheVariants.{Memory as out_of_memory};
 
-    ghost from_gives = { λ _ halt. halt ≡ wants_memory };
+    ghost from_gives = { λ _ halt. halt ≡ out_of_memory };
 
     fn from(_error: AllocError) -> Halt {
         Halt::Memory
@@ -77,30 +78,30 @@ impl Progress {
 }
 
 // Ends the session where it isn't refused.
-fn ended(alloc: Global, good: bool) -> Move
-    ensures { result ≡ Move.Stops [] (if good then Status.Good else Status.Remains) }
+fn ended(alloc: Global, progress: &Progress) -> Move
+    ensures { result ≡ Move.Stops [] (status_of (state_of progress.now)) }
 {
-    let status = if good { Status::Good } else { Status::Remains };
+    let status = if progress.good {
+        Status::Good
+    } else {
+        Status::Remains
+    };
     Move::Stops(Bytes::new(alloc), status)
 }
 
 // Refuses what isn't in the grammar; the line at fault stands behind so many bytes.
 fn malformed(alloc: Global, before: u64) -> Result<Move, Halt>
-    ensures ok { IfOk result (λ move. move ≡ Move.Stops (malformed_text before) Status.Malformed) }
-    ensures err { IfErr result (λ halt. halt ≡ Halt.Memory) }
+    ensures { IsStop (malformed before) Status.Malformed result }
 {
     let mut text = Bytes::new(alloc);
-    let number = before.to_string(alloc)?;
-    text.append(b"malformed at byte ")?;
-    text.append(number.as_bytes())?;
-    text.append(b"\n")?;
+    let said = format!(in alloc; "malformed at byte {before}\n")?;
+    text.append(said.as_bytes())?;
     Ok(Move::Stops(text, Status::Malformed))
 }
 
 // Refuses what passes a limit.
 fn too_large(alloc: Global) -> Result<Move, Halt>
-    ensures ok { IfOk result (λ move. move ≡ Move.Stops too_large_text Status.Size) }
-    ensures err { IfErr result (λ halt. halt ≡ Halt.Memory) }
+    ensures { IsStop too_large Status.Size result }
 {
     let mut text = Bytes::new(alloc);
     text.append(b"too large\n")?;
@@ -113,26 +114,33 @@ pub fn advance<S: Source>(
     progress: &mut Progress,
     source: &mut S,
 ) -> Result<Move, Halt>
-    ensures moves { Moves (λ ended input. step ended (state_of progress.old) input) progress.old progress.new (S.left source.old) (S.left source.new) result }
+    ensures moves { Moves (at_line (state_of progress.old)) progress.old progress.new
+        (S.left source.old) (S.left source.new) result }
     ensures further { IfOk result (λ move. Advances progress.old progress.new move) }
-    ensures limit { progress.new.reader.count ≤ 67108864 }
+    ensures limit { progress.new.reader.count ≤ MAX_SOURCE_BYTES }
     ensures fine { OnOk result (S.faults source.new ≡ S.faults source.old) }
     ensures faults { IfErr result (λ halt. HaltFaults halt (S.faults source.old) (S.faults source.new)) }
 {
     let before = progress.reader.taken();
     match take_line(alloc, &mut progress.reader, source) {
         Ok(line) => carry_out(alloc, progress, source, before, line.bytes()),
-        Err(refusal) => without_line(alloc, progress.good, before, refusal),
+        Err(refusal) => without_line(alloc, progress, before, refusal),
     }
 }
 
 // What a session does where it could take no line.
-fn without_line(alloc: Global, good: bool, before: u64, refusal: TakeRefusal) -> Result<Move, Halt>
-    ensures { Refuses refusal (malformed_text before) good result }
+fn without_line(
+    alloc: Global,
+    progress: &Progress,
+    before: u64,
+    refusal: TakeRefusal,
+) -> Result<Move, Halt>
+    ensures { Refuses refusal (IsStop nothing (status_of (state_of progress.now)))
+        (IsStop (malformed before) Status.Malformed) result }
 {
     match refusal {
         TakeRefusal::ReadFault => Err(Halt::ReadFault),
-        TakeRefusal::End => Ok(ended(alloc, good)),
+        TakeRefusal::End => Ok(ended(alloc, progress)),
         TakeRefusal::TooLong => malformed(alloc, before),
         TakeRefusal::Full => too_large(alloc),
         TakeRefusal::Memory => Err(Halt::Memory),
@@ -147,9 +155,10 @@ fn carry_out<S: Source>(
     before: u64,
     line: &[u8],
 ) -> Result<Move, Halt>
-    ensures moves { Moves (λ ended input. on_command ended before (state_of progress.old) input (command_of line.now)) progress.old progress.new (S.left source.old) (S.left source.new) result }
+    ensures moves { Moves (at_command before (state_of progress.old) (command_of line.now)) progress.old progress.new
+        (S.left source.old) (S.left source.new) result }
     ensures further { IfOk result (λ move. Follows progress.old progress.new move) }
-    ensures limit { progress.old.reader.count ≤ 67108864 → progress.new.reader.count ≤ 67108864 }
+    ensures limit { progress.old.reader.count ≤ MAX_SOURCE_BYTES → progress.new.reader.count ≤ MAX_SOURCE_BYTES }
     ensures fine { OnOk result (S.faults source.new ≡ S.faults source.old) }
     ensures faults { IfErr result (λ halt. HaltFaults halt (S.faults source.old) (S.faults source.new)) }
 {
@@ -157,7 +166,7 @@ fn carry_out<S: Source>(
         None => malformed(alloc, before),
         Some(Command::Skip) => Ok(Move::Goes(Bytes::new(alloc))),
         Some(Command::Report) => answer_report(alloc, progress),
-        Some(Command::Quit) => Ok(ended(alloc, progress.good)),
+        Some(Command::Quit) => Ok(ended(alloc, progress)),
         Some(Command::Put(name, count)) => {
             if MAX_FILE_BYTES < count {
                 too_large(alloc)
@@ -170,13 +179,14 @@ fn carry_out<S: Source>(
 
 // Answers `report`.
 fn answer_report(alloc: Global, progress: &mut Progress) -> Result<Move, Halt>
-    ensures reply { IfOk result (λ move. move ≡ Move.Goes (report_text progress.old.files)) }
-    ensures good { OnOk result (progress.new ≡ record progress.old { good = is_good progress.old.files }) }
+    ensures reply { IfOk result (λ move. move ≡ Move.Goes (report_text (report_of progress.old.files))) }
+    ensures good { OnOk result (progress.new ≡ record progress.old { good = is_good (report_of progress.old.files) }) }
     ensures memory { IfErr result (λ halt. halt ≡ Halt.Memory) }
     ensures reader { progress.new.reader ≡ progress.old.reader }
 {
-    let Report { text, good } = report_on(alloc, &progress.files)?;
-    progress.good = good;
+    let lines = report_on(alloc, &progress.files)?;
+    let text = report_text(alloc, lines.as_slice())?;
+    progress.good = is_good(lines.as_slice());
     Ok(Move::Goes(text))
 }
 
@@ -189,10 +199,11 @@ fn put<S: Source>(
     name: FileName,
     count: u32,
 ) -> Result<Move, Halt>
-    requires { count ≤ 1048576 }
-    ensures moves { Moves (λ ended input. on_bytes before (state_of progress.old) name input (bytes_at ended (room_left (state_of progress.old)) count input)) progress.old progress.new (S.left source.old) (S.left source.new) result }
+    requires { count ≤ MAX_FILE_BYTES }
+    ensures moves { Moves (at_bytes before (state_of progress.old) name count) progress.old progress.new
+        (S.left source.old) (S.left source.new) result }
     ensures further { IfOk result (λ move. Follows progress.old progress.new move) }
-    ensures limit { progress.old.reader.count ≤ 67108864 → progress.new.reader.count ≤ 67108864 }
+    ensures limit { progress.old.reader.count ≤ MAX_SOURCE_BYTES → progress.new.reader.count ≤ MAX_SOURCE_BYTES }
     ensures fine { OnOk result (S.faults source.new ≡ S.faults source.old) }
     ensures faults { IfErr result (λ halt. HaltFaults halt (S.faults source.old) (S.faults source.new)) }
 {
@@ -204,24 +215,26 @@ fn put<S: Source>(
 
 // What a session does where it could not take the bytes of a `put`.
 fn without_bytes(alloc: Global, before: u64, refusal: TakeRefusal) -> Result<Move, Halt>
-    ensures { CutsOff refusal (malformed_text before) result }
+    requires { refusal ≢ TakeRefusal.TooLong }
+    ensures { Refuses refusal (IsStop (malformed before) Status.Malformed) Never result }
 {
     match refusal {
         TakeRefusal::ReadFault => Err(Halt::ReadFault),
         TakeRefusal::End => malformed(alloc, before),
-        TakeRefusal::TooLong | TakeRefusal::Memory => Err(Halt::Memory),
+        TakeRefusal::TooLong => unreachable!(),
         TakeRefusal::Full => too_large(alloc),
+        TakeRefusal::Memory => Err(Halt::Memory),
     }
 }
 
 // Puts a file in, unless it would be one too many.
 fn keep(alloc: Global, files: &mut Files, name: FileName, bytes: Bytes) -> Result<Move, Halt>
-    requires { length bytes ≤ 1048576 }
+    requires { length bytes ≤ MAX_FILE_BYTES }
     ensures { PutsIn files.old files.new name bytes result }
 {
     if !files.contains(&name) && MAX_FILES as usize <= files.len() {
         return too_large(alloc);
     }
-    files.insert(name, Text::new(bytes))?;
+    files.insert(name, bytes)?;
     Ok(Move::Goes(Bytes::new(alloc)))
 }

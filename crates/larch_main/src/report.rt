@@ -1,92 +1,115 @@
-ghost use Rattle.std.specs.Prelude.{◌≡◌, ◌++◌, length, decimal, IfOk, OnOk};
+ghost use Rattle.std.specs.Prelude.{◌≡◌, ◌≤◌, ◌++◌, length, IfOk, OnOk};
 ghost use Rattle.larch_base.specs.FileNames.{stem_of};
-ghost use Rattle.larch_main.specs.Reports.{verdict_of, verdict_text, is_wrong, trait_line, total_text, report_text, error_count, is_good};
+ghost use Rattle.larch_base.specs.declared.limits.TheConstants.{MAX_FILE_BYTES};
+ghost use Rattle.larch_traits.specs.TraitFile.{presented};
+ghost use Rattle.larch_main.specs.Report.{is_good, is_wrong, line_of, line_text, report_of, report_text, total_text};
+ghost use Rattle.larch_main.specs.Report.{error_count, fault_text};
 
-use crate::check::{Verdict, judge};
-use crate::files::{Files, Text};
-use larch_base::{Bytes, FileName, Memory};
+use larch_base::{Bytes, Fault, FileName, Memory, Name, Sequence};
+use larch_traits::{Files, TraitRefusal, present_file};
 use std::alloc::Global;
 
-/// The report on the files of a session, and whether it counts no error.
+/// A line of a report.
 #[derive(Debug, Drop)]
-pub struct Report {
-    pub text: Bytes,
-    pub good: bool,
+pub enum ReportLine {
+    /// Nothing is wrong with the trait of this name.
+    Right(Name),
+    /// This is the first thing that is wrong with it.
+    Wrong(Name, Fault),
 }
 
-// Puts a number in decimal at the end.
-fn append_number(alloc: Global, text: &mut Bytes, number: u64) -> Result<(), Memory>
-    ensures { OnOk result (text.new ≡ text.old ++ decimal number) }
+/// The lines of the report on these files.
+pub fn report_on(alloc: Global, files: &Files) -> Result<Sequence<ReportLine>, Memory>
+    ensures { IfOk result (λ lines. lines ≡ report_of files.now) }
 {
-    let digits = number.to_string(alloc)?;
-    text.append(digits.as_bytes())?;
-    Ok(())
+    let mut lines = Sequence::new(alloc);
+    for name in files.names() {
+        if let Some(text) = files.get(name) {
+            lines.push(line_of(alloc, name, text)?)?;
+        }
+    }
+    Ok(lines)
 }
 
-// Puts the rest of a trait's line at the end.
-fn append_verdict(alloc: Global, text: &mut Bytes, verdict: Verdict) -> Result<(), Memory>
-    ensures { OnOk result (text.new ≡ text.old ++ verdict_text verdict) }
+// The line of the trait file of this name, which has this text.
+fn line_of(alloc: Global, name: &FileName, text: &[u8]) -> Result<ReportLine, Memory>
+    requires { length text.now ≤ MAX_FILE_BYTES }
+    ensures { IfOk result (λ line. line ≡ line_of (stem_of name.now) (presented (stem_of name.now) text.now)) }
 {
-    match verdict {
-        Verdict::Right => Ok(()),
-        Verdict::Wrong(pos, code) => {
-            text.append(b" error ")?;
-            append_number(alloc, text, u64::from(pos.line))?;
-            text.append(b":")?;
-            append_number(alloc, text, u64::from(pos.column))?;
-            text.append(b" ")?;
-            text.append(code.text().as_bytes())?;
-            Ok(())
+    let stem = Name::new(alloc, name.stem())?;
+    match present_file(alloc, name.stem(), text) {
+        Ok(_) => Ok(ReportLine::Right(stem)),
+        Err(TraitRefusal::Wrong(pos, code)) => Ok(ReportLine::Wrong(stem, Fault { pos, code })),
+        Err(TraitRefusal::Memory) => Err(Memory),
+    }
+}
+
+/// A report of these lines as it is written.
+pub fn report_text(alloc: Global, lines: &[ReportLine]) -> Result<Bytes, Memory>
+    ensures { IfOk result (λ text. text ≡ report_text lines.now) }
+{
+    let mut text = Bytes::new(alloc);
+    for line in lines {
+        append_line(alloc, &mut text, line)?;
+    }
+    append_total(alloc, &mut text, lines)?;
+    Ok(text)
+}
+
+/// Whether a report of these lines says of nothing that it is wrong.
+pub fn is_good(lines: &[ReportLine]) -> bool
+    ensures { result ≡ is_good lines.now }
+{
+    error_count(lines) == 0
+}
+
+// Puts a line at the end.
+fn append_line(alloc: Global, text: &mut Bytes, line: &ReportLine) -> Result<(), Memory>
+    ensures { OnOk result (text.new ≡ text.old ++ line_text line.now) }
+{
+    text.append(b"trait ")?;
+    match line {
+        ReportLine::Right(stem) => {
+            text.append(stem.bytes())?;
+            text.append(b"\n")
+        }
+        ReportLine::Wrong(stem, fault) => {
+            text.append(stem.bytes())?;
+            append_fault(alloc, text, *fault)
         }
     }
 }
 
-// Puts the line of a trait file at the end, and answers whether it says that something is wrong.
-fn append_trait(
-    alloc: Global,
-    text: &mut Bytes,
-    name: &FileName,
-    file: &Text,
-) -> Result<bool, Memory>
-    ensures line { OnOk result (text.new ≡ text.old ++ trait_line (name.now, file.now)) }
-    ensures wrong { IfOk result (λ wrong. wrong ≡ is_wrong (verdict_of (stem_of name.now) file.now)) }
+// Puts the rest of the line of a trait with a fault at the end.
+fn append_fault(alloc: Global, text: &mut Bytes, fault: Fault) -> Result<(), Memory>
+    ensures { OnOk result (text.new ≡ text.old ++ fault_text fault) }
 {
-    let verdict = judge(alloc, name.stem(), file.bytes())?;
-    text.append(b"trait ")?;
-    text.append(name.stem())?;
-    append_verdict(alloc, text, verdict)?;
-    text.append(b"\n")?;
-    Ok(matches!(verdict, Verdict::Wrong(_, _)))
+    let Fault { pos, code } = fault;
+    let said = format!(in alloc; " error {pos} {code}\n")?;
+    text.append(said.as_bytes())
 }
 
 // Puts the last lines at the end.
-fn append_total(alloc: Global, text: &mut Bytes, traits: u64, errors: u64) -> Result<(), Memory>
-    ensures { OnOk result (text.new ≡ text.old ++ total_text traits errors) }
+fn append_total(alloc: Global, text: &mut Bytes, lines: &[ReportLine]) -> Result<(), Memory>
+    ensures { OnOk result (text.new ≡ text.old ++ total_text lines.now) }
 {
-    text.append(b"total ")?;
-    append_number(alloc, text, traits)?;
-    text.append(b" traits, ")?;
-    append_number(alloc, text, errors)?;
-    text.append(b" errors, 0 proved, 0 suspended, 0 refused\nend\n")?;
-    Ok(())
+    let traits = lines.len();
+    let errors = error_count(lines);
+    let said = format!(in alloc;
+        "total {traits} traits, {errors} errors, 0 proved, 0 suspended, 0 refused\nend\n"
+    )?;
+    text.append(said.as_bytes())
 }
 
-/// The report on these files.
-pub fn report_on(alloc: Global, files: &Files) -> Result<Report, Memory>
-    ensures text { IfOk result (λ report. report.text ≡ report_text files.now) }
-    ensures good { IfOk result (λ report. report.good ≡ is_good files.now) }
+// How many lines say that something is wrong.
+fn error_count(lines: &[ReportLine]) -> usize
+    ensures { result ≡ error_count lines.now }
 {
-    let traits = files.len();
-    let mut text = Bytes::new(alloc);
-    let mut errors = 0;
-    for (name, file) in files.iter() {
-        if append_trait(alloc, &mut text, name, file)? {
-            errors += 1;
-        }
-    }
-    append_total(alloc, &mut text, traits as u64, errors)?;
-    Ok(Report {
-        text,
-        good: errors == 0,
-    })
+    lines.iter().filter(|line| is_wrong(line)).count()
+}
+
+fn is_wrong(line: &ReportLine) -> bool
+    ensures { result ≡ is_wrong line.now }
+{
+    matches!(line, ReportLine::Wrong(_, _))
 }

@@ -13,7 +13,7 @@ pub enum Status {
     ReadFault,
     /// The sink failed.
     WriteFault,
-    /// Want of memory.
+    /// Out of memory.
     Memory,
     /// The input isn't in the session's grammar.
     Malformed,
@@ -24,7 +24,7 @@ pub enum Status {
 }
 
 impl Status {
-    ghost use Rattle.larch_main.specs.StatusNumber.{number_of};
+    ghost use Rattle.larch_main.specs.Status.{number_of};
 
     /// The number that the process ends with.
     pub fn number(&self) -> u8

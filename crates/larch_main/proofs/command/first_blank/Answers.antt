@@ -1,7 +1,7 @@
 -- The place where the loop ends is the first that passes.
 use Rattle.std.proofs.Common.{length, sym, ◌∙◌, arith}
 use Rattle.std.proofs.lemmas.List.Sums.{position_or_len_is}
-use Rattle.larch_main.specs.CommandLine.{is_blank}
+use Rattle.larch_main.specs.Command.{is_blank}
 use Rattle.larch_main.proofs.command.first_blank.Goals as goal
 
 pub returns-then-is_blank : goal.returns-then-is_blank

@@ -1,5 +1,5 @@
 use Rattle.std.proofs.Common.{◌≡◌, ℕ, ◌<◌, false, get_or}
-use Rattle.larch_main.specs.CommandLine.{is_blank}
+use Rattle.larch_main.specs.Command.{is_blank}
 use Rattle.larch_main.proofs.command.first_blank.Given as goal
 
 -- no blank stands before the place

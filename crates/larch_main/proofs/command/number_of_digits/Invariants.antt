@@ -1,5 +1,5 @@
 use Rattle.std.proofs.Common.{◌≡◌, ◌<◌, ◌^◌, take}
-use Rattle.larch_main.specs.CommandLine.{number_of_digits}
+use Rattle.larch_main.specs.Command.{number_of_digits}
 use Rattle.larch_main.proofs.command.number_of_digits.Given as goal
 
 -- the number that the digits so far spell, which has no more digits

@@ -1,9 +1,24 @@
 -- The line's command, and what is done at it.
-use Rattle.std.proofs.Common.{◌≡◌, Some, sym, ap, ◌∙◌, arith}
-use Rattle.larch_main.specs.declared.command.Command.TheVariants.{Put, Report}
-use Rattle.larch_main.specs.CommandLine.{command_of}
-use Rattle.larch_main.proofs.Steps.{report_moves, put_too_large, put_passes}
+use Rattle.std.proofs.Common.{◌≡◌, Some, None, sym, ap, ◌∙◌, arith}
+use Rattle.larch_main.specs.declared.command.Command.TheVariants.{Put, Quit, Report, Skip}
+use Rattle.larch_main.specs.Command.{command_of}
+use Rattle.larch_main.proofs.Steps.{none_moves, skip_moves, quit_moves, report_moves, put_too_large, put_passes}
 use Rattle.larch_main.proofs.progress.carry_out.Goals as goal
+
+pub returns-in-None-clause-moves : goal.returns-in-None-clause-moves
+returns-in-None-clause-moves g c =
+    let is : command_of c.args.line.now ≡ None = sym c.in_ok-command_of.ensures ∙ c.in-None.is in
+    rw is (none_moves c.args.progress.now _ c.args.before c.malformed.result c.malformed.ensures)
+
+pub returns-in-Some-Skip-clause-moves : goal.returns-in-Some-Skip-clause-moves
+returns-in-Some-Skip-clause-moves g c =
+    let is : command_of c.args.line.now ≡ Some Skip = sym c.in_ok-command_of.ensures ∙ c.in-Some-Skip.is ∙ ap Some c.in-Some-Skip.field-0-is in
+    rw is (skip_moves c.args.progress.now _ c.args.before c.new.result c.new.ensures)
+
+pub returns-in-Some-Quit-clause-moves : goal.returns-in-Some-Quit-clause-moves
+returns-in-Some-Quit-clause-moves g c =
+    let is : command_of c.args.line.now ≡ Some Quit = sym c.in_ok-command_of.ensures ∙ c.in-Some-Quit.is ∙ ap Some c.in-Some-Quit.field-0-is in
+    quit_moves c.args.progress.now _ c.args.before (command_of c.args.line.now) c.ended.result is c.ended.ensures
 
 pub returns-in-Some-Report-clause-moves : goal.returns-in-Some-Report-clause-moves
 returns-in-Some-Report-clause-moves g c =
@@ -15,7 +30,7 @@ pub returns-then-count-gt-MAX_FILE_BYTES-clause-moves :
     goal.returns-then-count-gt-MAX_FILE_BYTES-clause-moves
 returns-then-count-gt-MAX_FILE_BYTES-clause-moves g c =
     let is : command_of c.args.line.now ≡ Some (Put c.in-Some-Put.name c.in-Some-Put.count) = sym c.in_ok-command_of.ensures ∙ c.in-Some-Put.is ∙ ap Some c.in-Some-Put.field-0-is in
-    rw is (put_too_large c.args.progress.now _ c.args.before c.in-Some-Put.name c.in-Some-Put.count c.too_large.result (omega arith) c.too_large.ensures.ok c.too_large.ensures.err)
+    rw is (put_too_large c.args.progress.now _ c.args.before c.in-Some-Put.name c.in-Some-Put.count c.too_large.result (omega arith) c.too_large.ensures)
 
 pub returns-else-count-gt-MAX_FILE_BYTES-clause-moves :
     goal.returns-else-count-gt-MAX_FILE_BYTES-clause-moves

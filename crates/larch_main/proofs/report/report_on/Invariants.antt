@@ -1,11 +1,8 @@
-use Rattle.std.proofs.Common.{◌≡◌, ◌≤◌, ◌+◌, ◌++◌, length, flat_map}
-use Rattle.larch_main.specs.Reports.{trait_line, error_count}
+use Rattle.std.proofs.Common.{◌≡◌, ◌++◌, flat_map}
+use Rattle.larch_traits.specs.Files.{text_of}
+use Rattle.larch_main.specs.Report.{text_lines, report_of}
 use Rattle.larch_main.proofs.report.report_on.Given as goal
 
--- what is written and counted, and what is still to be, are all
+-- the lines so far, and those of the names that are left, are all
 abbrev pub invariant-loop-name : goal.invariant-loop-name
-invariant-loop-name l = record {
-  text : l.text ++ flat_map trait_line l.name-iterator ≡ flat_map trait_line l.files;
-  errors : l.errors + error_count l.name-iterator ≡ error_count l.files;
-  few : l.errors + length l.name-iterator ≤ length l.files;
-}
+invariant-loop-name l = l.lines ++ flat_map (λ name. text_lines name (text_of l.files name)) l.name-iterator ≡ report_of l.files

@@ -1,4 +1,5 @@
 use Rattle.std.proofs.Common.{◌≡◌, ◌-◌}
+use Rattle.larch_base.specs.declared.limits.TheConstants.{MAX_SOURCE_BYTES}
 use Rattle.larch_main.specs.SoFar.{SoFar}
 use Rattle.larch_main.proofs.session.session.Given as goal
 
@@ -11,4 +12,4 @@ invariant-loop-reply g l = record {
 }
 
 abbrev pub decreases-loop-reply : goal.decreases-loop-reply
-decreases-loop-reply g l = 67108864 - l.progress.reader.count
+decreases-loop-reply g l = MAX_SOURCE_BYTES - l.progress.reader.count

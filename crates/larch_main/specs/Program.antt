@@ -1,0 +1,108 @@
+-- What a call of the program does, by what its words ask for, its input and its status.
+use Rattle.std.specs.Prelude.{◌≡◌, ◌⊎◌, Bool, true, false, ℕ, List, ◌++◌, Option, IfSome, MatchBool, codes}
+use Rattle.std.specs.Io.KnownBytes.{Appends, Consumes, IsAtEnd}
+use Rattle.larch_io.specs.Faults.{Rose}
+use Rattle.larch_main.specs.declared.call.Call.{Call}
+use Rattle.larch_main.specs.declared.call.Call.TheVariants as call_
+use Rattle.larch_main.specs.declared.status.Status.{Status}
+use Rattle.larch_main.specs.declared.status.Status.TheVariants.{Good, Remains, Words, ReadFault, WriteFault, Memory, Malformed, Size, NoFile}
+use Rattle.larch_main.specs.Session.{State, start, with_status, waiting, Session}
+
+abbrev pub usage_text : List ℕ
+usage_text = codes "usage: larch COMMAND [WORD..] [--limit N] [--seed N] [--size N]\n"
+
+-- for this call, on this input, the program writes `output` and ends with `status`
+abbrev pub Output : Call → List ℕ → List ℕ → Status → Type 0
+Output call_.Session input output status = (last : State) × Session true start input output (with_status status) last
+Output call_.Nothing input output status = (output ≡ usage_text) × (status ≡ Words)
+
+-- all that a source has left, where it tells
+abbrev pub IsInput : Option (List ℕ) → List ℕ → Type 0
+IsInput left input = IfSome left (λ bytes. bytes ≡ input)
+
+-- The source had `left` before the call and has `leaves` after it, the sink held `held` and holds `holds`.
+module _ (call : Call) (left leaves held holds : Option (List ℕ)) where
+  -- a defined output was written, whole
+  pub record Answers (status : Status) : Type 0 where
+    pub input : List ℕ
+    pub output : List ℕ
+    pub is_input : IsInput left input
+    pub defined : Output call input output status
+    pub written : Appends held holds output
+
+  -- a front of a defined output was written
+  pub record WritesFront : Type 0 where
+    pub input : List ℕ
+    pub front : List ℕ
+    pub rest : List ℕ
+    pub status : Status
+    pub is_input : IsInput left input
+    pub defined : Output call input (front ++ rest) status
+    pub written : Appends held holds front
+
+-- the replies to the whole commands in the bytes that the source gave were written: the session waits for more
+pub record BreaksOff (left leaves held holds : Option (List ℕ)) : Type 0 where
+  pub given : List ℕ
+  pub output : List ℕ
+  pub last : State
+  pub gave : Consumes left leaves given
+  pub replies : Session false start given output waiting last
+  pub written : Appends held holds output
+
+-- what was written where the source failed: only a session reads it
+abbrev pub WritesBefore : Call → Option (List ℕ) → Option (List ℕ) → Option (List ℕ) → Option (List ℕ) → Type 0
+WritesBefore call_.Session left leaves held holds = BreaksOff left leaves held holds
+WritesBefore call_.Nothing left leaves held holds = ⊥
+
+-- what was written, by the status
+abbrev pub Writes : Call → Option (List ℕ) → Option (List ℕ) → Option (List ℕ) → Option (List ℕ) → Status → Type 0
+Writes call left leaves held holds ReadFault = WritesBefore call left leaves held holds
+Writes call left leaves held holds WriteFault = WritesFront call left leaves held holds
+Writes call left leaves held holds Memory = WritesFront call left leaves held holds
+Writes call left leaves held holds Good = Answers call left leaves held holds Good
+Writes call left leaves held holds Remains = Answers call left leaves held holds Remains
+Writes call left leaves held holds Words = Answers call left leaves held holds Words
+Writes call left leaves held holds Malformed = Answers call left leaves held holds Malformed
+Writes call left leaves held holds Size = Answers call left leaves held holds Size
+Writes call left leaves held holds NoFile = Answers call left leaves held holds NoFile
+
+-- The bytes that the source gave are the whole input, or end the session whatever follows them; and what the session
+-- answers to them was written.
+pub record TakesWhole (left leaves held holds : Option (List ℕ)) (status : Status) : Type 0 where
+  pub given : List ℕ
+  pub output : List ℕ
+  pub last : State
+  pub gave : Consumes left leaves given
+  pub whole : (Session true start given output (with_status status) last × IsAtEnd leaves)
+      ⊎ Session false start given output (with_status status) last
+  pub written : Appends held holds output
+
+-- which statuses say that the input was taken to its end or through `quit`
+abbrev pub TakesInput : Option (List ℕ) → Option (List ℕ) → Option (List ℕ) → Option (List ℕ) → Status → Type 0
+TakesInput left leaves held holds Good = TakesWhole left leaves held holds Good
+TakesInput left leaves held holds Remains = TakesWhole left leaves held holds Remains
+TakesInput left leaves held holds _ = Unit {0}
+
+-- a status says that the source failed: only a session reads it
+abbrev pub source_failed : Call → Status → Bool
+source_failed call_.Session ReadFault = true
+source_failed _ _ = false
+
+-- a status says that the sink failed
+abbrev pub sink_failed : Status → Bool
+sink_failed WriteFault = true
+sink_failed _ = false
+
+-- a count of faults rose exactly where this is so
+abbrev pub Counts : Bool → ℕ → ℕ → Type 0
+Counts failed before now = MatchBool failed (Rose before now) (now ≡ before)
+
+-- a call whose words mean no session leaves the source as it was
+abbrev pub KeepsSource : {A : Type 0} → Call → A → A → Type 0
+KeepsSource call_.Session before now = Unit {0}
+KeepsSource call_.Nothing before now = now ≡ before
+
+-- neither a session nor words without meaning look at the folder: its count and its files stay
+abbrev pub KeepsFolder : {A : Type 0} → Call → A → A → Type 0
+KeepsFolder call_.Session before now = now ≡ before
+KeepsFolder call_.Nothing before now = now ≡ before

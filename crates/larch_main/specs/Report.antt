@@ -1,0 +1,57 @@
+-- The report on the trait files of a session: its lines, and what is said and counted by them.
+use Rattle.std.specs.Prelude.{ℕ, ◌==◌, Bool, true, false, List, [], ◌∷◌, ◌++◌, length, flat_map, count_by, decimal, codes}
+use Rattle.std.specs.Prelude.{Option, Some, None, Result, Ok, Err}
+use Rattle.larch_base.specs.CodeText.{code_text}
+use Rattle.larch_base.specs.FileNames.{stem_of}
+use Rattle.larch_base.specs.Position.{position_text}
+use Rattle.larch_base.specs.declared.fault.Fault.{Fault}
+use Rattle.larch_traits.specs.TraitFile.{presented}
+use Rattle.larch_traits.specs.Files.{Table, text_of, names_of}
+use Rattle.larch_main.specs.declared.report.ReportLine.{ReportLine}
+use Rattle.larch_main.specs.declared.report.ReportLine.TheVariants.{Right, Wrong}
+
+-- the line of the trait with this stem, by what its file presents
+abbrev pub line_of : {A : Type 0} → List ℕ → Result A Fault → ReportLine
+line_of stem (Ok presentation) = Right stem
+line_of stem (Err fault) = Wrong stem fault
+
+-- the lines of the file of this name, which has this text
+abbrev pub text_lines : List ℕ → Option (List ℕ) → List ReportLine
+text_lines name None = []
+text_lines name (Some text) = line_of (stem_of name) (presented (stem_of name) text) ∷ []
+
+-- the report on these files: the lines of each, in byte order of the names
+abbrev pub report_of : Table → List ReportLine
+report_of files = flat_map (λ name. text_lines name (text_of files name)) (names_of files)
+
+-- what is wrong, and where
+abbrev pub fault_text : Fault → List ℕ
+fault_text fault = codes " error " ++ position_text fault.pos ++ codes " " ++ code_text fault.code ++ codes "\n"
+
+-- a line as it is written
+abbrev pub line_text : ReportLine → List ℕ
+line_text (Right stem) = codes "trait " ++ (stem ++ codes "\n")
+line_text (Wrong stem fault) = codes "trait " ++ (stem ++ fault_text fault)
+
+-- a line says that something is wrong
+abbrev pub is_wrong : ReportLine → Bool
+is_wrong (Right stem) = false
+is_wrong (Wrong stem fault) = true
+
+-- how many lines say so
+abbrev pub error_count : List ReportLine → ℕ
+error_count lines = count_by is_wrong lines
+
+-- the last lines of a report, which count what it says; each of its lines is of one trait
+abbrev pub total_text : List ReportLine → List ℕ
+total_text lines =
+    codes "total " ++ (decimal (length lines) ++ (codes " traits, " ++ (decimal (error_count lines)
+    ++ codes " errors, 0 proved, 0 suspended, 0 refused\nend\n")))
+
+-- a report as it is written
+abbrev pub report_text : List ReportLine → List ℕ
+report_text lines = flat_map line_text lines ++ total_text lines
+
+-- a report says of nothing that it is wrong
+abbrev pub is_good : List ReportLine → Bool
+is_good lines = error_count lines == 0
