@@ -7,11 +7,11 @@ use larch_base::{Memory, Steps};
 use larch_io::{CleanFolder, StandardInput, StandardOutput};
 use larch_main::{Status, run};
 use std::alloc::Global;
+use std::env;
+use std::io::ErrorKind;
 use std::marker::Brand;
 use std::process::ExitCode;
 use std::sync::ledger::{Blank, Ledger};
-use std::env;
-use std::io::ErrorKind;
 
 // The words behind the program's name. Where they are no texts there are none, and so no command.
 fn words(rt: &HostRuntime, alloc: Global) -> Result<Vec<String>, Memory> {
