@@ -2,7 +2,9 @@
 use Rattle.std.proofs.Common.{◌≡◌, ◌≢◌, ℕ, inl, inr, Ok, List, All, AllPairs, refl, sym, subst}
 use Rattle.std.proofs.lemmas.List.Elements.{All-contains}
 use Rattle.larch_base.proofs.Lists.{all_from}
+use Rattle.larch_raw.specs.Worded.{WordedDecl, WordedItem, WordedTrait, WordedVar}
 use Rattle.larch_raw.specs.declared.equation.RawItem.{RawItem}
+use Rattle.larch_raw.specs.declared.equation.RawItem.TheVariants.{Clause, Equations}
 use Rattle.larch_raw.specs.declared.equation.RawTrait.{RawTrait}
 use Rattle.larch_term.specs.BuiltIn.{IsBuiltIn}
 use Rattle.larch_term.specs.Operator.{PlainOperator}
@@ -14,7 +16,7 @@ use Rattle.larch_term.specs.declared.statement.Theory.{Theory}
 use Rattle.larch_sorts.specs.Laws.{ForestSorts, IsSortOf, OperatorSorts, StatementSorts, StatementVariables, TermSorts, sorts_of_operator}
 use Rattle.larch_items.specs.Declarations.{declared}
 use Rattle.larch_items.specs.Items.{item_states, items_state}
-use Rattle.larch_items.specs.Laws.{HasWords, IsWord, NamesOwn}
+use Rattle.larch_items.specs.Laws.{BindsWords, DeclaresWords, IsWord, NamesOwn}
 use Rattle.larch_items.specs.Presentation.{presentation_of}
 use Rattle.larch_items.specs.Steps.{after}
 use Rattle.larch_items.proofs.Kept.{after_was, ok_inj}
@@ -77,11 +79,15 @@ word_exists : (fs : List PlainOperator) → All (OperatorSorts IsWord) fs → (s
 word_exists fs h s (inl e) = subst IsWord (sym e) refl
 word_exists fs h s (inr (f, c, d)) = All-contains IsWord (sorts_of_operator f) s (All-contains (OperatorSorts IsWord) fs f h c) d
 
-pub sort_words : (raw : RawTrait) (t : Theory) → HasWords raw → presentation_of raw ≡ Ok t → All (StatementSorts IsWord) t.statements
+pub sort_words : (raw : RawTrait) (t : Theory) → WordedTrait raw → presentation_of raw ≡ Ok t → All (StatementSorts IsWord) t.statements
 sort_words raw t w e =
     all_weaker (StatementSorts (IsSortOf t.operators)) (StatementSorts IsWord)
-    (statement_weaker (IsSortOf t.operators) IsWord (word_exists t.operators (declared_words raw.declarations t.operators w.sorts (was raw t e).0)))
+    (statement_weaker (IsSortOf t.operators) IsWord (word_exists t.operators (declared_words raw.declarations t.operators (all_weaker WordedDecl DeclaresWords (λ d h. h) raw.declarations w.1) (was raw t e).0)))
     t.statements (sorts_exist raw t e)
 
-pub variable_words : (raw : RawTrait) (t : Theory) → HasWords raw → presentation_of raw ≡ Ok t → All (StatementVariables IsWord) t.statements
-variable_words raw t w e = items_bind t.operators raw.items t.statements w.variables (was raw t e).1
+item_words : (item : RawItem) → WordedItem item → BindsWords item
+item_words (Clause kind sort refs) h = tt
+item_words (Equations variables equations) h = all_weaker WordedVar (λ v. IsWord v.name.name) (λ v k. k.0) variables h.0
+
+pub variable_words : (raw : RawTrait) (t : Theory) → WordedTrait raw → presentation_of raw ≡ Ok t → All (StatementVariables IsWord) t.statements
+variable_words raw t w e = items_bind t.operators raw.items t.statements (all_weaker WordedItem BindsWords item_words raw.items w.2) (was raw t e).1

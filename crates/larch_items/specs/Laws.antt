@@ -4,7 +4,6 @@ use Rattle.larch_base.specs.Word.{is_word}
 use Rattle.larch_raw.specs.declared.declared.RawDecl.{RawDecl}
 use Rattle.larch_raw.specs.declared.equation.RawItem.{RawItem}
 use Rattle.larch_raw.specs.declared.equation.RawItem.TheVariants.{Clause, Equations}
-use Rattle.larch_raw.specs.declared.equation.RawTrait.{RawTrait}
 use Rattle.larch_term.specs.Operator.{PlainOperator}
 use Rattle.larch_term.specs.declared.statement.Statement.{Statement}
 use Rattle.larch_term.specs.declared.statement.Statement.TheVariants.{Equation, Generated, Partitioned}
@@ -27,8 +26,3 @@ DeclaresWords decl = All (λ w. IsWord w.name) decl.sig.domain × IsWord decl.si
 abbrev pub BindsWords : RawItem → Type 0
 BindsWords (Clause kind sort refs) = Unit {0}
 BindsWords (Equations variables equations) = All (λ v. IsWord v.name.name) variables
-
--- the sorts of a trait's declarations and the variables of its items are words
-pub record HasWords (raw : RawTrait) : Type 0 where
-  pub sorts : All DeclaresWords raw.declarations
-  pub variables : All BindsWords raw.items

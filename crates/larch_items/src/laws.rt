@@ -1,5 +1,6 @@
 //! What holds of all that is stated and presented, for crates above to cite. No function here does anything.
 ghost use Rattle.std.specs.Prelude.{◌≡◌, ◌≢◌, List, All, AllPairs, Ok};
+ghost use Rattle.larch_raw.specs.Worded.{WordedTrait};
 ghost use Rattle.larch_raw.specs.declared.equation.RawItem.{RawItem};
 ghost use Rattle.larch_raw.specs.declared.equation.RawTrait.{RawTrait};
 ghost use Rattle.larch_term.specs.BuiltIn.{IsBuiltIn};
@@ -9,7 +10,7 @@ ghost use Rattle.larch_term.specs.declared.statement.Statement.{Statement};
 ghost use Rattle.larch_term.specs.declared.statement.Theory.{Theory};
 ghost use Rattle.larch_sorts.specs.Laws.{IsSortOf, StatementSorts, StatementVariables};
 ghost use Rattle.larch_items.specs.Items.{item_states};
-ghost use Rattle.larch_items.specs.Laws.{HasWords, IsWord, NamesOwn};
+ghost use Rattle.larch_items.specs.Laws.{IsWord, NamesOwn};
 ghost use Rattle.larch_items.specs.Presentation.{presentation_of};
 
 /// What an item states over operators is well sorted over them, its clauses name these alone, and each sort in it is
@@ -43,8 +44,8 @@ pub fn presented_names_its_own()
 
 /// Each sort and each variable in what a trait presents is a word, where the trait is written with words.
 pub fn presented_in_words()
-    ensures sorts { (raw : RawTrait) (t : Theory) → HasWords raw → presentation_of raw ≡ Ok t
+    ensures sorts { (raw : RawTrait) (t : Theory) → WordedTrait raw → presentation_of raw ≡ Ok t
         → All (StatementSorts IsWord) t.statements }
-    ensures variables { (raw : RawTrait) (t : Theory) → HasWords raw → presentation_of raw ≡ Ok t
+    ensures variables { (raw : RawTrait) (t : Theory) → WordedTrait raw → presentation_of raw ≡ Ok t
         → All (StatementVariables IsWord) t.statements }
 {}
