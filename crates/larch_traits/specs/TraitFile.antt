@@ -1,10 +1,9 @@
 -- What a trait file presents, looked at by itself.
-use Rattle.std.specs.Prelude.{ℕ, if◌then◌else◌, List, Result, Ok, Err}
+use Rattle.std.specs.Prelude.{ℕ, if◌then◌else◌, List, Result, Err}
 use Rattle.std.specs.Result.{result_map_both}
 use Rattle.std.specs.Str.{bytes_eq}
 use Rattle.larch_base.specs.declared.code.Code.TheVariants.{Lex, TraitName}
 use Rattle.larch_base.specs.declared.fault.Fault.{Fault}
-use Rattle.larch_base.specs.declared.position.Pos.{Pos}
 use Rattle.larch_lexer.specs.Lexing.{lexed}
 use Rattle.larch_lexer.specs.TokenList.{TokenList}
 use Rattle.larch_raw.specs.declared.equation.RawTrait.{RawTrait}

@@ -2,10 +2,12 @@
 #![tactic(auto)]
 
 mod files;
+mod laws;
 mod trait_file;
 
 pub use files::Files;
 pub use larch_items::TraitRefusal;
+pub use laws::file_presents_words;
 pub use trait_file::present_file;
 
 #[cfg(test)]
