@@ -1,3 +1,6 @@
+ghost use Rattle.std.specs.Prelude.{◌≤◌, length, IfOk};
+ghost use Rattle.larch_base.specs.declared.limits.TheConstants.{MAX_FILE_BYTES};
+
 use super::*;
 use larch_base::{Bytes, Code, FileName, NameRefusal, Pos};
 use std::alloc::Global;
@@ -7,14 +10,19 @@ fn name(alloc: Global, bytes: &[u8]) -> Result<FileName, NameRefusal> {
     FileName::new(alloc, bytes)
 }
 
-fn text(alloc: Global, bytes: &[u8]) -> Result<Bytes, NameRefusal> {
+fn text(alloc: Global, bytes: &[u8]) -> Result<Bytes, NameRefusal>
+    requires { length bytes.now ≤ MAX_FILE_BYTES }
+    ensures { IfOk result (λ text. length text ≤ MAX_FILE_BYTES) }
+{
     let mut text = Bytes::new(alloc);
     text.append(bytes)?;
     Ok(text)
 }
 
 // What is wrong with a trait file of the stem `One`.
-fn fault(alloc: Global, text: &[u8]) -> Option<TraitRefusal> {
+fn fault(alloc: Global, text: &[u8]) -> Option<TraitRefusal>
+    requires { length text.now ≤ MAX_FILE_BYTES }
+{
     present_file(alloc, b"One", text).err()
 }
 
@@ -49,12 +57,12 @@ fn names_are_in_byte_order(rt: HostRuntime) -> Result<(), Fail> {
 fn the_first_fault_is_told(rt: HostRuntime) -> Result<(), Fail> {
     assert_eq!(rt; fault(rt.alloc(), b"One: trait"), None);
     assert_eq!(rt;
-        fault(rt.alloc(), b"One: trait ?!\n introduces"),
-        wrong(1, 12, Code::Lex)
+        fault(rt.alloc(), b"One: trait a_ introduces"),
+        wrong(1, 13, Code::Lex)
     );
     assert_eq!(rt;
-        fault(rt.alloc(), b"Two: trait introduces"),
-        wrong(1, 22, Code::Syntax)
+        fault(rt.alloc(), b"Two: trait introduces f"),
+        wrong(1, 24, Code::Syntax)
     );
     assert_eq!(rt;
         fault(rt.alloc(), b"Two: trait introduces true: -> Bool"),
