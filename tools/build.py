@@ -1,8 +1,9 @@
 #!/usr/bin/env python3
 """Builds the program `larch`, with as many crates proved side by side as the machine has cores.
 
-A crate is begun as soon as those that it stands on are built. `rt` keeps what it proved, so a later run does only what
-changed. Says on standard error which crate is begun and which is done; ends with 1 where a crate is not proved.
+A crate is begun as soon as those that it stands on are built, and gets its share of the cores then. `rt` keeps what it
+proved, so a later run does only what changed. Says on standard error which crate is begun and which is done; ends with
+1 where a crate is not proved.
 """
 import os
 import pathlib
@@ -40,27 +41,36 @@ def build(crate, jobs):
 
 
 def say(text):
-    print(f"larch: {text}", file=sys.stderr, flush=True)
+    sys.stderr.write(f"larch: {text}\n")
+    sys.stderr.flush()
 
 
 def build_all(below):
     """Builds each crate as soon as all below it are built; what failed, with what was printed."""
     cores = len(os.sched_getaffinity(0))
-    slots = threading.Semaphore(cores)
+    slots, counting, running = threading.Semaphore(cores), threading.Lock(), set()
     built = {crate: threading.Event() for crate in below}
     failed = {}
+
+    def prove(crate):
+        with counting:
+            running.add(crate)
+            jobs = max(1, cores // len(running))
+        say(f"proving {crate}")
+        printed = build(crate, str(jobs))
+        with counting:
+            running.remove(crate)
+        if printed:
+            failed[crate] = printed
+        else:
+            say(f"{crate} is proved")
 
     def work(crate):
         for need in below[crate]:
             built[need].wait()
-        if not failed:
-            with slots:
-                say(f"proving {crate}")
-                printed = build(crate, "1" if len(below[crate]) < len(below) - 1 else str(cores))
-            if printed:
-                failed[crate] = printed
-            else:
-                say(f"{crate} is proved")
+        with slots:
+            if not failed:
+                prove(crate)
         built[crate].set()
 
     threads = [threading.Thread(target=work, args=[crate]) for crate in below]
