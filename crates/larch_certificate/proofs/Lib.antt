@@ -1,0 +1,3 @@
+-- Lemmas.
+pub mod CodedLists
+pub mod Deepest
