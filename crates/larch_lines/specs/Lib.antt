@@ -1,0 +1,10 @@
+pub mod Acceptance
+pub mod BoxRules
+pub mod ClauseRules
+pub mod Context
+pub mod Decoding
+pub mod Events
+pub mod Example
+pub mod Matching
+pub mod Rules
+pub mod Run
