@@ -1,0 +1,4 @@
+pub mod Demand
+pub mod Pairs
+pub mod Refusals
+pub mod Unify

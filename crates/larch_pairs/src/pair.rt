@@ -1,0 +1,30 @@
+use larch_base::Sequence;
+use larch_term::{Substitution, Term};
+
+/// A rule that rewrites instances of its left side into those of its right side.
+#[derive(Drop)]
+pub struct Rule {
+    pub left: Term,
+    pub right: Term,
+}
+
+/// A place in a term: argument numbers, counted from 1, from the root down.
+pub type Place = Sequence<u32>;
+
+/// A critical pair of two rules: what the two rules make of one term, the second one at a place of it.
+#[derive(Drop)]
+pub struct Pair {
+    /// The first rule's left side under `first`, with the second rule's right side under `second` at the place.
+    pub left: Term,
+    /// The first rule's right side under `first`.
+    pub right: Term,
+    /// Where in the first rule's left side the second one's left side stands.
+    pub place: Place,
+    /// What takes the places of the first rule's variables.
+    pub first: Substitution,
+    /// What takes the places of the second rule's variables.
+    pub second: Substitution,
+}
+
+/// Several critical pairs, in order.
+pub type Pairs = Sequence<Pair>;
