@@ -1,0 +1,9 @@
+pub mod ByteClasses
+pub mod CertificateText
+pub mod Empty
+pub mod EquationText
+pub mod LineText
+pub mod ListText
+pub mod Parts
+pub mod SymbolText
+pub mod TermText

@@ -1,0 +1,18 @@
+//! What the text of a certificate is: definitions and their laws, and the types that they speak of.
+//!
+//! Both versions are defined at once: whether lines are named by number or by distance, and whether parts have names,
+//! is a parameter that three words look at.
+#![tactic(auto)]
+
+mod here;
+pub mod laws;
+mod machine;
+mod rule_word;
+mod stack;
+mod text;
+
+pub use here::Here;
+pub use machine::{Frame, Machine};
+pub use rule_word::RuleWord;
+pub use stack::Stack;
+pub use text::Text;

@@ -1,0 +1,17 @@
+/// The words of the rules that are read.
+#[derive(Clone, Copy, Debug, PartialEq, Eq)]
+pub enum RuleWord {
+    Axiom,
+    Hyp,
+    Row,
+    Refl,
+    Sym,
+    Inst,
+    Repl,
+    Equal,
+    BoxLine,
+    Done,
+    Fresh,
+    Cases,
+    Induct,
+}
