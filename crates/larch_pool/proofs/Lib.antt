@@ -1,0 +1,15 @@
+pub mod Bound
+pub mod Constants
+pub mod Distinct
+pub mod Exchanges
+pub mod Fitting
+pub mod FreeingExchanges
+pub mod Front
+pub mod Ground
+pub mod Interned
+pub mod Operators
+pub mod Placed
+pub mod Reading
+pub mod Same
+pub mod SubstitutionExchanges
+pub mod Trees

@@ -1,0 +1,13 @@
+use Rattle.std.proofs.Common.{◌≡◌, ◌<◌, length}
+use Rattle.larch_pool.specs.Pooled.{tree_in, Grows}
+use Rattle.larch_pool.specs.Places.{plugged, AreFrames}
+use Rattle.larch_pool.proofs.placing.plug.Given as goal
+
+abbrev pub invariant-loop : goal.invariant-loop
+invariant-loop l = record {
+  within : l.here < length l.pool.trees;
+  grows : Grows l.fn.pool l.pool;
+  operators : l.pool.operators ≡ l.fn.pool.operators;
+  frames : AreFrames l.fn.pool.trees l.frames.items;
+  plugs : plugged l.fn.pool.trees l.frames.items (tree_in l.pool.trees l.here) ≡ plugged l.fn.pool.trees l.fn.frames.items (tree_in l.fn.pool.trees l.by);
+}

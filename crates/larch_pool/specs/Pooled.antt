@@ -1,0 +1,93 @@
+-- A pool as contracts see it: its operators and the trees of its nodes.
+use Rattle.std.specs.Prelude.{◌≡◌, ◌↔◌, ℕ, ◌<◌, ◌+◌, ◌⊎◌, IsTrue, List, [], ◌∷◌, ◌++◌, length, map, take, All, slice_get, Some}
+use Rattle.std.specs.List.{slice_index_or, AllZip}
+use Rattle.larch_term.specs.Operator.{OperatorName, PlainOperator, plain, boxed}
+use Rattle.larch_term.specs.Sorts.{WellSorted}
+use Rattle.larch_term.specs.Tree.{Tree, var, app, forest_of}
+use Rattle.larch_term.specs.Variable.{occurrences}
+use Rattle.larch_pool.specs.declared.node.Marks.{Marks}
+use Rattle.larch_pool.specs.declared.node.Node.{Node}
+use Rattle.larch_pool.specs.declared.node.Node.TheVariants.{Var, App}
+use Rattle.larch_pool.specs.declared.symbol.Symbol.{Symbol}
+use Rattle.larch_pool.specs.declared.symbol.SymbolName.{SymbolName}
+use Rattle.larch_pool.specs.declared.symbol.SymbolName.TheVariants.{Plain, Boxed}
+
+-- the operators of a pool and the trees of its nodes, in the order of their numbers
+pub record Pooled : Type 0 where
+  pub operators : List PlainOperator
+  pub trees : List Tree
+
+-- the name of an operator
+abbrev pub name_of : SymbolName → OperatorName
+name_of (Plain n) = plain n
+name_of (Boxed b k) = boxed b k
+
+-- the operator
+abbrev pub operator_of : Symbol → PlainOperator
+operator_of s = record { name = name_of s.name; domain = s.domain; range = s.range }
+
+-- what a number beyond the last one stands for
+abbrev pub no_tree : Tree
+no_tree = var [] []
+
+-- likewise of an operator
+abbrev pub no_operator : PlainOperator
+no_operator = record { name = plain []; domain = []; range = [] }
+
+-- the tree with a number
+abbrev pub tree_in : List Tree → ℕ → Tree
+tree_in ts n = slice_index_or ts n no_tree
+
+-- the operator with a number
+abbrev pub operator_in : List PlainOperator → ℕ → PlainOperator
+operator_in fs n = slice_index_or fs n no_operator
+
+-- the tree of a node over operators and the trees before it
+abbrev pub node_tree : List PlainOperator → List Tree → Node → Tree
+node_tree fs ts (Var n s) = var n s
+node_tree fs ts (App f cs) = app (operator_in fs f) (forest_of (map (tree_in ts) cs))
+
+-- the trees of nodes that stand behind trees
+unfoldable pub trees_behind : List PlainOperator → List Tree → List Node → List Tree
+trees_behind fs ts [] = []
+trees_behind fs ts (n ∷ ns) = node_tree fs ts n ∷ trees_behind fs (ts ++ node_tree fs ts n ∷ []) ns
+
+-- what contracts see of the tables
+abbrev pub pooled : List Symbol → List Node → Pooled
+pooled ss ns = record { operators = map operator_of ss; trees = trees_behind (map operator_of ss) [] ns }
+
+-- a node has an operator and arguments before it
+abbrev pub Stands : ℕ → ℕ → Node → Type 0
+Stands o k (Var n s) = Unit {0}
+Stands o k (App f cs) = (f < o) × All (λ c. c < k) cs
+
+-- each node stands on what is before it
+unfoldable pub AllStand : ℕ → ℕ → List Node → Type 0
+AllStand o k [] = Unit {0}
+AllStand o k (n ∷ ns) = Stands o k n × AllStand o (k + 1) ns
+
+-- marks tell of a tree whether it is well sorted and whether it has no variables
+abbrev pub Marked : Marks → Tree → Type 0
+Marked m t = (IsTrue m.is_well_sorted ↔ WellSorted t) × (IsTrue m.is_ground ↔ (occurrences t ≡ []))
+
+-- the marks beside the nodes tell of each tree
+abbrev pub Tells : List Marks → List Tree → Type 0
+Tells ms ts = AllZip Marked ms ts
+
+-- a pool keeps its operators and trees under their numbers
+abbrev pub Grows : Pooled → Pooled → Type 0
+Grows p q = (take (length p.operators) q.operators ≡ p.operators) × (take (length p.trees) q.trees ≡ p.trees)
+
+-- a number stands for a tree
+abbrev pub HasTree : Pooled → ℕ → Tree → Type 0
+HasTree p n t = slice_get p.trees n ≡ Some t
+
+-- a node is put behind others with its marks, or stands there already
+abbrev pub Kept : List Node → List Marks → Node → Marks → ℕ → List Node → List Marks → Type 0
+Kept ks bs k b n ls cs =
+    ((ls ≡ ks ++ k ∷ []) × (cs ≡ bs ++ b ∷ []) × (n ≡ length ks))
+    ⊎ ((ls ≡ ks) × (cs ≡ bs) × (slice_get ks n ≡ Some k))
+
+-- what holds of a pool's tables
+abbrev pub IsPool : List Symbol → List Node → List Marks → Type 0
+IsPool ss ns bs = AllStand (length (map operator_of ss)) 0 ns × Tells bs (trees_behind (map operator_of ss) [] ns)
