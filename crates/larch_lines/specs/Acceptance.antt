@@ -38,7 +38,7 @@ verdict_from t s st [] = if ends_with s st.history then None else Some (suc st.c
 verdict_from t s st (line ∷ lines) =
     option_map_or (λ next. verdict_from t s next lines) (step t st line) (Some (suc st.count))
 
--- the verdict on a certificate: nothing where it is accepted; else the number of the first bad line, or where no line is
--- bad the number behind that of the last
+-- the verdict on a certificate: nothing where it is accepted; else the number of the first bad line, or where no line
+-- is bad the number behind that of the last
 abbrev pub verdict : Theory → Statement → List Line → Option ℕ
 verdict t s lines = verdict_from t s start lines

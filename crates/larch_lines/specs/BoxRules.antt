@@ -29,7 +29,9 @@ freed_equation cs vs (Partitioned s fs) = None
 -- the result of a box without hypotheses, with variables of their sorts in the places of its constants
 abbrev pub freed_result : PlainBox → Statement → List Variable → Option Statement
 freed_result b s vs =
-    if is_empty b.hypotheses && has_constants b (map (λ v. v.sort) vs) then freed_equation (operators_of b) vs s else None
+    if is_empty b.hypotheses && has_constants b (map (λ v. v.sort) vs)
+    then freed_equation (operators_of b) vs s
+    else None
 
 -- fresh: the result of a closed box with variables in the places of its constants
 abbrev pub fresh_says : List Event → ℕ → List CodedVar → Option Statement

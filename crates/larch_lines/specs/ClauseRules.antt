@@ -64,8 +64,8 @@ holds_of_variable p s (Equation l r) =
 holds_of_variable p s (Generated z fs) = false
 holds_of_variable p s (Partitioned z fs) = false
 
--- whether a box shows that operators generate a sort: it has a predicate on the sort, supposes that their values inherit
--- it, and its result is that it holds of a variable
+-- whether a box shows that operators generate a sort: it has a predicate on the sort, supposes that their values
+-- inherit it, and its result is that it holds of a variable
 abbrev pub shows_generated : List ℕ → List PlainOperator → PlainBox → Statement → Bool
 shows_generated s fs b r =
     is_predicate_on s b.parts

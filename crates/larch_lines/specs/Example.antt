@@ -12,9 +12,12 @@ use Rattle.larch_certificate.specs.declared.line.Line.TheVariants.{Axiom, Hyp, I
 use Rattle.larch_certificate.specs.declared.symbol.Symbol.{Symbol}
 use Rattle.larch_certificate.specs.declared.symbol.Symbol.TheVariants.{Own, Constant}
 
--- a symbol without arguments, and before two of them
+-- a symbol without arguments, and before one or two of them
 abbrev pub coded_constant : Symbol → CodedTree
 coded_constant f = coded_app f no_terms
+
+abbrev pub coded_applied : Symbol → CodedTree → CodedTree
+coded_applied f c = coded_app f (term_then c no_terms)
 
 abbrev pub coded_joined : Symbol → CodedTree → CodedTree → CodedTree
 coded_joined f c d = coded_app f (term_then c (term_then d no_terms))
@@ -26,6 +29,10 @@ coded_nought = coded_constant (Own 1)
 -- #3(#1,c)==c, which is 0 + c == c
 abbrev pub sum_with : CodedTree → CodedEquation
 sum_with c = record { left = coded_joined (Own 3) coded_nought c; right = c }
+
+-- both sides of an equation
+abbrev pub coded_equation : CodedTree → CodedTree → CodedEquation
+coded_equation c d = record { left = c; right = d }
 
 -- a term for a variable of the numbers
 abbrev pub for_number : List ℕ → CodedTree → Binding
@@ -43,6 +50,10 @@ number_part = record { sort = number_sort; predicate = false }
 abbrev pub supposed : CodedTree
 supposed = coded_constant (Constant 7 1)
 
+-- 0 + x == x by induction on x, by the clause of line 1 and some boxes
+abbrev pub induction_by : List ℕ → Line
+induction_by boxes = Induct 1 coded_x (sum_with (coded_var (codes "x") number_sort)) boxes
+
 -- 0 + x == x by induction: line 5 is 0 + 0 == 0, line 7 supposes of a constant c that 0 + c == c, line 8 is
 -- 0 + s(c) == s(0 + c), and line 10 is 0 + s(c) == s(c)
 abbrev pub worked : List Line
@@ -58,9 +69,9 @@ worked =
     Hyp 7 1 ∷
     Repl 8 (1 ∷ []) 9 ∷
     Done ∷
-    Induct 1 coded_x (sum_with (coded_var (codes "x") number_sort)) (4 ∷ 7 ∷ []) ∷
+    induction_by (4 ∷ 7 ∷ []) ∷
     []
 
--- the certificate with another line in the place of the one with a number
+-- certificates with another line in the place of the one with a number
 abbrev pub with_line : ℕ → Line → List Line → List Line
 with_line n line lines = take (n - 1) lines ++ (line ∷ drop n lines)

@@ -1,5 +1,6 @@
 pub mod Acceptance
 pub mod BoxRules
+pub mod Certificates
 pub mod ClauseRules
 pub mod Context
 pub mod Decoding

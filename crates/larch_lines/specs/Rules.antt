@@ -37,8 +37,10 @@ hyp_says h b k = option_and_then (λ box. numbered box.hypotheses k) (find_open 
 
 -- row: the equation of the row with a number, at a sort where it has one and without a sort where it has none
 abbrev pub row_says : ℕ → Option (List ℕ) → Option Statement
-row_says k None = option_and_then (λ row. if row.sorted then None else Some row.given) (numbered (built_in_rows bool_sort) k)
-row_says k (Some s) = option_and_then (λ row. if row.sorted then Some row.given else None) (numbered (built_in_rows s) k)
+row_says k None =
+    option_and_then (λ row. if row.sorted then None else Some row.given) (numbered (built_in_rows bool_sort) k)
+row_says k (Some s) =
+    option_and_then (λ row. if row.sorted then Some row.given else None) (numbered (built_in_rows s) k)
 
 -- refl: a term equals itself
 abbrev pub refl_says : (Symbol → List (List ℕ) → Option PlainOperator) → CodedTree → Option Statement
@@ -65,7 +67,8 @@ abbrev pub replaced_variable : Binding → Variable
 replaced_variable b = record { name = b.name; sort = b.sort }
 
 -- inst: the equation of a line with different variables replaced at once by terms of their sorts
-abbrev pub inst_says : (Symbol → List (List ℕ) → Option PlainOperator) → List Event → ℕ → List Binding → Option Statement
+abbrev pub inst_says : (Symbol → List (List ℕ) → Option PlainOperator) → List Event → ℕ → List Binding
+    → Option Statement
 inst_says find h m bs =
     if all_different (map replaced_variable bs)
     then option_and_then (λ es. option_and_then (instance_by es) (find_line h m)) (each (decode_binding find) bs)

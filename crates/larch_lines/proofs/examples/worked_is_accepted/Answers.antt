@@ -5,4 +5,4 @@ use Rattle.larch_lines.proofs.examples.worked_is_accepted.Goals as goal
 
 pub returns : goal.returns
 unfolding same_operator same_tree same_statement
-returns c = refl
+returns c = record { accepted = refl; other = refl; bad = refl }
