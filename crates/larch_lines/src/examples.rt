@@ -61,7 +61,8 @@ pub fn boxes_close()
     ensures again { verdict numbers sum_from_nought (worked ++ (line.Inst 12 [] ∷ [])) ≡ None }
     ensures nothing { verdict numbers sum_from_nought [] ≡ Some 1 }
     ensures not_closed { verdict numbers numbers_generated (line.BoxLine [] [] ∷ line.Axiom 1 ∷ []) ≡ Some 3 }
-    ensures closed_last { verdict numbers numbers_generated (line.BoxLine [] [] ∷ line.Axiom 1 ∷ line.Done ∷ []) ≡ Some 4 }
+    ensures closed_last { verdict numbers numbers_generated
+        (line.BoxLine [] [] ∷ line.Axiom 1 ∷ line.Done ∷ []) ≡ Some 4 }
     ensures no_result { verdict numbers numbers_generated (line.BoxLine [] [] ∷ line.Done ∷ []) ≡ Some 2 }
     ensures no_box { verdict numbers numbers_generated (line.Axiom 1 ∷ line.Done ∷ []) ≡ Some 2 }
 {}
