@@ -1,0 +1,26 @@
+-- The two sides of an equation or a rule.
+use Rattle.std.specs.Prelude.{List, [], ◌∷◌}
+use Rattle.larch_term.specs.Tree.{Tree}
+use Rattle.larch_term.specs.Substitution.{substituted}
+use Rattle.larch_term.specs.declared.statement.Statement.{Statement}
+use Rattle.larch_term.specs.declared.statement.Statement.TheVariants.{Equation, Generated, Partitioned}
+use Rattle.larch_term.specs.declared.substitution.Entry.{Entry}
+
+-- a left side and a right side
+pub record Sides : Type 0 where
+  pub left : Tree
+  pub right : Tree
+
+-- both sides under a substitution
+abbrev pub sides_under : List Entry → Sides → Sides
+sides_under es e = record { left = substituted es e.left; right = substituted es e.right }
+
+-- the sides with their places exchanged
+abbrev pub flipped : Sides → Sides
+flipped e = record { left = e.right; right = e.left }
+
+-- the sides of a statement, where it is an equation
+abbrev pub sides_of : Statement → List Sides
+sides_of (Equation l r) = record { left = l; right = r } ∷ []
+sides_of (Generated s fs) = []
+sides_of (Partitioned s fs) = []

@@ -1,0 +1,4 @@
+pub mod FreeNames
+pub mod Blocks
+pub mod Positions
+pub mod Redone

@@ -1,0 +1,12 @@
+pub mod Facts
+pub mod NewNames
+pub mod Plans
+pub mod Commands
+pub mod Levels
+pub mod Steps
+pub mod Replays
+pub mod Scripts
+pub mod Reports
+pub mod Redo
+pub mod Computing
+pub mod Worked

@@ -1,0 +1,544 @@
+-- Traits and duties of the examples. Written by tools/replay_examples.py.
+use Rattle.std.specs.Prelude.{[], ◌∷◌, codes}
+use Rattle.larch_term.specs.Operator.{PlainOperator, plain}
+use Rattle.larch_term.specs.Tree.{var, app, forest_of}
+use Rattle.larch_term.specs.BuiltIn.{built_in, bool_sort}
+use Rattle.larch_term.specs.Truth.{truth}
+use Rattle.larch_term.specs.declared.built_in.BuiltIn.TheVariants.{False, Not, Or, Implies, Equal, If}
+use Rattle.larch_term.specs.declared.statement.Statement.TheVariants.{Equation, Generated, Partitioned}
+use Rattle.larch_term.specs.declared.statement.Theory.{Theory}
+use Rattle.larch_calculus.specs.Formula.{constant, applied, joined}
+use Rattle.larch_replay.specs.Replays.{Duty}
+
+-- ---- the trait Truths
+
+abbrev pub truths_f : PlainOperator
+truths_f = record { name = plain (codes "f"); domain = codes "Bool" ∷ []; range = codes "Bool" }
+
+abbrev pub truths : Theory
+truths = record {
+  operators = truths_f ∷ [];
+  statements = Equation (applied truths_f truth) truth ∷
+      Equation (applied truths_f (constant (built_in False bool_sort))) truth ∷
+      [];
+}
+
+abbrev pub truths_imply_1 : Duty
+truths_imply_1 = record {
+  theory = truths;
+  statement = Equation (applied truths_f (var (codes "b") (codes "Bool"))) truth;
+  lemmas = [];
+}
+
+-- ---- the trait Numbers
+
+abbrev pub numbers_nought : PlainOperator
+numbers_nought = record { name = plain (codes "0"); domain = []; range = codes "N" }
+
+abbrev pub numbers_s : PlainOperator
+numbers_s = record { name = plain (codes "s"); domain = codes "N" ∷ []; range = codes "N" }
+
+abbrev pub numbers_plus : PlainOperator
+numbers_plus = record { name = plain (codes "__ + __"); domain = codes "N" ∷ codes "N" ∷ []; range = codes "N" }
+
+abbrev pub numbers : Theory
+numbers = record {
+  operators = numbers_nought ∷ numbers_s ∷ numbers_plus ∷ [];
+  statements = Generated (codes "N") (numbers_nought ∷ numbers_s ∷ []) ∷
+      Equation
+      (joined numbers_plus (var (codes "x") (codes "N")) (constant numbers_nought))
+      (var (codes "x") (codes "N")) ∷
+      Equation
+      (joined numbers_plus (var (codes "x") (codes "N")) (applied numbers_s (var (codes "y") (codes "N"))))
+      (applied numbers_s (joined numbers_plus (var (codes "x") (codes "N")) (var (codes "y") (codes "N")))) ∷
+      [];
+}
+
+abbrev pub numbers_imply_1 : Duty
+numbers_imply_1 = record {
+  theory = numbers;
+  statement = Equation
+      (joined numbers_plus (constant numbers_nought) (var (codes "x") (codes "N")))
+      (var (codes "x") (codes "N"));
+  lemmas = [];
+}
+
+abbrev pub numbers_imply_2 : Duty
+numbers_imply_2 = record {
+  theory = numbers;
+  statement = Equation
+      (joined numbers_plus (applied numbers_s (var (codes "x") (codes "N"))) (var (codes "y") (codes "N")))
+      (applied numbers_s (joined numbers_plus (var (codes "x") (codes "N")) (var (codes "y") (codes "N"))));
+  lemmas = record {
+    number = 1;
+    statement = Equation
+        (joined numbers_plus (constant numbers_nought) (var (codes "x") (codes "N")))
+        (var (codes "x") (codes "N"));
+  } ∷
+      [];
+}
+
+abbrev pub numbers_imply_3 : Duty
+numbers_imply_3 = record {
+  theory = numbers;
+  statement = Equation
+      (joined numbers_plus (var (codes "x") (codes "N")) (var (codes "y") (codes "N")))
+      (joined numbers_plus (var (codes "y") (codes "N")) (var (codes "x") (codes "N")));
+  lemmas = record {
+    number = 1;
+    statement = Equation
+        (joined numbers_plus (constant numbers_nought) (var (codes "x") (codes "N")))
+        (var (codes "x") (codes "N"));
+  } ∷
+      record {
+        number = 2;
+        statement = Equation
+            (joined numbers_plus (applied numbers_s (var (codes "x") (codes "N"))) (var (codes "y") (codes "N")))
+            (applied numbers_s (joined numbers_plus (var (codes "x") (codes "N")) (var (codes "y") (codes "N"))));
+      } ∷
+      [];
+}
+
+-- ---- the trait Three
+
+abbrev pub three_nought : PlainOperator
+three_nought = record { name = plain (codes "0"); domain = []; range = codes "N" }
+
+abbrev pub three_s : PlainOperator
+three_s = record { name = plain (codes "s"); domain = codes "N" ∷ []; range = codes "N" }
+
+abbrev pub three_plus : PlainOperator
+three_plus = record { name = plain (codes "__ + __"); domain = codes "N" ∷ codes "N" ∷ []; range = codes "N" }
+
+abbrev pub three : Theory
+three = record {
+  operators = three_nought ∷ three_s ∷ three_plus ∷ [];
+  statements = Generated (codes "N") (three_nought ∷ three_s ∷ []) ∷
+      Equation (joined three_plus (var (codes "x") (codes "N")) (constant three_nought)) (var (codes "x") (codes "N")) ∷
+      Equation
+      (joined three_plus (var (codes "x") (codes "N")) (applied three_s (var (codes "y") (codes "N"))))
+      (applied three_s (joined three_plus (var (codes "x") (codes "N")) (var (codes "y") (codes "N")))) ∷
+      [];
+}
+
+abbrev pub three_imply_1 : Duty
+three_imply_1 = record {
+  theory = three;
+  statement = Equation
+      (joined
+      three_plus
+      (applied three_s (constant three_nought))
+      (applied three_s (applied three_s (constant three_nought))))
+      (applied three_s (applied three_s (applied three_s (constant three_nought))));
+  lemmas = [];
+}
+
+-- ---- the trait Steps
+
+abbrev pub steps_nought : PlainOperator
+steps_nought = record { name = plain (codes "0"); domain = []; range = codes "N" }
+
+abbrev pub steps_s : PlainOperator
+steps_s = record { name = plain (codes "s"); domain = codes "N" ∷ []; range = codes "N" }
+
+abbrev pub steps_p : PlainOperator
+steps_p = record { name = plain (codes "p"); domain = codes "N" ∷ []; range = codes "N" }
+
+abbrev pub steps : Theory
+steps = record {
+  operators = steps_nought ∷ steps_s ∷ steps_p ∷ [];
+  statements = Generated (codes "N") (steps_nought ∷ steps_s ∷ []) ∷
+      Equation (applied steps_p (var (codes "x") (codes "N"))) (applied steps_s (var (codes "x") (codes "N"))) ∷
+      [];
+}
+
+abbrev pub steps_imply_1 : Duty
+steps_imply_1 = record {
+  theory = steps;
+  statement = Generated (codes "N") (steps_nought ∷ steps_p ∷ []);
+  lemmas = [];
+}
+
+-- ---- the trait Sets
+
+abbrev pub sets_braces : PlainOperator
+sets_braces = record { name = plain (codes "{}"); domain = []; range = codes "C" }
+
+abbrev pub sets_insert : PlainOperator
+sets_insert = record { name = plain (codes "insert"); domain = codes "E" ∷ codes "C" ∷ []; range = codes "C" }
+
+abbrev pub sets_in : PlainOperator
+sets_in = record { name = plain (codes "__ \\in __"); domain = codes "E" ∷ codes "C" ∷ []; range = codes "Bool" }
+
+abbrev pub sets : Theory
+sets = record {
+  operators = sets_braces ∷ sets_insert ∷ sets_in ∷ [];
+  statements = Generated (codes "C") (sets_braces ∷ sets_insert ∷ []) ∷
+      Partitioned (codes "C") (sets_in ∷ []) ∷
+      Equation
+      (applied (built_in Not bool_sort) (joined sets_in (var (codes "e") (codes "E")) (constant sets_braces)))
+      truth ∷
+      Equation
+      (joined
+      sets_in
+      (var (codes "e1") (codes "E"))
+      (joined sets_insert (var (codes "e2") (codes "E")) (var (codes "s") (codes "C"))))
+      (joined
+      (built_in Or bool_sort)
+      (joined (built_in Equal (codes "E")) (var (codes "e1") (codes "E")) (var (codes "e2") (codes "E")))
+      (joined sets_in (var (codes "e1") (codes "E")) (var (codes "s") (codes "C")))) ∷
+      [];
+}
+
+abbrev pub sets_imply_1 : Duty
+sets_imply_1 = record {
+  theory = sets;
+  statement = Equation
+      (applied
+      (built_in Not bool_sort)
+      (joined
+      (built_in Equal (codes "C"))
+      (joined sets_insert (var (codes "e") (codes "E")) (var (codes "s") (codes "C")))
+      (constant sets_braces)))
+      truth;
+  lemmas = [];
+}
+
+abbrev pub sets_imply_2 : Duty
+sets_imply_2 = record {
+  theory = sets;
+  statement = Equation
+      (joined
+      sets_insert
+      (var (codes "e") (codes "E"))
+      (joined sets_insert (var (codes "e") (codes "E")) (var (codes "s") (codes "C"))))
+      (joined sets_insert (var (codes "e") (codes "E")) (var (codes "s") (codes "C")));
+  lemmas = [];
+}
+
+-- ---- the trait Tables
+
+abbrev pub tables_new : PlainOperator
+tables_new = record { name = plain (codes "new"); domain = []; range = codes "Tab" }
+
+abbrev pub tables_add : PlainOperator
+tables_add = record {
+  name = plain (codes "add");
+  domain = codes "Tab" ∷ codes "Ind" ∷ codes "Val" ∷ [];
+  range = codes "Tab";
+}
+
+abbrev pub tables_in : PlainOperator
+tables_in = record {
+  name = plain (codes "__ \\in __");
+  domain = codes "Ind" ∷ codes "Tab" ∷ [];
+  range = codes "Bool";
+}
+
+abbrev pub tables_lookup : PlainOperator
+tables_lookup = record { name = plain (codes "lookup"); domain = codes "Tab" ∷ codes "Ind" ∷ []; range = codes "Val" }
+
+abbrev pub tables_isEmpty : PlainOperator
+tables_isEmpty = record { name = plain (codes "isEmpty"); domain = codes "Tab" ∷ []; range = codes "Bool" }
+
+abbrev pub tables : Theory
+tables = record {
+  operators = tables_new ∷ tables_add ∷ tables_in ∷ tables_lookup ∷ tables_isEmpty ∷ [];
+  statements = Generated (codes "Tab") (tables_new ∷ tables_add ∷ []) ∷
+      Equation
+      (applied (built_in Not bool_sort) (joined tables_in (var (codes "i") (codes "Ind")) (constant tables_new)))
+      truth ∷
+      Equation
+      (joined
+      tables_in
+      (var (codes "i") (codes "Ind"))
+      (app
+      tables_add
+      (forest_of
+      (var (codes "t") (codes "Tab") ∷ var (codes "j") (codes "Ind") ∷ var (codes "v") (codes "Val") ∷ []))))
+      (joined
+      (built_in Or bool_sort)
+      (joined (built_in Equal (codes "Ind")) (var (codes "i") (codes "Ind")) (var (codes "j") (codes "Ind")))
+      (joined tables_in (var (codes "i") (codes "Ind")) (var (codes "t") (codes "Tab")))) ∷
+      Equation
+      (joined
+      tables_lookup
+      (app
+      tables_add
+      (forest_of
+      (var (codes "t") (codes "Tab") ∷ var (codes "j") (codes "Ind") ∷ var (codes "v") (codes "Val") ∷ [])))
+      (var (codes "i") (codes "Ind")))
+      (app
+      (built_in If (codes "Val"))
+      (forest_of
+      (joined (built_in Equal (codes "Ind")) (var (codes "i") (codes "Ind")) (var (codes "j") (codes "Ind")) ∷
+      var (codes "v") (codes "Val") ∷
+      joined tables_lookup (var (codes "t") (codes "Tab")) (var (codes "i") (codes "Ind")) ∷
+      []))) ∷
+      Equation (applied tables_isEmpty (constant tables_new)) truth ∷
+      Equation
+      (applied
+      (built_in Not bool_sort)
+      (applied
+      tables_isEmpty
+      (app
+      tables_add
+      (forest_of
+      (var (codes "t") (codes "Tab") ∷ var (codes "j") (codes "Ind") ∷ var (codes "v") (codes "Val") ∷ [])))))
+      truth ∷
+      [];
+}
+
+abbrev pub tables_imply_1 : Duty
+tables_imply_1 = record {
+  theory = tables;
+  statement = Equation
+      (joined
+      (built_in Implies bool_sort)
+      (joined tables_in (var (codes "i") (codes "Ind")) (var (codes "t") (codes "Tab")))
+      (applied (built_in Not bool_sort) (applied tables_isEmpty (var (codes "t") (codes "Tab")))))
+      truth;
+  lemmas = [];
+}
+
+abbrev pub tables_isEmpty_copy : PlainOperator
+tables_isEmpty_copy = record { name = plain (codes "isEmpty'"); domain = codes "Tab" ∷ []; range = codes "Bool" }
+
+abbrev pub tables_lookup_copy : PlainOperator
+tables_lookup_copy = record {
+  name = plain (codes "lookup'");
+  domain = codes "Tab" ∷ codes "Ind" ∷ [];
+  range = codes "Val";
+}
+
+abbrev pub tables_converted : Theory
+tables_converted = record {
+  operators = tables_new ∷
+      tables_add ∷
+      tables_in ∷
+      tables_lookup ∷
+      tables_isEmpty ∷
+      tables_isEmpty_copy ∷
+      tables_lookup_copy ∷
+      [];
+  statements = Generated (codes "Tab") (tables_new ∷ tables_add ∷ []) ∷
+      Equation
+      (applied (built_in Not bool_sort) (joined tables_in (var (codes "i") (codes "Ind")) (constant tables_new)))
+      truth ∷
+      Equation
+      (joined
+      tables_in
+      (var (codes "i") (codes "Ind"))
+      (app
+      tables_add
+      (forest_of
+      (var (codes "t") (codes "Tab") ∷ var (codes "j") (codes "Ind") ∷ var (codes "v") (codes "Val") ∷ []))))
+      (joined
+      (built_in Or bool_sort)
+      (joined (built_in Equal (codes "Ind")) (var (codes "i") (codes "Ind")) (var (codes "j") (codes "Ind")))
+      (joined tables_in (var (codes "i") (codes "Ind")) (var (codes "t") (codes "Tab")))) ∷
+      Equation
+      (joined
+      tables_lookup
+      (app
+      tables_add
+      (forest_of
+      (var (codes "t") (codes "Tab") ∷ var (codes "j") (codes "Ind") ∷ var (codes "v") (codes "Val") ∷ [])))
+      (var (codes "i") (codes "Ind")))
+      (app
+      (built_in If (codes "Val"))
+      (forest_of
+      (joined (built_in Equal (codes "Ind")) (var (codes "i") (codes "Ind")) (var (codes "j") (codes "Ind")) ∷
+      var (codes "v") (codes "Val") ∷
+      joined tables_lookup (var (codes "t") (codes "Tab")) (var (codes "i") (codes "Ind")) ∷
+      []))) ∷
+      Equation (applied tables_isEmpty (constant tables_new)) truth ∷
+      Equation
+      (applied
+      (built_in Not bool_sort)
+      (applied
+      tables_isEmpty
+      (app
+      tables_add
+      (forest_of
+      (var (codes "t") (codes "Tab") ∷ var (codes "j") (codes "Ind") ∷ var (codes "v") (codes "Val") ∷ [])))))
+      truth ∷
+      Equation
+      (joined
+      tables_lookup_copy
+      (app
+      tables_add
+      (forest_of
+      (var (codes "t") (codes "Tab") ∷ var (codes "j") (codes "Ind") ∷ var (codes "v") (codes "Val") ∷ [])))
+      (var (codes "i") (codes "Ind")))
+      (app
+      (built_in If (codes "Val"))
+      (forest_of
+      (joined (built_in Equal (codes "Ind")) (var (codes "i") (codes "Ind")) (var (codes "j") (codes "Ind")) ∷
+      var (codes "v") (codes "Val") ∷
+      joined tables_lookup_copy (var (codes "t") (codes "Tab")) (var (codes "i") (codes "Ind")) ∷
+      []))) ∷
+      Equation (applied tables_isEmpty_copy (constant tables_new)) truth ∷
+      Equation
+      (applied
+      (built_in Not bool_sort)
+      (applied
+      tables_isEmpty_copy
+      (app
+      tables_add
+      (forest_of
+      (var (codes "t") (codes "Tab") ∷ var (codes "j") (codes "Ind") ∷ var (codes "v") (codes "Val") ∷ [])))))
+      truth ∷
+      Equation
+      (joined tables_lookup (constant tables_new) (var (codes "i") (codes "Ind")))
+      (joined tables_lookup_copy (constant tables_new) (var (codes "i") (codes "Ind"))) ∷
+      [];
+}
+
+abbrev pub tables_convert_2 : Duty
+tables_convert_2 = record {
+  theory = tables_converted;
+  statement = Equation
+      (joined tables_lookup (var (codes "x1") (codes "Tab")) (var (codes "x2") (codes "Ind")))
+      (joined tables_lookup_copy (var (codes "x1") (codes "Tab")) (var (codes "x2") (codes "Ind")));
+  lemmas = [];
+}
+
+abbrev pub tables_convert_1 : Duty
+tables_convert_1 = record {
+  theory = tables_converted;
+  statement = Equation
+      (applied tables_isEmpty (var (codes "x1") (codes "Tab")))
+      (applied tables_isEmpty_copy (var (codes "x1") (codes "Tab")));
+  lemmas = [];
+}
+
+-- ---- the trait User
+
+abbrev pub user_le : PlainOperator
+user_le = record { name = plain (codes "le"); domain = codes "E" ∷ codes "E" ∷ []; range = codes "Bool" }
+
+abbrev pub user : Theory
+user = record {
+  operators = user_le ∷ [];
+  statements = Equation (joined user_le (var (codes "y") (codes "E")) (var (codes "y") (codes "E"))) truth ∷ [];
+}
+
+abbrev pub user_assume_1 : Duty
+user_assume_1 = record {
+  theory = user;
+  statement = Equation (joined user_le (var (codes "x") (codes "E")) (var (codes "x") (codes "E"))) truth;
+  lemmas = [];
+}
+
+-- ---- the trait Doubles
+
+abbrev pub doubles_8_nought : PlainOperator
+doubles_8_nought = record { name = plain (codes "0"); domain = []; range = codes "N" }
+
+abbrev pub doubles_8_c : PlainOperator
+doubles_8_c = record { name = plain (codes "c"); domain = []; range = codes "N" }
+
+abbrev pub doubles_8_s : PlainOperator
+doubles_8_s = record { name = plain (codes "s"); domain = codes "N" ∷ []; range = codes "N" }
+
+abbrev pub doubles_8_p : PlainOperator
+doubles_8_p = record { name = plain (codes "p"); domain = codes "N" ∷ codes "N" ∷ []; range = codes "N" }
+
+abbrev pub doubles_8_f : PlainOperator
+doubles_8_f = record { name = plain (codes "f"); domain = codes "N" ∷ codes "N" ∷ []; range = codes "N" }
+
+abbrev pub doubles_8 : Theory
+doubles_8 = record {
+  operators = doubles_8_nought ∷ doubles_8_c ∷ doubles_8_s ∷ doubles_8_p ∷ doubles_8_f ∷ [];
+  statements = Equation
+      (joined doubles_8_f (applied doubles_8_s (var (codes "x") (codes "N"))) (var (codes "y") (codes "N")))
+      (joined
+      doubles_8_f
+      (var (codes "x") (codes "N"))
+      (joined doubles_8_p (var (codes "y") (codes "N")) (var (codes "y") (codes "N")))) ∷
+      [];
+}
+
+abbrev pub doubles_8_imply_1 : Duty
+doubles_8_imply_1 = record {
+  theory = doubles_8;
+  statement = Equation
+      (joined
+      doubles_8_f
+      (applied
+      doubles_8_s
+      (applied
+      doubles_8_s
+      (applied
+      doubles_8_s
+      (applied
+      doubles_8_s
+      (applied
+      doubles_8_s
+      (applied doubles_8_s (applied doubles_8_s (applied doubles_8_s (constant doubles_8_nought)))))))))
+      (constant doubles_8_c))
+      (constant doubles_8_c);
+  lemmas = [];
+}
+
+-- ---- the trait Doubles
+
+abbrev pub doubles_12_nought : PlainOperator
+doubles_12_nought = record { name = plain (codes "0"); domain = []; range = codes "N" }
+
+abbrev pub doubles_12_c : PlainOperator
+doubles_12_c = record { name = plain (codes "c"); domain = []; range = codes "N" }
+
+abbrev pub doubles_12_s : PlainOperator
+doubles_12_s = record { name = plain (codes "s"); domain = codes "N" ∷ []; range = codes "N" }
+
+abbrev pub doubles_12_p : PlainOperator
+doubles_12_p = record { name = plain (codes "p"); domain = codes "N" ∷ codes "N" ∷ []; range = codes "N" }
+
+abbrev pub doubles_12_f : PlainOperator
+doubles_12_f = record { name = plain (codes "f"); domain = codes "N" ∷ codes "N" ∷ []; range = codes "N" }
+
+abbrev pub doubles_12 : Theory
+doubles_12 = record {
+  operators = doubles_12_nought ∷ doubles_12_c ∷ doubles_12_s ∷ doubles_12_p ∷ doubles_12_f ∷ [];
+  statements = Equation
+      (joined doubles_12_f (applied doubles_12_s (var (codes "x") (codes "N"))) (var (codes "y") (codes "N")))
+      (joined
+      doubles_12_f
+      (var (codes "x") (codes "N"))
+      (joined doubles_12_p (var (codes "y") (codes "N")) (var (codes "y") (codes "N")))) ∷
+      [];
+}
+
+abbrev pub doubles_12_imply_1 : Duty
+doubles_12_imply_1 = record {
+  theory = doubles_12;
+  statement = Equation
+      (joined
+      doubles_12_f
+      (applied
+      doubles_12_s
+      (applied
+      doubles_12_s
+      (applied
+      doubles_12_s
+      (applied
+      doubles_12_s
+      (applied
+      doubles_12_s
+      (applied
+      doubles_12_s
+      (applied
+      doubles_12_s
+      (applied
+      doubles_12_s
+      (applied
+      doubles_12_s
+      (applied
+      doubles_12_s
+      (applied doubles_12_s (applied doubles_12_s (constant doubles_12_nought)))))))))))))
+      (constant doubles_12_c))
+      (constant doubles_12_c);
+  lemmas = [];
+}

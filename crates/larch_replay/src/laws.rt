@@ -1,0 +1,47 @@
+//! What holds of all replays, for crates above to cite. No function here does anything.
+ghost use Rattle.std.specs.Prelude.{◌≡◌, ◌<◌, ◌≤◌, ◌+◌, ◌++◌, ℕ, false, List, Option, length, sum_by, bytes_eq};
+ghost use Rattle.std.specs.List.{list_any, AllPairs};
+ghost use Rattle.larch_raw.specs.declared.equation.RawEquation.{RawEquation};
+ghost use Rattle.larch_term.specs.Operator.{PlainOperator};
+ghost use Rattle.larch_items.specs.Steps.{after};
+ghost use Rattle.larch_sorts.specs.Read.{read_equation, read_term};
+ghost use Rattle.larch_sorts.specs.Scope.{Variables};
+ghost use Rattle.larch_replay.specs.Commands.{Command, placed_equation, unplaced_equation};
+ghost use Rattle.larch_replay.specs.Levels.{Proof};
+ghost use Rattle.larch_replay.specs.NewNames.{free_name};
+ghost use Rattle.larch_replay.specs.Redo.{Replayed, is_of_one, redo};
+ghost use Rattle.larch_replay.specs.Replays.{all_stepped};
+ghost use Rattle.larch_replay.specs.Steps.{read_or};
+
+/// A block may be replayed in two parts: kept states stand on this.
+pub fn blocks_go_in_parts()
+    ensures { (cs ds : List Command) (p : Proof)
+        → all_stepped (cs ++ ds) p ≡ after (all_stepped cs p) (λ q. all_stepped ds q) }
+{}
+
+/// A new name is none of those that are taken.
+pub fn new_names_are_new()
+    ensures { (taken : List (List ℕ)) (word : List ℕ) → 0 < length word
+        → list_any (bytes_eq (free_name taken word)) taken ≡ false }
+{}
+
+/// What a command's equation or term reads as, or the code with which it is refused, doesn't depend on positions.
+pub fn positions_do_not_count()
+    ensures equation { (fs : List PlainOperator) (vs : Variables) (raw : RawEquation)
+        → read_or (read_equation fs vs (placed_equation (unplaced_equation raw)))
+        ≡ read_or (read_equation fs vs raw) }
+    ensures term { (fs : List PlainOperator) (vs : Variables) (wanted : Option (List ℕ)) (raw : RawEquation)
+        → read_or (read_term fs vs wanted (placed_equation (unplaced_equation raw)))
+        ≡ read_or (read_term fs vs wanted raw) }
+{}
+
+/// Where nothing has changed, nothing is replayed again, if no record is of the duty of an earlier one.
+pub fn nothing_is_redone()
+    ensures { (now : List Replayed) → AllPairs (λ earlier r. is_of_one r earlier ≡ false) now
+        → redo now now ≡ 0 }
+{}
+
+/// No more is replayed again than each duty's opening and its commands.
+pub fn redoing_is_bounded()
+    ensures { (before now : List Replayed) → redo before now ≤ sum_by (λ r. 1 + length r.block) now }
+{}
