@@ -616,7 +616,23 @@ SWITCHES = """Switches: trait
       both(x, y) == both(y, x);
       x = on \\/ x = off
 """
-RANDOM = [MIX, SUMS, SETS, TABLES, STEPS, TRUTHS, THREE, ORDERS, TREES, GROUPS, SWITCHES]
+GROWING = """Growing: trait
+  introduces
+    0, c: -> N
+    s: N -> N
+    p, f: N, N -> N
+  asserts
+    \\forall x, y: N
+      f(s(x), y) == f(x, p(y, y));
+      f(0, y) == y
+  implies
+    \\forall x, y: N
+      f(s(s(s(s(s(s(s(s(s(s(s(x))))))))))), c) == c;
+      f(s(s(s(s(s(s(s(s(s(s(x)))))))))), p(x, c)) == y;
+      f(s(s(s(x))), y) == f(s(s(x)), p(y, y));
+      (f(s(x), p(x, y)) = p(y, x)) => (f(x, x) = x)
+"""
+RANDOM = [MIX, SUMS, SETS, TABLES, STEPS, TRUTHS, THREE, ORDERS, TREES, GROUPS, SWITCHES, GROWING]
 MORE_WORDS = ['x1', 'x2', 'v1', 'v2', 'xc', 'xc1', 'yc', 'ac', 'bc', 'lc', 'rc', 'ec', 'sc', 'tc', 'ac1', 'gen']
 
 
@@ -750,7 +766,7 @@ def random_blocks(larch, seed, count, small):
                     c = source.command()
                     commands = larch.script.read_script('duty imply.1\n' + '\n'.join(block + [c]) + '\n', False).blocks[0].commands
                     o = larch.prove.replay(d.theory, d.statement, d.lemmas, preamble, commands, limit)
-                    if o[0] != 'refused' or r.random() < (.3 if small and o[2] in ('LIMIT', 'SIZE') else .04):
+                    if o[0] != 'refused' or r.random() < (.5 if o[2] in ('LIMIT', 'SIZE') else .04):
                         break
                 block.append(c)
                 if o[0] != 'suspended':
