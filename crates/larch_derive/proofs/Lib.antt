@@ -1,0 +1,5 @@
+pub mod Codes
+pub mod Decoding
+pub mod Growth
+pub mod Pushing
+pub mod Runs

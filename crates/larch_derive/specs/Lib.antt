@@ -1,0 +1,5 @@
+pub mod Builder
+pub mod Coding
+pub mod OpenBox
+pub mod Predicates
+pub mod TheoryCode

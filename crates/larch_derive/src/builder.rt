@@ -1,0 +1,194 @@
+ghost use Rattle.std.specs.Prelude.{◌≡◌, suc, ◌-◌, ◌++◌, ◌∷◌, [], IfOk, OnErr, false, length, map, take};
+ghost use Rattle.larch_derive.specs.Builder.{IsEmpty, IsPushed, IsOpened, IsBoxLine, IsCodeIn};
+ghost use Rattle.larch_derive.specs.Builder.{opens_box, part_for, boxes_in, lines_in, theory_in};
+
+use crate::coding::{code, code_equations};
+use crate::copying::copy_line;
+use crate::open_box::{OpenBox, OpenBoxes, copy_boxes};
+use crate::shared_list::SharedList;
+use crate::shared_theory::SharedTheory;
+use larch_base::{Memory, Sequence};
+use larch_certificate::{BoxPart, BoxParts, Certificate, Coded, Line};
+use larch_term::{Operator, Operators, Statements, Term, Theory, copy_operators};
+use std::alloc::Global;
+
+/// A certificate that is being written: the theory, the lines so far, and the boxes that are open, with the operators
+/// that stand for their constants.
+#[derive(Drop)]
+pub struct Builder {
+    alloc: Global,
+    theory: SharedTheory,
+    lines: SharedList<Line>,
+    boxes: OpenBoxes,
+}
+
+impl Builder {
+    /// A builder without lines, over this theory.
+    pub fn new(alloc: Global, theory: &Theory) -> Result<Builder, Memory>
+        ensures { IfOk result (IsEmpty theory.now) }
+    {
+        let theory = SharedTheory::new(alloc, theory)?;
+        Ok(Builder {
+            alloc,
+            theory,
+            lines: SharedList::new(alloc),
+            boxes: Sequence::new(alloc),
+        })
+    }
+
+    /// The same builder once more. It shares the lines, and what is later pushed on one isn't in the other.
+    pub fn copy(&self) -> Result<Builder, Memory>
+        ensures { IfOk result (λ copied. copied ≡ self.now) }
+    {
+        let alloc = self.alloc;
+        let theory = self.theory.copy()?;
+        let lines = self.lines.copy()?;
+        let boxes = copy_boxes(alloc, self.boxes.as_slice())?;
+        Ok(Builder {
+            alloc,
+            theory,
+            lines,
+            boxes,
+        })
+    }
+
+    /// The lines so far, in order.
+    pub fn certificate(&self) -> Result<Certificate, Memory>
+        ensures { IfOk result (λ certificate. certificate ≡ lines_in self.now) }
+    {
+        let lines = self.lines.refs()?;
+        let mut certificate = Sequence::new(self.alloc);
+        for line in lines.as_slice() {
+            let line = copy_line(self.alloc, line)?;
+            certificate.push(line)?;
+        }
+        Ok(certificate)
+    }
+
+    /// The term as lines write it, where these boxes are open.
+    pub fn code(&self, term: &Term) -> Result<Coded, Memory>
+        ensures { IfOk result (IsCodeIn self.now term.now) }
+    {
+        let coded = code(
+            self.alloc,
+            self.theory.theory().operators.as_slice(),
+            self.boxes.as_slice(),
+            term,
+        )?;
+        Ok(coded)
+    }
+
+    /// Puts a line that opens no box behind the others, and answers its number. A refused line changes nothing.
+    pub fn push(&mut self, line: Line) -> Result<u64, Memory>
+        requires { opens_box line ≡ false }
+        ensures ok { IfOk result (IsPushed self.old self.new line) }
+        ensures err { OnErr result (self.new ≡ self.old) }
+    {
+        let number = self.next_number()?;
+        if let Line::Done = &line {
+            let boxes = copy_boxes(self.alloc, outer(self.boxes.as_slice()))?;
+            self.lines.push(line)?;
+            self.boxes = boxes;
+        } else {
+            self.lines.push(line)?;
+        }
+        Ok(number)
+    }
+
+    // The number of the next line.
+    fn next_number(&self) -> Result<u64, Memory>
+        ensures { IfOk result (λ n. n ≡ suc (length (lines_in self.now))) }
+    {
+        match self.lines.len().checked_add(1) {
+            Some(number) => Ok(number),
+            None => Err(Memory),
+        }
+    }
+
+    /// Opens a box with these constants and predicates and these hypotheses, which are equations, and answers its
+    /// number. A refused box changes nothing.
+    pub fn open_box(
+        &mut self,
+        constants: &Operators,
+        hypotheses: &Statements,
+    ) -> Result<u64, Memory>
+        ensures ok { IfOk result (IsOpened self.old self.new constants.now hypotheses.now) }
+        ensures err { OnErr result (self.new ≡ self.old) }
+    {
+        let number = self.next_number()?;
+        let boxes = self.boxes_with(number, constants)?;
+        let line = self.box_line(constants, boxes.as_slice(), hypotheses)?;
+        self.lines.push(line)?;
+        self.boxes = boxes;
+        Ok(number)
+    }
+
+    // The open boxes and one more.
+    fn boxes_with(&self, number: u64, constants: &Operators) -> Result<OpenBoxes, Memory>
+        ensures { IfOk result (λ boxes.
+            boxes ≡ boxes_in self.now ++ record { number = number; constants = constants.now } ∷ []) }
+    {
+        let mut boxes = copy_boxes(self.alloc, self.boxes.as_slice())?;
+        let constants = copy_operators(self.alloc, constants.as_slice())?;
+        boxes.push(OpenBox { number, constants })?;
+        Ok(boxes)
+    }
+
+    // The line that opens a box, with hypotheses that are written where these boxes are open.
+    fn box_line(
+        &self,
+        constants: &Operators,
+        boxes: &[OpenBox],
+        hypotheses: &Statements,
+    ) -> Result<Line, Memory>
+        ensures { IfOk result (IsBoxLine boxes.now (theory_in self.now).operators constants.now hypotheses.now) }
+    {
+        let own = self.theory.theory().operators.as_slice();
+        let equations = code_equations(self.alloc, own, boxes, hypotheses.as_slice())?;
+        let parts = parts_for(self.alloc, constants.as_slice())?;
+        Ok(Line::BoxLine(parts, equations))
+    }
+}
+
+// All boxes but the innermost.
+fn outer(boxes: &[OpenBox]) -> &[OpenBox]
+    ensures { result.now ≡ take (length boxes.now - 1) boxes.now }
+{
+    match boxes {
+        [outer @ .., _] => outer,
+        [] => boxes,
+    }
+}
+
+// What a box line says of constants and predicates.
+fn parts_for(alloc: Global, constants: &[Operator]) -> Result<BoxParts, Memory>
+    ensures { IfOk result (λ parts. parts ≡ map part_for constants.now) }
+{
+    let mut parts = Sequence::new(alloc);
+    for constant in constants {
+        let part = part_for(constant)?;
+        parts.push(part)?;
+    }
+    Ok(parts)
+}
+
+fn part_for(constant: &Operator) -> Result<BoxPart, Memory>
+    ensures { IfOk result (λ part. part ≡ part_for constant.now) }
+{
+    match constant.domain() {
+        [] => {
+            let sort = constant.range().copy()?;
+            Ok(BoxPart {
+                sort,
+                predicate: false,
+            })
+        }
+        [first, ..] => {
+            let sort = first.copy()?;
+            Ok(BoxPart {
+                sort,
+                predicate: true,
+            })
+        }
+    }
+}

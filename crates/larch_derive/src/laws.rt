@@ -1,0 +1,68 @@
+//! What holds of builders, for crates above to cite. No function here does anything.
+ghost use Rattle.std.specs.Prelude.{◌≡◌, ℕ, List, [], Some};
+ghost use Rattle.larch_certificate.specs.Coded.{CodedTree};
+ghost use Rattle.larch_certificate.specs.declared.line.Line.TheVariants.{Refl, Sym, Repl};
+ghost use Rattle.larch_term.specs.Place.{at, put};
+ghost use Rattle.larch_derive.specs.Builder.{IsPushed, IsCodeIn};
+ghost use Rattle.larch_term.specs.Tree.{Tree};
+ghost use Rattle.larch_term.specs.declared.statement.Statement.{Statement};
+ghost use Rattle.larch_derive.specs.declared.builder.Builder.{Builder};
+ghost use Rattle.larch_derive.specs.Predicates.{Stands, Known, HasStatement, HasEquation, Extends, Grows};
+
+/// A builder extends itself, and what extends one that extends it.
+pub fn extending()
+    ensures same { (a b : Builder) → b ≡ a → Extends a b }
+    ensures further { (a b c : Builder) → Extends a b → Extends b c → Extends a c }
+{}
+
+/// So it is with growth, and what extends a builder grows from it.
+pub fn growing()
+    ensures same { (a b : Builder) → b ≡ a → Grows a b }
+    ensures further { (a b c : Builder) → Grows a b → Grows b c → Grows a c }
+    ensures extended { (a b : Builder) → Extends a b → Grows a b }
+{}
+
+/// What was said stays said, what was known stays known, and no line turns bad.
+pub fn saying_stays()
+    ensures said { (a b : Builder) (n : ℕ) (s : Statement) → Grows a b → HasStatement a n s → HasStatement b n s }
+    ensures known { (a b : Builder) (t : Tree) → Grows a b → Known a t → Known b t }
+    ensures stands { (a b : Builder) → Grows a b → Stands a → Stands b }
+    ensures said_still { (a b : Builder) (n : ℕ) (s : Statement) → Extends a b → HasStatement a n s → HasStatement b n s }
+    ensures known_still { (a b : Builder) (t : Tree) → Extends a b → Known a t → Known b t }
+{}
+
+/// The sides of an equation that a line says are known.
+pub fn sides_are_known()
+    ensures left { (a : Builder) (n : ℕ) (l r : Tree) → HasEquation a n l r → Known a l }
+    ensures right { (a : Builder) (n : ℕ) (l r : Tree) → HasEquation a n l r → Known a r }
+    ensures known { (a : Builder) (t : Tree) → Known a t → Stands a }
+    ensures said { (a : Builder) (n : ℕ) (s : Statement) → HasStatement a n s → Stands a }
+{}
+
+/// A line that says that a known term equals itself.
+pub fn reflecting()
+    ensures says { (a b : Builder) (t : Tree) (c : CodedTree) (n : ℕ) → IsCodeIn a t c → IsPushed a b (Refl c) n
+        → Known a t → HasEquation b n t t }
+    ensures extends { (a b : Builder) (t : Tree) (c : CodedTree) (n : ℕ) → IsCodeIn a t c → IsPushed a b (Refl c) n
+        → Known a t → Extends a b }
+{}
+
+/// A line that says an equation with its sides exchanged.
+pub fn exchanging()
+    ensures says { (a b : Builder) (m n : ℕ) (l r : Tree) → IsPushed a b (Sym m) n → HasEquation a m l r
+        → HasEquation b n r l }
+    ensures extends { (a b : Builder) (m n : ℕ) (l r : Tree) → IsPushed a b (Sym m) n → HasEquation a m l r
+        → Extends a b }
+{}
+
+/// A line that says an equation whose right side is changed by another equation, at a place or as a whole.
+pub fn replacing()
+    ensures says { (a b : Builder) (m k n : ℕ) (q : List ℕ) (l r u v : Tree) → IsPushed a b (Repl m q k) n
+        → HasEquation a m l r → HasEquation a k u v → at r q ≡ Some u → HasEquation b n l (put r q v) }
+    ensures extends { (a b : Builder) (m k n : ℕ) (q : List ℕ) (l r u v : Tree) → IsPushed a b (Repl m q k) n
+        → HasEquation a m l r → HasEquation a k u v → at r q ≡ Some u → Extends a b }
+    ensures whole_says { (a b : Builder) (m k n : ℕ) (l r v : Tree) → IsPushed a b (Repl m [] k) n
+        → HasEquation a m l r → HasEquation a k r v → HasEquation b n l v }
+    ensures whole_extends { (a b : Builder) (m k n : ℕ) (l r v : Tree) → IsPushed a b (Repl m [] k) n
+        → HasEquation a m l r → HasEquation a k r v → Extends a b }
+{}

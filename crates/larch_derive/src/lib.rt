@@ -1,0 +1,14 @@
+//! The builder through which proofs are written, line by line.
+#![tactic(auto)]
+
+mod builder;
+mod coding;
+mod copying;
+pub mod laws;
+mod open_box;
+mod shared_list;
+mod shared_theory;
+
+pub use builder::Builder;
+pub use open_box::{OpenBox, OpenBoxes};
+pub use shared_list::SharedList;
