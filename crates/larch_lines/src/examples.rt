@@ -10,7 +10,7 @@ ghost use Rattle.larch_certificate.specs.Coded.{coded_var};
 ghost use Rattle.larch_certificate.specs.declared.line.Line.TheVariants as line;
 ghost use Rattle.larch_certificate.specs.declared.symbol.Symbol.TheVariants.{Own, Constant};
 ghost use Rattle.larch_lines.specs.Acceptance.{verdict};
-ghost use Rattle.larch_lines.specs.Certificates.{coded_truth, sums_are_equal, by_cases_of, numbers_generated_by, set_sort, set_named, set_of, element_sort, sets, sets_partitioned, same_sets_by, same_sets_of, partition_with};
+ghost use Rattle.larch_lines.specs.Certificates.{coded_truth, sums_are_equal, by_cases_of, numbers_generated_by, predicate_part, set_sort, set_named, set_of, element_sort, sets, sets_partitioned, same_sets_by, same_sets_of, partition_with};
 ghost use Rattle.larch_lines.specs.Example.{coded_constant, coded_equation, coded_nought, coded_x, for_number, number_part, supposed, sum_with, induction_by, worked, with_line};
 ghost use Rattle.larch_lines.specs.Run.{first_bad};
 
@@ -94,6 +94,8 @@ pub fn variables_and_cases()
         (sums_are_equal (coded_equation coded_nought coded_nought ∷ [])) ≡ Some 4 }
     ensures one_variable { verdict numbers sum_from_nought
         (with_line 4 (line.Fresh 1 (coded_x ∷ [])) (sums_are_equal [])) ≡ Some 4 }
+    ensures predicate { verdict numbers sum_from_nought (line.BoxLine (predicate_part ∷ []) []
+        ∷ line.Refl coded_nought ∷ line.Done ∷ line.Fresh 1 (coded_x ∷ []) ∷ []) ≡ Some 4 }
     ensures cases { verdict numbers (statement.Equation (constant nought) (constant nought))
         (by_cases_of coded_truth) ≡ None }
     ensures with_variable { verdict numbers (statement.Equation (constant nought) (constant nought))

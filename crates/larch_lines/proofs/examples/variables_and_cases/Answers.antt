@@ -5,4 +5,4 @@ use Rattle.larch_lines.proofs.examples.variables_and_cases.Goals as goal
 
 pub returns : goal.returns
 unfolding same_operator same_tree same_statement
-returns c = record { fresh = refl; supposing = refl; one_variable = refl; cases = refl; with_variable = refl; one_case = refl }
+returns c = record { fresh = refl; predicate = refl; supposing = refl; one_variable = refl; cases = refl; with_variable = refl; one_case = refl }
