@@ -1,3 +1,4 @@
 pub mod Matches
 pub mod Normal
 pub mod NormalForms
+pub mod SortsKept

@@ -1,12 +1,12 @@
 -- What matches is an instance.
-use Rattle.std.specs.Prelude.{◌≡◌, ◌&&◌, ℕ, Bool, true, false, cond, List, [], ◌∷◌, bytes_eq, find, Option, Some, None, option_map, option_and_then, refl}
+use Rattle.std.specs.Prelude.{◌≡◌, ◌&&◌, ℕ, Bool, true, false, cond, All, List, [], ◌∷◌, bytes_eq, find, Option, Some, None, option_map, option_and_then, refl}
 use Rattle.std.proofs.Common.{arith, ap, ap₂, subst, ◌∙◌}
 use Rattle.std.proofs.lemmas.Bool.Decides.{Decides-and}
 use Rattle.std.proofs.lemmas.List.Elements.{All-cons}
 use Rattle.std.proofs.lemmas.Slice.Eq.{bytes_eq-Decides}
 use Rattle.larch_term.specs.Operator.{PlainOperator}
 use Rattle.larch_term.specs.Tree.{Tree, Forest, var, app, none, more}
-use Rattle.larch_term.specs.Sorts.{sort_of, WellSorted, AllWellSorted}
+use Rattle.larch_term.specs.Sorts.{sort_of, WellSorted, AllWellSorted, AllOver, IsTermOver}
 use Rattle.larch_term.specs.Equality.{same_operator, same_tree}
 use Rattle.larch_term.specs.OperatorKey.{operator_Decides}
 use Rattle.larch_term.specs.Substitution.{is_entry_of, image, substituted, substituted_all, Fits}
@@ -161,68 +161,107 @@ mutual
       further_are p ps t ts es ds (matched p t es) (λ gs. matched_is p t es gs) (λ gs. matched_all_are ps ts gs ds)
       refl h
 
--- ---- what is bound has the variable's sort
+-- ---- what is bound has the variable's sort, and what holds of a term and of all its arguments
 
-abbrev IsFit : Entry → Type 0
-IsFit e = WellSorted e.term × (sort_of e.term ≡ e.sort)
+-- what holds of an application holds of its arguments
+pub record IsInherited (P : Tree → Type 0) (Q : Forest → Type 0) : Type 0 where
+  pub arguments : (f : PlainOperator) (ts : Forest) → P (app f ts) → Q ts
+  pub first : (t : Tree) (ts : Forest) → Q (more t ts) → P t
+  pub others : (t : Tree) (ts : Forest) → Q (more t ts) → Q ts
 
-fits_there : (all ds : List Entry) (b : Bool) → Fits all → cond b (Some all) None ≡ Some ds → Fits ds
-fits_there all ds true f h = subst Fits (some_same h) f
-fits_there all ds false f h = cc
+-- an entry's term has the property and the sort of its variable
+abbrev pub IsBound : (Tree → Type 0) → Entry → Type 0
+IsBound P e = P e.term × (sort_of e.term ≡ e.sort)
 
-fits_step : (all : List Entry) (n s : List ℕ) (t : Tree) (e : Entry) (es ds : List Entry) (b : Bool) → Fits all
-    → (bound all n s t es ≡ Some ds → Fits ds)
+abbrev pub AreBound : (Tree → Type 0) → List Entry → Type 0
+AreBound P es = All (IsBound P) es
+
+bound_there_fits : (P : Tree → Type 0) (all ds : List Entry) (b : Bool) → AreBound P all
+    → cond b (Some all) None ≡ Some ds → AreBound P ds
+bound_there_fits P all ds true f h = subst (AreBound P) (some_same h) f
+bound_there_fits P all ds false f h = cc
+
+bound_step_fits : (P : Tree → Type 0) (all : List Entry) (n s : List ℕ) (t : Tree) (e : Entry) (es ds : List Entry)
+    (b : Bool) → AreBound P all → (bound all n s t es ≡ Some ds → AreBound P ds)
     → (elim b [ true ↦ cond (same_tree e.term t) (Some all) None | false ↦ bound all n s t es ]) ≡ Some ds
-    → Fits ds
-fits_step all n s t e es ds true f go h = fits_there all ds (same_tree e.term t) f h
-fits_step all n s t e es ds false f go h = go h
+    → AreBound P ds
+bound_step_fits P all n s t e es ds true f go h = bound_there_fits P all ds (same_tree e.term t) f h
+bound_step_fits P all n s t e es ds false f go h = go h
 
-fits_bound : (all : List Entry) (n s : List ℕ) (t : Tree) (es ds : List Entry) → Fits all → WellSorted t
-    → sort_of t ≡ s → bound all n s t es ≡ Some ds → Fits ds
-fits_bound all n s t [] ds f w q h = subst Fits (some_same h) (All-cons IsFit (entry_for n s t) all (w, q) f)
-fits_bound all n s t (e ∷ es) ds f w q h =
-    fits_step all n s t e es ds (is_entry_of n s e) f (fits_bound all n s t es ds f w q) h
+bound_fits : (P : Tree → Type 0) (all : List Entry) (n s : List ℕ) (t : Tree) (es ds : List Entry) → AreBound P all
+    → P t → sort_of t ≡ s → bound all n s t es ≡ Some ds → AreBound P ds
+bound_fits P all n s t [] ds f w q h =
+    subst (AreBound P) (some_same h) (All-cons (IsBound P) (entry_for n s t) all (w, q) f)
+bound_fits P all n s t (e ∷ es) ds f w q h =
+    bound_step_fits P all n s t e es ds (is_entry_of n s e) f (bound_fits P all n s t es ds f w q) h
 
-variable_fits : (n s : List ℕ) (t : Tree) (es ds : List Entry) (b : Bool) → (b ≡ true → sort_of t ≡ s) → Fits es
-    → WellSorted t → cond b (bound es n s t es) None ≡ Some ds → Fits ds
-variable_fits n s t es ds true q f w h = fits_bound es n s t es ds f w (q refl) h
-variable_fits n s t es ds false q f w h = cc
+variable_fits : (P : Tree → Type 0) (n s : List ℕ) (t : Tree) (es ds : List Entry) (b : Bool)
+    → (b ≡ true → sort_of t ≡ s) → AreBound P es → P t → cond b (bound es n s t es) None ≡ Some ds → AreBound P ds
+variable_fits P n s t es ds true q f w h = bound_fits P es n s t es ds f w (q refl) h
+variable_fits P n s t es ds false q f w h = cc
 
-application_fits : (ps ts : Forest) (es ds : List Entry) (b : Bool) → (matched_all ps ts es ≡ Some ds → Fits ds)
-    → (elim b [ true ↦ matched_all ps ts es | false ↦ None ]) ≡ Some ds → Fits ds
-application_fits ps ts es ds true go h = go h
-application_fits ps ts es ds false go h = cc
+application_fits : (P : Tree → Type 0) (ps ts : Forest) (es ds : List Entry) (b : Bool)
+    → (matched_all ps ts es ≡ Some ds → AreBound P ds)
+    → (elim b [ true ↦ matched_all ps ts es | false ↦ None ]) ≡ Some ds → AreBound P ds
+application_fits P ps ts es ds true go h = go h
+application_fits P ps ts es ds false go h = cc
 
-further_fit : (p : Tree) (ps : Forest) (t : Tree) (ts : Forest) (es ds : List Entry) (o : Option (List Entry))
-    → ((gs : List Entry) → matched p t es ≡ Some gs → Fits gs)
-    → ((gs : List Entry) → Fits gs → matched_all ps ts gs ≡ Some ds → Fits ds)
-    → matched p t es ≡ o → option_and_then (λ gs. matched_all ps ts gs) o ≡ Some ds → Fits ds
-further_fit p ps t ts es ds None first others e h = cc
-further_fit p ps t ts es ds (Some gs) first others e h = others gs (first gs e) h
+further_fit : (P : Tree → Type 0) (p : Tree) (ps : Forest) (t : Tree) (ts : Forest) (es ds : List Entry)
+    (o : Option (List Entry)) → ((gs : List Entry) → matched p t es ≡ Some gs → AreBound P gs)
+    → ((gs : List Entry) → AreBound P gs → matched_all ps ts gs ≡ Some ds → AreBound P ds)
+    → matched p t es ≡ o → option_and_then (λ gs. matched_all ps ts gs) o ≡ Some ds → AreBound P ds
+further_fit P p ps t ts es ds None first others e h = cc
+further_fit P p ps t ts es ds (Some gs) first others e h = others gs (first gs e) h
 
 mutual
-  pub matched_fits : (p t : Tree) (es ds : List Entry) → Fits es → WellSorted t → matched p t es ≡ Some ds → Fits ds
-  matched_fits (var n s) t es ds f w h =
-      variable_fits n s t es ds (bytes_eq (sort_of t) s) (bytes_eq-Decides (sort_of t) s).0 f w h
-  matched_fits (app g ps) (var n s) es ds f w h = cc
-  matched_fits (app g ps) (app k ts) es ds f w h =
-      application_fits ps ts es ds (same_operator g k) (matched_all_fit ps ts es ds f w.1) h
+  pub matched_fits : (P : Tree → Type 0) (Q : Forest → Type 0) → IsInherited P Q → (p t : Tree) (es ds : List Entry)
+      → AreBound P es → P t → matched p t es ≡ Some ds → AreBound P ds
+  matched_fits P Q i (var n s) t es ds f w h =
+      variable_fits P n s t es ds (bytes_eq (sort_of t) s) (bytes_eq-Decides (sort_of t) s).0 f w h
+  matched_fits P Q i (app g ps) (var n s) es ds f w h = cc
+  matched_fits P Q i (app g ps) (app k ts) es ds f w h =
+      application_fits P ps ts es ds (same_operator g k) (matched_all_fit P Q i ps ts es ds f (i.arguments k ts w)) h
 
-  matched_all_fit : (ps ts : Forest) (es ds : List Entry) → Fits es → AllWellSorted ts
-      → matched_all ps ts es ≡ Some ds → Fits ds
-  matched_all_fit none none es ds f w h = subst Fits (some_same h) f
-  matched_all_fit none (more t ts) es ds f w h = cc
-  matched_all_fit (more p ps) none es ds f w h = cc
-  matched_all_fit (more p ps) (more t ts) es ds f w h =
-      further_fit p ps t ts es ds (matched p t es) (λ gs e. matched_fits p t es gs f w.0 e)
-      (λ gs g k. matched_all_fit ps ts gs ds g w.1 k) refl h
+  matched_all_fit : (P : Tree → Type 0) (Q : Forest → Type 0) → IsInherited P Q → (ps ts : Forest) (es ds : List Entry)
+      → AreBound P es → Q ts → matched_all ps ts es ≡ Some ds → AreBound P ds
+  matched_all_fit P Q i none none es ds f w h = subst (AreBound P) (some_same h) f
+  matched_all_fit P Q i none (more t ts) es ds f w h = cc
+  matched_all_fit P Q i (more p ps) none es ds f w h = cc
+  matched_all_fit P Q i (more p ps) (more t ts) es ds f w h =
+      further_fit P p ps t ts es ds (matched p t es) (λ gs e. matched_fits P Q i p t es gs f (i.first t ts w) e)
+      (λ gs g k. matched_all_fit P Q i ps ts gs ds g (i.others t ts w) k) refl h
 
-fits_nothing : Fits []
-fits_nothing k d lt = absurd (omega (arith, lt))
+bound_nothing : (P : Tree → Type 0) → AreBound P []
+bound_nothing P k d lt = absurd (omega (arith, lt))
+
+sorts_inherited : IsInherited WellSorted AllWellSorted
+sorts_inherited = record {
+  arguments = λ f ts w. w.1;
+  first = λ t ts w. w.0;
+  others = λ t ts w. w.1;
+}
+
+-- arguments that are well sorted terms over operators
+abbrev AllTermsOver : List PlainOperator → Forest → Type 0
+AllTermsOver fs ts = AllWellSorted ts × AllOver fs ts
+
+terms_inherited : (fs : List PlainOperator) → IsInherited (IsTermOver fs) (AllTermsOver fs)
+terms_inherited fs = record {
+  arguments = λ f ts w. (w.0.1, w.1.1);
+  first = λ t ts w. (w.0.0, w.1.0);
+  others = λ t ts w. (w.0.1, w.1.1);
+}
+
+-- a term over operators binds the pattern's variables to such terms
+pub match_over : (fs : List PlainOperator) (p t : Tree) (ds : List Entry) → IsTermOver fs t → matched p t [] ≡ Some ds
+    → AreBound (IsTermOver fs) ds
+match_over fs p t ds w h =
+    matched_fits (IsTermOver fs) (AllTermsOver fs) (terms_inherited fs) p t [] ds (bound_nothing (IsTermOver fs)) w h
 
 -- what a pattern matches is the pattern with the substitution made, which fits
 pub match_is_right : (p t : Tree) (ds : List Entry) → matched p t [] ≡ Some ds → substituted ds p ≡ t
 match_is_right p t ds h = instance_substituted ds p t (matched_is p t [] ds h).1
 
 pub match_fits : (p t : Tree) (ds : List Entry) → WellSorted t → matched p t [] ≡ Some ds → Fits ds
-match_fits p t ds w h = matched_fits p t [] ds fits_nothing w h
+match_fits p t ds w h =
+    matched_fits WellSorted AllWellSorted sorts_inherited p t [] ds (bound_nothing WellSorted) w h

@@ -1,5 +1,7 @@
 -- The two sides of an equation or a rule.
 use Rattle.std.specs.Prelude.{List, [], ◌∷◌}
+use Rattle.larch_term.specs.Operator.{PlainOperator}
+use Rattle.larch_term.specs.Statement.{IsStatementOver}
 use Rattle.larch_term.specs.Tree.{Tree}
 use Rattle.larch_term.specs.Substitution.{substituted}
 use Rattle.larch_term.specs.declared.statement.Statement.{Statement}
@@ -24,3 +26,7 @@ abbrev pub sides_of : Statement → List Sides
 sides_of (Equation l r) = record { left = l; right = r } ∷ []
 sides_of (Generated s fs) = []
 sides_of (Partitioned s fs) = []
+
+-- the sides are well sorted terms of one sort over operators
+abbrev pub AreSidesOver : List PlainOperator → Sides → Type 0
+AreSidesOver fs e = IsStatementOver fs (Equation e.left e.right)

@@ -1,12 +1,13 @@
 //! What holds of all normal forms, for crates above to cite. No function here does anything.
-ghost use Rattle.std.specs.Prelude.{◌≡◌, ℕ, List, [], Some};
-ghost use Rattle.larch_term.specs.Sorts.{WellSorted};
+ghost use Rattle.std.specs.Prelude.{◌≡◌, ℕ, List, [], All, Some};
+ghost use Rattle.larch_term.specs.Operator.{PlainOperator};
+ghost use Rattle.larch_term.specs.Sorts.{IsTermOver, WellSorted, sort_of};
 ghost use Rattle.larch_term.specs.Substitution.{Fits, substituted};
 ghost use Rattle.larch_term.specs.Tree.{Tree};
 ghost use Rattle.larch_term.specs.declared.substitution.Entry.{Entry};
 ghost use Rattle.larch_normal_forms.specs.Matching.{matched};
 ghost use Rattle.larch_normal_forms.specs.NormalForm.{IsNormal, LeavesAtMost, normal, pass};
-ghost use Rattle.larch_normal_forms.specs.Sides.{Sides};
+ghost use Rattle.larch_normal_forms.specs.Sides.{AreSidesOver, Sides};
 ghost use Rattle.larch_normal_forms.specs.Work.{Made, formed};
 
 /// The normal form of a term is one pass over it, in which each application goes on with the normal form of what it
@@ -33,4 +34,11 @@ pub fn normal_forms_are_normal()
     ensures made { (rules : List Sides) (t : Tree) (b : ℕ) (u : Tree) (r : ℕ) → normal rules t b ≡ Made u r
         → IsNormal rules u }
     ensures stays { (rules : List Sides) (t : Tree) (b : ℕ) → IsNormal rules t → normal rules t b ≡ Made t b }
+{}
+
+/// Where rules and a term are well sorted over operators, so is the normal form, and it has the term's sort.
+pub fn normal_forms_keep_sorts()
+    ensures { (fs : List PlainOperator) (rules : List Sides) (t : Tree) (b : ℕ) (u : Tree) (r : ℕ)
+        → All (AreSidesOver fs) rules → IsTermOver fs t → normal rules t b ≡ Made u r
+        → IsTermOver fs u × (sort_of u ≡ sort_of t) }
 {}

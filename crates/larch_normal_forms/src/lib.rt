@@ -10,4 +10,7 @@ pub use examples::{
     an_application_is_too_large, an_equality_is_exchanged, nothing_to_do, rows_come_first,
     rows_have_a_sort, the_left_argument_comes_first,
 };
-pub use laws::{budget_falls, matches_are_instances, normal_forms_are_normal, normal_goes_on};
+pub use laws::{
+    budget_falls, matches_are_instances, normal_forms_are_normal, normal_forms_keep_sorts,
+    normal_goes_on,
+};
