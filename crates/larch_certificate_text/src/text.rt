@@ -1,6 +1,6 @@
 ghost use Rattle.std.specs.Prelude.{◌≡◌, ◌++◌, ◌∷◌, [], OnOk};
 
-use larch_base::Memory;
+use larch_base::{Bytes, Memory};
 use std::alloc::Global;
 use std::marker::Model;
 
@@ -33,6 +33,14 @@ impl Text {
         ensures { result.now ≡ self.now }
     {
         self.bytes.as_slice()
+    }
+
+    /// The text as bytes. It takes no memory.
+    pub fn into_bytes(self) -> Bytes
+        ensures { result ≡ self }
+    {
+        let Text { bytes } = self;
+        Bytes::from_vec(bytes)
     }
 
     /// Puts a byte at the end.

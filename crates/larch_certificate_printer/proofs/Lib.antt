@@ -1,0 +1,4 @@
+-- Lemmas.
+pub mod Items
+pub mod Labels
+pub mod Writing
