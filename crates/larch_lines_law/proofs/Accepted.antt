@@ -28,7 +28,7 @@ use Rattle.larch_lines.specs.Rules.{exchanged, instance_by, replaced_variable, r
 use Rattle.larch_lines.specs.Run.{judge, box_opens, done_closes, happens, step, run}
 use Rattle.larch_lines_law.proofs.BoxRules.{fresh_derivable, cases_derivable, inducted_derivable}
 use Rattle.larch_lines_law.proofs.ClauseRules.{observed_derivable, generated_derivable, partitioned_derivable}
-use Rattle.larch_lines_law.proofs.Contexts.{own_operator, own_statement, open_hypothesis, symbol_known, Holds, context_well_sorted, line_derivable, closed_shows, innermost_is, no_box, older_inside, box_new}
+use Rattle.larch_lines_law.proofs.Contexts.{inside, own_operator, own_statement, open_hypothesis, symbol_known, Holds, context_well_sorted, line_derivable, closed_shows, innermost_is, no_box, older_inside, box_new}
 use Rattle.larch_lines_law.proofs.Decoded.{decoded, equation_decoded, IsEntryOver, binding_decoded}
 use Rattle.larch_lines_law.proofs.Rules.{axiom_derivable, row_derivable, exchanged_derivable, instance_derivable, replaced_derivable, stated_derivable}
 use Rattle.larch_lines_law.proofs.Told.{option_map_some, cond_then, each_told, numbered_contains}
@@ -207,3 +207,24 @@ pub accepted_derivable : (t : Theory) (s : Statement) (lines : List Line) → Is
 accepted_derivable t s lines w n a =
     let g = run_stands t w lines start a.state a.none_bad (record { holds = tt; older = older_plain 0 t n }) in
     subst (λ u. Derivable u s) (no_box t a.state.history a.closed) (last_derivable t a.state.history s g.holds a.last)
+
+-- the end of a run from the start stands
+end_stands : (t : Theory) (lines : List Line) (last : State) → IsWellSortedTheory t → HasPlainNames t
+    → run t start lines ≡ Some last → Stands t last.count last.history
+end_stands t lines last w n e = run_stands t w lines start last e (record { holds = tt; older = older_plain 0 t n })
+
+pub context_sorted : (t : Theory) (lines : List Line) (last : State) → IsWellSortedTheory t → HasPlainNames t
+    → run t start lines ≡ Some last → IsWellSortedTheory (theory_of t last.history)
+context_sorted t lines last w n e = context_well_sorted t w last.history (end_stands t lines last w n e).holds
+
+pub named_derivable : (t : Theory) (lines : List Line) (last : State) (m : ℕ) (s : Statement) → IsWellSortedTheory t
+    → HasPlainNames t → run t start lines ≡ Some last → find_line last.history m ≡ Some s
+    → Derivable (theory_of t last.history) s
+named_derivable t lines last m s w n e f =
+    line_derivable t w last.history (end_stands t lines last w n e).holds m s f
+
+pub result_derivable : (t : Theory) (lines : List Line) (last : State) (m : ℕ) (c : PlainBox × Statement)
+    → IsWellSortedTheory t → HasPlainNames t → run t start lines ≡ Some last → find_closed last.history m ≡ Some c
+    → Derivable (inside (theory_of t last.history) c.0) c.1
+result_derivable t lines last m c w n e f =
+    (closed_shows t last.history (end_stands t lines last w n e).holds m c f).derivable

@@ -5,10 +5,11 @@ ghost use Rattle.larch_term.specs.declared.statement.Statement.{Statement};
 ghost use Rattle.larch_term.specs.declared.statement.Theory.{Theory};
 ghost use Rattle.larch_calculus.specs.Derivable.{Derivable};
 ghost use Rattle.larch_calculus.specs.Renaming.{HasPlainNames};
-ghost use Rattle.larch_calculus.specs.Theories.{IsPrefix};
+ghost use Rattle.larch_calculus.specs.Theories.{IsPrefix, extended};
 ghost use Rattle.larch_certificate.specs.declared.line.Line.{Line};
 ghost use Rattle.larch_lines.specs.Acceptance.{Accepts, verdict};
-ghost use Rattle.larch_lines.specs.Events.{State, start};
+ghost use Rattle.larch_lines.specs.Context.{theory_of, find_line, find_closed};
+ghost use Rattle.larch_lines.specs.Events.{PlainBox, operators_of, State, start};
 ghost use Rattle.larch_lines.specs.Run.{run, bad_from, first_bad};
 ghost use Rattle.larch_lines_law.specs.FirstBad.{IsFirstBad};
 
@@ -19,6 +20,20 @@ pub fn accepted_is_derivable()
         → Accepts t s lines → Derivable t s }
     ensures verdict { (t : Theory) (s : Statement) (lines : List Line) → IsWellSortedTheory t → HasPlainNames t
         → verdict t s lines ≡ None → Derivable t s }
+{}
+
+/// At each point of a run the theory of the context is well sorted; what a line that can be named says is derivable from
+/// it; and the result of a closed box that can be named is derivable with the box's operators and hypotheses added.
+pub fn lines_are_derivable()
+    ensures context { (t : Theory) (lines : List Line) (last : State) → IsWellSortedTheory t → HasPlainNames t
+        → run t start lines ≡ Some last → IsWellSortedTheory (theory_of t last.history) }
+    ensures named { (t : Theory) (lines : List Line) (last : State) (m : ℕ) (s : Statement) → IsWellSortedTheory t
+        → HasPlainNames t → run t start lines ≡ Some last → find_line last.history m ≡ Some s
+        → Derivable (theory_of t last.history) s }
+    ensures results { (t : Theory) (lines : List Line) (last : State) (m : ℕ) (c : PlainBox × Statement)
+        → IsWellSortedTheory t → HasPlainNames t → run t start lines ≡ Some last
+        → find_closed last.history m ≡ Some c
+        → Derivable (extended (theory_of t last.history) (operators_of c.0) c.0.hypotheses) c.1 }
 {}
 
 /// The verdict is nothing exactly where the certificate is accepted. Else it is the number of the first bad line, or,
