@@ -242,10 +242,10 @@ sorts_inherited = record {
 }
 
 -- arguments that are well sorted terms over operators
-abbrev AllTermsOver : List PlainOperator → Forest → Type 0
+abbrev pub AllTermsOver : List PlainOperator → Forest → Type 0
 AllTermsOver fs ts = AllWellSorted ts × AllOver fs ts
 
-terms_inherited : (fs : List PlainOperator) → IsInherited (IsTermOver fs) (AllTermsOver fs)
+pub terms_inherited : (fs : List PlainOperator) → IsInherited (IsTermOver fs) (AllTermsOver fs)
 terms_inherited fs = record {
   arguments = λ f ts w. (w.0.1, w.1.1);
   first = λ t ts w. (w.0.0, w.1.0);

@@ -2,3 +2,4 @@ pub mod FreeNames
 pub mod Blocks
 pub mod Positions
 pub mod Redone
+pub mod AddingSorts

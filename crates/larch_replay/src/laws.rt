@@ -1,11 +1,14 @@
 //! What holds of all replays, for crates above to cite. No function here does anything.
-ghost use Rattle.std.specs.Prelude.{◌≡◌, ◌<◌, ◌≤◌, ◌+◌, ◌++◌, ℕ, false, List, Option, length, sum_by, bytes_eq};
+ghost use Rattle.std.specs.Prelude.{◌≡◌, ◌<◌, ◌≤◌, ◌+◌, ◌++◌, ℕ, false, List, Option, length, sum_by, bytes_eq, All};
 ghost use Rattle.std.specs.List.{list_any, AllPairs};
 ghost use Rattle.larch_raw.specs.declared.equation.RawEquation.{RawEquation};
 ghost use Rattle.larch_term.specs.Operator.{PlainOperator};
 ghost use Rattle.larch_items.specs.Steps.{after};
 ghost use Rattle.larch_sorts.specs.Read.{read_equation, read_term};
 ghost use Rattle.larch_sorts.specs.Scope.{Variables};
+ghost use Rattle.larch_normal_forms.specs.Sides.{AreSidesOver, Sides};
+ghost use Rattle.larch_normal_forms.specs.Work.{Made};
+ghost use Rattle.larch_replay.specs.Facts.{Adding, Facts, add};
 ghost use Rattle.larch_replay.specs.Commands.{Command, placed_equation, unplaced_equation};
 ghost use Rattle.larch_replay.specs.Levels.{Proof};
 ghost use Rattle.larch_replay.specs.NewNames.{free_name};
@@ -44,4 +47,11 @@ pub fn nothing_is_redone()
 /// No more is replayed again than each duty's opening and its commands.
 pub fn redoing_is_bounded()
     ensures { (before now : List Replayed) → redo before now ≤ sum_by (λ r. 1 + length r.block) now }
+{}
+
+/// Where facts and an equation are well sorted over operators, so are the facts behind its adding.
+pub fn adding_keeps_sorts()
+    ensures { (fs : List PlainOperator) (how : Adding) (e : Sides) (facts : Facts) (b : ℕ) (made : Facts) (r : ℕ)
+        → All (λ fact. AreSidesOver fs fact.sides) facts.rules → AreSidesOver fs e → add how e facts b ≡ Made made r
+        → All (λ fact. AreSidesOver fs fact.sides) made.rules }
 {}

@@ -14,6 +14,6 @@ pub use examples::{
     the_wrong_variable_is_suspended,
 };
 pub use laws::{
-    blocks_go_in_parts, new_names_are_new, nothing_is_redone, positions_do_not_count,
-    redoing_is_bounded,
+    adding_keeps_sorts, blocks_go_in_parts, new_names_are_new, nothing_is_redone,
+    positions_do_not_count, redoing_is_bounded,
 };
