@@ -1,5 +1,5 @@
 -- Growth: what was said stays said, and what grows twice grows.
-use Rattle.std.proofs.Common.{◌≡◌, ◌≤◌, ◌<◌, ◌+◌, ◌==◌, ℕ, suc, Bool, true, false, cond, List, [], ◌∷◌, ◌++◌, length, All, Option, Some, None, refl, sym, ◌∙◌, ap, subst, arith}
+use Rattle.std.proofs.Common.{◌≡◌, ◌≤◌, ◌<◌, ◌+◌, ◌==◌, ℕ, suc, Bool, true, false, cond, List, [], ◌∷◌, ◌++◌, map, length, All, Option, Some, None, refl, sym, ◌∙◌, ap, subst, arith}
 use Rattle.std.specs.Option.{option_map, option_and_then}
 use Rattle.std.proofs.lemmas.List.{append_assoc, append-nil}
 use Rattle.std.proofs.lemmas.List.Elements.{All-nil, All-append, All-head, All-tail, All-weaker}
@@ -17,7 +17,8 @@ use Rattle.larch_lines.specs.Events.{Event, Said, Opened, Closed, State, start}
 use Rattle.larch_lines.specs.Run.{run, step}
 use Rattle.larch_derive.specs.declared.builder.Builder.{Builder}
 use Rattle.larch_derive.specs.declared.open_box.OpenBox.{OpenBox}
-use Rattle.larch_derive.specs.Predicates.{operators_at, written, written_statement, StandIn, KnownIn, SaysIn, Stands, Known, HasStatement, IsSaidBehind, IsBehind, LeadsOn, GrowsBy, AreAlike, Extends, Grows}
+use Rattle.larch_derive.specs.Builder.{shape_of}
+use Rattle.larch_derive.specs.Predicates.{shapes_of, operators_at, written, written_statement, StandIn, KnownIn, SaysIn, Stands, Known, HasStatement, IsSaidBehind, IsBehind, LeadsOn, GrowsBy, AreAlike, Extends, Grows}
 
 -- ---- events behind
 
@@ -54,6 +55,12 @@ theory_behind t [] h c b = refl
 theory_behind t (Said m s ∷ es) h c b = theory_behind t es h c (All-tail (IsBehind c) (Said m s) es b)
 theory_behind t (Opened x ∷ es) h c b = absurd (All-head (IsBehind c) (Opened x) es b)
 theory_behind t (Closed x s ∷ es) h c b = theory_behind t es h c (All-tail (IsBehind c) (Closed x s) es b)
+
+pub shapes_behind : (es h : List Event) (c : ℕ) → All (IsBehind c) es → shapes_of (es ++ h) ≡ shapes_of h
+shapes_behind [] h c b = refl
+shapes_behind (Said m s ∷ es) h c b = shapes_behind es h c (All-tail (IsBehind c) (Said m s) es b)
+shapes_behind (Opened x ∷ es) h c b = absurd (All-head (IsBehind c) (Opened x) es b)
+shapes_behind (Closed x s ∷ es) h c b = shapes_behind es h c (All-tail (IsBehind c) (Closed x s) es b)
 
 -- ---- runs
 
@@ -129,10 +136,6 @@ grows_as P Q h t ls ks x =
 
 -- ---- what stays
 
-pub stand_later : (t : Theory) (bs : List OpenBox) (ls ks : List Line) (st : State) → StandIn t bs ls st
-    → (x : GrowsBy IsBehind t ls ks) → (st' : State) → run t start ks ≡ Some st' → StandIn t bs ks st'
-stand_later t bs ls ks st h x st' r = record { runs = r; plain = h.plain; others = h.others }
-
 -- the state behind
 abbrev pub later_state : (t : Theory) (ls ks : List Line) (st : State) → run t start ls ≡ Some st → GrowsBy IsBehind t ls ks → State
 later_state t ls ks st r x = (x.leads st r).state
@@ -147,10 +150,25 @@ pub later_theory : (t : Theory) (ls ks : List Line) (st : State) (r : run t star
 later_theory t ls ks st r x =
     let m = x.leads st r in ap (theory_of t) m.history ∙ theory_behind t m.events st.history st.count m.behind
 
+later_shapes : (t : Theory) (bs : List OpenBox) (ls ks : List Line) (st : State) (h : StandIn t bs ls st)
+    (x : GrowsBy IsBehind t ls ks) → shapes_of (later_state t ls ks st h.runs x).history ≡ map shape_of bs
+later_shapes t bs ls ks st h x =
+    let m = x.leads st h.runs in
+    ap shapes_of m.history ∙ shapes_behind m.events st.history st.count m.behind ∙ h.opened
+
+pub later_stand : (t : Theory) (bs : List OpenBox) (ls ks : List Line) (st : State) (h : StandIn t bs ls st)
+    (x : GrowsBy IsBehind t ls ks) → StandIn t bs ks (later_state t ls ks st h.runs x)
+later_stand t bs ls ks st h x =
+    record {
+      runs = later_runs t ls ks st h.runs x;
+      opened = later_shapes t bs ls ks st h x;
+      plain = h.plain;
+      others = h.others;
+    }
+
 pub stays_stand : (t : Theory) (bs : List OpenBox) (ls ks : List Line) → ((st : State) × StandIn t bs ls st)
     → GrowsBy IsBehind t ls ks → (st : State) × StandIn t bs ks st
-stays_stand t bs ls ks (st, h) x =
-    (later_state t ls ks st h.runs x, record { runs = later_runs t ls ks st h.runs x; plain = h.plain; others = h.others })
+stays_stand t bs ls ks (st, h) x = (later_state t ls ks st h.runs x, later_stand t bs ls ks st h x)
 
 pub stays_in : (t : Theory) (bs : List OpenBox) (ls ks : List Line) (n : ℕ) (s : Statement)
     → ((st : State) × SaysIn t bs ls st n s) → GrowsBy IsBehind t ls ks → (st : State) × SaysIn t bs ks st n s
@@ -160,11 +178,7 @@ stays_in t bs ls ks n s (st, h) x =
     let b = h.within in (
       m.state,
       record {
-        stand = record {
-          runs = later_runs t ls ks st h.stand.runs x;
-          plain = h.stand.plain;
-          others = h.stand.others;
-        };
+        stand = later_stand t bs ls ks st h.stand x;
         says = ap (λ u. find_line u n) m.history
             ∙ line_behind m.events st.history st.count n m.behind h.within ∙ h.says;
         within = omega (arith, a, b);
@@ -178,11 +192,7 @@ pub known_in_later : (t : Theory) (bs : List OpenBox) (ls ks : List Line) (a : T
 known_in_later t bs ls ks a (st, h) x = (
   later_state t ls ks st h.stand.runs x,
   record {
-    stand = record {
-      runs = later_runs t ls ks st h.stand.runs x;
-      plain = h.stand.plain;
-      others = h.stand.others;
-    };
+    stand = later_stand t bs ls ks st h.stand x;
     over = subst (λ u. IsTermOver u.operators (written bs a))
         (sym (later_theory t ls ks st h.stand.runs x)) h.over;
   },

@@ -73,6 +73,7 @@ pushed_says a b line n st s p h j w =
           runs = ap (run a.theory start) p.lines
               ∙ run_further a.theory start st after a.lines (line ∷ []) h.runs
               (run_said a.theory st line (written_statement a.boxes s) j);
+          opened = h.opened;
           plain = h.plain;
           others = h.others;
         };

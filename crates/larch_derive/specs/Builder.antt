@@ -87,6 +87,10 @@ part_sort f (s ∷ ss) = record { sort = s; predicate = true }
 abbrev pub part_for : PlainOperator → BoxPart
 part_for f = part_sort f f.domain
 
+-- the number of an open box and what it makes
+abbrev pub shape_of : OpenBox → ℕ × List BoxPart
+shape_of x = (x.number, map part_for x.constants)
+
 -- the line opens a box with these constants and hypotheses, which are written where these boxes are open
 abbrev pub IsBoxLine : List OpenBox → List PlainOperator → List PlainOperator → List Statement → Line → Type 0
 IsBoxLine bs fs cs hs line =

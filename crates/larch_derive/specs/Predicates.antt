@@ -10,12 +10,14 @@ use Rattle.larch_term.specs.declared.statement.Statement.TheVariants.{Equation}
 use Rattle.larch_term.specs.declared.statement.Theory.{Theory}
 use Rattle.larch_renaming.specs.Renaming.{renamed, renamed_statement}
 use Rattle.larch_calculus.specs.Renaming.{HasPlainNames}
+use Rattle.larch_certificate.specs.declared.line.BoxPart.{BoxPart}
 use Rattle.larch_certificate.specs.declared.line.Line.{Line}
 use Rattle.larch_lines.specs.Context.{theory_of, find_line}
 use Rattle.larch_lines.specs.Events.{Event, Said, Opened, Closed, PlainBox, State, start}
 use Rattle.larch_lines.specs.Run.{run}
 use Rattle.larch_derive.specs.declared.builder.Builder.{Builder}
 use Rattle.larch_derive.specs.declared.open_box.OpenBox.{OpenBox}
+use Rattle.larch_derive.specs.Builder.{shape_of}
 use Rattle.larch_derive.specs.OpenBox.{naming}
 
 -- the operators of a theory and of the boxes that are open in a state
@@ -33,10 +35,18 @@ written_statement bs s = renamed_statement (naming bs) s
 abbrev pub AreOthers : Theory → List PlainOperator → Type 0
 AreOthers t cs = All (λ c. IsKnown t.operators c → ⊥) cs
 
--- the lines lead to the state, so none is bad; no operator of the theory has the name of a box's constant, and what
+-- the boxes that are open after events, the outermost first: their numbers and what they make
+abbrev pub shapes_of : List Event → List (ℕ × List BoxPart)
+shapes_of [] = []
+shapes_of (Said n s ∷ h) = shapes_of h
+shapes_of (Opened b ∷ h) = shapes_of h ++ (b.number, b.parts) ∷ []
+shapes_of (Closed b s ∷ h) = shapes_of h
+
+-- the lines lead to the state, so none is bad, and the boxes are those that are open there; no operator of the theory has the name of a box's constant, and what
 -- stands for constants of open boxes is neither the theory's nor built in
 pub record StandIn (t : Theory) (bs : List OpenBox) (ls : List Line) (st : State) : Type 0 where
   pub runs : run t start ls ≡ Some st
+  pub opened : shapes_of st.history ≡ map shape_of bs
   pub plain : HasPlainNames t
   pub others : All (λ x. AreOthers t x.constants) bs
 

@@ -1,4 +1,6 @@
-ghost use Rattle.std.specs.Prelude.{◌≡◌, suc, ◌-◌, ◌++◌, ◌∷◌, [], IfOk, OnErr, false, length, map, take};
+ghost use Rattle.std.specs.Prelude.{◌≡◌, suc, ◌-◌, ◌++◌, ◌∷◌, [], IfOk, OnErr, false, length, map, take, All};
+ghost use Rattle.larch_calculus.specs.Renaming.{IsPlainName};
+ghost use Rattle.larch_derive.specs.Predicates.{Stands};
 ghost use Rattle.larch_derive.specs.Builder.{IsEmpty, IsPushed, IsOpened, IsBoxLine, IsCodeIn};
 ghost use Rattle.larch_derive.specs.Builder.{opens_box, part_for, boxes_in, lines_in, theory_in};
 
@@ -24,9 +26,12 @@ pub struct Builder {
 
 impl Builder {
     /// A builder without lines, over this theory.
+    #[tactic(auto, using(crate::proofs::Start::empty_stands))]
     pub fn new(alloc: Global, theory: &Theory) -> Result<Builder, Memory>
-        ensures { IfOk result (IsEmpty theory.now) }
+        ensures empty { IfOk result (IsEmpty theory.now) }
+        ensures stands { IfOk result Stands }
     {
+        names_are_plain(theory.operators.as_slice());
         let theory = SharedTheory::new(alloc, theory)?;
         Ok(Builder {
             alloc,
@@ -147,6 +152,15 @@ impl Builder {
         let equations = code_equations(self.alloc, own, boxes, hypotheses.as_slice())?;
         let parts = parts_for(self.alloc, constants.as_slice())?;
         Ok(Line::BoxLine(parts, equations))
+    }
+}
+
+// No operator of the code has the name of a box's constant.
+fn names_are_plain(operators: &[Operator])
+    ensures { All (λ f. IsPlainName f.name) operators.now }
+{
+    for operator in operators {
+        let _ = operator.name();
     }
 }
 

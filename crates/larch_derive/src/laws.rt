@@ -1,9 +1,13 @@
 //! What holds of builders, for crates above to cite. No function here does anything.
-ghost use Rattle.std.specs.Prelude.{◌≡◌, ℕ, List, [], Some};
+ghost use Rattle.std.specs.Prelude.{◌≡◌, ℕ, List, [], Some, length};
 ghost use Rattle.larch_certificate.specs.Coded.{CodedTree};
 ghost use Rattle.larch_certificate.specs.declared.line.Line.TheVariants.{Refl, Sym, Repl};
 ghost use Rattle.larch_term.specs.Place.{at, put};
-ghost use Rattle.larch_derive.specs.Builder.{IsPushed, IsCodeIn};
+ghost use Rattle.larch_derive.specs.Builder.{IsEmpty, IsPushed, IsCodeIn, theory_in, lines_in, boxes_in};
+ghost use Rattle.larch_calculus.specs.Renaming.{HasPlainNames};
+ghost use Rattle.larch_lines.specs.Acceptance.{Accepts};
+ghost use Rattle.larch_term.specs.Sorts.{IsTermOver};
+ghost use Rattle.larch_term.specs.declared.statement.Theory.{Theory};
 ghost use Rattle.larch_term.specs.Tree.{Tree};
 ghost use Rattle.larch_term.specs.declared.statement.Statement.{Statement};
 ghost use Rattle.larch_derive.specs.declared.builder.Builder.{Builder};
@@ -65,4 +69,17 @@ pub fn replacing()
         → HasEquation a m l r → HasEquation a k r v → HasEquation b n l v }
     ensures whole_extends { (a b : Builder) (m k n : ℕ) (l r v : Tree) → IsPushed a b (Repl m [] k) n
         → HasEquation a m l r → HasEquation a k r v → Extends a b }
+{}
+
+/// A builder without lines stands where no operator of the theory has the name of a box's constant, and no operator of
+/// the code has one. A term over the theory is known where no line is bad.
+pub fn beginning()
+    ensures stands { (t : Theory) (b : Builder) → IsEmpty t b → HasPlainNames t → Stands b }
+    ensures known { (b : Builder) (a : Tree) → Stands b → IsTermOver (theory_in b).operators a → Known b a }
+{}
+
+/// Where no box is open, the lines are a certificate that is accepted for what the last of them says.
+pub fn accepting()
+    ensures { (b : Builder) (n : ℕ) (s : Statement) → HasStatement b n s → boxes_in b ≡ [] → n ≡ length (lines_in b)
+        → Accepts (theory_in b) s (lines_in b) }
 {}

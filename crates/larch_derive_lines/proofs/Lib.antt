@@ -1,3 +1,2 @@
 pub mod Instances
 pub mod Stated
-pub mod Unchanged

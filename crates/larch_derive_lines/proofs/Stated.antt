@@ -35,7 +35,7 @@ use Rattle.larch_derive.specs.Builder.{IsPushed}
 use Rattle.larch_derive.specs.OpenBox.{in_lines}
 use Rattle.larch_derive.specs.Predicates.{operators_at, written, written_statement, StandIn, SaysIn, Stands, HasStatement, Extends}
 use Rattle.larch_derive.proofs.Pushing.{pushed_says, pushed_extends}
-use Rattle.larch_derive_lines.proofs.Unchanged.{own_in_lines, own_written, over_in_boxes}
+use Rattle.larch_derive.proofs.Unchanged.{own_in_lines, own_written, over_in_boxes}
 
 -- ---- axiom, row
 

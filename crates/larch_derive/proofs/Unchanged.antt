@@ -64,7 +64,7 @@ own_written t bs s p h w =
     (record { sorts = λ z. refl; operators = λ f k. own_in_lines t bs f p h k }) s w
     ∙ statement_unchanged s
 
-known_in_boxes : (t : Theory) (h : List Event) (f : PlainOperator) → IsKnown t.operators f
+pub known_in_boxes : (t : Theory) (h : List Event) (f : PlainOperator) → IsKnown t.operators f
     → IsKnown (theory_of t h).operators f
 known_in_boxes t [] f k = k
 known_in_boxes t (Said n s ∷ h) f k = known_in_boxes t h f k

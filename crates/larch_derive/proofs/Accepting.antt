@@ -1,0 +1,214 @@
+-- What the last line says where no box is open is what the certificate is accepted for.
+use Rattle.std.proofs.Common.{◌≡◌, ◌≤◌, ◌<◌, ◌+◌, ◌-◌, ◌==◌, ℕ, suc, Bool, true, false, cond, List, [], ◌∷◌, ◌++◌, map, length, All, Contains, Option, Some, None, refl, sym, ◌∙◌, ap, subst, arith}
+use Rattle.std.specs.Option.{option_map, option_and_then}
+use Rattle.std.proofs.lemmas.Option.{option_and_then_some}
+use Rattle.std.proofs.lemmas.List.Elements.{All-head, All-tail}
+use Rattle.larch_base.proofs.Options.{some_inj}
+use Rattle.larch_term.specs.Operator.{PlainOperator}
+use Rattle.larch_term.specs.Sorts.{IsKnown, IsOver, AllOver}
+use Rattle.larch_term.specs.Statement.{IsStatementOver}
+use Rattle.larch_term.specs.Tree.{Tree, Forest, var, app, none, more}
+use Rattle.larch_term.specs.declared.statement.Statement.{Statement}
+use Rattle.larch_term.specs.declared.statement.Statement.TheVariants.{Equation, Generated, Partitioned}
+use Rattle.larch_term.specs.declared.statement.Theory.{Theory}
+use Rattle.larch_renaming.specs.Renaming.{renamed_all}
+use Rattle.larch_calculus.specs.Renaming.{HasPlainNames}
+use Rattle.larch_certificate.specs.declared.line.BoxPart.{BoxPart}
+use Rattle.larch_certificate.specs.declared.line.CodedEquation.{CodedEquation}
+use Rattle.larch_certificate.specs.declared.line.Line.{Line}
+use Rattle.larch_certificate.specs.declared.line.Line.TheVariants.{Axiom, Hyp, Row, Refl, Sym, Inst, Repl, Equal, BoxLine, Done, Fresh, Cases, Induct, Observe, Generated as GeneratedLine, Partitioned as PartitionedLine}
+use Rattle.larch_lines.specs.Acceptance.{Accepts, last_statement}
+use Rattle.larch_lines.specs.Context.{theory_of, find_line, find_symbol, innermost}
+use Rattle.larch_lines.specs.Decoding.{each, decode_equation}
+use Rattle.larch_lines.specs.Events.{PlainBox, Event, Said, Opened, Closed, State, start}
+use Rattle.larch_lines.specs.Run.{judge, happens, done_closes, box_opens, run, step}
+use Rattle.larch_derive.specs.declared.builder.Builder.{Builder}
+use Rattle.larch_derive.specs.declared.open_box.OpenBox.{OpenBox}
+use Rattle.larch_derive.specs.Builder.{shape_of}
+use Rattle.larch_derive.specs.OpenBox.{in_lines, naming}
+use Rattle.larch_derive.specs.Predicates.{shapes_of, operators_at, written, written_statement, SaysIn, HasStatement}
+use Rattle.larch_derive.proofs.Decoding.{known_plain, stays_in_lines}
+use Rattle.larch_derive.proofs.Runs.{mapped_some, run_count}
+
+-- ---- no box
+
+not_nothing : {X : Type 0} (xs : List X) (y : X) → xs ++ y ∷ [] ≡ [] → ⊥
+not_nothing [] y e = cc
+not_nothing (x ∷ xs) y e = cc
+
+none_open : (h : List Event) → shapes_of h ≡ [] → innermost h ≡ None
+none_open [] e = refl
+none_open (Said n s ∷ h) e = none_open h e
+none_open (Opened b ∷ h) e = absurd (not_nothing (shapes_of h) (b.number, b.parts) e)
+none_open (Closed b s ∷ h) e = none_open h e
+
+own_theory : (t : Theory) (h : List Event) → shapes_of h ≡ [] → theory_of t h ≡ t
+own_theory t [] e = refl
+own_theory t (Said n s ∷ h) e = own_theory t h e
+own_theory t (Opened b ∷ h) e = absurd (not_nothing (shapes_of h) (b.number, b.parts) e)
+own_theory t (Closed b s ∷ h) e = own_theory t h e
+
+-- ---- the last line
+
+-- lines that said something have at most a number
+abbrev SaidUpTo : ℕ → List Event → Type 0
+SaidUpTo c [] = Unit {0}
+SaidUpTo c (Said n s ∷ h) = (n ≤ c) × SaidUpTo c h
+SaidUpTo c (Opened b ∷ h) = SaidUpTo c h
+SaidUpTo c (Closed b s ∷ h) = SaidUpTo c h
+
+-- and the newest event is of the line with the number
+abbrev Ends : ℕ → List Event → Type 0
+Ends c [] = Unit {0}
+Ends c (Said n s ∷ h) = (n ≡ c) × SaidUpTo c h
+Ends c (Opened b ∷ h) = (0 < c) × SaidUpTo (c - 1) h
+Ends c (Closed b s ∷ h) = (0 < c) × SaidUpTo (c - 1) h
+
+up_later : (c d : ℕ) → c ≤ d → (h : List Event) → SaidUpTo c h → SaidUpTo d h
+up_later c d le [] g = tt
+up_later c d le (Said n s ∷ h) g = let a = g.0 in (omega (arith, a), up_later c d le h g.1)
+up_later c d le (Opened b ∷ h) g = up_later c d le h g
+up_later c d le (Closed b s ∷ h) g = up_later c d le h g
+
+ends_up : (c : ℕ) (h : List Event) → Ends c h → SaidUpTo c h
+ends_up c [] g = tt
+ends_up c (Said n s ∷ h) g = let a = g.0 in (omega (arith, a), g.1)
+ends_up c (Opened b ∷ h) g = up_later (c - 1) c (omega arith) h g.1
+ends_up c (Closed b s ∷ h) g = up_later (c - 1) c (omega arith) h g.1
+
+up_within : (c : ℕ) (h : List Event) (p : PlainBox × List Event) → innermost h ≡ Some p → SaidUpTo c h → SaidUpTo c p.1
+up_within c [] p e g = cc
+up_within c (Said n s ∷ h) p e g = up_within c h p e g.1
+up_within c (Opened b ∷ h) p e g = let q : (b, h) ≡ p = some_inj e in subst (λ r. SaidUpTo c r.1) q g
+up_within c (Closed b s ∷ h) p e g = up_within c h p e g
+
+ends_done : (c : ℕ) (h u : List Event) → done_closes h ≡ Some u → SaidUpTo c h → Ends (suc c) u
+ends_done c [] u e g = cc
+ends_done c (Said n s ∷ h) u e g =
+    mapped_some (λ p. Closed p.0 s ∷ p.1) (innermost h) u e
+    (λ p i q. subst (Ends (suc c)) q (omega arith, up_later c (suc c - 1) (omega arith) p.1 (up_within c h p i g.1)))
+ends_done c (Opened b ∷ h) u e g = cc
+ends_done c (Closed b s ∷ h) u e g = cc
+
+ends_said : (c : ℕ) (h u : List Event) (o : Option Statement) → option_map (λ s. Said (suc c) s ∷ h) o ≡ Some u
+    → SaidUpTo c h → Ends (suc c) u
+ends_said c h u o e g =
+    mapped_some (λ s. Said (suc c) s ∷ h) o u e
+    (λ s p q. subst (Ends (suc c)) q (refl, up_later c (suc c) (omega arith) h g))
+
+ends_opened : (t : Theory) (c : ℕ) (h u : List Event) (ps : List BoxPart) (es : List CodedEquation)
+    → box_opens t h (suc c) ps es ≡ Some u → SaidUpTo c h → Ends (suc c) u
+ends_opened t c h u ps es e g =
+    mapped_some (λ hs. Opened (record { number = suc c; parts = ps; hypotheses = hs }) ∷ h)
+    (each (decode_equation (find_symbol t (Opened (record { number = suc c; parts = ps; hypotheses = [] }) ∷ h))) es) u e
+    (λ hs p q. subst (Ends (suc c)) q (omega arith, up_later c (suc c - 1) (omega arith) h g))
+
+ends_happens : (t : Theory) (c : ℕ) (h u : List Event) (line : Line) → happens t h (suc c) line ≡ Some u
+    → SaidUpTo c h → Ends (suc c) u
+ends_happens t c h u (Axiom k) e g = ends_said c h u (judge t h (Axiom k)) e g
+ends_happens t c h u (Hyp b k) e g = ends_said c h u (judge t h (Hyp b k)) e g
+ends_happens t c h u (Row k z) e g = ends_said c h u (judge t h (Row k z)) e g
+ends_happens t c h u (Refl x) e g = ends_said c h u (judge t h (Refl x)) e g
+ends_happens t c h u (Sym m) e g = ends_said c h u (judge t h (Sym m)) e g
+ends_happens t c h u (Inst m bs) e g = ends_said c h u (judge t h (Inst m bs)) e g
+ends_happens t c h u (Repl m p k) e g = ends_said c h u (judge t h (Repl m p k)) e g
+ends_happens t c h u (Equal m) e g = ends_said c h u (judge t h (Equal m)) e g
+ends_happens t c h u (BoxLine ps es) e g = ends_opened t c h u ps es e g
+ends_happens t c h u Done e g = ends_done c h u e g
+ends_happens t c h u (Fresh b vs) e g = ends_said c h u (judge t h (Fresh b vs)) e g
+ends_happens t c h u (Cases b d) e g = ends_said c h u (judge t h (Cases b d)) e g
+ends_happens t c h u (Induct m x q bs) e g = ends_said c h u (judge t h (Induct m x q bs)) e g
+ends_happens t c h u (Observe m q ns) e g = ends_said c h u (judge t h (Observe m q ns)) e g
+ends_happens t c h u (GeneratedLine b z ks) e g = ends_said c h u (judge t h (GeneratedLine b z ks)) e g
+ends_happens t c h u (PartitionedLine b z ks) e g = ends_said c h u (judge t h (PartitionedLine b z ks)) e g
+
+ends_step : (t : Theory) (st u : State) (line : Line) → step t st line ≡ Some u → Ends st.count st.history
+    → Ends u.count u.history
+ends_step t st u line e g =
+    mapped_some (λ h. record { count = suc st.count; history = h }) (happens t st.history (suc st.count) line) u e
+    (λ h p q. subst (λ w. Ends w.count w.history) q
+    (ends_happens t st.count st.history h line p (ends_up st.count st.history g)))
+
+ends_run : (t : Theory) (ls : List Line) (st u : State) → run t st ls ≡ Some u → Ends st.count st.history
+    → Ends u.count u.history
+ends_run t [] st u e g = subst (λ w. Ends w.count w.history) (some_inj e) g
+ends_run t (x ∷ xs) st u e g =
+    option_and_then_some (λ w. run t w xs) (step t st x) u e
+    (λ v p q. ends_run t xs v u q (ends_step t st v x p g))
+
+other_number : (m n : ℕ) (x : Statement) (o : Option Statement) → m < n → cond (m == n) (Some x) o ≡ o
+other_number m n x o lt = grind arith
+
+none_above : (c n : ℕ) (h : List Event) → SaidUpTo c h → c < n → find_line h n ≡ None
+none_above c n [] g lt = refl
+none_above c n (Said m s ∷ h) g lt =
+    let a = g.0 in
+    let less : m < n = omega (arith, a, lt) in
+    other_number m n s (find_line h n) less ∙ none_above c n h g.1 lt
+none_above c n (Opened b ∷ h) g lt = none_above c n h g lt
+none_above c n (Closed b s ∷ h) g lt = none_above c n h g lt
+
+same_number : (m n : ℕ) (x : Statement) (o : Option Statement) → m ≡ n → cond (m == n) (Some x) o ≡ Some x
+same_number m n x o e = grind (arith, e)
+
+last_found : (c : ℕ) (h : List Event) (s : Statement) → Ends c h → find_line h c ≡ Some s → last_statement h ≡ Some s
+last_found c [] s g e = cc
+last_found c (Said n r ∷ h) s g e = sym (same_number n c r (find_line h c) g.0) ∙ e
+last_found c (Opened b ∷ h) s g e =
+    let a = g.0 in
+    let less : c - 1 < c = omega (arith, a) in
+    let n = none_above (c - 1) c h g.1 less in cc
+last_found c (Closed b r ∷ h) s g e =
+    let a = g.0 in
+    let less : c - 1 < c = omega (arith, a) in
+    let n = none_above (c - 1) c h g.1 less in cc
+
+-- ---- what is over a theory without open boxes is written as it stands
+
+plain_in_lines : (t : Theory) → HasPlainNames t → (f : PlainOperator) → IsKnown t.operators (in_lines [] f)
+    → in_lines [] f ≡ f
+plain_in_lines t p f w = let n = known_plain t p [] 0 [] f tt refl w in stays_in_lines [] f n.0 refl n.1
+
+mutual
+  plain_written : (t : Theory) → HasPlainNames t → (a : Tree) → IsOver t.operators (written [] a) → written [] a ≡ a
+  plain_written t p (var n s) w = refl
+  plain_written t p (app f ts) w =
+      λ i. app (plain_in_lines t p f w.0 i) (all_plain_written t p ts w.1 i)
+
+  all_plain_written : (t : Theory) → HasPlainNames t → (ts : Forest) → AllOver t.operators (renamed_all (naming []) ts)
+      → renamed_all (naming []) ts ≡ ts
+  all_plain_written t p none w = refl
+  all_plain_written t p (more a ts) w = λ i. more (plain_written t p a w.0 i) (all_plain_written t p ts w.1 i)
+
+plain_operators : (t : Theory) → HasPlainNames t → (P : PlainOperator → Type 0) → ((f : PlainOperator) → P f → IsKnown t.operators f)
+    → (fs : List PlainOperator) → All P (map (in_lines []) fs) → map (in_lines []) fs ≡ fs
+plain_operators t p P k [] w = refl
+plain_operators t p P k (f ∷ fs) w =
+    let here = k (in_lines [] f) (All-head P (in_lines [] f) (map (in_lines []) fs) w) in
+    λ i. plain_in_lines t p f here i ∷ plain_operators t p P k fs (All-tail P (in_lines [] f) (map (in_lines []) fs) w) i
+
+plain_statement : (t : Theory) → HasPlainNames t → (s : Statement) → IsStatementOver t.operators (written_statement [] s)
+    → written_statement [] s ≡ s
+plain_statement t p (Equation l r) w = λ i. Equation (plain_written t p l w.0.1 i) (plain_written t p r w.1.1 i)
+plain_statement t p (Generated s fs) w =
+    ap (Generated s) (plain_operators t p (λ g. IsKnown t.operators g × (g.range ≡ s)) (λ f q. q.0) fs w)
+plain_statement t p (Partitioned s fs) w =
+    ap (Partitioned s) (plain_operators t p (λ g. IsKnown t.operators g × Contains g.domain s) (λ f q. q.0) fs w)
+
+pub accepted : (b : Builder) (n : ℕ) (s : Statement) → HasStatement b n s → b.boxes ≡ [] → n ≡ length b.lines
+    → Accepts b.theory s b.lines
+unfolding HasStatement
+accepted b n s (st, x) e is =
+    let h : SaysIn b.theory [] b.lines st n s = subst (λ bs. SaysIn b.theory bs b.lines st n s) e x in
+    let count = run_count b.theory b.lines start st h.stand.runs in
+    let last : n ≡ st.count = omega (arith, count, is) in
+    let own = own_theory b.theory st.history h.stand.opened in
+    let same = plain_statement b.theory h.stand.plain s
+    (subst (λ u. IsStatementOver u.operators (written_statement [] s)) own h.over) in
+    record {
+      state = st;
+      none_bad = h.stand.runs;
+      closed = none_open st.history h.stand.opened;
+      last = last_found st.count st.history s (ends_run b.theory b.lines start st h.stand.runs tt)
+          (ap (find_line st.history) (sym last) ∙ h.says ∙ ap Some same);
+    }
