@@ -11,7 +11,7 @@ use Rattle.larch_lexer.specs.declared.token.Token.{Token}
 use Rattle.larch_fronts.specs.Claims.{Spells, tokens_of}
 use Rattle.larch_fronts.specs.declared.mark.Mark.{Mark}
 use Rattle.larch_raw.specs.RawTree.{RawTree, raw_forest}
-use Rattle.larch_raw.specs.Worded.{Worded, WordedDecl, WordedEquation, WordedItem, WordedRef, WordedSig, WordedTerm, WordedTerms, WordedTrait, WordedVar}
+use Rattle.larch_raw.specs.Worded.{Worded, WordedDecl, WordedEquation, WordedForm, WordedItem, WordedRef, WordedReference, WordedShorthand, WordedSig, WordedTerm, WordedTerms, WordedTrait, WordedVar}
 use Rattle.larch_raw.specs.declared.declared.RawDecl.{RawDecl}
 use Rattle.larch_raw.specs.declared.declared.RawForm.{RawForm}
 use Rattle.larch_raw.specs.declared.declared.RawOpRef.{RawOpRef}
@@ -220,7 +220,7 @@ decls_lettered : {r z : RawTrait} {i o : List Marked} → AreDecls r i o z → W
 decls_lettered no_declaration w h = (w, h)
 decls_lettered (another_declaration {r = r} {d = d} q more) w h =
     let x = decl_lettered q h in
-    decls_lettered more (w.0, All-push WordedDecl r.declarations d w.1 x.0, w.2) x.1
+    decls_lettered more (w.0, All-push WordedDecl r.declarations d w.1 x.0, w.2, w.3, w.4, w.5) x.1
 
 end_left : {i o : List Marked} → MayEnd i o → AllLettered i → AllLettered o
 end_left no_end h = h
@@ -247,17 +247,17 @@ items_lettered : {s : Bool} {b : Before} {r z : RawTrait} {i o : List Marked} �
 items_lettered no_item w h = (w, h)
 items_lettered (a_clause {r = r} {c = c} q more) w h =
     let x = clause_lettered q h in
-    items_lettered more (w.0, w.1, item_worded r c w x.0) x.1
+    items_lettered more (w.0, w.1, item_worded r c w x.0, w.3, w.4, w.5) x.1
 items_lettered (for_all {r = r} {e = e} q groups first es more) w h =
     let g = group_lettered q h.1 in
     let gs = groups_lettered groups g.0 g.1 in
     let x = equation_lettered first gs.1 in
     let y = equations_lettered es (All-push WordedEquation [] e (All-nil WordedEquation) x.0) x.1 in
-    items_lettered more (w.0, w.1, item_worded r _ w (gs.0, y.0)) y.1
+    items_lettered more (w.0, w.1, item_worded r _ w (gs.0, y.0), w.3, w.4, w.5) y.1
 items_lettered (without_variables {r = r} {e = e} first es more) w h =
     let x = equation_lettered first h in
     let y = equations_lettered es (All-push WordedEquation [] e (All-nil WordedEquation) x.0) x.1 in
-    items_lettered more (w.0, w.1, item_worded r _ w (All-nil WordedVar, y.0)) y.1
+    items_lettered more (w.0, w.1, item_worded r _ w (All-nil WordedVar, y.0), w.3, w.4, w.5) y.1
 
 assertions_lettered : {s : Bool} {r z : RawTrait} {i o : List Marked} → AreAssertions s r i o z → WordedTrait r → AllLettered i → WordedTrait z × AllLettered o
 assertions_lettered no_assertion w h = (w, h)
@@ -270,7 +270,7 @@ parts_lettered (introduced q more) w h = let x = decls_lettered q w h.1 in parts
 trait_lettered : {s : Bool} {i : List Marked} {z : RawTrait} → IsMarkedTrait s i z → AllLettered i → WordedTrait z
 trait_lettered (trait_of_parts q parts) h =
     let n = word_lettered q h in
-    (parts_lettered parts (n.0, All-nil WordedDecl, All-nil WordedItem) n.1.1.1).0
+    (parts_lettered parts (n.0, All-nil WordedDecl, All-nil WordedItem, All-nil WordedForm, All-nil WordedShorthand, All-nil WordedReference) n.1.1.1).0
 
 -- tokens
 

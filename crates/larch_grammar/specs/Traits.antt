@@ -26,7 +26,7 @@ use Rattle.larch_grammar.specs.Terms.{IsEquation}
 
 -- a trait of this name with nothing in it
 abbrev pub named : RawWord → RawTrait
-named name = record { name = name; declarations = []; items = [] }
+named name = record { name = name; formals = []; shorthands = []; references = []; declarations = []; items = [] }
 
 -- the trait with a declaration more
 abbrev pub with_declaration : RawTrait → RawDecl → RawTrait

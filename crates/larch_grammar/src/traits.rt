@@ -18,6 +18,9 @@ pub fn named(alloc: Global, name: RawWord) -> RawTrait
 {
     RawTrait {
         name,
+        formals: Sequence::new(alloc),
+        shorthands: Sequence::new(alloc),
+        references: Sequence::new(alloc),
         declarations: Sequence::new(alloc),
         items: Sequence::new(alloc),
     }
@@ -27,34 +30,18 @@ pub fn named(alloc: Global, name: RawWord) -> RawTrait
 pub fn with_declaration(raw: RawTrait, declaration: RawDecl) -> Result<RawTrait, Memory>
     ensures { IfOk result (λ more. more ≡ with_declaration raw declaration) }
 {
-    let RawTrait {
-        name,
-        mut declarations,
-        items,
-    } = raw;
-    declarations.push(declaration)?;
-    Ok(RawTrait {
-        name,
-        declarations,
-        items,
-    })
+    let mut raw = raw;
+    raw.declarations.push(declaration)?;
+    Ok(raw)
 }
 
 // The trait with an item more.
 fn with_item(raw: RawTrait, item: RawItem) -> Result<RawTrait, Memory>
     ensures { IfOk result (λ more. more ≡ with_item raw item) }
 {
-    let RawTrait {
-        name,
-        declarations,
-        mut items,
-    } = raw;
-    items.push(item)?;
-    Ok(RawTrait {
-        name,
-        declarations,
-        items,
-    })
+    let mut raw = raw;
+    raw.items.push(item)?;
+    Ok(raw)
 }
 
 /// The trait with these equations as an item more.

@@ -72,6 +72,9 @@ fn presented(
     let name = word(alloc, "T", 1)?;
     let raw = RawTrait {
         name,
+        formals: Sequence::new(alloc),
+        shorthands: Sequence::new(alloc),
+        references: Sequence::new(alloc),
         declarations,
         items,
     };

@@ -3,6 +3,7 @@ use Rattle.std.specs.Prelude.{IsTrue, Option, Some, None, All}
 use Rattle.larch_base.specs.Word.{is_word}
 use Rattle.larch_raw.specs.RawTree.{RawTree, RawForest, apply, qualified, no_more, one_more}
 use Rattle.larch_raw.specs.declared.declared.RawDecl.{RawDecl}
+use Rattle.larch_raw.specs.declared.declared.RawForm.{RawForm}
 use Rattle.larch_raw.specs.declared.declared.RawOpRef.{RawOpRef}
 use Rattle.larch_raw.specs.declared.declared.RawSig.{RawSig}
 use Rattle.larch_raw.specs.declared.declared.RawWord.{RawWord}
@@ -12,6 +13,12 @@ use Rattle.larch_raw.specs.declared.equation.RawItem.TheVariants.{Clause, Equati
 use Rattle.larch_raw.specs.declared.equation.RawRight.{RawRight}
 use Rattle.larch_raw.specs.declared.equation.RawTrait.{RawTrait}
 use Rattle.larch_raw.specs.declared.equation.RawVar.{RawVar}
+use Rattle.larch_raw.specs.declared.reference.RawActual.{RawActual}
+use Rattle.larch_raw.specs.declared.reference.RawActual.TheVariants.{Plain, Replace}
+use Rattle.larch_raw.specs.declared.reference.RawReference.{RawReference}
+use Rattle.larch_raw.specs.declared.shorthand.RawField.{RawField}
+use Rattle.larch_raw.specs.declared.shorthand.RawShorthand.{RawShorthand}
+use Rattle.larch_raw.specs.declared.shorthand.RawShorthand.TheVariants.{Enumeration, Tuple, Union}
 
 -- its text is a word
 abbrev pub Worded : RawWord → Type 0
@@ -63,6 +70,31 @@ abbrev pub WordedItem : RawItem → Type 0
 WordedItem (Clause kind sort references) = Worded sort × All WordedRef references
 WordedItem (Equations variables equations) = All WordedVar variables × All WordedEquation equations
 
--- the name of a trait, its sorts and its variables are words
+-- where it is a bare word its name is a word
+abbrev pub WordedForm : RawForm → Type 0
+WordedForm form = IsTrue form.word → IsTrue (is_word form.name)
+
+-- bare words of an actual are words, and so are its sorts
+abbrev pub WordedActual : RawActual → Type 0
+WordedActual (Plain form) = WordedForm form
+WordedActual (Replace new old sig) = WordedForm new × WordedForm old × WordedIfAny sig
+
+-- the trait's name is a word, and so are the bare words and the sorts of its actuals
+abbrev pub WordedReference : RawReference → Type 0
+WordedReference reference = Worded reference.target.name × All WordedActual reference.target.actuals
+
+-- a field and its sort are words
+abbrev pub WordedField : RawField → Type 0
+WordedField field = Worded field.name × Worded field.sort
+
+-- all that is written in a shorthand is words
+abbrev pub WordedShorthand : RawShorthand → Type 0
+WordedShorthand (Enumeration sort names) = Worded sort × All Worded names
+WordedShorthand (Tuple sort fields) = Worded sort × All WordedField fields
+WordedShorthand (Union sort fields) = Worded sort × All WordedField fields
+
+-- the name of a trait, its sorts and its variables are words; so is what it is composed of, where it isn't a symbol
 abbrev pub WordedTrait : RawTrait → Type 0
-WordedTrait raw = Worded raw.name × All WordedDecl raw.declarations × All WordedItem raw.items
+WordedTrait raw =
+    Worded raw.name × All WordedDecl raw.declarations × All WordedItem raw.items
+    × All WordedForm raw.formals × All WordedShorthand raw.shorthands × All WordedReference raw.references

@@ -1,6 +1,8 @@
 ghost use Rattle.std.specs.Prelude.{◌≡◌};
 
-use crate::declared::{RawDecls, RawOpRefs, RawWord};
+use crate::declared::{RawDecls, RawForms, RawOpRefs, RawWord};
+use crate::reference::RawReferences;
+use crate::shorthand::RawShorthands;
 use crate::term::RawTerm;
 use larch_base::{Name, Pos, Sequence};
 
@@ -57,6 +59,9 @@ pub type RawItems = Sequence<RawItem>;
 #[derive(Drop)]
 pub struct RawTrait {
     pub name: RawWord,
+    pub formals: RawForms,
+    pub shorthands: RawShorthands,
+    pub references: RawReferences,
     pub declarations: RawDecls,
     pub items: RawItems,
 }

@@ -5,6 +5,8 @@
 
 mod declared;
 mod equation;
+mod reference;
+mod shorthand;
 mod term;
 
 pub use declared::{
@@ -13,4 +15,6 @@ pub use declared::{
 pub use equation::{
     ClauseKind, RawEquation, RawEquations, RawItem, RawItems, RawRight, RawTrait, RawVar, RawVars,
 };
+pub use reference::{RawActual, RawActuals, RawRef, RawReference, RawReferences};
+pub use shorthand::{RawField, RawFields, RawShorthand, RawShorthands};
 pub use term::{RawNode, RawTerm, RawTerms};
