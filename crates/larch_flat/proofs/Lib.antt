@@ -1,0 +1,11 @@
+-- Lemmas.
+pub mod Agreement
+pub mod Closures
+pub mod Counting
+pub mod DeepEnough
+pub mod Depth
+pub mod Every
+pub mod Proper
+pub mod Sizes
+pub mod Sound
+pub mod Stated

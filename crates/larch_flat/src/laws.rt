@@ -1,0 +1,63 @@
+//! What holds of all flat traits, for crates above to cite. No function here does anything.
+ghost use Rattle.std.specs.Prelude.{◌≡◌, ◌≤◌, ℕ, suc, true, false, bytes_eq, length, List, All, [], ◌∷◌, Ok};
+ghost use Rattle.std.specs.Bool.{Decides};
+ghost use Rattle.std.specs.List.{list_any};
+ghost use Rattle.larch_raw.specs.declared.declared.RawForm.{RawForm};
+ghost use Rattle.larch_raw.specs.declared.equation.RawTrait.{RawTrait};
+ghost use Rattle.larch_raw.specs.declared.reference.RawRef.{RawRef};
+ghost use Rattle.larch_raw.specs.declared.reference.RawReference.{RawReference};
+ghost use Rattle.larch_renaming.specs.Renaming.{FitsSignatures, KeepsBuiltIns};
+ghost use Rattle.larch_term.specs.BuiltIn.{IsBuiltIn};
+ghost use Rattle.larch_term.specs.Operator.{PlainOperator};
+ghost use Rattle.larch_flat.specs.Files.{Files, Reaches, closure, is_there};
+ghost use Rattle.larch_flat.specs.Flat.{FlatTrait, flat, flat_by, take_flat, take_rest};
+ghost use Rattle.larch_flat.specs.Gathered.{Gathered, is_too_large};
+ghost use Rattle.larch_flat.specs.Laws.{AgreeFrom, AreAmong, IsKeptBy, IsTold, gathered_in};
+ghost use Rattle.larch_flat.specs.Replacements.{Replacements, new_operator, renaming, replacements_of};
+
+/// References that are followed deeper tell no other answer.
+pub fn deeper_tells_the_same()
+    ensures each { (n limit : ℕ) (files : Files) (name : List ℕ)
+        → IsKeptBy (flat_by n limit files name) (flat_by (suc n) (suc limit) files name) }
+    ensures flat { (limit : ℕ) (files : Files) (name : List ℕ)
+        → IsKeptBy (flat limit files name) (flat (suc limit) files name) }
+{}
+
+/// References that are followed as deep as there are files tell an answer.
+pub fn files_are_deep_enough()
+    ensures { (files : Files) (all : List (List ℕ)) → AreAmong files all → (limit : ℕ) → length all ≤ limit
+        → (name : List ℕ) → IsTold (flat limit files name) }
+{}
+
+/// A flat trait depends only on the files that its own leads to.
+pub fn reached_files_decide()
+    ensures each { (n limit : ℕ) (files other : Files) (name : List ℕ) → AgreeFrom files other name
+        → flat_by n limit files name ≡ flat_by n limit other name }
+    ensures flat { (limit : ℕ) (files other : Files) (name : List ℕ) → AgreeFrom files other name
+        → flat limit files name ≡ flat limit other name }
+{}
+
+/// What is taken for a cycle is one: a name of a file is among those that another one leads to exactly where it is
+/// reached from it.
+pub fn closure_is_what_is_reached()
+    ensures { (files : Files) (n : ℕ) (m name : List ℕ) (ms : List (List ℕ)) → closure files n (m ∷ []) ≡ Ok ms
+        → is_there files name ≡ true → Decides (list_any (bytes_eq name) ms) (Reaches files m name) }
+{}
+
+/// What a reference replaces is a renaming that fits signatures and leaves what is built in alone, and no operator
+/// becomes a built-in one by it.
+pub fn no_operator_becomes_built_in()
+    ensures fits { (by : Replacements) → FitsSignatures (renaming by) }
+    ensures keeps { (fs : List PlainOperator) (formals : List RawForm) (ref : RawRef) (by : Replacements)
+        → replacements_of fs formals ref ≡ Ok by → KeepsBuiltIns (renaming by) }
+    ensures own { (fs : List PlainOperator) (formals : List RawForm) (ref : RawRef) (by : Replacements)
+        → replacements_of fs formals ref ≡ Ok by → All (λ f. IsBuiltIn (new_operator by f) → ⊥) fs }
+{}
+
+/// What is gathered is within the limits after each reference, and so is each flat trait.
+pub fn sizes_are_bounded()
+    ensures reference { (r : RawReference) (g h : Gathered) (t : FlatTrait) → take_flat r g t ≡ Ok h
+        → is_too_large h ≡ false }
+    ensures rest { (raw : RawTrait) (g : Gathered) (t : FlatTrait) → take_rest raw g ≡ Ok t
+        → is_too_large (gathered_in t) ≡ false }
+{}
