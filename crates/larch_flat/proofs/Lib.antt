@@ -9,3 +9,4 @@ pub mod Proper
 pub mod Sizes
 pub mod Sound
 pub mod Stated
+pub mod Theory

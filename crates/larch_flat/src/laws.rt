@@ -9,10 +9,11 @@ ghost use Rattle.larch_raw.specs.declared.reference.RawReference.{RawReference};
 ghost use Rattle.larch_renaming.specs.Renaming.{FitsSignatures, KeepsBuiltIns};
 ghost use Rattle.larch_term.specs.BuiltIn.{IsBuiltIn};
 ghost use Rattle.larch_term.specs.Operator.{PlainOperator};
+ghost use Rattle.larch_term.specs.Statement.{IsTheory};
 ghost use Rattle.larch_flat.specs.Files.{Files, Reaches, closure, is_there};
-ghost use Rattle.larch_flat.specs.Flat.{FlatTrait, flat, flat_by, take_flat, take_rest};
+ghost use Rattle.larch_flat.specs.Flat.{FlatTrait, flat, flat_by, take_flat, take_rest, theory_of};
 ghost use Rattle.larch_flat.specs.Gathered.{Gathered, is_too_large};
-ghost use Rattle.larch_flat.specs.Laws.{AgreeFrom, AreAmong, IsKeptBy, IsTold, gathered_in};
+ghost use Rattle.larch_flat.specs.Laws.{AgreeFrom, AreAmong, AreWorded, IsKeptBy, IsStatedOver, IsTold, gathered_in};
 ghost use Rattle.larch_flat.specs.Replacements.{Replacements, new_operator, renaming, replacements_of};
 
 /// References that are followed deeper tell no other answer.
@@ -60,4 +61,19 @@ pub fn sizes_are_bounded()
         → is_too_large h ≡ false }
     ensures rest { (raw : RawTrait) (g : Gathered) (t : FlatTrait) → take_rest raw g ≡ Ok t
         → is_too_large (gathered_in t) ≡ false }
+{}
+
+/// The theory of a flat trait is a theory, where all files are written with words.
+pub fn flat_trait_is_a_theory()
+    ensures { (files : Files) → AreWorded files → (limit : ℕ) (name : List ℕ) (t : FlatTrait)
+        → flat limit files name ≡ Ok t → IsTheory (theory_of t) }
+{}
+
+/// Each statement of a flat trait, and each that is to be discharged, is well sorted over its operators; its clauses
+/// name these alone, and each sort in it is Bool or stands in one of them.
+pub fn flat_trait_names_its_own()
+    ensures stated { (files : Files) → AreWorded files → (limit : ℕ) (name : List ℕ) (t : FlatTrait)
+        → flat limit files name ≡ Ok t → All (IsStatedOver t.operators) (theory_of t).statements }
+    ensures discharge { (files : Files) → AreWorded files → (limit : ℕ) (name : List ℕ) (t : FlatTrait)
+        → flat limit files name ≡ Ok t → All (IsStatedOver t.operators) t.discharge }
 {}

@@ -1,1 +1,3 @@
 -- Lemmas.
+pub mod Expansions
+pub mod Fine

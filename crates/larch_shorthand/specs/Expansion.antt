@@ -1,7 +1,5 @@
 -- What a shorthand stands for.
-use Rattle.std.specs.Prelude.{List, ◌++◌}
-use Rattle.larch_term.specs.Operator.{PlainOperator}
-use Rattle.larch_term.specs.declared.statement.Statement.{Statement}
+use Rattle.std.specs.Prelude.{◌++◌}
 use Rattle.larch_shorthand.specs.declared.expansion.Expansion.{Expansion}
 
 -- one expansion behind another

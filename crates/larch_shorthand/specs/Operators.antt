@@ -1,5 +1,5 @@
 -- The operators that shorthands make, and terms of them.
-use Rattle.std.specs.Prelude.{ℕ, List, [], ◌∷◌}
+use Rattle.std.specs.Prelude.{ℕ, List}
 use Rattle.larch_term.specs.Operator.{PlainOperator, plain}
 use Rattle.larch_term.specs.Tree.{Tree, app, none, more}
 

@@ -2,10 +2,10 @@
 use Rattle.std.specs.Prelude.{ℕ, List, [], ◌∷◌, ◌++◌, map, codes}
 use Rattle.larch_raw.specs.declared.shorthand.RawField.{RawField}
 use Rattle.larch_term.specs.Operator.{PlainOperator}
-use Rattle.larch_term.specs.Tree.{Tree, var}
+use Rattle.larch_term.specs.Tree.{var}
 use Rattle.larch_term.specs.declared.statement.Statement.{Statement}
 use Rattle.larch_term.specs.declared.statement.Statement.TheVariants.{Equation, Generated, Partitioned}
-use Rattle.larch_shorthand.specs.Enumeration.{enumeration, enumeration_operators}
+use Rattle.larch_shorthand.specs.Enumeration.{enumeration}
 use Rattle.larch_shorthand.specs.Expansion.{joined}
 use Rattle.larch_shorthand.specs.Operators.{operator, constant, on}
 use Rattle.larch_shorthand.specs.Tuple.{getter}

@@ -4,6 +4,7 @@
 mod append;
 mod enumeration;
 mod expansion;
+pub mod laws;
 mod operators;
 mod refusal;
 mod shorthand;

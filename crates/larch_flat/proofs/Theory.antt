@@ -1,0 +1,161 @@
+-- A flat trait is sound.
+use Rattle.std.proofs.Common.{◌≡◌, refl, ℕ, zero, suc, Bool, true, false, not, List, [], ◌∷◌, ◌++◌, map, All, Contains, Option, Some, None, Result, Ok, Err, ap, sym, subst}
+use Rattle.std.specs.Prelude.{bytes_eq, filter, fold, if◌then◌else◌, is_none}
+use Rattle.std.specs.List.{list_any}
+use Rattle.std.proofs.lemmas.List.Elements.{All-nil, All-cons, All-head, All-map, All-push, All-tail, All-weaker}
+use Rattle.larch_base.specs.declared.code.Code.{Code}
+use Rattle.larch_base.specs.declared.code.Code.TheVariants.{Cycle, Size, TraitName, UnknownTrait}
+use Rattle.larch_base.specs.declared.fault.Fault.{Fault}
+use Rattle.larch_base.specs.declared.position.Pos.{Pos}
+use Rattle.larch_raw.specs.Worded.{WordedShorthand, WordedTrait}
+use Rattle.larch_raw.specs.declared.equation.RawTrait.{RawTrait}
+use Rattle.larch_raw.specs.declared.reference.RawReference.{RawReference}
+use Rattle.larch_raw.specs.declared.shorthand.RawShorthand.{RawShorthand}
+use Rattle.larch_term.specs.BuiltIn.{IsBuiltIn}
+use Rattle.larch_term.specs.Operator.{PlainOperator}
+use Rattle.larch_term.specs.Statement.{IsStatementOver, IsTheory}
+use Rattle.larch_term.specs.declared.statement.Statement.{Statement}
+use Rattle.larch_sorts.specs.Laws.{IsSortOf, StatementSorts}
+use Rattle.larch_items.specs.Declarations.{declared}
+use Rattle.larch_items.specs.Items.{items_state}
+use Rattle.larch_items.specs.Laws.{NamesOwn}
+use Rattle.larch_items.specs.Steps.{after, all_taken}
+use Rattle.larch_items.proofs.Kept.{Any, after_was, all_any, kept, ok_inj}
+use Rattle.larch_items.proofs.Stated.{declared_own, items_are}
+use Rattle.larch_shorthand.specs.Shorthand.{expand}
+use Rattle.larch_shorthand.specs.declared.expansion.Expansion.{Expansion}
+use Rattle.larch_flat.specs.Files.{Files, closure, target}
+use Rattle.larch_flat.specs.Flat.{FlatTrait, finished, flat, flat_by, flat_file, referred, take_flat, take_items, take_new, take_own, take_reference, take_rest, take_shorthand, take_told, theory_of, with_renamed, within}
+use Rattle.larch_flat.specs.Gathered.{Gathered, Marked, is_too_large, new_among, nothing, stands_in, statements_in, with_asserted, with_new, with_operator, with_operators}
+use Rattle.larch_flat.specs.Laws.{AreWorded, IsSound, IsStatedOver, gathered_in}
+use Rattle.larch_flat.specs.Replacements.{new_operator, replacements_of}
+use Rattle.larch_flat.specs.Stops.{Refused, Stop, TooDeep, refused_if, stopped_if, surely}
+use Rattle.larch_shorthand.proofs.Expansions.{expansion_own, expansion_stated}
+use Rattle.larch_flat.proofs.Proper.{proper_keeps, refused_if_was, replacements_proper}
+use Rattle.larch_flat.proofs.Sound.{operators_come, sound_asserted, sound_nothing, sound_operators, sound_renamed}
+use Rattle.larch_flat.proofs.Stated.{stated_more}
+
+stopped_if_was : {A : Type 0} (code : Code) (pos : Pos) (b : Bool) (next : Result A Stop) (x : A) → stopped_if code pos b next ≡ Ok x → next ≡ Ok x
+stopped_if_was code pos true next x e = cc
+stopped_if_was code pos false next x e = e
+
+surely_was : {A : Type 0} (a : Result A Fault) (x : A) → surely a ≡ Ok x → a ≡ Ok x
+surely_was (Ok y) x e = ap Ok (ok_inj e)
+surely_was (Err f) x e = cc
+
+referred_was : (pos : Pos) (a : Result FlatTrait Stop) (x : FlatTrait) → referred pos a ≡ Ok x → a ≡ Ok x
+referred_was pos (Ok y) x e = e
+referred_was pos (Err (Refused f)) x e = cc
+referred_was pos (Err TooDeep) x e = cc
+
+sound_flat : (r : RawReference) (g h : Gathered) (t : FlatTrait) → IsSound (gathered_in t) → take_flat r g t ≡ Ok h → IsSound g → IsSound h
+sound_flat r g h t i e k =
+    let p = after_was (replacements_of t.operators t.raw.formals r.target) (λ by. within r.target.name.pos (with_renamed r.assumed t by g)) h e in
+    let proper = replacements_proper t.operators t.raw.formals r.target p.0 p.1 in
+    let q = refused_if_was Size r.target.name.pos (is_too_large (with_renamed r.assumed t p.0 g)) (Ok (with_renamed r.assumed t p.0 g)) h p.2 in
+    subst IsSound (ok_inj q.1) (sound_renamed r.assumed t p.0 g (proper_keeps p.0 proper.0) proper.1 i.marked k)
+
+sound_reference : (limit : ℕ) (files : Files) (name : List ℕ) (next : List ℕ → Result FlatTrait Stop) → ((m : List ℕ) (t : FlatTrait) → next m ≡ Ok t → IsSound (gathered_in t))
+    → (r : RawReference) (g h : Gathered) → take_reference limit files name next r g ≡ Ok h → IsSound g → IsSound h
+sound_reference limit files name next k r g h e i =
+    let m : List ℕ = target r in let pos : Pos = r.target.name.pos in
+    let a = stopped_if_was UnknownTrait pos (is_none (files m)) (after (closure files limit (m ∷ [])) (take_new name r g (next m))) h e in
+    let b = after_was (closure files limit (m ∷ [])) (take_new name r g (next m)) h a in
+    let c = stopped_if_was Cycle pos (list_any (bytes_eq name) b.0) (take_told r g (next m)) h b.2 in
+    let d = after_was (referred pos (next m)) (λ t. surely (take_flat r g t)) h c in
+    sound_flat r g h d.0 (k m d.0 (referred_was pos (next m) d.0 d.1)) (surely_was (take_flat r g d.0) h d.2) i
+
+sound_shorthand : (s : RawShorthand) (g h : Gathered) → WordedShorthand s → take_shorthand s g ≡ Ok h → IsSound g → IsSound h
+sound_shorthand s g h w e i =
+    let p = after_was (expand s) (λ x. Ok (with_asserted x.statements (with_operators x.operators g))) h e in
+    let x : Expansion = p.0 in
+    let fs : List PlainOperator = fold with_operator g.operators x.operators in
+    subst IsSound (ok_inj p.2)
+    (sound_asserted fs x.statements (with_operators x.operators g) refl
+      (All-weaker (IsStatedOver x.operators) (IsStatedOver fs) (stated_more x.operators fs (operators_come x.operators g.operators)) x.statements (expansion_stated s x p.1))
+      (sound_operators x.operators g (expansion_own s x w p.1) i))
+
+sound_items : (raw : RawTrait) (g h : Gathered) → take_items raw g ≡ Ok h → IsSound g → IsSound h
+sound_items raw g h e i =
+    let p = after_was (items_state g.operators raw.items) (λ ss. Ok (with_asserted ss g)) h e in
+    subst IsSound (ok_inj p.2) (sound_asserted g.operators p.0 g refl (items_are g.operators raw.items p.0 p.1) i)
+
+sound_own : (raw : RawTrait) (g h : Gathered) → take_own raw g ≡ Ok h → IsSound g → IsSound h
+sound_own raw g h e i =
+    let p = after_was (declared raw.declarations) (λ fs. take_items raw (with_operators fs g)) h e in
+    sound_items raw (with_operators p.0 g) h p.2 (sound_operators p.0 g (declared_own raw.declarations p.0 p.1) i)
+
+new_by : (P : Statement → Type 0) (ss : List Statement) (s : Statement) (b : Bool) → All P ss → P s → All P (if b then ss else (ss ++ s ∷ []))
+new_by P ss s true a p = a
+new_by P ss s false a p = All-push P ss s a p
+
+all_new : (P : Statement → Type 0) (ss known : List Statement) → All P known → All P ss → All P (fold with_new known ss)
+all_new P [] known k a = k
+all_new P (s ∷ ss) known k a = all_new P ss (with_new known s) (new_by P known s (stands_in known s) k (All-head P s ss a)) (All-tail P s ss a)
+
+left_by : (P : Statement → Type 0) (s : Statement) (ss : List Statement) (b : Bool) → P s → All P ss → All P (if b then (s ∷ ss) else ss)
+left_by P s ss true p a = All-cons P s ss p a
+left_by P s ss false p a = a
+
+all_left : (P : Statement → Type 0) (test : Statement → Bool) (ss : List Statement) → All P ss → All P (filter test ss)
+all_left P test [] a = a
+all_left P test (s ∷ ss) a = left_by P s (filter test ss) (test s) (All-head P s ss a) (all_left P test ss (All-tail P s ss a))
+
+sound_finished : (raw : RawTrait) (g : Gathered) → IsSound g → IsSound (gathered_in (finished raw g))
+sound_finished raw g i =
+    record {
+      different = i.different;
+      own = i.own;
+      marked = i.marked;
+      discharge =
+        all_new (IsStatedOver g.operators) (filter (λ s. not (stands_in (statements_in g.marked) s)) g.discharge) [] (All-nil (IsStatedOver g.operators))
+        (all_left (IsStatedOver g.operators) (λ s. not (stands_in (statements_in g.marked) s)) g.discharge i.discharge) }
+
+sound_rest : (raw : RawTrait) (g : Gathered) (t : FlatTrait) → WordedTrait raw → take_rest raw g ≡ Ok t → IsSound g → IsSound (gathered_in t)
+sound_rest raw g t w e i =
+    let p = after_was (all_taken take_shorthand raw.shorthands g) (λ h. after (take_own raw h) (λ j. after (within raw.name.pos j) (λ k. Ok (finished raw k)))) t e in
+    let q = after_was (take_own raw p.0) (λ j. after (within raw.name.pos j) (λ k. Ok (finished raw k))) t p.2 in
+    let s = after_was (within raw.name.pos q.0) (λ k. Ok (finished raw k)) t q.2 in
+    let same = (refused_if_was Size raw.name.pos (is_too_large q.0) (Ok q.0) s.0 s.1).1 in
+    let shorts = kept take_shorthand WordedShorthand IsSound (λ x b c v n k. sound_shorthand x b c v n k) raw.shorthands g p.0 w.4 p.1 i in
+    subst (λ u. IsSound (gathered_in u)) (ok_inj s.2) (sound_finished raw s.0 (subst IsSound (ok_inj same) (sound_own raw p.0 q.0 q.1 shorts)))
+
+sound_text : (limit : ℕ) (files : Files) (name : List ℕ) (next : List ℕ → Result FlatTrait Stop) → ((m : List ℕ) (t : FlatTrait) → next m ≡ Ok t → IsSound (gathered_in t))
+    → (text : Option (Result RawTrait Fault)) → ((raw : RawTrait) → text ≡ Some (Ok raw) → WordedTrait raw) → (t : FlatTrait) → flat_file limit files name next text ≡ Ok t
+    → IsSound (gathered_in t)
+sound_text limit files name next k None w t e = cc
+sound_text limit files name next k (Some (Err f)) w t e = cc
+sound_text limit files name next k (Some (Ok raw)) w t e =
+    let all : Result Gathered Stop = all_taken (take_reference limit files name next) raw.references nothing in
+    let a = stopped_if_was TraitName raw.name.pos (not (bytes_eq raw.name.name name)) (after all (λ g. surely (take_rest raw g))) t e in
+    let b = after_was all (λ g. surely (take_rest raw g)) t a in
+    sound_rest raw b.0 t (w raw refl) (surely_was (take_rest raw b.0) t b.2)
+    (kept (take_reference limit files name next) Any IsSound (λ r g h _ d i. sound_reference limit files name next k r g h d i) raw.references nothing b.0 (all_any raw.references)
+      b.1 sound_nothing)
+
+pub sound_by : (files : Files) → AreWorded files → (n limit : ℕ) (name : List ℕ) (t : FlatTrait) → flat_by n limit files name ≡ Ok t → IsSound (gathered_in t)
+sound_by files w zero limit name t e = cc
+sound_by files w (suc n) limit name t e =
+    sound_text limit files name (λ m. flat_by n limit files m) (λ m u d. sound_by files w n limit m u d) (files name) (w name) t e
+
+pub flat_sound : (files : Files) → AreWorded files → (limit : ℕ) (name : List ℕ) (t : FlatTrait) → flat limit files name ≡ Ok t → IsSound (gathered_in t)
+unfolding flat
+flat_sound files w limit name t e = sound_by files w (suc limit) (suc limit) name t e
+
+pub flat_theory : (files : Files) → AreWorded files → (limit : ℕ) (name : List ℕ) (t : FlatTrait) → flat limit files name ≡ Ok t → IsTheory (theory_of t)
+flat_theory files w limit name t e =
+    let i = flat_sound files w limit name t e in
+    record {
+      different = i.different;
+      own = i.own;
+      well_sorted =
+        All-map (IsStatementOver t.operators) (λ m. m.statement) t.marked
+        (All-weaker (λ m. IsStatedOver t.operators m.statement) (λ m. IsStatementOver t.operators m.statement) (λ m s. s.0) t.marked i.marked) }
+
+pub flat_stated : (files : Files) → AreWorded files → (limit : ℕ) (name : List ℕ) (t : FlatTrait) → flat limit files name ≡ Ok t
+    → All (IsStatedOver t.operators) (theory_of t).statements
+flat_stated files w limit name t e = All-map (IsStatedOver t.operators) (λ m. m.statement) t.marked (flat_sound files w limit name t e).marked
+
+pub flat_discharge : (files : Files) → AreWorded files → (limit : ℕ) (name : List ℕ) (t : FlatTrait) → flat limit files name ≡ Ok t
+    → All (IsStatedOver t.operators) t.discharge
+flat_discharge files w limit name t e = (flat_sound files w limit name t e).discharge
