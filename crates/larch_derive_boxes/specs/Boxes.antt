@@ -1,0 +1,100 @@
+-- What is known of boxes: that one was opened, what may be supposed in it, and what is left of it when it is closed. As
+-- with the predicates of builders, nobody above looks into these.
+use Rattle.std.specs.Prelude.{◌≡◌, ◌≤◌, ℕ, suc, List, [], ◌∷◌, ◌++◌, map, length, All, Some}
+use Rattle.larch_term.specs.Operator.{PlainOperator}
+use Rattle.larch_term.specs.Tree.{Tree}
+use Rattle.larch_term.specs.Statement.{IsStatementOver}
+use Rattle.larch_term.specs.declared.statement.Statement.{Statement}
+use Rattle.larch_term.specs.declared.statement.Statement.TheVariants.{Equation, Generated, Partitioned}
+use Rattle.larch_term.specs.declared.statement.Theory.{Theory}
+use Rattle.larch_certificate.specs.declared.line.Line.{Line}
+use Rattle.larch_certificate.specs.declared.line.Line.TheVariants.{Inst, Done}
+use Rattle.larch_lines.specs.Context.{theory_of, find_open, find_closed}
+use Rattle.larch_lines.specs.Events.{PlainBox, Event, Opened, State, start}
+use Rattle.larch_lines.specs.Run.{run}
+use Rattle.larch_derive.specs.declared.builder.Builder.{Builder}
+use Rattle.larch_derive.specs.declared.open_box.OpenBox.{OpenBox}
+use Rattle.larch_derive.specs.Builder.{IsPushed, part_for}
+use Rattle.larch_derive.specs.Predicates.{AreOthers, operators_at, written_statement, StandIn, Stands, HasStatement, Grows}
+
+-- the box that lines open for this one
+abbrev pub box_of : OpenBox → List Statement → PlainBox
+box_of x hs = record { number = x.number; parts = map part_for x.constants; hypotheses = hs }
+
+-- the operators where it is open besides others
+abbrev pub operators_inside : Theory → List Event → OpenBox → List PlainOperator
+operators_inside t h x = (theory_of t (Opened (box_of x []) ∷ h)).operators
+
+-- the statement is an equation
+abbrev pub IsEquation : Statement → Type 0
+IsEquation (Equation l r) = Unit {0}
+IsEquation (Generated s fs) = ⊥
+IsEquation (Partitioned s fs) = ⊥
+
+-- the statement may be supposed in the box: it is an equation that is well sorted there
+pub record MaySupposeIn (t : Theory) (bs : List OpenBox) (ls : List Line) (st : State) (x : OpenBox) (s : Statement) : Type 0 where
+  pub stand : StandIn t bs ls st
+  pub equation : IsEquation s
+  pub over : IsStatementOver (operators_inside t st.history x) (written_statement (bs ++ x ∷ []) s)
+
+unfoldable pub MaySuppose : Builder → OpenBox → Statement → Type 0
+MaySuppose b x s = (st : State) × MaySupposeIn b.theory b.boxes b.lines st x s
+
+-- the second list of lines has one line more, which opens the box
+pub record OpensIn (t : Theory) (bs : List OpenBox) (ls ks : List Line) (x : OpenBox) (hs : List Statement) : Type 0 where
+  pub line : Line
+  pub lines : ks ≡ ls ++ line ∷ []
+  pub number : x.number ≡ suc (length ls)
+  pub others : AreOthers t x.constants
+  pub leads : (st : State) → run t start ls ≡ Some st → run t st (line ∷ []) ≡ Some (record {
+    count = suc st.count;
+    history = Opened (box_of x (map (written_statement (bs ++ x ∷ [])) hs)) ∷ st.history;
+  })
+  pub over : (st : State) → run t start ls ≡ Some st
+      → All (λ s. IsStatementOver (operators_inside t st.history x) (written_statement (bs ++ x ∷ []) s)) hs
+
+-- the second builder has opened the box besides the first one's lines, with these hypotheses, and no line is bad
+pub record OpensOn (a b : Builder) (x : OpenBox) (hs : List Statement) : Type 0 where
+  pub stands : (st : State) × StandIn a.theory a.boxes a.lines st
+  pub theory : b.theory ≡ a.theory
+  pub boxes : b.boxes ≡ a.boxes ++ x ∷ []
+  pub box : OpensIn a.theory a.boxes a.lines b.lines x hs
+
+unfoldable pub Opens : Builder → Builder → OpenBox → List Statement → Type 0
+Opens a b x hs = OpensOn a b x hs
+
+-- the box is open, and these are its hypotheses
+pub record IsOpenIn (t : Theory) (bs : List OpenBox) (ls : List Line) (st : State) (x : OpenBox) (hs : List Statement) : Type 0 where
+  pub stand : StandIn t bs ls st
+  pub found : find_open st.history x.number ≡ Some (box_of x (map (written_statement bs) hs))
+  pub within : x.number ≤ st.count
+  pub over : All (λ s. IsStatementOver (operators_at t st) (written_statement bs s)) hs
+
+unfoldable pub IsOpen : Builder → OpenBox → List Statement → Type 0
+IsOpen b x hs = (st : State) × IsOpenIn b.theory b.boxes b.lines st x hs
+
+-- the box is closed, directly where the builder stands, and its result is the statement
+pub record ResultIn (t : Theory) (bs : List OpenBox) (ls : List Line) (st : State) (x : OpenBox) (hs : List Statement) (s : Statement) : Type 0 where
+  pub stand : StandIn t bs ls st
+  pub result : find_closed st.history x.number
+      ≡ Some (box_of x (map (written_statement (bs ++ x ∷ [])) hs), written_statement (bs ++ x ∷ []) s)
+  pub within : x.number ≤ st.count
+  pub over : IsStatementOver (operators_inside t st.history x) (written_statement (bs ++ x ∷ []) s)
+  pub supposed : All (λ h. IsStatementOver (operators_inside t st.history x) (written_statement (bs ++ x ∷ []) h)) hs
+
+unfoldable pub HasResult : Builder → OpenBox → List Statement → Statement → Type 0
+HasResult b x hs s = (st : State) × ResultIn b.theory b.boxes b.lines st x hs s
+
+-- the steps from before a box is opened to behind its end: opened, grown inside, the result said once more, closed
+pub record Closes (a d : Builder) (x : OpenBox) (hs : List Statement) (l r : Tree) : Type 0 where
+  pub inside : Builder
+  pub grown : Builder
+  pub again : Builder
+  pub line : ℕ
+  pub first : ℕ
+  pub last : ℕ
+  pub opens : Opens a inside x hs
+  pub grows : Grows inside grown
+  pub says : HasStatement grown line (Equation l r)
+  pub repeats : IsPushed grown again (Inst line []) first
+  pub closes : IsPushed again d Done last
