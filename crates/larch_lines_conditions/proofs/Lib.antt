@@ -1,0 +1,1 @@
+-- No lemmas: each contract is answered by what the definitions compute and by the laws below.
