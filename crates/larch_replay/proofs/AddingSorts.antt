@@ -39,10 +39,10 @@ AreAllOver fs es = (e : Sides) → Contains es e → AreSidesOver fs e
 
 -- ---- terms that every theory has
 
-truth_over : (fs : List PlainOperator) → IsTermOver fs truth
+pub truth_over : (fs : List PlainOperator) → IsTermOver fs truth
 truth_over fs = ((refl, tt), (inr (True, (bool_sort, refl)), tt))
 
-falsity_over : (fs : List PlainOperator) → IsTermOver fs falsity
+pub falsity_over : (fs : List PlainOperator) → IsTermOver fs falsity
 falsity_over fs = ((refl, tt), (inr (False, (bool_sort, refl)), tt))
 
 -- ---- what follows from an equation
@@ -171,14 +171,14 @@ deduced_over fs e found h q = by_value (is_value e.right) q
 flipped_over : (fs : List PlainOperator) (e : Sides) → AreSidesOver fs e → AreSidesOver fs (flipped e)
 flipped_over fs e h = (h.1, h.0, sym h.2)
 
-equality_over : (fs : List PlainOperator) (e : Sides) → AreSidesOver fs e
+pub equality_over : (fs : List PlainOperator) (e : Sides) → AreSidesOver fs e
     → IsTermOver fs (equality (sort_of e.left) e.left e.right)
 equality_over fs e h = (
   (ap (λ s. sort_of e.left ∷ s ∷ []) (sym h.2), (h.0.0, (h.1.0, tt))),
   (inr (Equal, (sort_of e.left, refl)), (h.0.1, (h.1.1, tt))),
 )
 
-equivalence_over : (fs : List PlainOperator) (e : Sides) → AreSidesOver fs e → sort_of e.left ≡ bool_sort
+pub equivalence_over : (fs : List PlainOperator) (e : Sides) → AreSidesOver fs e → sort_of e.left ≡ bool_sort
     → IsTermOver fs (equivalence e.left e.right)
 equivalence_over fs e h s = (
   (ap₂ (λ p q. p ∷ q ∷ []) s (sym h.2 ∙ s), (h.0.0, (h.1.0, tt))),

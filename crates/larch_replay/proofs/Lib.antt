@@ -3,3 +3,4 @@ pub mod Blocks
 pub mod Positions
 pub mod Redone
 pub mod AddingSorts
+pub mod PlanSorts

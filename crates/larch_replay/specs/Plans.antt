@@ -1,12 +1,12 @@
 -- What the methods make of a goal: new constants, and subgoals.
-use Rattle.std.specs.Prelude.{ℕ, suc, ◌==◌, Bool, true, false, if◌then◌else◌, List, [], ◌∷◌, ◌++◌, map, bytes_eq, codes, Option, Some, None, option_map, Result, Ok, Err, find}
+use Rattle.std.specs.Prelude.{◌≡◌, ℕ, suc, ◌==◌, Bool, true, false, if◌then◌else◌, All, Contains, List, [], ◌∷◌, ◌++◌, map, bytes_eq, codes, Option, Some, None, option_map, Result, Ok, Err, find}
 use Rattle.larch_base.specs.declared.code.Code.{Code}
 use Rattle.larch_base.specs.declared.code.Code.TheVariants as refusal
 use Rattle.larch_term.specs.Operator.{PlainOperator, name_bytes}
 use Rattle.larch_term.specs.Tree.{Tree, Forest, var, app, none, more}
 use Rattle.larch_term.specs.BuiltIn.{bool_sort, built_in, is_built_in_as}
 use Rattle.larch_term.specs.Equality.{same_operator}
-use Rattle.larch_term.specs.Sorts.{sort_of}
+use Rattle.larch_term.specs.Sorts.{sort_of, IsTermOver}
 use Rattle.larch_term.specs.Truth.{truth}
 use Rattle.larch_term.specs.Variable.{variables_of}
 use Rattle.larch_term.specs.Substitution.{substituted}
@@ -18,7 +18,7 @@ use Rattle.larch_calculus.specs.Formula.{falsity, constant, formula}
 use Rattle.larch_calculus.specs.Freed.{constants_for}
 use Rattle.larch_calculus.specs.Generation.{only, constant_terms}
 use Rattle.larch_calculus.specs.Observation.{Observation, observations_of}
-use Rattle.larch_normal_forms.specs.Sides.{Sides}
+use Rattle.larch_normal_forms.specs.Sides.{Sides, AreSidesOver}
 use Rattle.larch_replay.specs.NewNames.{new_constants, variable_names}
 
 -- a subgoal: its own constants, its hypotheses and its goal
@@ -232,3 +232,25 @@ plan setting goal Conjunction = found_or refusal.Shape (conjunction_plan goal)
 plan setting goal Contradiction = Ok (contradiction_plan setting.taken goal)
 plan setting goal (Induction n) = induction_plan setting goal n
 plan setting goal Partition = partition_plan setting goal
+
+-- a well sorted formula over operators
+abbrev pub IsFormulaOver : List PlainOperator → Tree → Type 0
+IsFormulaOver fs t = IsTermOver fs t × (sort_of t ≡ bool_sort)
+
+-- what a method is carried out with is well sorted over operators
+abbrev pub IsMethodOver : List PlainOperator → Method → Type 0
+IsMethodOver fs (Cases f) = IsFormulaOver fs f
+IsMethodOver fs Implication = Unit {0}
+IsMethodOver fs Conjunction = Unit {0}
+IsMethodOver fs Contradiction = Unit {0}
+IsMethodOver fs (Induction n) = Unit {0}
+IsMethodOver fs Partition = Unit {0}
+
+-- a subgoal is well sorted over operators
+abbrev pub IsSubgoalOver : List PlainOperator → Subgoal → Type 0
+IsSubgoalOver fs s = All (AreSidesOver fs) s.hypotheses × IsFormulaOver fs s.goal
+
+-- each subgoal of a plan is well sorted over operators, the plan's constants and its own
+abbrev pub IsPlanOver : List PlainOperator → Plan → Type 0
+IsPlanOver fs made =
+    (s : Subgoal) → Contains made.subgoals s → IsSubgoalOver (fs ++ (made.constants ++ s.constants)) s

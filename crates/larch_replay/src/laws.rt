@@ -1,8 +1,10 @@
 //! What holds of all replays, for crates above to cite. No function here does anything.
-ghost use Rattle.std.specs.Prelude.{◌≡◌, ◌<◌, ◌≤◌, ◌+◌, ◌++◌, ℕ, false, List, Option, length, sum_by, bytes_eq, All};
+ghost use Rattle.std.specs.Prelude.{◌≡◌, ◌<◌, ◌≤◌, ◌+◌, ◌++◌, ℕ, false, List, Option, length, sum_by, bytes_eq, All, Ok};
 ghost use Rattle.std.specs.List.{list_any, AllPairs};
 ghost use Rattle.larch_raw.specs.declared.equation.RawEquation.{RawEquation};
 ghost use Rattle.larch_term.specs.Operator.{PlainOperator};
+ghost use Rattle.larch_term.specs.Statement.{IsStatementOver};
+ghost use Rattle.larch_term.specs.Tree.{Tree};
 ghost use Rattle.larch_items.specs.Steps.{after};
 ghost use Rattle.larch_sorts.specs.Read.{read_equation, read_term};
 ghost use Rattle.larch_sorts.specs.Scope.{Variables};
@@ -12,6 +14,7 @@ ghost use Rattle.larch_replay.specs.Facts.{Adding, Facts, add};
 ghost use Rattle.larch_replay.specs.Commands.{Command, placed_equation, unplaced_equation};
 ghost use Rattle.larch_replay.specs.Levels.{Proof};
 ghost use Rattle.larch_replay.specs.NewNames.{free_name};
+ghost use Rattle.larch_replay.specs.Plans.{IsFormulaOver, IsMethodOver, IsPlanOver, Method, Plan, Setting, plan};
 ghost use Rattle.larch_replay.specs.Redo.{Replayed, is_of_one, redo};
 ghost use Rattle.larch_replay.specs.Replays.{all_stepped};
 ghost use Rattle.larch_replay.specs.Steps.{read_or};
@@ -54,4 +57,12 @@ pub fn adding_keeps_sorts()
     ensures { (fs : List PlainOperator) (how : Adding) (e : Sides) (facts : Facts) (b : ℕ) (made : Facts) (r : ℕ)
         → All (λ fact. AreSidesOver fs fact.sides) facts.rules → AreSidesOver fs e → add how e facts b ≡ Made made r
         → All (λ fact. AreSidesOver fs fact.sides) made.rules }
+{}
+
+/// Where the clauses, a goal and what a method is carried out with are well sorted over operators, each subgoal of its
+/// plan is so over these, the plan's constants and its own.
+pub fn plans_keep_sorts()
+    ensures { (fs : List PlainOperator) (setting : Setting) (goal : Tree) (method : Method) (made : Plan)
+        → All (IsStatementOver fs) setting.clauses → IsFormulaOver fs goal → IsMethodOver fs method
+        → plan setting goal method ≡ Ok made → IsPlanOver fs made }
 {}
