@@ -1,2 +1,6 @@
 -- Lemmas.
 pub mod Asking
+pub mod Kept
+pub mod Meaning
+pub mod Solving
+pub mod Unifying

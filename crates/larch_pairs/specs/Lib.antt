@@ -1,4 +1,5 @@
 pub mod Demand
+pub mod Overlap
 pub mod Pairs
 pub mod Refusals
-pub mod Unify
+pub mod Unifier

@@ -9,23 +9,22 @@ use Rattle.larch_term.specs.Tree.{Tree, Forest, var, app, none, more}
 use Rattle.larch_term.specs.Variable.{occurrences, with_variable}
 use Rattle.larch_term.specs.declared.substitution.Entry.{Entry}
 use Rattle.larch_term.specs.declared.variable.Variable.{Variable}
-use Rattle.larch_pairs.specs.Unify.{Oversize, a_term_is_too_large, entries_under, is_large, unify, variables_of_both}
+use Rattle.larch_pairs.specs.Unifier.{Oversize, a_term_is_too_large, entries_under, is_large, unify, variables_of_both}
 use Rattle.larch_pairs.specs.declared.pair.Rule.{Rule}
 use Rattle.larch_pairs.specs.declared.pair.Pair.{Pair}
+use Rattle.larch_pairs.specs.declared.pair.Apart.{Apart}
 
--- variables with the terms that a function gives them
-abbrev pub assigned : (Variable → Tree) → List Variable → List Entry
-assigned f = map (λ v. record { name = v.name; sort = v.sort; term = f v })
+-- what gives each variable of a rule one byte more at the end of its name
+abbrev pub marking : ℕ → Rule → List Entry
+marking mark r =
+    map (λ v. record { name = v.name; sort = v.sort; term = var (v.name ++ mark ∷ []) v.sort })
+    (variables_of_both r.left r.right)
 
--- the variable with one byte more at the end of its name
-abbrev pub marked : ℕ → Variable → Tree
-marked mark v = var (v.name ++ mark ∷ []) v.sort
-
--- the rule with its variables marked: rules with different marks have no variable in common
-abbrev pub apart : ℕ → Rule → Rule
+-- the rule with its variables marked, and what marks them: rules with different marks have no variable in common
+abbrev pub apart : ℕ → Rule → Apart
 apart mark r =
-    let es = assigned (marked mark) (variables_of_both r.left r.right) in
-    record { left = substituted es r.left; right = substituted es r.right }
+    let by = marking mark r in
+    record { rule = record { left = substituted by r.left; right = substituted by r.right }; by = by }
 
 abbrev mutual
   -- the places of a term at which no variable stands, each before those below it, from left to right
@@ -38,14 +37,14 @@ abbrev mutual
   inner_places_from k none = []
   inner_places_from k (more t ts) = map (λ p. suc k ∷ p) (inner_places t) ++ inner_places_from (suc k) ts
 
--- the pair that a unifier makes, before its variables get their names
-abbrev pub raw_pair : Rule → Rule → List ℕ → List Entry → Pair
+-- the pair that a unifier makes at a place, before its variables get their names
+abbrev pub raw_pair : Apart → Apart → List ℕ → List Entry → Pair
 raw_pair one two p u = record {
-  left = substituted u (put (apart 1 one).left p (apart 2 two).right);
-  right = substituted u (apart 1 one).right;
+  left = substituted u (put one.rule.left p two.rule.right);
+  right = substituted u one.rule.right;
   place = p;
-  first = assigned (λ v. substituted u (marked 1 v)) (variables_of_both one.left one.right);
-  second = assigned (λ v. substituted u (marked 2 v)) (variables_of_both two.left two.right);
+  first = entries_under u one.by;
+  second = entries_under u two.by;
 }
 
 -- the variables of a pair, in the order in which each occurs first: in its left side, its right side, and then in the
@@ -70,20 +69,22 @@ pair_under es q = record {
   second = entries_under es q.second;
 }
 
--- the pair with its variables named, unless a side has more than 5,000 nodes
-abbrev pub named_pair : Pair → Result (Option Pair) Oversize
-named_pair q =
-    if is_large q.left || is_large q.right then Err a_term_is_too_large
-    else Ok (Some (pair_under (numbered 1 (pair_variables q)) q))
+-- the pair with its variables named
+abbrev pub named : Pair → Pair
+named q = pair_under (numbered 1 (pair_variables q)) q
+
+-- the pair, unless a side has more than 5,000 nodes
+abbrev pub pair_within : Pair → Result Pair Oversize
+pair_within q = if is_large q.left || is_large q.right then Err a_term_is_too_large else Ok q
 
 -- the pair at a place of the first rule's left side, if a unifier makes one
-unfoldable pub pair_at : Rule → Rule → List ℕ → Result (Option Pair) Oversize
-pair_at one two p = elim (at (apart 1 one).left p) [
+unfoldable pub pair_at : Apart → Apart → List ℕ → Result (Option Pair) Oversize
+pair_at one two p = elim (at one.rule.left p) [
   | None ↦ Ok None
-  | Some t ↦ elim (unify t (apart 2 two).left) [
+  | Some t ↦ elim (unify t two.rule.left) [
     | Err e ↦ Err e
     | Ok None ↦ Ok None
-    | Ok (Some u) ↦ named_pair (raw_pair one two p u)
+    | Ok (Some u) ↦ elim (pair_within (raw_pair one two p u)) [ Err e ↦ Err e | Ok q ↦ Ok (Some (named q)) ]
   ]
 ]
 
@@ -93,7 +94,7 @@ with_pair found None = found
 with_pair found (Some q) = found ++ q ∷ []
 
 -- pairs and those at places behind them, in order
-abbrev pub with_pairs_at : Rule → Rule → List Pair → List (List ℕ) → Result (List Pair) Oversize
+abbrev pub with_pairs_at : Apart → Apart → List Pair → List (List ℕ) → Result (List Pair) Oversize
 with_pairs_at one two found [] = Ok found
 with_pairs_at one two found (p ∷ ps) = elim (pair_at one two p) [
   | Err e ↦ Err e
@@ -102,5 +103,7 @@ with_pairs_at one two found (p ∷ ps) = elim (pair_at one two p) [
 
 -- the critical pairs of the second rule's left side in the first one's, the root left out where both are one rule
 unfoldable pub critical_pairs : Rule → Rule → Bool → Result (List Pair) Oversize
-critical_pairs one two are_one =
-    let places = inner_places one.left in with_pairs_at one two [] (if are_one then drop 1 places else places)
+critical_pairs r q are_one =
+    let one = apart 1 r in
+    let places = inner_places one.rule.left in
+    with_pairs_at one (apart 2 q) [] (if are_one then drop 1 places else places)

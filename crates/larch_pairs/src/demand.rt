@@ -126,7 +126,7 @@ fn bind(alloc: Global, name: &Name, sort: &Sort, term: &Term) -> Result<Demand, 
 // Whether a variable occurs in a term.
 #[cycle(occurs)]
 #[tactic(auto, using(larch_term::specs::Tree::nodes_all_is_sum))]
-pub(crate) fn occurs(term: &Term, name: &Name, sort: &Sort) -> bool
+fn occurs(term: &Term, name: &Name, sort: &Sort) -> bool
     ensures { result ≡ occurs (record { name = name.now; sort = sort.now }) term.now }
 {
     match term.node() {

@@ -4,9 +4,11 @@
 #![tactic(auto)]
 
 mod demand;
+pub mod laws;
 mod pair;
 mod refusal;
-mod unify;
+mod unifier;
 
 pub use pair::{Pair, Pairs, Place, Rule};
 pub use refusal::PairRefusal;
+pub use unifier::unify;

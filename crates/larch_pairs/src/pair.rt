@@ -28,3 +28,10 @@ pub struct Pair {
 
 /// Several critical pairs, in order.
 pub type Pairs = Sequence<Pair>;
+
+// A rule whose variables are marked, and what marks them.
+#[derive(Drop)]
+pub(crate) struct Apart {
+    pub(crate) rule: Rule,
+    pub(crate) by: Substitution,
+}

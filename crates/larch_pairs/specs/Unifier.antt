@@ -36,6 +36,10 @@ extended v t bs = entries_under (entry v t ∷ []) bs ++ entry v t ∷ []
 abbrev pub is_large : Tree → Bool
 is_large t = nat_lt 5_000 (nodes t)
 
+-- the term, unless it has more than 5,000 nodes
+abbrev pub within : Tree → Result Tree Oversize
+within t = if is_large t then Err a_term_is_too_large else Ok t
+
 -- whether a side of an equation or a bound term has more than 5,000 nodes
 abbrev pub some_large : List Sides → List Entry → Bool
 some_large es bs = list_any (λ e. is_large e.left || is_large e.right) es || list_any (λ b. is_large b.term) bs

@@ -1,0 +1,13 @@
+-- What the sides of a critical pair come from.
+use Rattle.std.specs.Prelude.{◌≡◌, Some}
+use Rattle.larch_term.specs.Place.{at, put}
+use Rattle.larch_term.specs.Substitution.{substituted}
+use Rattle.larch_pairs.specs.declared.pair.Pair.{Pair}
+use Rattle.larch_pairs.specs.declared.pair.Rule.{Rule}
+
+-- in the first rule's left side the second one's left side stands at the pair's place, each under its substitution; the
+-- pair's sides are what the second rule makes of it there, and what the first one makes of it at the root
+pub record Overlaps (one two : Rule) (q : Pair) : Type 0 where
+  pub stands : at (substituted q.first one.left) q.place ≡ Some (substituted q.second two.left)
+  pub left : q.left ≡ put (substituted q.first one.left) q.place (substituted q.second two.right)
+  pub right : q.right ≡ substituted q.first one.right

@@ -1,0 +1,38 @@
+//! What holds of the definitions, for crates above to cite. No function here does anything.
+ghost use Rattle.std.specs.Prelude.{◌≡◌, ◌≤◌, ℕ, List, [], length, AllPairs, Ok, Some, None, false};
+ghost use Rattle.larch_term.specs.Substitution.{is_entry_of, substituted};
+ghost use Rattle.larch_term.specs.Tree.{Tree};
+ghost use Rattle.larch_term.specs.declared.substitution.Entry.{Entry};
+ghost use Rattle.larch_pairs.specs.Demand.{demand};
+ghost use Rattle.larch_pairs.specs.Unifier.{unify, unify_from, variables_of_both};
+ghost use Rattle.larch_pairs.specs.declared.demand.Demand.TheVariants.{Nothing};
+
+/// A unifier that is answered makes both terms one, done once or twice, and binds no variable twice.
+pub fn unifiers_unify()
+    ensures unifies { (t u : Tree) (r : List Entry) → unify t u ≡ Ok (Some r) → substituted r t ≡ substituted r u }
+    ensures once { (t u : Tree) (r : List Entry) → unify t u ≡ Ok (Some r) → (x : Tree)
+        → substituted r (substituted r x) ≡ substituted r x }
+    ensures different { (t u : Tree) (r : List Entry) → unify t u ≡ Ok (Some r)
+        → AllPairs (λ d e. is_entry_of e.name e.sort d ≡ false) r }
+{}
+
+/// Each other substitution that makes both terms one is an instance of the answered one.
+pub fn unifiers_are_most_general()
+    ensures { (t u : Tree) (r es : List Entry) → unify t u ≡ Ok (Some r) → substituted es t ≡ substituted es u
+        → (x : Tree) → substituted es (substituted r x) ≡ substituted es x }
+{}
+
+/// Where no unifier is answered, no substitution makes both terms one.
+pub fn no_unifier_exists()
+    ensures { (t u : Tree) (es : List Entry) → unify t u ≡ Ok None → substituted es t ≡ substituted es u → ⊥ }
+{}
+
+/// Equal terms ask for nothing: their equation is dropped.
+pub fn equal_sides_are_dropped()
+    ensures { (t : Tree) → demand t t ≡ Nothing }
+{}
+
+/// More rounds than there are variables answer the same: unification ends of itself.
+pub fn rounds_suffice()
+    ensures { (t u : Tree) (n : ℕ) → length (variables_of_both t u) ≤ n → unify_from n (demand t u) [] ≡ unify t u }
+{}
