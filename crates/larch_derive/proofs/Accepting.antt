@@ -1,6 +1,6 @@
 -- What the last line says where no box is open is what the certificate is accepted for.
-use Rattle.std.proofs.Common.{◌≡◌, ◌≤◌, ◌<◌, ◌+◌, ◌-◌, ◌==◌, ℕ, suc, Bool, true, false, cond, List, [], ◌∷◌, ◌++◌, map, length, All, Contains, Option, Some, None, refl, sym, ◌∙◌, ap, subst, arith}
-use Rattle.std.specs.Option.{option_map, option_and_then}
+use Rattle.std.proofs.Common.{◌≡◌, ◌≤◌, ◌<◌, ◌-◌, ◌==◌, ℕ, suc, cond, List, [], ◌∷◌, ◌++◌, map, length, All, Contains, Option, Some, None, refl, sym, ◌∙◌, ap, subst, arith}
+use Rattle.std.specs.Option.{option_map}
 use Rattle.std.proofs.lemmas.Option.{option_and_then_some}
 use Rattle.std.proofs.lemmas.List.Elements.{All-head, All-tail}
 use Rattle.larch_base.proofs.Options.{some_inj}
@@ -23,10 +23,8 @@ use Rattle.larch_lines.specs.Decoding.{each, decode_equation}
 use Rattle.larch_lines.specs.Events.{PlainBox, Event, Said, Opened, Closed, State, start}
 use Rattle.larch_lines.specs.Run.{judge, happens, done_closes, box_opens, run, step}
 use Rattle.larch_derive.specs.declared.builder.Builder.{Builder}
-use Rattle.larch_derive.specs.declared.open_box.OpenBox.{OpenBox}
-use Rattle.larch_derive.specs.Builder.{shape_of}
 use Rattle.larch_derive.specs.OpenBox.{in_lines, naming}
-use Rattle.larch_derive.specs.Predicates.{shapes_of, operators_at, written, written_statement, SaysIn, HasStatement}
+use Rattle.larch_derive.specs.Predicates.{shapes_of, written, written_statement, SaysIn, HasStatement}
 use Rattle.larch_derive.proofs.Decoding.{known_plain, stays_in_lines}
 use Rattle.larch_derive.proofs.Runs.{mapped_some, run_count}
 

@@ -11,7 +11,7 @@ use Rattle.larch_tables.specs.Row.{numbered}
 use Rattle.larch_certificate.specs.declared.symbol.Symbol.TheVariants.{Own}
 use Rattle.larch_derive.specs.OpenBox.{place_from, constant_of}
 use Rattle.larch_term.specs.Operator.{PlainOperator}
-use Rattle.larch_term.specs.Tree.{Tree, Forest, forest_of}
+use Rattle.larch_term.specs.Tree.{Tree, forest_of}
 use Rattle.larch_term.specs.declared.statement.Statement.{Statement}
 use Rattle.larch_term.specs.declared.statement.Statement.TheVariants.{Equation, Generated, Partitioned}
 use Rattle.larch_certificate.specs.Coded.{CodedTree, coded_forest_of}

@@ -1,18 +1,16 @@
 -- What is written of a term means the term.
-use Rattle.std.proofs.Common.{◌≡◌, ◌≤◌, ◌<◌, ◌+◌, ◌-◌, ◌==◌, ◌⊎◌, inl, inr, ℕ, zero, suc, Bool, true, false, cond, List, [], ◌∷◌, ◌++◌, length, get_or, All, Contains, Option, Some, None, bytes_eq, refl, sym, ◌∙◌, ap, ap₂, subst, arith}
+use Rattle.std.proofs.Common.{◌≡◌, ◌≤◌, ◌<◌, ◌-◌, ◌==◌, inl, inr, ℕ, suc, Bool, true, false, cond, List, [], ◌∷◌, Contains, Option, Some, None, bytes_eq, refl, sym, ◌∙◌, ap, ap₂, subst, arith}
 use Rattle.std.specs.Option.{option_map, option_and_then}
 use Rattle.std.specs.Cmp.Lexicographic.{pointwise}
 use Rattle.std.specs.List.{slice_get}
 use Rattle.std.proofs.lemmas.List.Elements.{All-contains}
 use Rattle.std.proofs.lemmas.Bool.{cond-true}
 use Rattle.larch_base.proofs.Members.{contains_either, contains_cases, contains_none}
-use Rattle.larch_base.proofs.Options.{some_inj}
-use Rattle.larch_term.specs.BuiltIn.{IsBuiltIn, IsBuiltInAs, built_in, bool_sort}
+use Rattle.larch_term.specs.BuiltIn.{IsBuiltIn, built_in, bool_sort}
 use Rattle.larch_term.specs.Operator.{OperatorName, PlainOperator, plain, boxed}
 use Rattle.larch_term.specs.OperatorKey.{sorts_Decides}
-use Rattle.larch_term.specs.Sorts.{sort_of, sorts_of, WellSorted, AllWellSorted, IsKnown, IsOver, AllOver, IsTermOver}
+use Rattle.larch_term.specs.Sorts.{sorts_of, AllWellSorted, IsKnown, AllOver, IsTermOver}
 use Rattle.larch_term.specs.Tree.{Tree, Forest, var, app, none, more}
-use Rattle.larch_term.specs.declared.statement.Statement.{Statement}
 use Rattle.larch_term.specs.declared.statement.Theory.{Theory}
 use Rattle.larch_term.proofs.BuiltIns.{is_built_in_at_last}
 use Rattle.larch_renaming.specs.Renaming.{renamed, renamed_all}
@@ -22,7 +20,7 @@ use Rattle.larch_certificate.specs.declared.line.BoxPart.{BoxPart}
 use Rattle.larch_certificate.specs.declared.symbol.Symbol.{Symbol}
 use Rattle.larch_certificate.specs.declared.symbol.Symbol.TheVariants.{Own, Constant, BuiltIn}
 use Rattle.larch_tables.specs.Row.{numbered}
-use Rattle.larch_lines.specs.Context.{theory_of, find_open, find_symbol, last_sort}
+use Rattle.larch_lines.specs.Context.{theory_of, find_open, find_symbol}
 use Rattle.larch_lines.specs.Decoding.{decode, decode_all, applied_to}
 use Rattle.larch_lines.specs.Events.{PlainBox, Event, Said, Opened, Closed, operators_of, operators_from, part_operator}
 use Rattle.larch_derive.specs.Coding.{IsSymbolOf, IsCodeOf, AreCodesOf}

@@ -1,10 +1,8 @@
 -- Growth: what was said stays said, and what grows twice grows.
-use Rattle.std.proofs.Common.{◌≡◌, ◌≤◌, ◌<◌, ◌+◌, ◌==◌, ℕ, suc, Bool, true, false, cond, List, [], ◌∷◌, ◌++◌, map, length, All, Option, Some, None, refl, sym, ◌∙◌, ap, subst, arith}
-use Rattle.std.specs.Option.{option_map, option_and_then}
+use Rattle.std.proofs.Common.{◌≡◌, ◌≤◌, ◌<◌, ◌==◌, ℕ, cond, List, [], ◌∷◌, ◌++◌, map, All, Option, Some, None, refl, sym, ◌∙◌, ap, subst, arith}
+use Rattle.std.specs.Option.{option_and_then}
 use Rattle.std.proofs.lemmas.List.{append_assoc, append-nil}
 use Rattle.std.proofs.lemmas.List.Elements.{All-nil, All-append, All-head, All-tail, All-weaker}
-use Rattle.larch_base.proofs.Options.{some_inj}
-use Rattle.larch_term.specs.Operator.{PlainOperator}
 use Rattle.larch_term.specs.Sorts.{IsTermOver}
 use Rattle.larch_term.specs.Statement.{IsStatementOver}
 use Rattle.larch_term.specs.Tree.{Tree}
@@ -18,7 +16,7 @@ use Rattle.larch_lines.specs.Run.{run, step}
 use Rattle.larch_derive.specs.declared.builder.Builder.{Builder}
 use Rattle.larch_derive.specs.declared.open_box.OpenBox.{OpenBox}
 use Rattle.larch_derive.specs.Builder.{shape_of}
-use Rattle.larch_derive.specs.Predicates.{shapes_of, operators_at, written, written_statement, StandIn, KnownIn, SaysIn, Stands, Known, HasStatement, IsSaidBehind, IsBehind, LeadsOn, GrowsBy, AreAlike, Extends, Grows}
+use Rattle.larch_derive.specs.Predicates.{shapes_of, written, written_statement, StandIn, KnownIn, SaysIn, Stands, Known, HasStatement, IsSaidBehind, IsBehind, LeadsOn, GrowsBy, AreAlike, Extends, Grows}
 
 -- ---- events behind
 
@@ -281,3 +279,7 @@ known_stands a t (st, h) = (st, h.stand)
 pub said_stands : (a : Builder) (n : ℕ) (s : Statement) → HasStatement a n s → Stands a
 unfolding HasStatement Stands
 said_stands a n s (st, h) = (st, h.stand)
+
+pub grows_alike : (a b : Builder) → Grows a b → (b.theory ≡ a.theory) × (b.boxes ≡ a.boxes)
+unfolding Grows
+grows_alike a b x = (x.0.theory, x.0.boxes)

@@ -1,15 +1,13 @@
 -- Lines that say something: what they say, and that they extend a builder.
-use Rattle.std.proofs.Common.{◌≡◌, ◌≤◌, ◌<◌, ◌+◌, ◌==◌, ℕ, zero, suc, Bool, true, false, cond, List, [], ◌∷◌, ◌++◌, length, All, Option, Some, None, refl, sym, ◌∙◌, ap, ap₂, subst, arith}
+use Rattle.std.proofs.Common.{◌≡◌, ◌==◌, ℕ, suc, false, cond, List, [], ◌∷◌, Option, Some, None, refl, sym, ◌∙◌, ap, subst, arith}
 use Rattle.std.specs.Option.{option_map, option_map_or, option_and_then}
 use Rattle.std.proofs.lemmas.Bool.{cond-true}
 use Rattle.larch_base.proofs.Options.{some_inj}
 use Rattle.larch_term.specs.Equality.{same_tree}
 use Rattle.larch_term.proofs.Decided.{tree_Decides}
-use Rattle.larch_term.specs.Operator.{PlainOperator}
 use Rattle.larch_term.specs.Place.{at, put}
-use Rattle.larch_term.specs.Sorts.{sort_of, IsTermOver}
 use Rattle.larch_term.specs.Statement.{IsStatementOver}
-use Rattle.larch_term.specs.Tree.{Tree, var, app}
+use Rattle.larch_term.specs.Tree.{Tree}
 use Rattle.larch_term.specs.declared.statement.Statement.{Statement}
 use Rattle.larch_term.specs.declared.statement.Statement.TheVariants.{Equation}
 use Rattle.larch_term.specs.declared.statement.Theory.{Theory}
@@ -19,16 +17,16 @@ use Rattle.larch_renaming.proofs.Renamed.{at_renamed, renamed_put}
 use Rattle.larch_certificate.specs.Coded.{CodedTree}
 use Rattle.larch_certificate.specs.declared.line.Line.{Line}
 use Rattle.larch_certificate.specs.declared.line.Line.TheVariants.{Refl, Sym, Repl}
-use Rattle.larch_lines.specs.Context.{theory_of, find_line, find_symbol}
+use Rattle.larch_lines.specs.Context.{find_line, find_symbol}
 use Rattle.larch_lines.specs.Decoding.{decode}
-use Rattle.larch_lines.specs.Events.{Event, Said, State, start}
+use Rattle.larch_lines.specs.Events.{State, start}
 use Rattle.larch_lines.specs.Rules.{exchanged, replaced, stands_at}
 use Rattle.larch_lines.specs.Run.{judge, run}
 use Rattle.larch_derive.specs.declared.builder.Builder.{Builder}
 use Rattle.larch_derive.specs.declared.open_box.OpenBox.{OpenBox}
 use Rattle.larch_derive.specs.Builder.{IsPushed, IsCodeIn}
 use Rattle.larch_derive.specs.OpenBox.{naming}
-use Rattle.larch_derive.specs.Predicates.{operators_at, written, written_statement, StandIn, KnownIn, SaysIn, Known, HasStatement, IsSaidBehind, LeadsOn, GrowsBy, AreAlike, Extends}
+use Rattle.larch_derive.specs.Predicates.{operators_at, written, written_statement, StandIn, KnownIn, SaysIn, Known, HasStatement, IsSaidBehind, LeadsOn, AreAlike, Extends}
 use Rattle.larch_derive.proofs.Growth.{carried, run_further}
 use Rattle.larch_derive.proofs.Runs.{after_saying, run_said, run_count, leads_said, still_open_said, down_run}
 use Rattle.larch_derive.proofs.Decoding.{written_means}

@@ -1,5 +1,5 @@
 -- Runs: a line that says something, how many lines there were, and the numbers of open boxes.
-use Rattle.std.proofs.Common.{◌≡◌, ◌≤◌, ◌<◌, ◌+◌, ◌-◌, ℕ, zero, suc, List, [], ◌∷◌, ◌++◌, length, Option, Some, None, refl, sym, ◌∙◌, ap, subst, arith}
+use Rattle.std.proofs.Common.{◌≡◌, ◌≤◌, ◌<◌, ◌+◌, ◌-◌, ℕ, suc, List, [], ◌∷◌, length, Option, Some, None, refl, sym, ◌∙◌, ap, subst, arith}
 use Rattle.std.specs.Option.{option_map, option_and_then}
 use Rattle.std.proofs.lemmas.Option.{option_and_then_some}
 use Rattle.std.proofs.lemmas.List.Elements.{All-nil, All-cons}
@@ -12,7 +12,7 @@ use Rattle.larch_certificate.specs.declared.line.Line.{Line}
 use Rattle.larch_certificate.specs.declared.line.Line.TheVariants.{Axiom, Hyp, Row, Refl, Sym, Inst, Repl, Equal, BoxLine, Done, Fresh, Cases, Induct, Observe, Generated, Partitioned}
 use Rattle.larch_lines.specs.Context.{find_symbol, innermost}
 use Rattle.larch_lines.specs.Decoding.{each, decode_equation}
-use Rattle.larch_lines.specs.Events.{PlainBox, Event, Said, Opened, Closed, State, start}
+use Rattle.larch_lines.specs.Events.{PlainBox, Event, Said, Opened, Closed, State}
 use Rattle.larch_lines.specs.Run.{judge, happens, done_closes, box_opens, run, step}
 use Rattle.larch_derive.specs.Builder.{still_open}
 use Rattle.larch_derive.specs.Predicates.{IsSaidBehind, LeadsOn}

@@ -10,8 +10,7 @@ use Rattle.larch_renaming.specs.Renaming.{unchanged}
 use Rattle.larch_renaming.proofs.Renamed.{renamed_alike_over, renamed_unchanged}
 use Rattle.larch_calculus.specs.Renaming.{HasPlainNames, IsPlainName}
 use Rattle.larch_calculus.proofs.Sorted.{term_over_more}
-use Rattle.larch_lines.specs.Context.{theory_of}
-use Rattle.larch_lines.specs.Events.{State, start}
+use Rattle.larch_lines.specs.Events.{start}
 use Rattle.larch_lines.specs.Run.{run}
 use Rattle.larch_derive.specs.declared.builder.Builder.{Builder}
 use Rattle.larch_derive.specs.Builder.{IsEmpty, shape_of}

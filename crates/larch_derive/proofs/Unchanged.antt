@@ -1,10 +1,10 @@
 -- What a theory states is written in lines as it stands.
-use Rattle.std.proofs.Common.{◌≡◌, ◌⊎◌, inl, inr, ℕ, suc, Bool, true, false, cond, List, [], ◌∷◌, ◌++◌, All, Contains, Option, Some, None, refl, sym, ◌∙◌, ap, subst}
+use Rattle.std.proofs.Common.{◌≡◌, inl, inr, ℕ, suc, Bool, true, false, List, [], ◌∷◌, All, Contains, Some, None, refl, ◌∙◌, ap, subst}
 use Rattle.std.specs.Option.{option_map, option_or}
 use Rattle.std.proofs.lemmas.Bool.{cond-false}
 use Rattle.std.proofs.lemmas.List.Elements.{All-head, All-tail, All-contains}
 use Rattle.larch_base.proofs.Members.{contains_here, contains_later, contains_left}
-use Rattle.larch_term.specs.BuiltIn.{IsBuiltIn, built_in_name}
+use Rattle.larch_term.specs.BuiltIn.{built_in_name}
 use Rattle.larch_term.specs.Operator.{OperatorName, PlainOperator, plain, boxed}
 use Rattle.larch_term.specs.OperatorKey.{same_operator, operator_Decides}
 use Rattle.larch_term.specs.Sorts.{IsKnown}

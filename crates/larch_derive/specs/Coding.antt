@@ -1,5 +1,5 @@
 -- How terms are written in lines.
-use Rattle.std.specs.Prelude.{◌≡◌, ℕ, List, [], ◌∷◌, Contains, Some, None}
+use Rattle.std.specs.Prelude.{◌≡◌, List, [], ◌∷◌, Contains, Some, None}
 use Rattle.larch_term.specs.BuiltIn.{IsBuiltIn, IsBuiltInAs}
 use Rattle.larch_term.specs.Operator.{PlainOperator}
 use Rattle.larch_term.specs.Tree.{Tree, Forest, var, app, none, more}

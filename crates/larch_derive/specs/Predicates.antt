@@ -1,6 +1,6 @@
 -- What is known of a builder: what its lines say, which terms can be written, and how it grows. Above the crates of the
 -- builder nobody looks into these: their laws are enough.
-use Rattle.std.specs.Prelude.{◌≡◌, ◌≤◌, ◌<◌, ℕ, suc, List, [], ◌∷◌, ◌++◌, map, All, Option, Some}
+use Rattle.std.specs.Prelude.{◌≡◌, ◌≤◌, ◌<◌, ℕ, List, [], ◌∷◌, ◌++◌, map, All, Some}
 use Rattle.larch_term.specs.Operator.{PlainOperator}
 use Rattle.larch_term.specs.Sorts.{IsKnown, IsTermOver}
 use Rattle.larch_term.specs.Statement.{IsStatementOver}
@@ -13,7 +13,7 @@ use Rattle.larch_calculus.specs.Renaming.{HasPlainNames}
 use Rattle.larch_certificate.specs.declared.line.BoxPart.{BoxPart}
 use Rattle.larch_certificate.specs.declared.line.Line.{Line}
 use Rattle.larch_lines.specs.Context.{theory_of, find_line}
-use Rattle.larch_lines.specs.Events.{Event, Said, Opened, Closed, PlainBox, State, start}
+use Rattle.larch_lines.specs.Events.{Event, Said, Opened, Closed, State, start}
 use Rattle.larch_lines.specs.Run.{run}
 use Rattle.larch_derive.specs.declared.builder.Builder.{Builder}
 use Rattle.larch_derive.specs.declared.open_box.OpenBox.{OpenBox}

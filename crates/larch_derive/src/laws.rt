@@ -24,6 +24,7 @@ pub fn growing()
     ensures same { (a b : Builder) → b ≡ a → Grows a b }
     ensures further { (a b c : Builder) → Grows a b → Grows b c → Grows a c }
     ensures extended { (a b : Builder) → Extends a b → Grows a b }
+    ensures alike { (a b : Builder) → Grows a b → (theory_in b ≡ theory_in a) × (boxes_in b ≡ boxes_in a) }
 {}
 
 /// What was said stays said, what was known stays known, and no line turns bad.

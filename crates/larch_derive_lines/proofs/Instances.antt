@@ -1,23 +1,19 @@
 -- Lines that say an equation with its variables replaced.
-use Rattle.std.proofs.Common.{◌≡◌, ◌<◌, ◌+◌, ℕ, Bool, true, false, cond, List, [], ◌∷◌, ◌++◌, map, length, take, get_or, All, Option, Some, None, bytes_eq, refl, sym, ◌∙◌, ap, ap₂, subst, arith}
+use Rattle.std.proofs.Common.{◌≡◌, ◌<◌, ◌+◌, ℕ, true, List, [], ◌∷◌, ◌++◌, map, length, take, get_or, All, Some, None, bytes_eq, refl, sym, ◌∙◌, ap, ap₂, subst}
 use Rattle.std.specs.Option.{option_map, option_and_then}
 use Rattle.std.proofs.lemmas.Bool.{cond-true}
 use Rattle.std.proofs.lemmas.List.{take_more}
 use Rattle.std.proofs.lemmas.List.Elements.{All-head, All-tail, All-map, All-weaker}
 use Rattle.std.proofs.lemmas.Slice.Eq.{bytes_eq-Decides}
-use Rattle.larch_base.proofs.Options.{some_inj}
-use Rattle.larch_term.specs.Operator.{PlainOperator}
 use Rattle.larch_term.specs.Sorts.{sort_of, WellSorted, IsOver, IsTermOver}
 use Rattle.larch_term.specs.Statement.{IsStatementOver}
 use Rattle.larch_term.specs.Substitution.{substituted, Fits}
 use Rattle.larch_term.specs.Tree.{Tree, var, app}
 use Rattle.larch_term.specs.Variable.{occurrences}
-use Rattle.larch_term.specs.declared.statement.Statement.{Statement}
 use Rattle.larch_term.specs.declared.statement.Statement.TheVariants.{Equation}
 use Rattle.larch_term.specs.declared.substitution.Entry.{Entry}
-use Rattle.larch_term.specs.declared.variable.Variable.{Variable}
 use Rattle.larch_term_laws.proofs.Substitutions.{substituted_sort, substituted_well_sorted, substituted_over}
-use Rattle.larch_renaming.specs.Renaming.{renamed, renamed_entry}
+use Rattle.larch_renaming.specs.Renaming.{renamed_entry}
 use Rattle.larch_renaming.proofs.RenamedSubstitutions.{renamed_substituted, apart_by_sorts}
 use Rattle.larch_certificate.specs.declared.line.Binding.{Binding}
 use Rattle.larch_certificate.specs.declared.line.Line.TheVariants.{Inst}
@@ -176,3 +172,20 @@ inst_extends a b m n es xs l r w p (st, h) k d =
     pushed_extends a b (Inst m xs) n st
     (written_statement a.boxes (Equation (substituted es l) (substituted es r))) p h.stand.runs
     (inst_judged a st m es xs l r h i d w)
+
+-- ---- known terms
+
+pub known_substituted : (a : Builder) (es : List Entry) (t : Tree) → Known a t → AreKnownEntries a es
+    → Known a (substituted es t)
+unfolding Known
+known_substituted a es t (st, k) w =
+    let fit = entries_fit a st es (entries_in a st k.stand es w) in
+    let ds = map (renamed_entry (naming a.boxes)) es in
+    let u = written a.boxes t in (
+      st,
+      record {
+        stand = k.stand;
+        over = subst (IsTermOver (operators_at a.theory st)) (sym (written_substituted a.boxes es t))
+            (substituted_well_sorted ds u fit.0 k.over.0, substituted_over (operators_at a.theory st) ds u fit.1 k.over.1);
+      },
+    )

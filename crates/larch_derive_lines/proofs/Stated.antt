@@ -1,6 +1,6 @@
 -- Lines that say what is stated of the theory or of all theories, and lines that make an equation of an equality.
-use Rattle.std.proofs.Common.{◌≡◌, ◌⊎◌, inl, inr, ℕ, Bool, true, false, cond, List, [], ◌∷◌, All, Option, Some, None, refl, sym, ◌∙◌, ap, ap₂, subst}
-use Rattle.std.specs.Option.{option_map, option_and_then}
+use Rattle.std.proofs.Common.{◌≡◌, inr, ℕ, Bool, true, false, cond, List, ◌∷◌, Option, Some, None, refl, sym, ◌∙◌, ap, subst}
+use Rattle.std.specs.Option.{option_and_then}
 use Rattle.std.specs.List.{slice_get}
 use Rattle.std.proofs.lemmas.Bool.{cond-true}
 use Rattle.std.proofs.lemmas.Option.{option_and_then_some, cond_some}
@@ -8,19 +8,18 @@ use Rattle.larch_base.proofs.Options.{some_inj}
 use Rattle.larch_term.specs.BuiltIn.{built_in, bool_sort}
 use Rattle.larch_term.specs.Equality.{same_statement}
 use Rattle.larch_term.specs.Operator.{PlainOperator}
-use Rattle.larch_term.specs.Sorts.{sort_of, IsTermOver, IsKnown}
+use Rattle.larch_term.specs.Sorts.{sort_of, IsTermOver}
 use Rattle.larch_term.specs.Statement.{IsStatementOver, statement_zero}
 use Rattle.larch_term.specs.Tree.{Tree, app, none, more}
 use Rattle.larch_term.specs.Truth.{truth}
 use Rattle.larch_term.specs.declared.built_in.BuiltIn.TheVariants.{Equal, True}
 use Rattle.larch_term.specs.declared.statement.Statement.{Statement}
 use Rattle.larch_term.specs.declared.statement.Statement.TheVariants.{Equation, Generated, Partitioned}
-use Rattle.larch_term.specs.declared.statement.Theory.{Theory}
 use Rattle.larch_term.proofs.Decided.{statement_Decides}
 use Rattle.larch_calculus.specs.Formula.{equality}
 use Rattle.larch_calculus.proofs.Identities.{identity_over}
 use Rattle.larch_calculus.proofs.Sorted.{sides_over}
-use Rattle.larch_tables.specs.Row.{PlainRow, numbered}
+use Rattle.larch_tables.specs.Row.{numbered}
 use Rattle.larch_tables.specs.Statement.{IsIdentityStatement}
 use Rattle.larch_tables.specs.Tables.{built_in_rows}
 use Rattle.larch_tables.proofs.Identities.{row_identity}
@@ -30,7 +29,6 @@ use Rattle.larch_lines.specs.Events.{State}
 use Rattle.larch_lines.specs.Rules.{row_says, stated_equal}
 use Rattle.larch_lines.specs.Run.{judge}
 use Rattle.larch_derive.specs.declared.builder.Builder.{Builder}
-use Rattle.larch_derive.specs.declared.open_box.OpenBox.{OpenBox}
 use Rattle.larch_derive.specs.Builder.{IsPushed}
 use Rattle.larch_derive.specs.OpenBox.{in_lines}
 use Rattle.larch_derive.specs.Predicates.{operators_at, written, written_statement, StandIn, SaysIn, Stands, HasStatement, Extends}

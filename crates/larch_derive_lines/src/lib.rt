@@ -1,6 +1,7 @@
 //! The lines that rules write: for each rule a call that pushes its line on a builder, and says what the line says.
 #![tactic(auto)]
 
+pub mod laws;
 mod rules;
 
 pub use rules::{
