@@ -1,0 +1,6 @@
+-- Lemmas.
+pub mod Feeding
+pub mod Fields
+pub mod FirstCut
+pub mod Lines
+pub mod ListSteps

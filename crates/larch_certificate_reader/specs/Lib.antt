@@ -1,0 +1,4 @@
+pub mod Counted
+pub mod MachineViews
+pub mod Refusals
+pub mod Views

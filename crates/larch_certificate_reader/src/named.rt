@@ -1,0 +1,142 @@
+ghost use Rattle.std.specs.Prelude.{◌≡◌, IfOk};
+ghost use Rattle.std.specs.Option.{option_copied};
+ghost use Rattle.larch_certificate_text.specs.LineText.{by_part, goal_part, hyps_part, number_part, place_part};
+ghost use Rattle.larch_certificate_text.specs.LineText.{ref_part, refs_part, sort_part, sorts_part, term_part};
+ghost use Rattle.larch_certificate_text.specs.LineText.{variable_part, variables_part};
+ghost use Rattle.larch_certificate_text.specs.ListText.{unnamed};
+
+use crate::equation::{read_equation, read_term};
+use crate::list::{Counted, read_list, read_numbers, read_variable, read_word};
+use crate::parts::{cut_at, read_number, read_ref};
+use larch_base::{Memory, Name};
+use larch_certificate::{
+    Bindings, BoxParts, Coded, CodedEquation, CodedEquations, CodedVar, CodedVars, Numbers, Path,
+};
+use larch_certificate_text::Here;
+use std::alloc::Global;
+
+fn unnamed<'a>(here: Here, label: &[u8], text: &'a [u8]) -> Option<&'a [u8]>
+    ensures { option_copied result ≡ unnamed here label.now text.now }
+{
+    if !here.relative {
+        return Some(text);
+    }
+    let (name, rest) = cut_at(b'=', text)?;
+    if name == label { Some(rest) } else { None }
+}
+
+/// The number that a named part is.
+pub fn number_part(here: Here, label: &[u8], text: &[u8]) -> Option<u64>
+    ensures { result ≡ number_part here label.now text.now }
+{
+    let text = unnamed(here, label, text)?;
+    read_number(text)
+}
+
+/// The line or box that a named part names.
+pub fn ref_part(here: Here, label: &[u8], text: &[u8]) -> Option<u64>
+    ensures { result ≡ ref_part here label.now text.now }
+{
+    let text = unnamed(here, label, text)?;
+    read_ref(here, text)
+}
+
+/// The term of a part.
+pub fn term_part(alloc: Global, here: Here, text: &[u8]) -> Result<Option<Coded>, Memory>
+    ensures { IfOk result (λ term. term ≡ term_part here text.now) }
+{
+    match unnamed(here, b"term", text) {
+        Some(text) => read_term(alloc, here, text),
+        None => Ok(None),
+    }
+}
+
+/// The sort of a part.
+pub fn sort_part(alloc: Global, here: Here, text: &[u8]) -> Result<Option<Name>, Memory>
+    ensures { IfOk result (λ sort. sort ≡ sort_part here text.now) }
+{
+    match unnamed(here, b"sort", text) {
+        Some(text) => read_word(alloc, text),
+        None => Ok(None),
+    }
+}
+
+/// The variable of a part.
+pub fn variable_part(alloc: Global, here: Here, text: &[u8]) -> Result<Option<CodedVar>, Memory>
+    ensures { IfOk result (λ variable. variable ≡ variable_part here text.now) }
+{
+    match unnamed(here, b"var", text) {
+        Some(text) => read_variable(alloc, text),
+        None => Ok(None),
+    }
+}
+
+/// The equation of a part.
+pub fn goal_part(alloc: Global, here: Here, text: &[u8]) -> Result<Option<CodedEquation>, Memory>
+    ensures { IfOk result (λ goal. goal ≡ goal_part here text.now) }
+{
+    match unnamed(here, b"goal", text) {
+        Some(text) => read_equation(alloc, here, text),
+        None => Ok(None),
+    }
+}
+
+/// The place of a part.
+pub fn place_part(alloc: Global, here: Here, text: &[u8]) -> Result<Option<Path>, Memory>
+    ensures { IfOk result (λ place. place ≡ place_part here text.now) }
+{
+    match unnamed(here, b"at", text) {
+        Some(text) => read_numbers(alloc, here, Counted::Argument, b'.', text),
+        None => Ok(None),
+    }
+}
+
+/// The boxes of a part.
+pub fn refs_part(alloc: Global, here: Here, text: &[u8]) -> Result<Option<Numbers>, Memory>
+    ensures { IfOk result (λ boxes. boxes ≡ refs_part here text.now) }
+{
+    match unnamed(here, b"boxes", text) {
+        Some(text) => read_numbers(alloc, here, Counted::Line, b',', text),
+        None => Ok(None),
+    }
+}
+
+/// The bindings of a part.
+pub fn by_part(alloc: Global, here: Here, text: &[u8]) -> Result<Option<Bindings>, Memory>
+    ensures { IfOk result (λ by. by ≡ by_part here text.now) }
+{
+    match unnamed(here, b"by", text) {
+        Some(text) => read_list(alloc, here, b';', text),
+        None => Ok(None),
+    }
+}
+
+/// The variables of a part.
+pub fn variables_part(alloc: Global, here: Here, text: &[u8]) -> Result<Option<CodedVars>, Memory>
+    ensures { IfOk result (λ by. by ≡ variables_part here text.now) }
+{
+    match unnamed(here, b"by", text) {
+        Some(text) => read_list(alloc, here, b';', text),
+        None => Ok(None),
+    }
+}
+
+/// What a box makes.
+pub fn sorts_part(alloc: Global, here: Here, text: &[u8]) -> Result<Option<BoxParts>, Memory>
+    ensures { IfOk result (λ sorts. sorts ≡ sorts_part here text.now) }
+{
+    match unnamed(here, b"sorts", text) {
+        Some(text) => read_list(alloc, here, b',', text),
+        None => Ok(None),
+    }
+}
+
+/// The hypotheses of a box.
+pub fn hyps_part(alloc: Global, here: Here, text: &[u8]) -> Result<Option<CodedEquations>, Memory>
+    ensures { IfOk result (λ hyps. hyps ≡ hyps_part here text.now) }
+{
+    match unnamed(here, b"hyps", text) {
+        Some(text) => read_list(alloc, here, b';', text),
+        None => Ok(None),
+    }
+}

@@ -1,0 +1,283 @@
+ghost use Rattle.std.specs.Prelude.{◌≡◌, ◌∷◌, IfOk, option_and_then};
+ghost use Rattle.larch_certificate_reader.specs.Views.{parts_of};
+ghost use Rattle.larch_certificate_text.specs.LineText.{axiom_of, box_by, box_of, cases_of, equal_of, four_of, fresh_of};
+ghost use Rattle.larch_certificate_text.specs.LineText.{hyp_of, induct_of, inst_of, one_of, read_by_word, read_done};
+ghost use Rattle.larch_certificate_text.specs.LineText.{refl_of, repl_of, row_at_of, row_by, row_of, sym_of};
+ghost use Rattle.larch_certificate_text.specs.LineText.{three_of, two_of};
+
+use crate::count::{box_by, four, one, three, two};
+use crate::named::{
+    by_part, goal_part, hyps_part, number_part, place_part, ref_part, refs_part, sort_part,
+    sorts_part, term_part, variable_part, variables_part,
+};
+use larch_base::Memory;
+use larch_certificate::Line;
+use larch_certificate_text::{Here, RuleWord};
+use std::alloc::Global;
+
+/// What the parts behind the word of a rule say.
+pub fn read_by_word(
+    alloc: Global,
+    here: Here,
+    parts: Option<&[u8]>,
+    word: RuleWord,
+) -> Result<Option<Line>, Memory>
+    ensures { IfOk result (λ line. line ≡ read_by_word here (parts_of parts.entry) word) }
+{
+    match word {
+        RuleWord::Axiom => Ok(read_axiom(here, parts)),
+        RuleWord::Hyp => Ok(read_hyp(here, parts)),
+        RuleWord::Row => read_row(alloc, here, parts),
+        RuleWord::Refl => read_refl(alloc, here, parts),
+        RuleWord::Sym => Ok(read_sym(here, parts)),
+        RuleWord::Inst => read_inst(alloc, here, parts),
+        RuleWord::Repl => read_repl(alloc, here, parts),
+        RuleWord::Equal => Ok(read_equal(here, parts)),
+        RuleWord::BoxLine => read_box(alloc, here, parts),
+        RuleWord::Done => Ok(read_done(parts)),
+        RuleWord::Fresh => read_fresh(alloc, here, parts),
+        RuleWord::Cases => Ok(read_cases(here, parts)),
+        RuleWord::Induct => read_induct(alloc, here, parts),
+    }
+}
+
+fn read_axiom(here: Here, parts: Option<&[u8]>) -> Option<Line>
+    ensures { result ≡ option_and_then (axiom_of here) (one_of (parts_of parts.entry)) }
+{
+    let part = one(parts)?;
+    let number = number_part(here, b"statement", part)?;
+    Some(Line::Axiom(number))
+}
+
+fn read_sym(here: Here, parts: Option<&[u8]>) -> Option<Line>
+    ensures { result ≡ option_and_then (sym_of here) (one_of (parts_of parts.entry)) }
+{
+    let part = one(parts)?;
+    let line = ref_part(here, b"line", part)?;
+    Some(Line::Sym(line))
+}
+
+fn read_equal(here: Here, parts: Option<&[u8]>) -> Option<Line>
+    ensures { result ≡ option_and_then (equal_of here) (one_of (parts_of parts.entry)) }
+{
+    let part = one(parts)?;
+    let line = ref_part(here, b"line", part)?;
+    Some(Line::Equal(line))
+}
+
+fn read_hyp(here: Here, parts: Option<&[u8]>) -> Option<Line>
+    ensures { result ≡ option_and_then (hyp_of here) (two_of (parts_of parts.entry)) }
+{
+    match two(parts) {
+        Some((opened, number)) => hyp_of(here, opened, number),
+        None => None,
+    }
+}
+
+fn hyp_of(here: Here, opened: &[u8], number: &[u8]) -> Option<Line>
+    ensures { result ≡ hyp_of here (opened.now, number.now) }
+{
+    let opened = ref_part(here, b"box", opened)?;
+    let number = number_part(here, b"number", number)?;
+    Some(Line::Hyp(opened, number))
+}
+
+fn read_cases(here: Here, parts: Option<&[u8]>) -> Option<Line>
+    ensures { result ≡ option_and_then (cases_of here) (two_of (parts_of parts.entry)) }
+{
+    match two(parts) {
+        Some((yes, no)) => cases_of(here, yes, no),
+        None => None,
+    }
+}
+
+fn cases_of(here: Here, yes: &[u8], no: &[u8]) -> Option<Line>
+    ensures { result ≡ cases_of here (yes.now, no.now) }
+{
+    let yes = ref_part(here, b"true", yes)?;
+    let no = ref_part(here, b"false", no)?;
+    Some(Line::Cases(yes, no))
+}
+
+fn read_refl(alloc: Global, here: Here, parts: Option<&[u8]>) -> Result<Option<Line>, Memory>
+    ensures { IfOk result (λ line. line ≡ option_and_then (refl_of here) (one_of (parts_of parts.entry))) }
+{
+    let Some(part) = one(parts) else {
+        return Ok(None);
+    };
+    match term_part(alloc, here, part)? {
+        Some(term) => Ok(Some(Line::Refl(term))),
+        None => Ok(None),
+    }
+}
+
+fn read_row(alloc: Global, here: Here, parts: Option<&[u8]>) -> Result<Option<Line>, Memory>
+    ensures { IfOk result (λ line. line ≡ row_by here (one_of (parts_of parts.entry)) (two_of (parts_of parts.entry))) }
+{
+    if let Some(number) = one(parts) {
+        return Ok(row_of(here, number));
+    }
+    match two(parts) {
+        Some((number, sort)) => row_at_of(alloc, here, number, sort),
+        None => Ok(None),
+    }
+}
+
+fn row_of(here: Here, number: &[u8]) -> Option<Line>
+    ensures { result ≡ row_of here number.now }
+{
+    let number = number_part(here, b"number", number)?;
+    Some(Line::Row(number, None))
+}
+
+fn row_at_of(alloc: Global, here: Here, number: &[u8], sort: &[u8]) -> Result<Option<Line>, Memory>
+    ensures { IfOk result (λ line. line ≡ row_at_of here (number.now, sort.now)) }
+{
+    let Some(number) = number_part(here, b"number", number) else {
+        return Ok(None);
+    };
+    match sort_part(alloc, here, sort)? {
+        Some(sort) => Ok(Some(Line::Row(number, Some(sort)))),
+        None => Ok(None),
+    }
+}
+
+#[tactic(auto, using(crate::proofs::Fields::done_parts))]
+fn read_done(parts: Option<&[u8]>) -> Option<Line>
+    ensures { result ≡ read_done (parts_of parts.entry) }
+{
+    match parts {
+        Some(_) => None,
+        None => Some(Line::Done),
+    }
+}
+
+fn read_box(alloc: Global, here: Here, parts: Option<&[u8]>) -> Result<Option<Line>, Memory>
+    ensures { IfOk result (λ line. line ≡ option_and_then (box_of here) (box_by here.relative (parts_of parts.entry))) }
+{
+    match box_by(here.relative, parts) {
+        Some((sorts, hyps)) => box_of(alloc, here, sorts, hyps),
+        None => Ok(None),
+    }
+}
+
+fn box_of(alloc: Global, here: Here, sorts: &[u8], hyps: &[u8]) -> Result<Option<Line>, Memory>
+    ensures { IfOk result (λ line. line ≡ box_of here (sorts.now, hyps.now)) }
+{
+    let Some(sorts) = sorts_part(alloc, here, sorts)? else {
+        return Ok(None);
+    };
+    match hyps_part(alloc, here, hyps)? {
+        Some(hyps) => Ok(Some(Line::BoxLine(sorts, hyps))),
+        None => Ok(None),
+    }
+}
+
+fn read_inst(alloc: Global, here: Here, parts: Option<&[u8]>) -> Result<Option<Line>, Memory>
+    ensures { IfOk result (λ line. line ≡ option_and_then (inst_of here) (two_of (parts_of parts.entry))) }
+{
+    match two(parts) {
+        Some((line, by)) => inst_of(alloc, here, line, by),
+        None => Ok(None),
+    }
+}
+
+fn inst_of(alloc: Global, here: Here, line: &[u8], by: &[u8]) -> Result<Option<Line>, Memory>
+    ensures { IfOk result (λ found. found ≡ inst_of here (line.now, by.now)) }
+{
+    let Some(line) = ref_part(here, b"line", line) else {
+        return Ok(None);
+    };
+    match by_part(alloc, here, by)? {
+        Some(by) => Ok(Some(Line::Inst(line, by))),
+        None => Ok(None),
+    }
+}
+
+fn read_fresh(alloc: Global, here: Here, parts: Option<&[u8]>) -> Result<Option<Line>, Memory>
+    ensures { IfOk result (λ line. line ≡ option_and_then (fresh_of here) (two_of (parts_of parts.entry))) }
+{
+    match two(parts) {
+        Some((closed, by)) => fresh_of(alloc, here, closed, by),
+        None => Ok(None),
+    }
+}
+
+fn fresh_of(alloc: Global, here: Here, closed: &[u8], by: &[u8]) -> Result<Option<Line>, Memory>
+    ensures { IfOk result (λ line. line ≡ fresh_of here (closed.now, by.now)) }
+{
+    let Some(closed) = ref_part(here, b"box", closed) else {
+        return Ok(None);
+    };
+    match variables_part(alloc, here, by)? {
+        Some(by) => Ok(Some(Line::Fresh(closed, by))),
+        None => Ok(None),
+    }
+}
+
+fn read_repl(alloc: Global, here: Here, parts: Option<&[u8]>) -> Result<Option<Line>, Memory>
+    ensures { IfOk result (λ line. line ≡ option_and_then (repl_of here) (three_of (parts_of parts.entry))) }
+{
+    match three(parts) {
+        Some((line, (place, other))) => repl_of(alloc, here, line, place, other),
+        None => Ok(None),
+    }
+}
+
+fn repl_of(
+    alloc: Global,
+    here: Here,
+    line: &[u8],
+    place: &[u8],
+    other: &[u8],
+) -> Result<Option<Line>, Memory>
+    ensures { IfOk result (λ found. found ≡ repl_of here (line.now, (place.now, other.now))) }
+{
+    let Some(line) = ref_part(here, b"line", line) else {
+        return Ok(None);
+    };
+    let Some(place) = place_part(alloc, here, place)? else {
+        return Ok(None);
+    };
+    match ref_part(here, b"with", other) {
+        Some(other) => Ok(Some(Line::Repl(line, place, other))),
+        None => Ok(None),
+    }
+}
+
+fn read_induct(alloc: Global, here: Here, parts: Option<&[u8]>) -> Result<Option<Line>, Memory>
+    ensures { IfOk result (λ line. line ≡ option_and_then (induct_of here) (four_of (parts_of parts.entry))) }
+{
+    match four(parts) {
+        Some((line, (variable, (goal, boxes)))) => {
+            induct_of(alloc, here, line, variable, goal, boxes)
+        }
+        None => Ok(None),
+    }
+}
+
+fn induct_of(
+    alloc: Global,
+    here: Here,
+    line: &[u8],
+    variable: &[u8],
+    goal: &[u8],
+    boxes: &[u8],
+) -> Result<Option<Line>, Memory>
+    ensures { IfOk result (λ found. found
+        ≡ induct_of here (line.now, (variable.now, (goal.now, boxes.now)))) }
+{
+    let Some(line) = ref_part(here, b"line", line) else {
+        return Ok(None);
+    };
+    let Some(variable) = variable_part(alloc, here, variable)? else {
+        return Ok(None);
+    };
+    let Some(goal) = goal_part(alloc, here, goal)? else {
+        return Ok(None);
+    };
+    match refs_part(alloc, here, boxes)? {
+        Some(boxes) => Ok(Some(Line::Induct(line, variable, goal, boxes))),
+        None => Ok(None),
+    }
+}
