@@ -10,3 +10,4 @@ pub mod Sizes
 pub mod Sound
 pub mod Stated
 pub mod Theory
+pub mod Words

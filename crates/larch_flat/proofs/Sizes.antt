@@ -1,5 +1,5 @@
 -- What is gathered is within the limits.
-use Rattle.std.proofs.Common.{◌≡◌, Bool, false, ap, sym, subst, Ok}
+use Rattle.std.proofs.Common.{◌≡◌, false, subst, Ok}
 use Rattle.larch_base.specs.declared.code.Code.TheVariants.{Size}
 use Rattle.larch_base.specs.declared.position.Pos.{Pos}
 use Rattle.larch_raw.specs.declared.equation.RawTrait.{RawTrait}

@@ -1,5 +1,5 @@
 -- A flat trait is sound.
-use Rattle.std.proofs.Common.{◌≡◌, refl, ℕ, zero, suc, Bool, true, false, not, List, [], ◌∷◌, ◌++◌, map, All, Contains, Option, Some, None, Result, Ok, Err, ap, sym, subst}
+use Rattle.std.proofs.Common.{◌≡◌, refl, ℕ, zero, suc, Bool, true, false, not, List, [], ◌∷◌, ◌++◌, All, Option, Some, None, Result, Ok, Err, ap, subst}
 use Rattle.std.specs.Prelude.{bytes_eq, filter, fold, if◌then◌else◌, is_none}
 use Rattle.std.specs.List.{list_any}
 use Rattle.std.proofs.lemmas.List.Elements.{All-nil, All-cons, All-head, All-map, All-push, All-tail, All-weaker}
@@ -11,14 +11,11 @@ use Rattle.larch_raw.specs.Worded.{WordedShorthand, WordedTrait}
 use Rattle.larch_raw.specs.declared.equation.RawTrait.{RawTrait}
 use Rattle.larch_raw.specs.declared.reference.RawReference.{RawReference}
 use Rattle.larch_raw.specs.declared.shorthand.RawShorthand.{RawShorthand}
-use Rattle.larch_term.specs.BuiltIn.{IsBuiltIn}
 use Rattle.larch_term.specs.Operator.{PlainOperator}
 use Rattle.larch_term.specs.Statement.{IsStatementOver, IsTheory}
 use Rattle.larch_term.specs.declared.statement.Statement.{Statement}
-use Rattle.larch_sorts.specs.Laws.{IsSortOf, StatementSorts}
 use Rattle.larch_items.specs.Declarations.{declared}
 use Rattle.larch_items.specs.Items.{items_state}
-use Rattle.larch_items.specs.Laws.{NamesOwn}
 use Rattle.larch_items.specs.Steps.{after, all_taken}
 use Rattle.larch_items.proofs.Kept.{Any, after_was, all_any, kept, ok_inj}
 use Rattle.larch_items.proofs.Stated.{declared_own, items_are}
@@ -26,24 +23,24 @@ use Rattle.larch_shorthand.specs.Shorthand.{expand}
 use Rattle.larch_shorthand.specs.declared.expansion.Expansion.{Expansion}
 use Rattle.larch_flat.specs.Files.{Files, closure, target}
 use Rattle.larch_flat.specs.Flat.{FlatTrait, finished, flat, flat_by, flat_file, referred, take_flat, take_items, take_new, take_own, take_reference, take_rest, take_shorthand, take_told, theory_of, with_renamed, within}
-use Rattle.larch_flat.specs.Gathered.{Gathered, Marked, is_too_large, new_among, nothing, stands_in, statements_in, with_asserted, with_new, with_operator, with_operators}
+use Rattle.larch_flat.specs.Gathered.{Gathered, is_too_large, nothing, stands_in, statements_in, with_asserted, with_new, with_operator, with_operators}
 use Rattle.larch_flat.specs.Laws.{AreWorded, IsSound, IsStatedOver, gathered_in}
-use Rattle.larch_flat.specs.Replacements.{new_operator, replacements_of}
-use Rattle.larch_flat.specs.Stops.{Refused, Stop, TooDeep, refused_if, stopped_if, surely}
+use Rattle.larch_flat.specs.Replacements.{replacements_of}
+use Rattle.larch_flat.specs.Stops.{Refused, Stop, TooDeep, stopped_if, surely}
 use Rattle.larch_shorthand.proofs.Expansions.{expansion_own, expansion_stated}
 use Rattle.larch_flat.proofs.Proper.{proper_keeps, refused_if_was, replacements_proper}
 use Rattle.larch_flat.proofs.Sound.{operators_come, sound_asserted, sound_nothing, sound_operators, sound_renamed}
 use Rattle.larch_flat.proofs.Stated.{stated_more}
 
-stopped_if_was : {A : Type 0} (code : Code) (pos : Pos) (b : Bool) (next : Result A Stop) (x : A) → stopped_if code pos b next ≡ Ok x → next ≡ Ok x
+pub stopped_if_was : {A : Type 0} (code : Code) (pos : Pos) (b : Bool) (next : Result A Stop) (x : A) → stopped_if code pos b next ≡ Ok x → next ≡ Ok x
 stopped_if_was code pos true next x e = cc
 stopped_if_was code pos false next x e = e
 
-surely_was : {A : Type 0} (a : Result A Fault) (x : A) → surely a ≡ Ok x → a ≡ Ok x
+pub surely_was : {A : Type 0} (a : Result A Fault) (x : A) → surely a ≡ Ok x → a ≡ Ok x
 surely_was (Ok y) x e = ap Ok (ok_inj e)
 surely_was (Err f) x e = cc
 
-referred_was : (pos : Pos) (a : Result FlatTrait Stop) (x : FlatTrait) → referred pos a ≡ Ok x → a ≡ Ok x
+pub referred_was : (pos : Pos) (a : Result FlatTrait Stop) (x : FlatTrait) → referred pos a ≡ Ok x → a ≡ Ok x
 referred_was pos (Ok y) x e = e
 referred_was pos (Err (Refused f)) x e = cc
 referred_was pos (Err TooDeep) x e = cc
@@ -72,8 +69,8 @@ sound_shorthand s g h w e i =
     let fs : List PlainOperator = fold with_operator g.operators x.operators in
     subst IsSound (ok_inj p.2)
     (sound_asserted fs x.statements (with_operators x.operators g) refl
-      (All-weaker (IsStatedOver x.operators) (IsStatedOver fs) (stated_more x.operators fs (operators_come x.operators g.operators)) x.statements (expansion_stated s x p.1))
-      (sound_operators x.operators g (expansion_own s x w p.1) i))
+    (All-weaker (IsStatedOver x.operators) (IsStatedOver fs) (stated_more x.operators fs (operators_come x.operators g.operators)) x.statements (expansion_stated s x p.1))
+    (sound_operators x.operators g (expansion_own s x w p.1) i))
 
 sound_items : (raw : RawTrait) (g h : Gathered) → take_items raw g ≡ Ok h → IsSound g → IsSound h
 sound_items raw g h e i =
@@ -108,8 +105,9 @@ sound_finished raw g i =
       own = i.own;
       marked = i.marked;
       discharge =
-        all_new (IsStatedOver g.operators) (filter (λ s. not (stands_in (statements_in g.marked) s)) g.discharge) [] (All-nil (IsStatedOver g.operators))
-        (all_left (IsStatedOver g.operators) (λ s. not (stands_in (statements_in g.marked) s)) g.discharge i.discharge) }
+          all_new (IsStatedOver g.operators) (filter (λ s. not (stands_in (statements_in g.marked) s)) g.discharge) [] (All-nil (IsStatedOver g.operators))
+          (all_left (IsStatedOver g.operators) (λ s. not (stands_in (statements_in g.marked) s)) g.discharge i.discharge);
+    }
 
 sound_rest : (raw : RawTrait) (g : Gathered) (t : FlatTrait) → WordedTrait raw → take_rest raw g ≡ Ok t → IsSound g → IsSound (gathered_in t)
 sound_rest raw g t w e i =
@@ -131,7 +129,7 @@ sound_text limit files name next k (Some (Ok raw)) w t e =
     let b = after_was all (λ g. surely (take_rest raw g)) t a in
     sound_rest raw b.0 t (w raw refl) (surely_was (take_rest raw b.0) t b.2)
     (kept (take_reference limit files name next) Any IsSound (λ r g h _ d i. sound_reference limit files name next k r g h d i) raw.references nothing b.0 (all_any raw.references)
-      b.1 sound_nothing)
+    b.1 sound_nothing)
 
 pub sound_by : (files : Files) → AreWorded files → (n limit : ℕ) (name : List ℕ) (t : FlatTrait) → flat_by n limit files name ≡ Ok t → IsSound (gathered_in t)
 sound_by files w zero limit name t e = cc
@@ -149,8 +147,9 @@ flat_theory files w limit name t e =
       different = i.different;
       own = i.own;
       well_sorted =
-        All-map (IsStatementOver t.operators) (λ m. m.statement) t.marked
-        (All-weaker (λ m. IsStatedOver t.operators m.statement) (λ m. IsStatementOver t.operators m.statement) (λ m s. s.0) t.marked i.marked) }
+          All-map (IsStatementOver t.operators) (λ m. m.statement) t.marked
+          (All-weaker (λ m. IsStatedOver t.operators m.statement) (λ m. IsStatementOver t.operators m.statement) (λ m s. s.0) t.marked i.marked);
+    }
 
 pub flat_stated : (files : Files) → AreWorded files → (limit : ℕ) (name : List ℕ) (t : FlatTrait) → flat limit files name ≡ Ok t
     → All (IsStatedOver t.operators) (theory_of t).statements

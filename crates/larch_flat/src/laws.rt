@@ -10,6 +10,8 @@ ghost use Rattle.larch_renaming.specs.Renaming.{FitsSignatures, KeepsBuiltIns};
 ghost use Rattle.larch_term.specs.BuiltIn.{IsBuiltIn};
 ghost use Rattle.larch_term.specs.Operator.{PlainOperator};
 ghost use Rattle.larch_term.specs.Statement.{IsTheory};
+ghost use Rattle.larch_sorts.specs.Laws.{OperatorSorts, StatementSorts};
+ghost use Rattle.larch_items.specs.Laws.{IsWord};
 ghost use Rattle.larch_flat.specs.Files.{Files, Reaches, closure, is_there};
 ghost use Rattle.larch_flat.specs.Flat.{FlatTrait, flat, flat_by, take_flat, take_rest, theory_of};
 ghost use Rattle.larch_flat.specs.Gathered.{Gathered, is_too_large};
@@ -76,4 +78,12 @@ pub fn flat_trait_names_its_own()
         → flat limit files name ≡ Ok t → All (IsStatedOver t.operators) (theory_of t).statements }
     ensures discharge { (files : Files) → AreWorded files → (limit : ℕ) (name : List ℕ) (t : FlatTrait)
         → flat limit files name ≡ Ok t → All (IsStatedOver t.operators) t.discharge }
+{}
+
+/// Each sort of an operator and of a statement of a flat trait is a word, where all files are written with words.
+pub fn sorts_of_flat_traits_are_words()
+    ensures operators { (files : Files) → AreWorded files → (limit : ℕ) (name : List ℕ) (t : FlatTrait)
+        → flat limit files name ≡ Ok t → All (OperatorSorts IsWord) t.operators }
+    ensures statements { (files : Files) → AreWorded files → (limit : ℕ) (name : List ℕ) (t : FlatTrait)
+        → flat limit files name ≡ Ok t → All (StatementSorts IsWord) (theory_of t).statements }
 {}

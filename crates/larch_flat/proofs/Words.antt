@@ -1,0 +1,327 @@
+-- Each sort in a flat trait is a word, where its files are written with words.
+use Rattle.std.proofs.Common.{◌≡◌, refl, ℕ, zero, suc, Bool, true, false, cond, not, ◌==◌, ◌&&◌, ◌||◌, List, [], ◌∷◌, ◌++◌, map, All, Option, Some, None, Result, Ok, Err, ap, sym, subst, ◌∙◌, inl, inr}
+use Rattle.std.specs.Char.{is_ascii_alphanumeric}
+use Rattle.std.specs.Prelude.{bytes_eq, codes, fold, is_none, is_some, unwrap_or}
+use Rattle.std.specs.List.{list_any}
+use Rattle.std.specs.Map.{lookup}
+use Rattle.std.proofs.lemmas.List.Elements.{All-nil, All-cons, All-head, All-tail, All-map, All-append, All-push, All-weaker, All-contains}
+use Rattle.larch_base.specs.Word.{begins_alphanumeric, goes_on}
+use Rattle.larch_base.specs.declared.code.Code.TheVariants.{Cycle, Rename, Size, TraitName, UnknownTrait}
+use Rattle.larch_base.specs.declared.fault.Fault.{Fault}
+use Rattle.larch_base.specs.declared.position.Pos.{Pos}
+use Rattle.larch_base.proofs.Bools.{and_both, both_true}
+use Rattle.larch_base.proofs.Lists.{all_from}
+use Rattle.larch_base.proofs.Members.{contains_here, contains_left, contains_right}
+use Rattle.larch_raw.specs.Worded.{WordedActual, WordedDecl, WordedField, WordedForm, WordedReference, WordedShorthand, WordedTrait}
+use Rattle.larch_raw.specs.declared.declared.RawForm.{RawForm}
+use Rattle.larch_raw.specs.declared.equation.RawTrait.{RawTrait}
+use Rattle.larch_raw.specs.declared.reference.RawActual.{RawActual}
+use Rattle.larch_raw.specs.declared.reference.RawActual.TheVariants.{Plain, Replace}
+use Rattle.larch_raw.specs.declared.reference.RawRef.{RawRef}
+use Rattle.larch_raw.specs.declared.reference.RawReference.{RawReference}
+use Rattle.larch_raw.specs.declared.shorthand.RawField.{RawField}
+use Rattle.larch_raw.specs.declared.shorthand.RawShorthand.{RawShorthand}
+use Rattle.larch_raw.specs.declared.shorthand.RawShorthand.TheVariants.{Enumeration, Tuple, Union}
+use Rattle.larch_term.specs.BuiltIn.{bool_sort, is_built_in}
+use Rattle.larch_term.specs.Equality.{same_operator}
+use Rattle.larch_term.specs.Operator.{PlainOperator}
+use Rattle.larch_term.specs.Tree.{Tree, Forest, var, app, none, more}
+use Rattle.larch_term.specs.declared.statement.Statement.{Statement}
+use Rattle.larch_term.specs.declared.statement.Statement.TheVariants.{Equation, Generated, Partitioned}
+use Rattle.larch_sorts.specs.Laws.{ForestSorts, IsSortOf, OperatorSorts, StatementSorts, TermSorts, sorts_of_operator}
+use Rattle.larch_items.specs.Declarations.{declared}
+use Rattle.larch_items.specs.Items.{items_state}
+use Rattle.larch_items.specs.Laws.{DeclaresWords, IsWord}
+use Rattle.larch_items.specs.Steps.{after, all_taken}
+use Rattle.larch_items.proofs.Kept.{after_was, kept, ok_inj, unless_was}
+use Rattle.larch_items.proofs.Stated.{declared_words}
+use Rattle.larch_shorthand.specs.Enumeration.{elements, enumeration_operators, successor}
+use Rattle.larch_shorthand.specs.Operators.{operator}
+use Rattle.larch_shorthand.specs.Shorthand.{expand, expansion_of, names_in, wrong_in}
+use Rattle.larch_shorthand.specs.Tuple.{getter, maker, setter, tuple_operators}
+use Rattle.larch_shorthand.specs.Union.{injection, names_of, tag, tag_sort, union_operators}
+use Rattle.larch_shorthand.specs.declared.expansion.Expansion.{Expansion}
+use Rattle.larch_flat.specs.Files.{Files, closure, target}
+use Rattle.larch_flat.specs.Flat.{FlatTrait, finished, flat, flat_by, flat_file, referred, renamed_marked, take_flat, take_items, take_new, take_own, take_reference, take_rest, take_shorthand, take_told, theory_of, with_renamed, within}
+use Rattle.larch_flat.specs.Gathered.{Gathered, Marked, is_too_large, nothing, with_asserted, with_discharge, with_marked, with_operator, with_operators, with_taken}
+use Rattle.larch_flat.specs.Laws.{AreWorded, IsStatedOver}
+use Rattle.larch_flat.specs.Replacements.{Named, OldOperators, OldSort, Replacement, Replacements, all_replacements, by_name, by_position, cannot_rename, cannot_rename_sort, is_count_wrong, kept_apart, named, new_operator, new_sort, none_or_any, none_replaced, plain_forms, replace, replaced, replacements_of}
+use Rattle.larch_flat.specs.Stops.{Stop, surely}
+use Rattle.larch_flat.proofs.Proper.{refused_if_was}
+use Rattle.larch_flat.proofs.Theory.{flat_stated, referred_was, stopped_if_was, surely_was}
+
+-- each sort of the operator is a word
+abbrev HasWordSorts : PlainOperator → Type 0
+HasWordSorts f = OperatorSorts IsWord f
+
+or_false : (a b : Bool) → (a || b) ≡ false → (a ≡ false) × (b ≡ false)
+or_false true b e = cc
+or_false false b e = (refl, e)
+
+not_not : (b : Bool) → not b ≡ false → b ≡ true
+not_not true e = refl
+not_not false e = cc
+
+of_words : (f : PlainOperator) → All IsWord f.domain → IsWord f.range → HasWordSorts f
+of_words f h k = All-append IsWord f.domain (f.range ∷ []) h (All-cons IsWord f.range [] k (All-nil IsWord))
+
+one_word : (s : List ℕ) → IsWord s → All IsWord (s ∷ [])
+one_word s h = All-cons IsWord s [] h (All-nil IsWord)
+
+begins_tag : (bs : List ℕ) → begins_alphanumeric (bs ++ codes "_tag") ≡ begins_alphanumeric bs
+begins_tag [] = refl
+begins_tag (b ∷ bs) = refl
+
+goes_tag : (bs : List ℕ) → goes_on bs ≡ true → goes_on (bs ++ codes "_tag") ≡ true
+goes_tag [] h = refl
+goes_tag (b ∷ bs) h =
+    let p = both_true (is_ascii_alphanumeric b || (b == 39) || ((b == 95) && begins_alphanumeric bs)) (goes_on bs) h in
+    and_both (is_ascii_alphanumeric b || (b == 39) || ((b == 95) && begins_alphanumeric (bs ++ codes "_tag"))) (goes_on (bs ++ codes "_tag"))
+    (ap (λ q. is_ascii_alphanumeric b || (b == 39) || ((b == 95) && q)) (begins_tag bs) ∙ p.0) (goes_tag bs p.1)
+
+-- the sort of the tags of a word is a word
+tag_word : (s : List ℕ) → IsWord s → IsWord (tag_sort s)
+tag_word [] h = cc
+tag_word (b ∷ bs) h =
+    let p = both_true (is_ascii_alphanumeric b) (goes_on bs) h in and_both (is_ascii_alphanumeric b) (goes_on (bs ++ codes "_tag")) p.0 (goes_tag bs p.1)
+
+each_worded : {A : Type 0} (P : A → Type 0) (make : A → PlainOperator) → ((x : A) → P x → HasWordSorts (make x)) → (xs : List A) → All P xs → All HasWordSorts (map make xs)
+each_worded P make h xs a = All-map HasWordSorts make xs (All-weaker P (λ x. HasWordSorts (make x)) h xs a)
+
+anything : {A : Type 0} (xs : List A) → All (λ x. Unit {0}) xs
+anything [] = All-nil (λ x. Unit {0})
+anything (x ∷ xs) = All-cons (λ y. Unit {0}) x xs tt (anything xs)
+
+enumeration_words : (sort : List ℕ) (names : List (List ℕ)) → IsWord sort → All HasWordSorts (enumeration_operators sort names)
+enumeration_words sort names h =
+    All-append HasWordSorts (elements sort names) (successor sort ∷ [])
+    (each_worded (λ n. Unit {0}) (λ n. operator n [] sort) (λ n _. one_word sort h) names (anything names))
+    (All-cons HasWordSorts (successor sort) [] (of_words (successor sort) (one_word sort h) h) (All-nil HasWordSorts))
+
+module _ (sort : List ℕ) (h : IsWord sort) where
+  getter_words : (f : RawField) → WordedField f → HasWordSorts (getter sort f)
+  getter_words f w = of_words (getter sort f) (one_word sort h) w.1
+
+  setter_words : (f : RawField) → WordedField f → HasWordSorts (setter sort f)
+  setter_words f w = of_words (setter sort f) (All-cons IsWord sort (f.sort.name ∷ []) h (one_word f.sort.name w.1)) h
+
+  tuple_words : (fields : List RawField) → All WordedField fields → All HasWordSorts (tuple_operators sort fields)
+  tuple_words fields w =
+      All-cons HasWordSorts (maker sort fields) (map (getter sort) fields ++ map (setter sort) fields)
+      (of_words (maker sort fields) (All-map IsWord (λ f. f.sort.name) fields (All-weaker WordedField (λ f. IsWord f.sort.name) (λ f k. k.1) fields w)) h)
+      (All-append HasWordSorts (map (getter sort) fields) (map (setter sort) fields) (each_worded WordedField (getter sort) getter_words fields w)
+      (each_worded WordedField (setter sort) setter_words fields w))
+
+  union_words : (fields : List RawField) → All WordedField fields → All HasWordSorts (enumeration_operators (tag_sort sort) (names_of fields) ++ union_operators sort fields)
+  union_words fields w =
+      All-append HasWordSorts (enumeration_operators (tag_sort sort) (names_of fields)) (union_operators sort fields)
+      (enumeration_words (tag_sort sort) (names_of fields) (tag_word sort h))
+      (All-append HasWordSorts (map (injection sort) fields) (map (getter sort) fields ++ tag sort ∷ [])
+      (each_worded WordedField (injection sort) (λ f k. of_words (injection sort f) (one_word f.sort.name k.1) h) fields w)
+      (All-append HasWordSorts (map (getter sort) fields) (tag sort ∷ []) (each_worded WordedField (getter sort) getter_words fields w)
+      (All-cons HasWordSorts (tag sort) [] (of_words (tag sort) (one_word sort h) (tag_word sort h)) (All-nil HasWordSorts))))
+
+expansion_words_are : (s : RawShorthand) → WordedShorthand s → All HasWordSorts (expansion_of s).operators
+expansion_words_are (Enumeration sort words) w = enumeration_words sort.name (names_in words) w.0
+expansion_words_are (Tuple sort fields) w = tuple_words sort.name w.0 fields w.1
+expansion_words_are (Union sort fields) w = union_words sort.name w.0 fields w.1
+
+expansion_words : (s : RawShorthand) (e : Expansion) → WordedShorthand s → expand s ≡ Ok e → All HasWordSorts e.operators
+expansion_words s e w h = subst (λ x. All HasWordSorts x.operators) (ok_inj (unless_was (wrong_in s) (Ok (expansion_of s)) e h).1) (expansion_words_are s w)
+
+-- the new sorts are words
+abbrev NewWords : Replacements → Type 0
+NewWords by = All (λ p. IsWord p.1) by.sorts
+
+look_by : (p : List ℕ × List ℕ) (rest : Option (List ℕ)) (s : List ℕ) (b : Bool) → IsWord p.1 → IsWord (unwrap_or rest s) → IsWord (unwrap_or (cond b (Some p.1) rest) s)
+look_by p rest s true h k = h
+look_by p rest s false h k = k
+
+look : (ps : List (List ℕ × List ℕ)) (s : List ℕ) → All (λ p. IsWord p.1) ps → IsWord s → IsWord (unwrap_or (lookup (bytes_eq s) ps) s)
+look [] s h k = k
+look (p ∷ ps) s h k =
+    look_by p (lookup (bytes_eq s) ps) s (bytes_eq s p.0) (All-head (λ q. IsWord q.1) p ps h) (look ps s (All-tail (λ q. IsWord q.1) p ps h) k)
+
+left : (ss rs : List (List ℕ)) → All IsWord (ss ++ rs) → All IsWord ss
+left ss rs a = all_from IsWord ss (λ s c. All-contains IsWord (ss ++ rs) s a (contains_left ss rs s c))
+
+renamed_words : (by : Replacements) → NewWords by → (f : PlainOperator) → HasWordSorts f → HasWordSorts (new_operator by f)
+renamed_words by h f w =
+    of_words (new_operator by f)
+    (All-map IsWord (new_sort by) f.domain
+    (All-weaker IsWord (λ s. IsWord (new_sort by s)) (λ s k. look by.sorts s h k) f.domain (left f.domain (f.range ∷ []) w)))
+    (look by.sorts f.range h (All-contains IsWord (f.domain ++ f.range ∷ []) f.range w (contains_right f.domain (f.range ∷ []) f.range (contains_here f.range []))))
+
+replaced_words : (pos : Pos) (new : RawForm) (what : Named) (by to : Replacements) → WordedForm new → replaced pos new what by ≡ Ok to → NewWords by → NewWords to
+replaced_words pos new (OldSort s) by to w e h =
+    let more : Replacements = record { sorts = by.sorts ++ (s, new.name) ∷ []; operators = by.operators } in
+    let r = refused_if_was Rename pos (cannot_rename_sort by new s) (Ok more) to e in
+    let t = or_false (bytes_eq s bool_sort) (is_some (lookup (bytes_eq s) by.sorts) || not new.word) r.0 in
+    let u = or_false (is_some (lookup (bytes_eq s) by.sorts)) (not new.word) t.1 in
+    subst NewWords (ok_inj r.1) (All-push (λ p. IsWord p.1) by.sorts (s, new.name) h (w (not_not new.word u.1)))
+replaced_words pos new (OldOperators fs) by to w e h =
+    let more : Replacements = record { sorts = by.sorts; operators = by.operators ++ map (λ f. (f, new.name)) fs } in
+    let r = refused_if_was Rename pos (none_or_any (cannot_rename by new) fs) (Ok more) to e in
+    subst NewWords (ok_inj r.1) h
+
+-- the new form of a replacement is a word where it is a bare word
+abbrev NewIs : Replacement → Type 0
+NewIs r = WordedForm r.new
+
+plain_worded : (actuals : List RawActual) → All WordedActual actuals → All WordedForm (plain_forms actuals)
+plain_worded [] h = All-nil WordedForm
+plain_worded (Plain form ∷ actuals) h =
+    All-cons WordedForm form (plain_forms actuals) (All-head WordedActual (Plain form) actuals h) (plain_worded actuals (All-tail WordedActual (Plain form) actuals h))
+plain_worded (Replace new old sig ∷ actuals) h = plain_worded actuals (All-tail WordedActual (Replace new old sig) actuals h)
+
+position_worded : (formals forms : List RawForm) → All WordedForm forms → All NewIs (by_position formals forms)
+position_worded [] forms h = All-nil NewIs
+position_worded (formal ∷ formals) [] h = All-nil NewIs
+position_worded (formal ∷ formals) (form ∷ forms) h =
+    All-cons NewIs (record { old = formal; sig = None; new = form; pos = form.pos }) (by_position formals forms) (All-head WordedForm form forms h)
+    (position_worded formals forms (All-tail WordedForm form forms h))
+
+name_worded : (actuals : List RawActual) → All WordedActual actuals → All NewIs (by_name actuals)
+name_worded [] h = All-nil NewIs
+name_worded (Plain form ∷ actuals) h = name_worded actuals (All-tail WordedActual (Plain form) actuals h)
+name_worded (Replace new old sig ∷ actuals) h =
+    All-cons NewIs (record { old = old; sig = sig; new = new; pos = old.pos }) (by_name actuals) (All-head WordedActual (Replace new old sig) actuals h).0
+    (name_worded actuals (All-tail WordedActual (Replace new old sig) actuals h))
+
+replacements_words : (fs : List PlainOperator) (formals : List RawForm) (ref : RawRef) (by : Replacements) → All WordedActual ref.actuals → replacements_of fs formals ref ≡ Ok by → NewWords by
+unfolding replacements_of
+replacements_words fs formals ref by w e =
+    let rs : List Replacement = all_replacements formals ref in
+    let p = refused_if_was Rename ref.name.pos (is_count_wrong formals (plain_forms ref.actuals)) (after (all_taken (replace fs) rs none_replaced) (kept_apart fs ref.name.pos)) by e in
+    let q = after_was (all_taken (replace fs) rs none_replaced) (kept_apart fs ref.name.pos) by p.1 in
+    let r = refused_if_was Rename ref.name.pos (list_any (λ f. is_built_in (new_operator q.0 f)) fs) (Ok q.0) by q.2 in
+    subst NewWords (ok_inj r.1)
+    (kept (replace fs) NewIs NewWords (λ x b c v s h. replaced_words x.pos x.new (named fs x.old x.sig) b c v s h) rs none_replaced q.0
+    (All-append NewIs (by_position formals (plain_forms ref.actuals)) (by_name ref.actuals)
+    (position_worded formals (plain_forms ref.actuals) (plain_worded ref.actuals w)) (name_worded ref.actuals w))
+    q.1 (All-nil (λ p. IsWord p.1)))
+
+-- what is gathered has words for sorts
+abbrev HasWords : Gathered → Type 0
+HasWords g = All HasWordSorts g.operators
+
+with_by : (fs : List PlainOperator) (f : PlainOperator) (b : Bool) → All HasWordSorts fs → HasWordSorts f → All HasWordSorts (cond b fs (fs ++ f ∷ []))
+with_by fs f true h k = h
+with_by fs f false h k = All-push HasWordSorts fs f h k
+
+with_words : (fs os : List PlainOperator) → All HasWordSorts os → All HasWordSorts fs → All HasWordSorts (fold with_operator os fs)
+with_words [] os h k = h
+with_words (f ∷ fs) os h k =
+    with_words fs (with_operator os f) (with_by os f (list_any (same_operator f) os) h (All-head HasWordSorts f fs k)) (All-tail HasWordSorts f fs k)
+
+same_by : (m : Marked) (g : Gathered) (b : Bool) → (cond b (with_discharge m.statement g) (with_marked false m.statement g)).operators ≡ g.operators
+same_by m g true = refl
+same_by m g false = refl
+
+taken_same : (assumes : Bool) (m : Marked) (g : Gathered) → (with_taken assumes m g).operators ≡ g.operators
+taken_same true m g = refl
+taken_same false m g = same_by m g m.assumed
+
+all_taken_same : (assumes : Bool) (ms : List Marked) (g : Gathered) → (fold (λ h m. with_taken assumes m h) g ms).operators ≡ g.operators
+all_taken_same assumes [] g = refl
+all_taken_same assumes (m ∷ ms) g = all_taken_same assumes ms (with_taken assumes m g) ∙ taken_same assumes m g
+
+asserted_same : (ss : List Statement) (g : Gathered) → (with_asserted ss g).operators ≡ g.operators
+asserted_same [] g = refl
+asserted_same (s ∷ ss) g = asserted_same ss (with_marked false s g)
+
+words_flat : (r : RawReference) (g h : Gathered) (t : FlatTrait) → WordedReference r → All HasWordSorts t.operators → take_flat r g t ≡ Ok h → HasWords g → HasWords h
+words_flat r g h t w i e k =
+    let p = after_was (replacements_of t.operators t.raw.formals r.target) (λ by. within r.target.name.pos (with_renamed r.assumed t by g)) h e in
+    let by : Replacements = p.0 in
+    let n = replacements_words t.operators t.raw.formals r.target by w.1 p.1 in
+    let q = refused_if_was Size r.target.name.pos (is_too_large (with_renamed r.assumed t by g)) (Ok (with_renamed r.assumed t by g)) h p.2 in
+    let news : List PlainOperator = map (new_operator by) t.operators in
+    subst HasWords (ok_inj q.1)
+    (subst (All HasWordSorts) (sym (all_taken_same r.assumed (renamed_marked by t.marked) (with_operators news g)))
+    (with_words news g.operators k (each_worded HasWordSorts (new_operator by) (renamed_words by n) t.operators i)))
+
+words_reference : (limit : ℕ) (files : Files) (name : List ℕ) (next : List ℕ → Result FlatTrait Stop) → ((m : List ℕ) (t : FlatTrait) → next m ≡ Ok t → All HasWordSorts t.operators)
+    → (r : RawReference) (g h : Gathered) → WordedReference r → take_reference limit files name next r g ≡ Ok h → HasWords g → HasWords h
+words_reference limit files name next k r g h w e i =
+    let m : List ℕ = target r in let pos : Pos = r.target.name.pos in
+    let a = stopped_if_was UnknownTrait pos (is_none (files m)) (after (closure files limit (m ∷ [])) (take_new name r g (next m))) h e in
+    let b = after_was (closure files limit (m ∷ [])) (take_new name r g (next m)) h a in
+    let c = stopped_if_was Cycle pos (list_any (bytes_eq name) b.0) (take_told r g (next m)) h b.2 in
+    let d = after_was (referred pos (next m)) (λ t. surely (take_flat r g t)) h c in
+    words_flat r g h d.0 w (k m d.0 (referred_was pos (next m) d.0 d.1)) (surely_was (take_flat r g d.0) h d.2) i
+
+words_shorthand : (s : RawShorthand) (g h : Gathered) → WordedShorthand s → take_shorthand s g ≡ Ok h → HasWords g → HasWords h
+words_shorthand s g h w e i =
+    let p = after_was (expand s) (λ x. Ok (with_asserted x.statements (with_operators x.operators g))) h e in
+    let x : Expansion = p.0 in
+    subst HasWords (ok_inj p.2)
+    (subst (All HasWordSorts) (sym (asserted_same x.statements (with_operators x.operators g))) (with_words x.operators g.operators i (expansion_words s x w p.1)))
+
+words_own : (raw : RawTrait) (g h : Gathered) → All WordedDecl raw.declarations → take_own raw g ≡ Ok h → HasWords g → HasWords h
+words_own raw g h w e i =
+    let p = after_was (declared raw.declarations) (λ fs. take_items raw (with_operators fs g)) h e in
+    let q = after_was (items_state (with_operators p.0 g).operators raw.items) (λ ss. Ok (with_asserted ss (with_operators p.0 g))) h p.2 in
+    subst HasWords (ok_inj q.2)
+    (subst (All HasWordSorts) (sym (asserted_same q.0 (with_operators p.0 g)))
+    (with_words p.0 g.operators i
+    (declared_words raw.declarations p.0 (All-weaker WordedDecl DeclaresWords (λ d k. k) raw.declarations w) p.1)))
+
+words_rest : (raw : RawTrait) (g : Gathered) (t : FlatTrait) → WordedTrait raw → take_rest raw g ≡ Ok t → HasWords g → All HasWordSorts t.operators
+words_rest raw g t w e i =
+    let p = after_was (all_taken take_shorthand raw.shorthands g) (λ h. after (take_own raw h) (λ j. after (within raw.name.pos j) (λ k. Ok (finished raw k)))) t e in
+    let q = after_was (take_own raw p.0) (λ j. after (within raw.name.pos j) (λ k. Ok (finished raw k))) t p.2 in
+    let s = after_was (within raw.name.pos q.0) (λ k. Ok (finished raw k)) t q.2 in
+    let same = (refused_if_was Size raw.name.pos (is_too_large q.0) (Ok q.0) s.0 s.1).1 in
+    let shorts = kept take_shorthand WordedShorthand HasWords (λ x b c v n k. words_shorthand x b c v n k) raw.shorthands g p.0 w.4 p.1 i in
+    subst (λ u. All HasWordSorts u.operators) (ok_inj s.2) (subst HasWords (ok_inj same) (words_own raw p.0 q.0 w.1 q.1 shorts))
+
+words_text : (limit : ℕ) (files : Files) (name : List ℕ) (next : List ℕ → Result FlatTrait Stop) → ((m : List ℕ) (t : FlatTrait) → next m ≡ Ok t → All HasWordSorts t.operators)
+    → (text : Option (Result RawTrait Fault)) → ((raw : RawTrait) → text ≡ Some (Ok raw) → WordedTrait raw) → (t : FlatTrait) → flat_file limit files name next text ≡ Ok t
+    → All HasWordSorts t.operators
+words_text limit files name next k None w t e = cc
+words_text limit files name next k (Some (Err f)) w t e = cc
+words_text limit files name next k (Some (Ok raw)) w t e =
+    let all : Result Gathered Stop = all_taken (take_reference limit files name next) raw.references nothing in
+    let a = stopped_if_was TraitName raw.name.pos (not (bytes_eq raw.name.name name)) (after all (λ g. surely (take_rest raw g))) t e in
+    let b = after_was all (λ g. surely (take_rest raw g)) t a in
+    words_rest raw b.0 t (w raw refl) (surely_was (take_rest raw b.0) t b.2)
+    (kept (take_reference limit files name next) WordedReference HasWords (λ r g h v d i. words_reference limit files name next k r g h v d i) raw.references nothing b.0 (w raw refl).5
+    b.1 (All-nil HasWordSorts))
+
+words_by : (files : Files) → AreWorded files → (n limit : ℕ) (name : List ℕ) (t : FlatTrait) → flat_by n limit files name ≡ Ok t → All HasWordSorts t.operators
+words_by files w zero limit name t e = cc
+words_by files w (suc n) limit name t e =
+    words_text limit files name (λ m. flat_by n limit files m) (λ m u d. words_by files w n limit m u d) (files name) (w name) t e
+
+-- the sorts of the operators of a flat trait are words
+pub operators_words : (files : Files) → AreWorded files → (limit : ℕ) (name : List ℕ) (t : FlatTrait) → flat limit files name ≡ Ok t → All (OperatorSorts IsWord) t.operators
+unfolding flat
+operators_words files w limit name t e = words_by files w (suc limit) (suc limit) name t e
+
+word_exists : (fs : List PlainOperator) → All (OperatorSorts IsWord) fs → (s : List ℕ) → IsSortOf fs s → IsWord s
+word_exists fs h s (inl e) = subst IsWord (sym e) refl
+word_exists fs h s (inr (f, c, d)) = All-contains IsWord (sorts_of_operator f) s (All-contains (OperatorSorts IsWord) fs f h c) d
+
+module _ (P Q : List ℕ → Type 0) (w : (s : List ℕ) → P s → Q s) where
+  mutual
+    term_weaker : (t : Tree) → TermSorts P t → TermSorts Q t
+    term_weaker (var n s) h = w s h
+    term_weaker (app f ts) h = (All-weaker P Q w (sorts_of_operator f) h.0, forest_weaker ts h.1)
+
+    forest_weaker : (ts : Forest) → ForestSorts P ts → ForestSorts Q ts
+    forest_weaker none h = tt
+    forest_weaker (more t ts) h = (term_weaker t h.0, forest_weaker ts h.1)
+
+  statement_weaker : (s : Statement) → StatementSorts P s → StatementSorts Q s
+  statement_weaker (Equation l r) h = (term_weaker l h.0, term_weaker r h.1)
+  statement_weaker (Generated s gs) h = (w s h.0, All-weaker (OperatorSorts P) (OperatorSorts Q) (λ g k. All-weaker P Q w (sorts_of_operator g) k) gs h.1)
+  statement_weaker (Partitioned s gs) h = (w s h.0, All-weaker (OperatorSorts P) (OperatorSorts Q) (λ g k. All-weaker P Q w (sorts_of_operator g) k) gs h.1)
+
+-- the sorts of its statements are words
+pub statements_words : (files : Files) → AreWorded files → (limit : ℕ) (name : List ℕ) (t : FlatTrait) → flat limit files name ≡ Ok t
+    → All (StatementSorts IsWord) (theory_of t).statements
+statements_words files w limit name t e =
+    All-weaker (IsStatedOver t.operators) (StatementSorts IsWord)
+    (λ s h. statement_weaker (IsSortOf t.operators) IsWord (word_exists t.operators (operators_words files w limit name t e)) s h.2)
+    (theory_of t).statements (flat_stated files w limit name t e)
