@@ -17,7 +17,7 @@ use Rattle.larch_term.specs.declared.substitution.Entry.{Entry}
 use Rattle.larch_term.specs.declared.variable.Variable.{Variable}
 use Rattle.larch_term_laws.proofs.Occurring.{variable_Decides}
 use Rattle.larch_pairs.specs.Demand.{binding, demand, demand_all, first_demand, occurs, or_next, paired}
-use Rattle.larch_pairs.specs.Unifier.{entry, sides_under}
+use Rattle.larch_pairs.specs.Unify.{entry, sides_under}
 use Rattle.larch_pairs.specs.declared.demand.Demand.{Demand}
 use Rattle.larch_pairs.specs.declared.demand.Demand.TheVariants.{Nothing, Bind, Clash}
 use Rattle.larch_pairs.specs.declared.demand.Sides.{Sides}

@@ -19,7 +19,7 @@ use Rattle.larch_pairs.proofs.Kept.{Among, another, itself, shorter, DemandAmong
 use Rattle.larch_pairs.proofs.Meaning.{Meets, Solves, Unifies, demand_met, first_met}
 use Rattle.larch_pairs.proofs.Unifying.{from_nothing, from_clash, from_zero, unify_is}
 use Rattle.larch_pairs.specs.Demand.{demand, first_demand}
-use Rattle.larch_pairs.specs.Unifier.{Oversize, a_term_is_too_large, entries_under, entry, extended, sides_under, some_large, unify, unify_from, variables_of_both}
+use Rattle.larch_pairs.specs.Unify.{Oversize, a_term_is_too_large, entries_under, entry, extended, sides_under, some_large, unify, unify_from, variables_of_both}
 use Rattle.larch_pairs.specs.declared.demand.Demand.{Demand}
 use Rattle.larch_pairs.specs.declared.demand.Demand.TheVariants.{Nothing, Bind, Clash}
 use Rattle.larch_pairs.specs.declared.demand.Sides.{Sides}

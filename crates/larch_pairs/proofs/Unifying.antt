@@ -8,7 +8,7 @@ use Rattle.larch_term.specs.Tree.{Tree}
 use Rattle.larch_term.specs.declared.substitution.Entry.{Entry}
 use Rattle.larch_term.specs.declared.variable.Variable.{Variable}
 use Rattle.larch_pairs.specs.Demand.{demand, first_demand}
-use Rattle.larch_pairs.specs.Unifier.{a_term_is_too_large, entry, extended, sides_under, some_large, unify, unify_from, variables_of_both}
+use Rattle.larch_pairs.specs.Unify.{a_term_is_too_large, entry, extended, sides_under, some_large, unify, unify_from, variables_of_both}
 use Rattle.larch_pairs.specs.declared.demand.Demand.TheVariants.{Nothing, Bind, Clash}
 use Rattle.larch_pairs.specs.declared.demand.Sides.{Sides}
 

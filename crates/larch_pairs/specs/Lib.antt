@@ -2,4 +2,4 @@ pub mod Demand
 pub mod Overlap
 pub mod Pairs
 pub mod Refusals
-pub mod Unifier
+pub mod Unify

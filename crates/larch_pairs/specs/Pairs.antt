@@ -9,7 +9,7 @@ use Rattle.larch_term.specs.Tree.{Tree, Forest, var, app, none, more}
 use Rattle.larch_term.specs.Variable.{occurrences, with_variable}
 use Rattle.larch_term.specs.declared.substitution.Entry.{Entry}
 use Rattle.larch_term.specs.declared.variable.Variable.{Variable}
-use Rattle.larch_pairs.specs.Unifier.{Oversize, a_term_is_too_large, entries_under, is_large, unify, variables_of_both}
+use Rattle.larch_pairs.specs.Unify.{Oversize, a_term_is_too_large, entries_under, is_large, unify, variables_of_both}
 use Rattle.larch_pairs.specs.declared.pair.Rule.{Rule}
 use Rattle.larch_pairs.specs.declared.pair.Pair.{Pair}
 use Rattle.larch_pairs.specs.declared.pair.Apart.{Apart}

@@ -1,6 +1,6 @@
 -- What a refusal of the code tells.
 use Rattle.std.specs.Prelude.{Option, Some, None}
-use Rattle.larch_pairs.specs.Unifier.{Oversize, a_term_is_too_large}
+use Rattle.larch_pairs.specs.Unify.{Oversize, a_term_is_too_large}
 use Rattle.larch_pairs.specs.declared.refusal.PairRefusal.{PairRefusal}
 use Rattle.larch_pairs.specs.declared.refusal.PairRefusal.TheVariants.{TooLarge, Memory}
 

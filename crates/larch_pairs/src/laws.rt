@@ -4,7 +4,7 @@ ghost use Rattle.larch_term.specs.Substitution.{is_entry_of, substituted};
 ghost use Rattle.larch_term.specs.Tree.{Tree};
 ghost use Rattle.larch_term.specs.declared.substitution.Entry.{Entry};
 ghost use Rattle.larch_pairs.specs.Demand.{demand};
-ghost use Rattle.larch_pairs.specs.Unifier.{unify, unify_from, variables_of_both};
+ghost use Rattle.larch_pairs.specs.Unify.{unify, unify_from, variables_of_both};
 ghost use Rattle.larch_pairs.specs.declared.demand.Demand.TheVariants.{Nothing};
 
 /// A unifier that is answered makes both terms one, done once or twice, and binds no variable twice.

@@ -3,8 +3,8 @@ ghost use Rattle.std.specs.List.{list_any};
 ghost use Rattle.larch_base.specs.Answering.{Answers};
 ghost use Rattle.larch_term.specs.Substitution.{is_entry_of, substituted};
 ghost use Rattle.larch_pairs.specs.Refusals.{told};
-ghost use Rattle.larch_pairs.specs.Unifier.{a_term_is_too_large, entry, entries_under, is_large, sides_under, variables_of_both, within};
-ghost use Rattle.larch_pairs.specs.Unifier.{unify, unify_from};
+ghost use Rattle.larch_pairs.specs.Unify.{a_term_is_too_large, entry, entries_under, is_large, sides_under, variables_of_both, within};
+ghost use Rattle.larch_pairs.specs.Unify.{unify, unify_from};
 
 use crate::demand::{Demand, Equations, Sides, demand_of, first_demand};
 use crate::refusal::PairRefusal;

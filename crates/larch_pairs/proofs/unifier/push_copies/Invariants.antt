@@ -1,6 +1,6 @@
 use Rattle.std.proofs.Common.{◌≡◌, ◌++◌, drop, take}
 use Rattle.std.specs.List.{list_any}
-use Rattle.larch_pairs.specs.Unifier.{is_large}
+use Rattle.larch_pairs.specs.Unify.{is_large}
 use Rattle.larch_pairs.proofs.unifier.push_copies.Given as goal
 
 -- the entries so far are copied, and none is too large

@@ -1,6 +1,6 @@
 use Rattle.std.proofs.Common.{◌≡◌, ◌++◌, drop, take}
 use Rattle.std.specs.List.{list_any}
-use Rattle.larch_pairs.specs.Unifier.{entries_under, is_large}
+use Rattle.larch_pairs.specs.Unify.{entries_under, is_large}
 use Rattle.larch_pairs.proofs.unifier.push_under.Given as goal
 
 -- the bindings so far are done, and none is too large

@@ -1,6 +1,6 @@
 use Rattle.std.proofs.Common.{◌≡◌, ◌||◌, drop, take}
 use Rattle.std.specs.List.{list_any}
-use Rattle.larch_pairs.specs.Unifier.{is_large, sides_under}
+use Rattle.larch_pairs.specs.Unify.{is_large, sides_under}
 use Rattle.larch_pairs.proofs.unifier.sides_under.Given as goal
 
 -- the equations so far are done, and none of their sides is too large

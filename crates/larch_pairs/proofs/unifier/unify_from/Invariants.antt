@@ -1,5 +1,5 @@
 use Rattle.std.proofs.Common.{◌≡◌, []}
-use Rattle.larch_pairs.specs.Unifier.{unify_from}
+use Rattle.larch_pairs.specs.Unify.{unify_from}
 use Rattle.larch_pairs.proofs.unifier.unify_from.Given as goal
 
 -- what is left to do gives what was to be done
