@@ -1,0 +1,5 @@
+pub mod Closing
+pub mod LookUps
+pub mod OneMore
+pub mod OpenLevel
+pub mod Staying

@@ -1,0 +1,18 @@
+use Rattle.std.proofs.Common.{◌≡◌, ◌+◌, ◌++◌, ◌∷◌, [], length, refl, arith}
+use Rattle.std.proofs.lemmas.Grind.{common_steps}
+use Rattle.larch_past.specs.declared.event.Happened.TheVariants.{Opens}
+use Rattle.larch_past.specs.declared.event.KnownBox.{KnownBox}
+use Rattle.larch_past.specs.declared.past.Past.{Past}
+use Rattle.std.proofs.lemmas.List.Elements.{All-nil}
+use Rattle.larch_past.specs.Past.{IsEquated}
+use Rattle.larch_past.proofs.OneMore.{opened}
+use Rattle.larch_past.proofs.past.Past.begin_box.Goals as goal
+
+pub returns-clause-past : goal.returns-clause-past
+returns-clause-past c = λ t p h.
+    let b : Past = record { own = c.args.self.now.own; events = c.push-2.new.self; places = c.push.new.self; levels = c.push-3.new.self } in
+    let k : KnownBox = record { number = length c.args.self.now.places.items + 1; parts = c.args.parts; hypotheses = [] } in
+    let pl : c.push.new.self.items ≡ c.args.self.now.places.items ++ length c.args.self.now.events.items ∷ [] = grind (arith, common_steps) in
+    let ev : c.push-2.new.self.items ≡ c.args.self.now.events.items ++ Opens k ∷ [] = grind (arith, common_steps) in
+    let lv : c.push-3.new.self.items ≡ c.args.self.now.levels.items ++ length c.push-2.new.self.items ∷ [] = grind (arith, common_steps) in
+    opened t p c.args.self.now b k refl pl ev lv refl h (All-nil (IsEquated p))

@@ -1,0 +1,37 @@
+use Rattle.std.proofs.Common.{◌≡◌, ◌++◌, ◌∷◌, [], take, Some, refl, sym, ◌∙◌, ap, arith}
+use Rattle.std.proofs.lemmas.Grind.{common_steps}
+use Rattle.larch_past.specs.declared.event.Happened.TheVariants.{Says, Opens, Closes}
+use Rattle.larch_past.specs.declared.past.Past.{Past}
+use Rattle.larch_past.specs.Past.{history_in}
+use Rattle.larch_past.proofs.Closing.{cut_known, uncut, ended}
+use Rattle.larch_past.proofs.OneMore.{history_push}
+use Rattle.larch_past.proofs.past.Past.end_box.Goals as goal
+
+pub returns-in_default-pop-clause-history : goal.returns-in_default-pop-clause-history
+returns-in_default-pop-clause-history c = λ t p h.
+    let ev : c.args.self.now.events.items ≡ c.pop.new.self.items ++ Says c.in-Some-Says.field-0-0 c.in-Some-Says.stated ∷ [] = grind (arith, common_steps) in
+    let lv : c.args.self.now.levels.items ≡ [] = grind (arith, common_steps) in
+    uncut t p c.args.self.now c.pop.new.self.items c.in-Some-Says.field-0-0 c.in-Some-Says.stated h ev lv
+
+pub returns-clause-past : goal.returns-clause-past
+returns-clause-past c = λ _ t p h.
+    let b : Past = record { own = c.args.self.now.own; events = c.push-2.new.self; places = c.push.new.self; levels = c.pop-2.new.self } in
+    let ev : c.args.self.now.events.items ≡ c.pop.new.self.items ++ Says c.in-Some-Says.field-0-0 c.in-Some-Says.stated ∷ [] = grind (arith, common_steps) in
+    let lv : c.args.self.now.levels.items ≡ c.pop-2.new.self.items ++ c.in-Some.level ∷ [] = grind (arith, common_steps) in
+    let tk : take c.in-Some.level c.pop.new.self.items ≡ c.pop-3.new.self.items ++ Opens c.in-Some-Opens.known ∷ [] = grind (arith, common_steps) in
+    let pl : c.push.new.self.items ≡ c.args.self.now.places.items ++ c.in-Some.level ∷ [] = grind (arith, common_steps) in
+    let pe : c.push-2.new.self.items ≡ c.pop-3.new.self.items ++ Closes c.in-Some-Opens.known c.in-Some-Says.stated ∷ [] = grind (arith, common_steps) in
+    ended t p c.args.self.now b c.in-Some-Says.field-0-0 c.in-Some-Says.stated c.pop-3.new.self.items c.in-Some-Opens.known c.pop-2.new.self.items c.in-Some.level
+    (cut_known t p c.args.self.now c.pop.new.self.items c.in-Some-Says.field-0-0 c.in-Some-Says.stated c.pop-2.new.self.items c.in-Some.level c.pop-3.new.self.items
+    c.in-Some-Opens.known h ev lv tk)
+    refl pl pe refl h
+
+pub returns-clause-history : goal.returns-clause-history
+returns-clause-history c = λ t p h.
+    let ev : c.args.self.now.events.items ≡ c.pop.new.self.items ++ Says c.in-Some-Says.field-0-0 c.in-Some-Says.stated ∷ [] = grind (arith, common_steps) in
+    let lv : c.args.self.now.levels.items ≡ c.pop-2.new.self.items ++ c.in-Some.level ∷ [] = grind (arith, common_steps) in
+    let tk : take c.in-Some.level c.pop.new.self.items ≡ c.pop-3.new.self.items ++ Opens c.in-Some-Opens.known ∷ [] = grind (arith, common_steps) in
+    let pe : c.push-2.new.self.items ≡ c.pop-3.new.self.items ++ Closes c.in-Some-Opens.known c.in-Some-Says.stated ∷ [] = grind (arith, common_steps) in
+    (cut_known t p c.args.self.now c.pop.new.self.items c.in-Some-Says.field-0-0 c.in-Some-Says.stated c.pop-2.new.self.items c.in-Some.level c.pop-3.new.self.items
+    c.in-Some-Opens.known h ev lv tk).history
+    ∙ ap Some (sym (ap (history_in p) pe ∙ history_push p c.pop-3.new.self.items (Closes c.in-Some-Opens.known c.in-Some-Says.stated)))

@@ -1,0 +1,12 @@
+//! What holds of what is kept, for crates above to cite. No function here does anything.
+ghost use Rattle.std.specs.Prelude.{◌≡◌};
+ghost use Rattle.larch_term.specs.declared.statement.Theory.{Theory};
+ghost use Rattle.larch_pool.specs.Pooled.{Pooled, Grows};
+ghost use Rattle.larch_past.specs.Past.{IsPast, history_of};
+ghost use Rattle.larch_past.specs.declared.past.Past.{Past};
+
+/// What is kept stays right while the pool grows, and says the same.
+pub fn past_stays()
+    ensures stays { (t : Theory) (p q : Pooled) (past : Past) → IsPast t p past → Grows p q → IsPast t q past }
+    ensures same { (t : Theory) (p q : Pooled) (past : Past) → IsPast t p past → Grows p q → history_of q past ≡ history_of p past }
+{}
