@@ -1,12 +1,11 @@
 -- Two boxes, in one of which a formula is supposed to be true and in the other to be false, show what both show.
-use Rattle.std.proofs.Common.{◌≡◌, ◌⊎◌, inl, inr, ℕ, Bool, true, false, cond, List, [], ◌∷◌, ◌++◌, map, All, Option, Some, None, ◌&&◌, refl, sym, ◌∙◌, ap, ap₂, subst}
+use Rattle.std.proofs.Common.{◌≡◌, inr, ℕ, true, List, [], ◌∷◌, ◌++◌, map, Some, None, ◌&&◌, refl, sym, ◌∙◌, ap, subst}
 use Rattle.std.specs.Option.{option_map, option_or, option_and_then}
 use Rattle.std.specs.Cmp.Lexicographic.{pointwise}
 use Rattle.std.proofs.lemmas.Bool.{cond-true}
 use Rattle.std.proofs.lemmas.List.{append-nil}
 use Rattle.std.proofs.lemmas.Slice.Eq.{slice_eq-Decides}
 use Rattle.larch_base.proofs.Bools.{and_both}
-use Rattle.larch_base.proofs.Options.{some_inj}
 use Rattle.larch_term.specs.BuiltIn.{built_in, bool_sort}
 use Rattle.larch_term.specs.Equality.{same_statement}
 use Rattle.larch_term.specs.Operator.{PlainOperator}
@@ -25,7 +24,7 @@ use Rattle.larch_renaming.proofs.RenamedStatements.{statement_alike}
 use Rattle.larch_calculus.specs.Formula.{falsity}
 use Rattle.larch_certificate.specs.declared.line.Line.{Line}
 use Rattle.larch_certificate.specs.declared.line.Line.TheVariants.{Cases}
-use Rattle.larch_lines.specs.BoxRules.{cases_of, common_result, supposes}
+use Rattle.larch_lines.specs.BoxRules.{cases_of, supposes}
 use Rattle.larch_lines.specs.Context.{theory_of, find_closed}
 use Rattle.larch_lines.specs.Events.{PlainBox, State, operators_from}
 use Rattle.larch_lines.specs.Matching.{is_empty, same_statements}

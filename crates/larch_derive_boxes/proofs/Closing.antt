@@ -1,31 +1,31 @@
 -- Closing a box: its result stays, and the builder has grown.
-use Rattle.std.proofs.Common.{◌≡◌, ◌≤◌, ◌<◌, ◌+◌, ◌-◌, ◌==◌, ℕ, zero, suc, Bool, true, false, cond, List, [], ◌∷◌, ◌++◌, map, length, take, All, Option, Some, None, refl, sym, ◌∙◌, ap, ap₂, subst, arith}
+use Rattle.std.proofs.Common.{◌≡◌, ◌≤◌, ◌<◌, ◌+◌, ◌-◌, ◌==◌, ℕ, suc, cond, List, [], ◌∷◌, ◌++◌, map, length, take, All, Option, Some, refl, sym, ◌∙◌, ap, ap₂, subst, arith}
 use Rattle.std.specs.Option.{option_map, option_and_then}
 use Rattle.std.proofs.lemmas.List.{append_assoc, length-append}
 use Rattle.std.proofs.Math.Seq.{take-append_seam}
 use Rattle.std.proofs.lemmas.List.Elements.{All-nil, All-cons, All-head, All-tail}
-use Rattle.larch_base.proofs.Options.{some_inj}
 use Rattle.larch_term.specs.Statement.{IsStatementOver}
-use Rattle.larch_term.specs.Substitution.{substituted}
 use Rattle.larch_term.specs.Tree.{Tree}
 use Rattle.larch_term.specs.declared.statement.Statement.{Statement}
 use Rattle.larch_term.specs.declared.statement.Statement.TheVariants.{Equation}
 use Rattle.larch_term.specs.declared.statement.Theory.{Theory}
 use Rattle.larch_term_laws.proofs.Substitutions.{substituted_nil}
+use Rattle.larch_calculus.specs.Theories.{AreNew}
 use Rattle.larch_certificate.specs.declared.line.Line.{Line}
 use Rattle.larch_certificate.specs.declared.line.Line.TheVariants.{Inst, Done}
 use Rattle.larch_lines.specs.Context.{theory_of, find_closed, innermost}
 use Rattle.larch_lines.specs.Events.{PlainBox, Event, Said, Opened, Closed, State, start, operators_of}
 use Rattle.larch_lines.specs.Rules.{instance_by}
-use Rattle.larch_lines.specs.Run.{run, judge, step}
+use Rattle.larch_lines.specs.Run.{run, judge}
 use Rattle.larch_derive.specs.declared.builder.Builder.{Builder}
 use Rattle.larch_derive.specs.declared.open_box.OpenBox.{OpenBox}
-use Rattle.larch_derive.specs.Builder.{IsPushed, shape_of}
-use Rattle.larch_derive.specs.Predicates.{operators_at, written, written_statement, shapes_of, StandIn, SaysIn, IsBehind, LeadsOn, GrowsBy, AreAlike, Grows, HasStatement}
+use Rattle.larch_derive.specs.Builder.{IsPushed}
+use Rattle.larch_derive.specs.Predicates.{written, written_statement, StandIn, SaysIn, IsBehind, GrowsBy, AreAlike, Grows, HasStatement}
 use Rattle.larch_derive.proofs.Growth.{carried, run_append, run_further, theory_behind, later_stand}
 use Rattle.larch_derive.proofs.Pushing.{one_state}
-use Rattle.larch_derive.proofs.Runs.{after_saying, run_said, run_count}
-use Rattle.larch_derive_boxes.specs.Boxes.{box_of, operators_inside, OpensIn, OpensOn, Opens, ResultIn, HasResult, Closes}
+use Rattle.larch_derive.proofs.Runs.{after_saying, run_said, run_count, down_run}
+use Rattle.larch_derive_boxes.proofs.Newness.{constants_new}
+use Rattle.larch_derive_boxes.specs.Boxes.{box_of, operators_inside, OpensIn, Opens, ResultIn, HasResult, Closes}
 
 inner_behind : (es h : List Event) (c : ℕ) → All (IsBehind c) es → innermost (es ++ h) ≡ innermost h
 inner_behind [] h c b = refl
@@ -200,6 +200,7 @@ closes_result a d x hs l r c =
     let s = written_statement xs (Equation l r) in
     let number = i.opens.number in
     let count = run_count t i.cls start i.state i.says.stand.runs in
+    let before = run_count t a.lines start st h.runs in
     let opened : length i.bls ≡ length a.lines + 1 = ap length i.opens.lines ∙ length-append a.lines (i.opens.line ∷ []) in
     let grown : length i.cls ≡ length i.bls + length i.grows.more =
     ap length i.grows.lines ∙ length-append i.bls i.grows.more in
@@ -215,6 +216,9 @@ closes_result a d x hs l r c =
         };
         result = box_found x.number x.number (box, s) (find_closed st.history x.number) refl;
         within = omega (arith, number, count, opened, grown);
+        new = constants_new t h.plain st.history st.count (box_of x []) (down_run t a.lines start st h.runs tt)
+            (omega (arith, number, before));
+        others = i.opens.others;
         over = inside_over_said t bs a.lines i.bls i.cls x hs i.line (Equation l r) st i.state h.runs i.opens i.grows i.says;
         supposed = i.opens.over st h.runs;
       },
@@ -288,6 +292,8 @@ grown_result a b x hs s g (st, h) =
         result = ap (λ l. find_closed l x.number) m.history
             ∙ closed_behind m.events st.history st.count x.number m.behind h.within ∙ h.result;
         within = omega (arith, le, within);
+        new = subst (λ u. AreNew u (operators_of (box_of x []))) (sym theory) h.new;
+        others = h.others;
         over = subst (λ u. IsStatementOver (u.operators ++ operators_of (box_of x [])) (written_statement bs s)) (sym theory) h.over;
         supposed = subst (λ u. All (λ q. IsStatementOver (u.operators ++ operators_of (box_of x [])) (written_statement bs q)) hs)
             (sym theory) h.supposed;

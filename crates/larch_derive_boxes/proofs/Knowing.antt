@@ -1,21 +1,20 @@
 -- Constants of open boxes are known.
-use Rattle.std.proofs.Common.{◌≡◌, ◌⊎◌, inl, inr, ℕ, suc, Bool, true, false, cond, List, [], ◌∷◌, ◌++◌, map, Contains, Option, Some, None, refl, sym, ◌∙◌, ap, subst}
+use Rattle.std.proofs.Common.{◌≡◌, inl, inr, ℕ, suc, Bool, true, false, cond, List, [], ◌∷◌, map, Contains, Option, Some, None, refl, sym, ◌∙◌, ap, subst}
 use Rattle.std.specs.Option.{option_map, option_or}
 use Rattle.larch_base.proofs.Members.{contains_here, contains_later, contains_left, contains_right, contains_either, contains_cases, contains_none, contains_one, contains_map}
 use Rattle.larch_base.proofs.Options.{some_inj}
 use Rattle.larch_term.specs.Operator.{PlainOperator, boxed}
 use Rattle.larch_term.specs.OperatorKey.{same_operator, operator_Decides}
-use Rattle.larch_term.specs.Sorts.{IsTermOver}
-use Rattle.larch_term.specs.Tree.{Tree, app, none}
+use Rattle.larch_term.specs.Tree.{app, none}
 use Rattle.larch_term.specs.declared.statement.Theory.{Theory}
 use Rattle.larch_certificate.specs.declared.line.BoxPart.{BoxPart}
 use Rattle.larch_lines.specs.Context.{theory_of}
-use Rattle.larch_lines.specs.Events.{Event, Said, Opened, Closed, State, operators_of, operators_from, part_operator}
+use Rattle.larch_lines.specs.Events.{Event, Said, Opened, Closed, operators_of, operators_from, part_operator}
 use Rattle.larch_derive.specs.declared.builder.Builder.{Builder}
 use Rattle.larch_derive.specs.declared.open_box.OpenBox.{OpenBox}
 use Rattle.larch_derive.specs.Builder.{part_for, part_sort, shape_of}
 use Rattle.larch_derive.specs.OpenBox.{place_from, constant_of, in_lines, name_in_lines}
-use Rattle.larch_derive.specs.Predicates.{shapes_of, operators_at, written, Stands, Known}
+use Rattle.larch_derive.specs.Predicates.{shapes_of, operators_at, Stands, Known}
 
 -- ---- places
 
@@ -112,7 +111,7 @@ shape_there t (Opened b ∷ h) p o c d =
     ]
 shape_there t (Closed b s ∷ h) p o c d = shape_there t h p o c d
 
-constant_in_lines : (bs : List OpenBox) (f : PlainOperator) (n k : ℕ) → f.domain ≡ [] → constant_of bs f ≡ Some (n, k)
+pub constant_in_lines : (bs : List OpenBox) (f : PlainOperator) (n k : ℕ) → f.domain ≡ [] → constant_of bs f ≡ Some (n, k)
     → part_operator n k (part_for f) ≡ in_lines bs f
 constant_in_lines bs f n k e q =
     let name : boxed n k ≡ name_in_lines (constant_of bs f) f.name = ap (λ o. name_in_lines o f.name) (sym q) in

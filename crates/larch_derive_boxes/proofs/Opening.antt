@@ -1,38 +1,36 @@
 -- Opening a box: the lines lead inside, and what was said and known outside is said and known inside.
-use Rattle.std.proofs.Common.{◌≡◌, ◌≤◌, ◌<◌, ◌+◌, ◌-◌, ◌==◌, ◌⊎◌, inl, inr, ℕ, suc, Bool, true, false, cond, List, [], ◌∷◌, ◌++◌, map, length, All, Option, Some, None, bytes_eq, refl, sym, ◌∙◌, ap, subst, arith}
+use Rattle.std.proofs.Common.{◌≡◌, ◌-◌, ℕ, suc, List, [], ◌∷◌, ◌++◌, map, All, Some, None, bytes_eq, refl, sym, ◌∙◌, ap, subst, arith}
 use Rattle.std.specs.Option.{option_map, option_and_then}
 use Rattle.std.proofs.lemmas.Bool.{cond-true}
 use Rattle.std.proofs.lemmas.List.{map-append}
 use Rattle.std.proofs.lemmas.List.Elements.{All-head, All-tail, All-push, All-weaker}
 use Rattle.std.proofs.lemmas.Slice.Eq.{bytes_eq-Decides}
-use Rattle.larch_base.proofs.Options.{some_inj}
 use Rattle.larch_term.specs.Operator.{PlainOperator}
-use Rattle.larch_term.specs.Sorts.{sort_of, IsTermOver}
+use Rattle.larch_term.specs.Sorts.{sort_of}
 use Rattle.larch_term.specs.Statement.{IsStatementOver}
 use Rattle.larch_term.specs.Tree.{Tree, var, app}
 use Rattle.larch_term.specs.declared.statement.Statement.{Statement}
 use Rattle.larch_term.specs.declared.statement.Statement.TheVariants.{Equation, Generated, Partitioned}
 use Rattle.larch_term.specs.declared.statement.Theory.{Theory}
 use Rattle.larch_calculus.specs.Renaming.{HasPlainNames}
-use Rattle.larch_certificate.specs.declared.line.BoxPart.{BoxPart}
 use Rattle.larch_certificate.specs.declared.line.CodedEquation.{CodedEquation}
 use Rattle.larch_certificate.specs.declared.line.Line.{Line}
 use Rattle.larch_certificate.specs.declared.line.Line.TheVariants.{BoxLine}
-use Rattle.larch_lines.specs.Context.{theory_of, find_line, find_symbol}
+use Rattle.larch_lines.specs.Context.{theory_of, find_symbol}
 use Rattle.larch_lines.specs.Decoding.{each, decode, decode_equation, equation_between}
-use Rattle.larch_lines.specs.Events.{PlainBox, Event, Opened, State, start}
+use Rattle.larch_lines.specs.Events.{Event, Opened, State, start}
 use Rattle.larch_lines.specs.Run.{run}
 use Rattle.larch_derive.specs.declared.builder.Builder.{Builder}
 use Rattle.larch_derive.specs.declared.open_box.OpenBox.{OpenBox}
-use Rattle.larch_derive.specs.Builder.{IsOpened, IsBoxLine, part_for, shape_of}
+use Rattle.larch_derive.specs.Builder.{IsOpened, part_for, shape_of}
 use Rattle.larch_derive.specs.Coding.{AreCodesOfEquations}
-use Rattle.larch_derive.specs.Predicates.{AreOthers, operators_at, written, written_statement, shapes_of, StandIn, KnownIn, SaysIn, Stands, Known, HasStatement}
+use Rattle.larch_derive.specs.Predicates.{AreOthers, written, written_statement, StandIn, KnownIn, SaysIn, Stands, Known, HasStatement}
 use Rattle.larch_derive.proofs.Decoding.{written_means}
 use Rattle.larch_derive.proofs.Growth.{run_further}
 use Rattle.larch_derive.proofs.Pushing.{one_state}
 use Rattle.larch_derive.proofs.Runs.{GoDown, run_count, down_run}
-use Rattle.larch_derive_boxes.specs.Boxes.{box_of, operators_inside, IsEquation, MaySupposeIn, MaySuppose, OpensIn, OpensOn, Opens}
-use Rattle.larch_derive_boxes.proofs.Renaming.{inside_written, inside_statement, inside_over}
+use Rattle.larch_derive_boxes.specs.Boxes.{box_of, operators_inside, IsEquation, MaySuppose, OpensIn, Opens}
+use Rattle.larch_derive_boxes.proofs.Renaming.{inside_statement, inside_over}
 
 -- ---- hypotheses
 

@@ -1,28 +1,25 @@
 -- Hypotheses of open boxes.
-use Rattle.std.proofs.Common.{◌≡◌, ◌≤◌, ◌<◌, ◌+◌, ◌-◌, ◌==◌, ℕ, zero, suc, Bool, true, false, cond, List, [], ◌∷◌, ◌++◌, map, length, All, Option, Some, None, refl, sym, ◌∙◌, ap, subst, arith}
+use Rattle.std.proofs.Common.{◌≡◌, ◌<◌, ◌-◌, ◌==◌, ℕ, zero, suc, Bool, true, false, cond, List, [], ◌∷◌, ◌++◌, map, All, Option, Some, None, refl, sym, ◌∙◌, ap, subst, arith}
 use Rattle.std.specs.Option.{option_map, option_and_then}
 use Rattle.std.specs.List.{slice_get}
 use Rattle.std.proofs.lemmas.List.Elements.{All-head, All-tail, All-contains, All-weaker}
 use Rattle.larch_base.proofs.Members.{got_contains}
-use Rattle.larch_base.proofs.Options.{some_inj}
 use Rattle.larch_term.specs.Statement.{IsStatementOver}
 use Rattle.larch_term.specs.declared.statement.Statement.{Statement}
-use Rattle.larch_term.specs.declared.statement.Theory.{Theory}
 use Rattle.larch_tables.specs.Row.{numbered}
 use Rattle.larch_tables.proofs.Identities.{at_place}
-use Rattle.larch_certificate.specs.declared.line.Line.{Line}
 use Rattle.larch_certificate.specs.declared.line.Line.TheVariants.{Hyp}
-use Rattle.larch_lines.specs.Context.{theory_of, find_open}
+use Rattle.larch_lines.specs.Context.{find_open}
 use Rattle.larch_lines.specs.Events.{PlainBox, Event, Said, Opened, Closed, State, start}
-use Rattle.larch_lines.specs.Run.{run, judge}
+use Rattle.larch_lines.specs.Run.{judge}
 use Rattle.larch_derive.specs.declared.builder.Builder.{Builder}
 use Rattle.larch_derive.specs.declared.open_box.OpenBox.{OpenBox}
 use Rattle.larch_derive.specs.Builder.{IsPushed}
-use Rattle.larch_derive.specs.Predicates.{operators_at, written_statement, StandIn, IsBehind, GrowsBy, Grows, HasStatement, Extends}
-use Rattle.larch_derive.proofs.Growth.{carried, later_stand, later_state, later_theory, theory_behind}
+use Rattle.larch_derive.specs.Predicates.{operators_at, written_statement, IsBehind, Grows, HasStatement, Extends}
+use Rattle.larch_derive.proofs.Growth.{carried, later_stand, later_theory}
 use Rattle.larch_derive.proofs.Pushing.{pushed_says, pushed_extends}
 use Rattle.larch_derive.proofs.Runs.{run_count, down_run}
-use Rattle.larch_derive_boxes.specs.Boxes.{box_of, operators_inside, OpensIn, OpensOn, Opens, IsOpenIn, IsOpen}
+use Rattle.larch_derive_boxes.specs.Boxes.{box_of, operators_inside, Opens, IsOpenIn, IsOpen}
 use Rattle.larch_derive_boxes.proofs.Opening.{moved, stand_inside}
 use Rattle.larch_derive_boxes.proofs.Renaming.{inside_statement, inside_over}
 

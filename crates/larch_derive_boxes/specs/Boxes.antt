@@ -1,21 +1,27 @@
 -- What is known of boxes: that one was opened, what may be supposed in it, and what is left of it when it is closed. As
 -- with the predicates of builders, nobody above looks into these.
-use Rattle.std.specs.Prelude.{◌≡◌, ◌≤◌, ℕ, suc, List, [], ◌∷◌, ◌++◌, map, length, All, Some}
+use Rattle.std.specs.Prelude.{◌≡◌, ◌≢◌, ◌≤◌, ℕ, suc, List, [], ◌∷◌, ◌++◌, map, length, All, AllPairs, Some, None}
 use Rattle.larch_term.specs.Operator.{PlainOperator}
+use Rattle.larch_term.specs.Substitution.{substituted}
 use Rattle.larch_term.specs.Tree.{Tree}
 use Rattle.larch_term.specs.Statement.{IsStatementOver}
 use Rattle.larch_term.specs.declared.statement.Statement.{Statement}
 use Rattle.larch_term.specs.declared.statement.Statement.TheVariants.{Equation, Generated, Partitioned}
 use Rattle.larch_term.specs.declared.statement.Theory.{Theory}
+use Rattle.larch_calculus.specs.Freed.{constants_for}
+use Rattle.larch_calculus.specs.Theories.{AreNew, AreConstants}
+use Rattle.larch_certificate.specs.declared.line.CodedVar.{CodedVar}
 use Rattle.larch_certificate.specs.declared.line.Line.{Line}
 use Rattle.larch_certificate.specs.declared.line.Line.TheVariants.{Inst, Done}
 use Rattle.larch_lines.specs.Context.{theory_of, find_open, find_closed}
-use Rattle.larch_lines.specs.Events.{PlainBox, Event, Opened, State, start}
+use Rattle.larch_lines.specs.Events.{PlainBox, Event, Opened, State, start, operators_of}
+use Rattle.larch_lines.specs.Matching.{variable_of}
 use Rattle.larch_lines.specs.Run.{run}
 use Rattle.larch_derive.specs.declared.builder.Builder.{Builder}
 use Rattle.larch_derive.specs.declared.open_box.OpenBox.{OpenBox}
 use Rattle.larch_derive.specs.Builder.{IsPushed, part_for}
-use Rattle.larch_derive.specs.Predicates.{AreOthers, operators_at, written_statement, StandIn, Stands, HasStatement, Grows}
+use Rattle.larch_derive.specs.OpenBox.{constant_of}
+use Rattle.larch_derive.specs.Predicates.{AreOthers, operators_at, written_statement, StandIn, HasStatement, Grows}
 
 -- the box that lines open for this one
 abbrev pub box_of : OpenBox → List Statement → PlainBox
@@ -73,17 +79,29 @@ pub record IsOpenIn (t : Theory) (bs : List OpenBox) (ls : List Line) (st : Stat
 unfoldable pub IsOpen : Builder → OpenBox → List Statement → Type 0
 IsOpen b x hs = (st : State) × IsOpenIn b.theory b.boxes b.lines st x hs
 
--- the box is closed, directly where the builder stands, and its result is the statement
+-- the box is closed, directly where the builder stands, where its constants are new, and its result is the statement
 pub record ResultIn (t : Theory) (bs : List OpenBox) (ls : List Line) (st : State) (x : OpenBox) (hs : List Statement) (s : Statement) : Type 0 where
   pub stand : StandIn t bs ls st
   pub result : find_closed st.history x.number
       ≡ Some (box_of x (map (written_statement (bs ++ x ∷ [])) hs), written_statement (bs ++ x ∷ []) s)
   pub within : x.number ≤ st.count
+  pub new : AreNew (theory_of t st.history) (operators_of (box_of x []))
+  pub others : AreOthers t x.constants
   pub over : IsStatementOver (operators_inside t st.history x) (written_statement (bs ++ x ∷ []) s)
   pub supposed : All (λ h. IsStatementOver (operators_inside t st.history x) (written_statement (bs ++ x ∷ []) h)) hs
 
 unfoldable pub HasResult : Builder → OpenBox → List Statement → Statement → Type 0
 HasResult b x hs s = (st : State) × ResultIn b.theory b.boxes b.lines st x hs s
+
+-- the operators are different constants, and none stands for one of an outer box
+pub record AreOwnConstants (bs : List OpenBox) (x : OpenBox) : Type 0 where
+  pub constants : AreConstants x.constants
+  pub different : AllPairs (λ f g. f ≢ g) x.constants
+  pub outer : All (λ f. constant_of bs f ≡ None) x.constants
+
+-- a term with the constants of a box in the places of variables, in order
+abbrev pub with_constants : List CodedVar → OpenBox → Tree → Tree
+with_constants vs x t = substituted (constants_for (map variable_of vs) x.constants) t
 
 -- the steps from before a box is opened to behind its end: opened, grown inside, the result said once more, closed
 pub record Closes (a d : Builder) (x : OpenBox) (hs : List Statement) (l r : Tree) : Type 0 where

@@ -1,5 +1,8 @@
-ghost use Rattle.std.specs.Prelude.{◌≡◌, [], ◌∷◌, Some, IfOk, OnOk, OnErr};
+ghost use Rattle.std.specs.Prelude.{◌≡◌, [], ◌∷◌, map, Some, IfOk, OnOk, OnErr};
+ghost use Rattle.larch_term.specs.Sorts.{sort_of};
 ghost use Rattle.larch_term.specs.Tree.{Tree};
+ghost use Rattle.larch_lines.specs.Matching.{variable_of};
+ghost use Rattle.larch_derive.specs.Builder.{boxes_in};
 ghost use Rattle.larch_term.specs.Truth.{truth};
 ghost use Rattle.larch_term.specs.Variable.{occurrences};
 ghost use Rattle.std.specs.Prelude.{List};
@@ -7,13 +10,13 @@ ghost use Rattle.larch_term.specs.declared.statement.Statement.{Statement};
 ghost use Rattle.larch_term.specs.declared.statement.Statement.TheVariants.{Equation as equation};
 ghost use Rattle.larch_calculus.specs.Formula.{falsity};
 ghost use Rattle.larch_tables.specs.Row.{numbered};
-ghost use Rattle.larch_derive.specs.Predicates.{HasStatement, HasEquation, Extends, Grows};
+ghost use Rattle.larch_derive.specs.Predicates.{Known, HasStatement, HasEquation, Extends, Grows};
 ghost use Rattle.larch_derive.specs.declared.builder.Builder.{Builder as Built};
 ghost use Rattle.larch_derive.specs.declared.open_box.OpenBox.{OpenBox};
-ghost use Rattle.larch_derive_boxes.specs.Boxes.{Opens, IsOpen, HasResult};
+ghost use Rattle.larch_derive_boxes.specs.Boxes.{Opens, IsOpen, HasResult, AreOwnConstants, with_constants};
 
 use larch_base::{Memory, Sequence};
-use larch_certificate::Line;
+use larch_certificate::{CodedVars, Line};
 use larch_derive::Builder;
 use std::alloc::Global;
 
@@ -60,5 +63,25 @@ pub fn cases_line(builder: &mut Builder, first: u64, second: u64) -> Result<u64,
     ensures err { OnErr result (builder.new ≡ builder.old) }
 {
     let number = builder.push(Line::Cases(first, second))?;
+    Ok(number)
+}
+
+/// A line that says the result of a box without hypotheses, with variables in the places of its constants. A refused
+/// line changes nothing.
+#[tactic(auto, using(crate::proofs::Freshness::fresh_says, crate::proofs::Freshness::fresh_extends))]
+pub fn fresh_line(builder: &mut Builder, number: u64, variables: CodedVars) -> Result<u64, Memory>
+    ensures says { IfOk result (λ n. (x : OpenBox) (l r : Tree) → x.number ≡ number
+        → HasResult builder.old x [] (equation (with_constants variables x l) (with_constants variables x r))
+        → AreOwnConstants (boxes_in builder.old) x
+        → map (λ c. c.range) x.constants ≡ map (λ v. v.sort) (map variable_of variables)
+        → Known builder.old l → Known builder.old r → sort_of l ≡ sort_of r → HasEquation builder.new n l r) }
+    ensures extends { OnOk result ((x : OpenBox) (l r : Tree) → x.number ≡ number
+        → HasResult builder.old x [] (equation (with_constants variables x l) (with_constants variables x r))
+        → AreOwnConstants (boxes_in builder.old) x
+        → map (λ c. c.range) x.constants ≡ map (λ v. v.sort) (map variable_of variables)
+        → Known builder.old l → Known builder.old r → Extends builder.old builder.new) }
+    ensures err { OnErr result (builder.new ≡ builder.old) }
+{
+    let number = builder.push(Line::Fresh(number, variables))?;
     Ok(number)
 }

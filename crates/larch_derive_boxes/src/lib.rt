@@ -4,4 +4,4 @@
 mod boxes;
 pub mod laws;
 
-pub use boxes::{cases_line, close_box, hyp_line};
+pub use boxes::{cases_line, close_box, fresh_line, hyp_line};
