@@ -11,3 +11,4 @@ pub mod Sound
 pub mod Stated
 pub mod Theory
 pub mod Words
+pub mod Variables

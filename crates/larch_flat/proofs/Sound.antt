@@ -120,7 +120,7 @@ sound_all assumes fs (m ∷ ms) g e a h =
     sound_all assumes fs ms (with_taken assumes m g) (taken_operators assumes m g ∙ e) (All-tail P m ms a)
     (sound_taken assumes m g (subst (λ hs. IsStatedOver hs m.statement) (sym e) (All-head P m ms a)) h)
 
-marks_from : (P : Statement → Type 0) (ms ns : List Marked) → AllMarked P ms → AllMarked P ns → AllMarked P (fold with_mark ns ms)
+pub marks_from : (P : Statement → Type 0) (ms ns : List Marked) → AllMarked P ms → AllMarked P ns → AllMarked P (fold with_mark ns ms)
 marks_from P [] ns a b = b
 marks_from P (m ∷ ms) ns a b =
     let Q : Marked → Type 0 = (λ n. P n.statement) in

@@ -10,7 +10,7 @@ ghost use Rattle.larch_renaming.specs.Renaming.{FitsSignatures, KeepsBuiltIns};
 ghost use Rattle.larch_term.specs.BuiltIn.{IsBuiltIn};
 ghost use Rattle.larch_term.specs.Operator.{PlainOperator};
 ghost use Rattle.larch_term.specs.Statement.{IsTheory};
-ghost use Rattle.larch_sorts.specs.Laws.{OperatorSorts, StatementSorts};
+ghost use Rattle.larch_sorts.specs.Laws.{OperatorSorts, StatementSorts, StatementVariables};
 ghost use Rattle.larch_items.specs.Laws.{IsWord};
 ghost use Rattle.larch_flat.specs.Files.{Files, Reaches, closure, is_there};
 ghost use Rattle.larch_flat.specs.Flat.{FlatTrait, flat, flat_by, take_flat, take_rest, theory_of};
@@ -80,10 +80,12 @@ pub fn flat_trait_names_its_own()
         → flat limit files name ≡ Ok t → All (IsStatedOver t.operators) t.discharge }
 {}
 
-/// Each sort of an operator and of a statement of a flat trait is a word, where all files are written with words.
-pub fn sorts_of_flat_traits_are_words()
+/// Each sort and each variable in a flat trait is a word, where all files are written with words.
+pub fn flat_traits_are_in_words()
     ensures operators { (files : Files) → AreWorded files → (limit : ℕ) (name : List ℕ) (t : FlatTrait)
         → flat limit files name ≡ Ok t → All (OperatorSorts IsWord) t.operators }
-    ensures statements { (files : Files) → AreWorded files → (limit : ℕ) (name : List ℕ) (t : FlatTrait)
+    ensures sorts { (files : Files) → AreWorded files → (limit : ℕ) (name : List ℕ) (t : FlatTrait)
         → flat limit files name ≡ Ok t → All (StatementSorts IsWord) (theory_of t).statements }
+    ensures variables { (files : Files) → AreWorded files → (limit : ℕ) (name : List ℕ) (t : FlatTrait)
+        → flat limit files name ≡ Ok t → All (StatementVariables IsWord) (theory_of t).statements }
 {}
