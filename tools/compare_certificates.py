@@ -4,7 +4,7 @@
     compare_certificates.py PROGRAM OTHER [--count N] [--seed N]
 
 PROGRAM and OTHER are commands, in quotes where they have words of their own. Each is run once; its input is all texts
-with a byte 0 behind each, and it prints for each the certificate in the first version, or `malformed at line N`, with a
+with a byte 0 between any two, and it prints for each the certificate in the first version, or `malformed at line N`, with a
 byte 0 behind it, as `larch_certificate_table` does. The texts are of both versions: lines of all rules with random
 terms, equations of bare connectives, and the same with bytes and words taken out, put in, doubled or changed, with
 zeros, signs and blanks put in, or cut short. The seed is printed first. A text on which the two differ is written to a
@@ -133,7 +133,7 @@ def main():
     pick = random.Random(seed)
     texts = ["", "certificate 1\n", "certificate 1", "certificate 2\n"]
     texts += [mutated(pick, certificate(pick)) for _ in range(said.count - len(texts))]
-    stdin = b"".join(text.encode() + b"\0" for text in texts)
+    stdin = b"\0".join(text.encode() for text in texts)
     left, right = run(said.program, stdin), run(said.other, stdin)
     failed, whole = abs(len(left) - len(right)), 0
     for text, ours, theirs in zip(texts, left, right):
