@@ -1,6 +1,9 @@
 //! What holds of all flat traits, for crates above to cite. No function here does anything.
 ghost use Rattle.std.specs.Prelude.{◌≡◌, ◌≤◌, ℕ, suc, true, false, bytes_eq, length, List, All, [], ◌∷◌, Ok};
+ghost use Rattle.std.specs.Prelude.{nat_lt, Err};
 ghost use Rattle.std.specs.Bool.{Decides};
+ghost use Rattle.larch_base.specs.declared.fault.Fault.{Fault};
+ghost use Rattle.larch_base.specs.declared.limits.TheConstants.{MAX_OPERATORS};
 ghost use Rattle.std.specs.List.{list_any};
 ghost use Rattle.larch_raw.specs.declared.declared.RawForm.{RawForm};
 ghost use Rattle.larch_raw.specs.declared.equation.RawTrait.{RawTrait};
@@ -13,8 +16,8 @@ ghost use Rattle.larch_term.specs.Statement.{IsTheory};
 ghost use Rattle.larch_sorts.specs.Laws.{OperatorSorts, StatementSorts, StatementVariables};
 ghost use Rattle.larch_items.specs.Laws.{IsWord};
 ghost use Rattle.larch_flat.specs.Files.{Files, Reaches, closure, is_there};
-ghost use Rattle.larch_flat.specs.Flat.{FlatTrait, flat, flat_by, take_flat, take_rest, theory_of};
-ghost use Rattle.larch_flat.specs.Gathered.{Gathered, is_too_large};
+ghost use Rattle.larch_flat.specs.Flat.{FlatTrait, flat, flat_by, take_flat, take_own, take_rest, theory_of};
+ghost use Rattle.larch_flat.specs.Gathered.{Gathered, is_too_large, with_operators};
 ghost use Rattle.larch_flat.specs.Laws.{AgreeFrom, AreAmong, AreWorded, IsKeptBy, IsStatedOver, IsTold, gathered_in};
 ghost use Rattle.larch_flat.specs.Replacements.{Replacements, new_operator, renaming, replacements_of};
 
@@ -88,4 +91,14 @@ pub fn flat_traits_are_in_words()
         → flat limit files name ≡ Ok t → All (StatementSorts IsWord) (theory_of t).statements }
     ensures variables { (files : Files) → AreWorded files → (limit : ℕ) (name : List ℕ) (t : FlatTrait)
         → flat limit files name ≡ Ok t → All (StatementVariables IsWord) (theory_of t).statements }
+{}
+
+/// Once there are too many operators SIZE is certain, unless something else is wrong before it; and what that is
+/// doesn't depend on the statements that were gathered. So they need not be built.
+pub fn too_many_operators_are_certain()
+    ensures grow { (fs : List PlainOperator) (g : Gathered)
+        → length g.operators ≤ length (with_operators fs g).operators }
+    ensures size { (g : Gathered) → nat_lt MAX_OPERATORS (length g.operators) ≡ true → is_too_large g ≡ true }
+    ensures refused { (raw : RawTrait) (g h : Gathered) (f : Fault) → g.operators ≡ h.operators
+        → take_own raw g ≡ Err f → take_own raw h ≡ Err f }
 {}
