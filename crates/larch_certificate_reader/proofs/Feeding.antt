@@ -3,7 +3,7 @@ use Rattle.std.proofs.Common.{◌≡◌, ℕ, ◌-◌, ◌<◌, ◌≤◌, List,
 use Rattle.std.proofs.lemmas.List.{take_rest}
 use Rattle.larch_certificate_text.specs.declared.here.Here.{Here}
 use Rattle.larch_certificate_text.specs.declared.machine.Machine.{Machine}
-use Rattle.larch_certificate_text.specs.TermText.{Progress, stuck, goes, ends, step, run, at_end, value_of}
+use Rattle.larch_certificate_text.specs.TermText.{stuck, goes, ends, step, run, at_end, value_of}
 use Rattle.larch_certificate.specs.Coded.{CodedTree}
 use Rattle.larch_certificate_text.proofs.TermLaws.{onward, run_step}
 

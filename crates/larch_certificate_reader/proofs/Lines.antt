@@ -1,6 +1,5 @@
 -- The lines of a text are taken one by one.
 use Rattle.std.proofs.Common.{◌≡◌, ℕ, ◌+◌, ◌<◌, cond, Bool, true, false, List, [], ◌∷◌, ◌++◌, length, Option, Some, None, ◌&&◌, Result, Ok, Err, refl, sym, ◌∙◌, ap, arith, append_assoc, subst}
-use Rattle.larch_certificate_text.specs.declared.here.Here.{Here}
 use Rattle.larch_certificate.specs.declared.line.Line.{Line}
 use Rattle.larch_certificate_text.specs.CertificateText.{here, Reading, put_before, lines_by, ending, read_lines, version_of, Versioned, with_version, read_by, read_pieces, read_certificate, header, IsTextOf}
 use Rattle.larch_certificate_text.specs.ListText.{split_at}

@@ -1,12 +1,9 @@
 -- Reading and writing of a list go on by one item.
-use Rattle.std.proofs.Common.{◌≡◌, ℕ, ◌+◌, ◌-◌, ◌<◌, ◌≤◌, ◌==◌, cond, Bool, true, false, List, [], ◌∷◌, ◌++◌, length, take, drop, get_or, Option, Some, None, refl, sym, ◌∙◌, ap, arith, append_assoc, append-nil, length-append, map}
+use Rattle.std.proofs.Common.{◌≡◌, ℕ, ◌<◌, ◌==◌, cond, Bool, true, false, List, [], ◌∷◌, ◌++◌, length, Option, Some, None, refl, sym, ◌∙◌, ap, arith, append_assoc, length-append}
 use Rattle.std.specs.Prelude.{option_map}
-use Rattle.std.specs.List.{join_with_byte, slice_split, onto_first}
-use Rattle.std.proofs.lemmas.Grind.{common_steps}
+use Rattle.std.specs.List.{onto_first}
 use Rattle.std.proofs.lemmas.Option.{none-some, some_pair_parts}
-use Rattle.std.proofs.lemmas.List.{take_rest}
-use Rattle.larch_certificate_text.specs.ByteClasses.{Lacks}
-use Rattle.larch_certificate_text.specs.ListText.{split_at, listed, both, read_each}
+use Rattle.larch_certificate_text.specs.ListText.{split_at, both, read_each}
 use Rattle.larch_certificate_text.specs.Parts.{cut_at, onto}
 use Rattle.larch_certificate_text.proofs.Cuts.{cut_some}
 

@@ -9,7 +9,8 @@ pair_view None = None
 pair_view (Some p) = Some (p.0.now, p.1.now)
 
 -- three texts
-abbrev pub triple_view : Option (Bor (List ℕ) × (Bor (List ℕ) × Bor (List ℕ))) → Option (List ℕ × (List ℕ × List ℕ))
+abbrev pub triple_view : Option (Bor (List ℕ) × (Bor (List ℕ) × Bor (List ℕ)))
+    → Option (List ℕ × (List ℕ × List ℕ))
 triple_view None = None
 triple_view (Some p) = Some (p.0.now, (p.1.0.now, p.1.1.now))
 

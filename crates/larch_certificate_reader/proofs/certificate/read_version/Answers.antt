@@ -1,4 +1,4 @@
-use Rattle.std.proofs.Common.{◌∙◌, sym, refl, ap}
+use Rattle.std.proofs.Common.{◌∙◌, ap}
 use Rattle.larch_certificate_text.specs.CertificateText.{read_certificate, read_lines, with_version}
 use Rattle.larch_certificate_text.specs.ListText.{split_at}
 use Rattle.larch_certificate_reader.proofs.Lines.{header_cut, header_bad, form_kept}

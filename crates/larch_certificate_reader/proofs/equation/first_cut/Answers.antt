@@ -1,4 +1,4 @@
-use Rattle.std.proofs.Common.{◌∙◌, sym, refl, ap, length, ◌-◌, take, drop}
+use Rattle.std.proofs.Common.{◌∙◌, sym}
 use Rattle.std.proofs.lemmas.List.{take_rest}
 use Rattle.larch_certificate_reader.proofs.FirstCut.{first_step}
 use Rattle.larch_certificate_reader.proofs.equation.first_cut.Goals as goal

@@ -1,4 +1,4 @@
-use Rattle.std.proofs.Common.{◌∙◌, sym, refl, ap, rules}
+use Rattle.std.proofs.Common.{sym}
 use Rattle.larch_certificate_reader.proofs.Fields.{line_cut}
 use Rattle.larch_certificate_reader.proofs.line.read_line.Goals as goal
 

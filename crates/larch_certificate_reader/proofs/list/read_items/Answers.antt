@@ -1,4 +1,4 @@
-use Rattle.std.proofs.Common.{◌∙◌, sym, refl, ap}
+use Rattle.std.proofs.Common.{◌∙◌, sym}
 use Rattle.larch_certificate_reader.proofs.ListSteps.{item_some, item_none, last_some, last_none, cut_shorter}
 use Rattle.larch_certificate_reader.proofs.list.read_items.Goals as goal
 

@@ -1,4 +1,4 @@
-use Rattle.std.proofs.Common.{◌∙◌, sym, refl, ap}
+use Rattle.std.proofs.Common.{◌∙◌, sym, refl}
 use Rattle.larch_certificate_reader.proofs.Feeding.{feed_ends, feed_end_some}
 use Rattle.larch_certificate_reader.proofs.machine.feed.Goals as goal
 

@@ -1,5 +1,5 @@
-use Rattle.std.proofs.Common.{◌≡◌, [], length}
-use Rattle.larch_certificate_text.specs.TermText.{run, fresh}
+use Rattle.std.proofs.Common.{◌≡◌, length}
+use Rattle.larch_certificate_text.specs.TermText.{run}
 use Rattle.larch_certificate_reader.proofs.machine.feed.Given as goal
 
 -- the machine makes of what is left what it makes of the whole text from the start

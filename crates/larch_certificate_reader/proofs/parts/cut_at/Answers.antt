@@ -1,4 +1,3 @@
-use Rattle.std.proofs.Common.{arith}
 use Rattle.larch_certificate_text.proofs.Cuts.{cut_found, cut_missing}
 use Rattle.larch_certificate_reader.proofs.parts.cut_at.Goals as goal
 
