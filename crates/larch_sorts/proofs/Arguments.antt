@@ -20,7 +20,7 @@ resumed_several ts several None = refl
 resumed_several ts true (Some rest) = refl
 resumed_several ts false (Some rest) = refl
 
-with_none : (found : Option (Found Tree)) → with_argument found None ≡ None
+pub with_none : (found : Option (Found Tree)) → with_argument found None ≡ None
 with_none None = refl
 with_none (Some found) = refl
 
@@ -38,7 +38,7 @@ unrolled tables ss i es s lt less e f =
     ap₂ arguments_at (drop_more tables i es lt ∙ ap (λ x. x ∷ drop (i + 1) tables) (sym e)) (drop_more ss i s less ∙ ap (λ x. x ∷ drop (i + 1) ss) (sym f))
 
 -- a table among others, seen as its entries
-entries_at : {X : Type 0} (f : X → Entries) (tables : List X) (i : ℕ) (t : X) → i < length tables → t ≡ get_or tables i t → f t ≡ get_or (map f tables) i (f t)
+pub entries_at : {X : Type 0} (f : X → Entries) (tables : List X) (i : ℕ) (t : X) → i < length tables → t ≡ get_or tables i t → f t ≡ get_or (map f tables) i (f t)
 entries_at f tables i t lt e = ap f e ∙ sym (get_or-map f tables i t (f t) lt)
 
 module _ {X : Type 0} (f : X → Entries) (tables : List X) (ss : List (List ℕ)) (i : ℕ) (t : X) (s : List ℕ) (ts : List Tree) (several : Bool) where

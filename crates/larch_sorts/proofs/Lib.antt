@@ -1,7 +1,9 @@
 pub mod Answers
 pub mod Arguments
 pub mod Converse
+pub mod Enough
 pub mod Existing
+pub mod Kept
 pub mod Listed
 pub mod Parts
 pub mod ReadAnswers

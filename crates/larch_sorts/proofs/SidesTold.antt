@@ -1,5 +1,5 @@
 -- What the sides of equations and lone terms read as.
-use Rattle.std.proofs.Common.{◌≡◌, ℕ, Bool, true, false, cond, ◌&&◌, List, [], ◌∷◌, Contains, Option, Some, None, bytes_eq, refl, sym, ◌∙◌, ap, subst}
+use Rattle.std.proofs.Common.{◌≡◌, inl, inr, ℕ, Bool, true, false, cond, ◌&&◌, List, [], ◌∷◌, Contains, Option, Some, None, bytes_eq, refl, sym, ◌∙◌, ap, subst}
 use Rattle.std.specs.Bool.{Decides}
 use Rattle.std.specs.Map.{lookup}
 use Rattle.std.proofs.lemmas.Bool.Decides.{Decides-and, Decides-like}
@@ -19,7 +19,8 @@ use Rattle.larch_term.specs.Equality.{same_tree}
 use Rattle.larch_sorts.specs.Table.{Entries, reading_at}
 use Rattle.larch_sorts.specs.Found.{Tells}
 use Rattle.larch_sorts.specs.Tabulate.{TableTells, Unread}
-use Rattle.larch_sorts.specs.Sides.{sorts_in, found_anywhere, same_sides, paired, sides_found, formula_found, ReadsSides}
+use Rattle.std.specs.List.{fold}
+use Rattle.larch_sorts.specs.Sides.{AreFound, with_found, sorts_in, found_anywhere, same_sides, paired, sides_found, formula_found, ReadsSides}
 use Rattle.larch_sorts.specs.declared.found.Found.{Found}
 use Rattle.larch_sorts.specs.declared.found.Found.TheVariants.{One, Several}
 use Rattle.larch_sorts.specs.declared.found.Sides.{Sides}
@@ -43,7 +44,7 @@ found_or_later s e es x true q later h = subst (Contains (sorts_in (e ∷ es))) 
 found_or_later s e es x false q later h = contains_later e.0 s (sorts_in es) (later h)
 
 -- what is found stands in an entry
-found_in_entry : (es : Entries) (s : List ℕ) (x : Found Tree) → reading_at es s ≡ Some x → Contains (sorts_in es) s
+pub found_in_entry : (es : Entries) (s : List ℕ) (x : Found Tree) → reading_at es s ≡ Some x → Contains (sorts_in es) s
 found_in_entry [] s x h = cc
 found_in_entry (e ∷ es) s x h = found_or_later s e es x (bytes_eq s e.0) refl (found_in_entry es s x) h
 
@@ -76,17 +77,44 @@ paired_tells P Q s (Some Several) (Some (One r)) h k =
 paired_tells P Q s (Some Several) (Some Several) h k =
     (record { left = h.0; right = k.0 }, record { left = h.1; right = k.0 }, ((h.2.0, (k.2.0, h.2.1 ∙ sym k.2.1)), h.2.1), ((h.3.0, (k.2.0, h.3.1 ∙ sym k.2.1)), h.3.1), λ e. h.4 (ap (λ p. p.left) e))
 
-pairs_tell : (P Q : Tree → Type 0) (left right : Entries) → TableTells left P → TableTells right Q → Tells (sides_found left right) (Pair P Q)
-pairs_tell P Q left right h k =
+still : (now : Option (Found Sides)) → with_found same_sides (Some Several) now ≡ Some Several
+still None = refl
+still (Some now) = refl
+
+pairs_at : (P Q : Tree → Type 0) (left right : Entries) (ss : List (List ℕ)) → TableTells left P → TableTells right Q → ((p : Sides) → Pair P Q p → Contains ss (sort_of p.left))
+    → Tells (sides_found left right ss) (Pair P Q)
+pairs_at P Q left right ss h k all =
     tells_at_all same_sides sides_Decides (Pair P Q) (λ p. sort_of p.left) (λ s. paired (reading_at left s) (reading_at right s)) (λ s. paired_tells P Q s (reading_at left s) (reading_at right s) (h s) (k s))
-    (sorts_in left) (λ p q. in_sorts P left h p.left q.0)
+    ss all
+
+pairs_tell : (P Q : Tree → Type 0) (left right : Entries) (found : Option (Found Sides)) → AreFound left right found → TableTells left P → TableTells right Q → Tells found (Pair P Q)
+pairs_tell P Q left right found (inl e) h k =
+    subst (λ x. Tells x (Pair P Q)) (sym e) (pairs_at P Q left right (sorts_in left) h k (λ p q. in_sorts P left h p.left q.0))
+pairs_tell P Q left right found (inr e) h k =
+    subst (λ x. Tells x (Pair P Q)) (sym e)
+    (pairs_at P Q left right (sorts_in right) h k (λ p q. subst (Contains (sorts_in right)) (sym q.1.1) (in_sorts Q right k p.right q.1.0)))
 
 -- the sides of an equation
-pub sides_tell : (fs : List PlainOperator) (vs : Variables) (raw : RawEquation) (right : RawRight) (left other : Entries) → raw.right ≡ Some right
-    → TableTells left (Reads fs vs raw.left) → TableTells other (Reads fs vs right.term) → Tells (sides_found left other) (ReadsSides fs vs raw)
-sides_tell fs vs raw right left other e h k =
-    subst (λ o. Tells (sides_found left other) (λ p. Reads fs vs raw.left p.left × ReadsRight fs vs o p.left p.right)) (sym e)
-    (pairs_tell (Reads fs vs raw.left) (Reads fs vs right.term) left other h k)
+pub sides_tell : (fs : List PlainOperator) (vs : Variables) (raw : RawEquation) (right : RawRight) (left other : Entries) (found : Option (Found Sides)) → raw.right ≡ Some right
+    → AreFound left other found → TableTells left (Reads fs vs raw.left) → TableTells other (Reads fs vs right.term) → Tells found (ReadsSides fs vs raw)
+sides_tell fs vs raw right left other found e are h k =
+    subst (λ o. Tells found (λ p. Reads fs vs raw.left p.left × ReadsRight fs vs o p.left p.right)) (sym e)
+    (pairs_tell (Reads fs vs raw.left) (Reads fs vs right.term) left other found are h k)
+
+-- further sorts change nothing where several sides are found
+pub several_stay : (left right : Entries) (ss : List (List ℕ)) → fold (λ before s. with_found same_sides before (paired (reading_at left s) (reading_at right s))) (Some Several) ss ≡ Some Several
+several_stay left right [] = refl
+several_stay left right (s ∷ ss) =
+    ap (λ before. fold (λ b z. with_found same_sides b (paired (reading_at left z) (reading_at right z))) before ss) (still (paired (reading_at left s) (reading_at right s))) ∙ several_stay left right ss
+
+-- so the first of the sorts are enough
+pub first_enough : (left right : Entries) (all before now after : Option (Found Sides)) (s : List ℕ) (ss rest : List (List ℕ)) → ss ≡ s ∷ rest → now ≡ paired (reading_at left s) (reading_at right s)
+    → after ≡ with_found same_sides before now → after ≡ Some Several
+    → fold (λ b z. with_found same_sides b (paired (reading_at left z) (reading_at right z))) before ss ≡ all → Some Several ≡ all
+first_enough left right all before now after s ss rest first is put several invariant =
+    sym (several_stay left right rest)
+    ∙ ap (λ x. fold (λ b z. with_found same_sides b (paired (reading_at left z) (reading_at right z))) x rest) (sym several ∙ put ∙ ap (with_found same_sides before) is)
+    ∙ ap (fold (λ b z. with_found same_sides b (paired (reading_at left z) (reading_at right z))) before) (sym first) ∙ invariant
 
 formula_of : (P : Tree → Type 0) (found : Option (Found Tree)) → Tells found (λ t. P t × (sort_of t ≡ bool_sort)) → Tells (formula_found found) (λ p. P p.left × ((sort_of p.left ≡ bool_sort) × (p.right ≡ truth)))
 formula_of P None h = λ p q. h p.left (q.0, q.1.0)

@@ -17,6 +17,7 @@ use Rattle.larch_sorts.specs.Table.{Entries, reading_at, application}
 use Rattle.larch_sorts.specs.Found.{Tells}
 use Rattle.larch_sorts.specs.Tabulate.{TableTells, AllTell}
 use Rattle.larch_sorts.specs.Operators.{with_argument, arguments_at, extended, with_operator, operators_at}
+use Rattle.larch_sorts.specs.Overloads.{AreEnough, IsMade}
 use Rattle.larch_sorts.specs.Signature.{named}
 use Rattle.larch_sorts.specs.declared.found.Found.{Found}
 use Rattle.larch_sorts.specs.declared.found.Found.TheVariants.{One, Several}
@@ -151,14 +152,27 @@ to_reads fs vs n raws p t unbound b =
     let c = contained_in_filter (λ g. same_name g.name (plain n)) (taking_part fs) b.0 b.1 in
     subst (Reads fs vs (apply n (raw_forest raws) p)) (sym b.2.2) (an_operator unbound c.0 ((name_Decides b.0.name (plain n)).0 c.1) b.2.1.0 b.2.1.1)
 
+-- enough operators make the same terms
+fewer : (fs : List PlainOperator) (vs : Variables) (raws : List RawTree) (tables : List Entries) (hs gs : List PlainOperator) (t : Tree) → AreEnough tables hs gs → ByOperators fs vs raws gs t → ByOperators fs vs raws hs t
+fewer fs vs raws tables hs gs t enough b = (b.0, enough.0 b.0 b.1, b.2)
+
+all_made : (fs : List PlainOperator) (vs : Variables) (raws : List RawTree) (tables : List Entries) (hs gs : List PlainOperator) (t : Tree) → AllTell fs vs tables raws → AreEnough tables hs gs → ByOperators fs vs raws hs t
+    → ByOperators fs vs raws gs t
+all_made fs vs raws tables hs gs t told enough b = (
+  b.0,
+  enough.1 b.0 b.1 (λ e. subst (λ o. Tells o (ReadAt fs vs raws b.0.domain)) e (arguments_tell fs vs tables raws b.0.domain told) b.2.0 b.2.1),
+  b.2,
+)
+
 -- the table of an application
 pub application_tells : (fs : List PlainOperator) (vs : Variables) (n : List ℕ) (raws : List RawTree) (p : Pos) (es : Entries) (tables : List Entries)
     → variable_sort vs n (raw_forest raws) ≡ None → AllTell fs vs tables raws
-    → ((s : List ℕ) → reading_at es s ≡ operators_at tables (named n (taking_part fs)) s) → TableTells es (Reads fs vs (apply n (raw_forest raws) p))
-application_tells fs vs n raws p es tables unbound told is = λ s.
-    tells_same (λ t. ByOperators fs vs raws (named n (taking_part fs)) t × (sort_of t ≡ s)) (λ t. Reads fs vs (apply n (raw_forest raws) p) t × (sort_of t ≡ s))
-    (λ t q. (to_reads fs vs n raws p t unbound q.0, q.1)) (λ t q. (from_reads fs vs n raws (raw_forest raws) p t refl unbound q.0, q.1)) (reading_at es s)
-    (subst (λ x. Tells x (λ t. ByOperators fs vs raws (named n (taking_part fs)) t × (sort_of t ≡ s))) (sym (is s)) (operators_tell fs vs tables raws told s (named n (taking_part fs))))
+    → IsMade es tables (named n (taking_part fs)) → TableTells es (Reads fs vs (apply n (raw_forest raws) p))
+application_tells fs vs n raws p es tables unbound told made = λ s.
+    tells_same (λ t. ByOperators fs vs raws made.0 t × (sort_of t ≡ s)) (λ t. Reads fs vs (apply n (raw_forest raws) p) t × (sort_of t ≡ s))
+    (λ t q. (to_reads fs vs n raws p t unbound (fewer fs vs raws tables (named n (taking_part fs)) made.0 t made.1 q.0), q.1))
+    (λ t q. (all_made fs vs raws tables (named n (taking_part fs)) made.0 t told made.1 (from_reads fs vs n raws (raw_forest raws) p t refl unbound q.0), q.1)) (reading_at es s)
+    (subst (λ x. Tells x (λ t. ByOperators fs vs raws made.0 t × (sort_of t ≡ s))) (sym (made.2 s)) (operators_tell fs vs tables raws told s made.0))
 
 only_variable : (fs : List PlainOperator) (vs : Variables) (n z : List ℕ) (rs : RawForest) (p : Pos) (t : Tree) → variable_sort vs n rs ≡ Some z → Reads fs vs (apply n rs p) t → t ≡ var n z
 only_variable fs vs n z rs p (var m s) some (a_variable e) = ap (var n) (let q : Some s ≡ Some z = sym e ∙ some in cc)

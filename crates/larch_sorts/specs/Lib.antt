@@ -1,8 +1,11 @@
+pub mod Application
 pub mod Faults
 pub mod Found
 pub mod Laws
 pub mod Operators
+pub mod Overloads
 pub mod Parts
+pub mod Places
 pub mod Read
 pub mod ReadingFalls
 pub mod ReadingLists

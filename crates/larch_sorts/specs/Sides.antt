@@ -1,5 +1,5 @@
 -- What was found of the sides of an equation.
-use Rattle.std.specs.Prelude.{Bool, List, None, Option, Some, fold, map, ℕ, ◌&&◌}
+use Rattle.std.specs.Prelude.{Bool, List, None, Option, Some, fold, map, ℕ, ◌&&◌, ◌≡◌, ◌⊎◌}
 use Rattle.larch_raw.specs.declared.equation.RawEquation.{RawEquation}
 use Rattle.larch_term.specs.Operator.{PlainOperator}
 use Rattle.larch_term.specs.Tree.{Tree}
@@ -39,10 +39,15 @@ paired (Some Several) (Some right) = Some Several
 paired (Some (One l)) (Some Several) = Some Several
 paired (Some (One l)) (Some (One r)) = Some (One (record { left = l; right = r }))
 
--- the sides of one sort
-abbrev pub sides_found : Entries → Entries → Option (Found Sides)
-sides_found left right =
-    fold (λ before s. with_found same_sides before (paired (reading_at left s) (reading_at right s))) None (sorts_in left)
+-- the sides of one of these sorts
+abbrev pub sides_found : Entries → Entries → List (List ℕ) → Option (Found Sides)
+sides_found left right ss =
+    fold (λ before s. with_found same_sides before (paired (reading_at left s) (reading_at right s))) None ss
+
+-- the sides that are found at the sorts of the left, or of the right
+abbrev pub AreFound : Entries → Entries → Option (Found Sides) → Type 0
+AreFound left right found =
+    (found ≡ sides_found left right (sorts_in left)) ⊎ (found ≡ sides_found left right (sorts_in right))
 
 -- a formula, beside which true stands
 abbrev pub formula_found : Option (Found Tree) → Option (Found Sides)

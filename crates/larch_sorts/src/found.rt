@@ -1,9 +1,10 @@
-ghost use Rattle.std.specs.Prelude.{◌≡◌, [], IfOk};
+ghost use Rattle.std.specs.Prelude.{◌≡◌, IfOk};
 
 use crate::reading::Reading;
 use indexmap::IndexMap;
 use larch_base::{Memory, Name};
 use std::alloc::Global;
+use std::rc::Rc;
 
 /// The one thing that was found, or that there are several.
 #[derive(Drop)]
@@ -19,19 +20,30 @@ pub(crate) struct Sides {
     pub(crate) right: Reading,
 }
 
-/// What was found of each sort that a raw term reads at. It is in a box of its own, so that little of it stands in
-/// the frames of a recursion.
+/// What was found of each sort that a raw term reads at, which its copies share. So a word without arguments has one
+/// table for all its uses, and little of a table stands in the frames of a recursion.
 #[derive(Drop)]
 pub(crate) struct Table {
-    pub(crate) found: Box<IndexMap<Name, Found<Reading>>>,
+    pub(crate) found: Rc<IndexMap<Name, Found<Reading>>>,
 }
 
 impl Table {
-    // No readings.
-    pub(crate) fn new(alloc: Global) -> Result<Table, Memory>
-        ensures { IfOk result (λ table. table.found.value.entries ≡ []) }
+    // The table with these entries.
+    pub(crate) fn new(
+        alloc: Global,
+        entries: IndexMap<Name, Found<Reading>>,
+    ) -> Result<Table, Memory>
+        ensures { IfOk result (λ table. table.found.value.entries ≡ entries.entries) }
     {
-        let found = Box::new(alloc, IndexMap::new(alloc))?;
+        let found = Rc::new(alloc, entries)?;
+        Ok(Table { found })
+    }
+
+    // The same once more. It takes no memory of its own, but there may be too many copies.
+    pub(crate) fn copy(&self) -> Result<Table, Memory>
+        ensures { IfOk result (λ table. table.found.value.entries ≡ self.now.found.value.entries) }
+    {
+        let found = self.found.clone()?;
         Ok(Table { found })
     }
 }

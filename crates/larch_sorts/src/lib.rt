@@ -1,10 +1,14 @@
 //! Readings: from raw terms with overloaded operators to the one well sorted statement, or the refusal.
 #![tactic(auto)]
 
+mod application;
 mod found;
 pub mod laws;
 mod lone;
 mod operators;
+mod overloads;
+mod place;
+mod places;
 mod read;
 mod reading;
 mod refusal;

@@ -1,4 +1,4 @@
-ghost use Rattle.std.specs.Prelude.{◌≡◌, ℕ, List, Option, Some, IfOk, OnOk, map};
+ghost use Rattle.std.specs.Prelude.{◌≡◌, ℕ, List, Option, Some, IfOk, OnOk, fold, map};
 ghost use Rattle.larch_term.specs.Tree.{Tree};
 ghost use Rattle.larch_sorts.specs.declared.found.Found.{Found};
 ghost use Rattle.larch_sorts.specs.Table.{reading_at};
@@ -7,7 +7,8 @@ ghost use Rattle.larch_sorts.specs.Operators.{arguments_at, operators_at, with_o
 use crate::found::{Found, Table};
 use crate::reading::Reading;
 use crate::table::{add, at};
-use larch_base::{Memory, Sequence};
+use indexmap::IndexMap;
+use larch_base::{Memory, Name, Sequence};
 use larch_term::{Operator, Sort};
 use std::alloc::Global;
 
@@ -21,11 +22,28 @@ pub(crate) fn by_operators(
         → reading_at table.found.value.entries s
         ≡ operators_at (map (λ t. t.found.value.entries) tables.now) operators.now s) }
 {
-    let mut table = Table::new(alloc)?;
-    for operator in operators {
-        add_operator(alloc, tables, operator, &mut table)?;
-    }
+    let mut entries = IndexMap::new(alloc);
+    add_operators(alloc, tables, operators, &mut entries)?;
+    let table = Table::new(alloc, entries)?;
     Ok(table)
+}
+
+// Adds what operators make of the arguments in tables.
+pub(crate) fn add_operators(
+    alloc: Global,
+    tables: &[Table],
+    operators: &[Operator],
+    entries: &mut IndexMap<Name, Found<Reading>>,
+) -> Result<(), Memory>
+    ensures { OnOk result ((s : List ℕ)
+        → reading_at entries.new.entries s
+        ≡ fold (with_operator (map (λ t. t.found.value.entries) tables.now) s) (reading_at entries.old.entries s)
+        operators.now) }
+{
+    for operator in operators {
+        add_operator(alloc, tables, operator, entries)?;
+    }
+    Ok(())
 }
 
 // Adds what an operator makes of the arguments in tables.
@@ -33,15 +51,15 @@ fn add_operator(
     alloc: Global,
     tables: &[Table],
     operator: &Operator,
-    table: &mut Table,
+    entries: &mut IndexMap<Name, Found<Reading>>,
 ) -> Result<(), Memory>
     ensures { OnOk result ((s : List ℕ)
-        → reading_at table.new.found.value.entries s
-        ≡ with_operator (map (λ t. t.found.value.entries) tables.now) s
-        (reading_at table.old.found.value.entries s) operator.now) }
+        → reading_at entries.new.entries s
+        ≡ with_operator (map (λ t. t.found.value.entries) tables.now) s (reading_at entries.old.entries s)
+        operator.now) }
 {
     if let Some(arguments) = arguments_at(alloc, tables, operator.domain())? {
-        add(alloc, table, operator, arguments)?;
+        add(alloc, entries, operator, arguments)?;
     }
     Ok(())
 }

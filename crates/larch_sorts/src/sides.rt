@@ -1,10 +1,10 @@
-ghost use Rattle.std.specs.Prelude.{◌≡◌, Some, None, IfOk};
+ghost use Rattle.std.specs.Prelude.{◌≡◌, Some, None, IfOk, IsTrue};
 ghost use Rattle.larch_term.specs.BuiltIn.{bool_sort};
 ghost use Rattle.larch_term.specs.Truth.{truth};
 ghost use Rattle.larch_term.specs.Equality.{same_tree};
 ghost use Rattle.larch_sorts.specs.Table.{reading_at, merged_by};
-ghost use Rattle.larch_sorts.specs.Sides.{with_found, found_anywhere, paired, same_sides, sides_found, formula_found};
-ghost use Rattle.larch_sorts.specs.declared.found.Found.TheVariants.{One};
+ghost use Rattle.larch_sorts.specs.Sides.{AreFound, sorts_in, with_found, found_anywhere, paired, same_sides, sides_found, formula_found};
+ghost use Rattle.larch_sorts.specs.declared.found.Found.TheVariants.{One, Several};
 
 use crate::found::{Found, Sides, Table};
 use crate::reading::Reading;
@@ -27,16 +27,40 @@ pub(crate) fn anywhere(table: &Table) -> Result<Option<Found<Reading>>, Memory>
     Ok(found)
 }
 
-// The sides of one sort.
+// The sides of one sort. It goes through the sorts of the side that has fewer.
 pub(crate) fn sides(left: &Table, right: &Table) -> Result<Option<Found<Sides>>, Memory>
-    ensures { IfOk result (λ found. found ≡ sides_found left.now.found.value.entries right.now.found.value.entries) }
+    ensures { IfOk result (AreFound left.now.found.value.entries right.now.found.value.entries) }
+{
+    if left.found.len() <= right.found.len() {
+        let found = sides_among(left, right, left)?;
+        return Ok(found);
+    }
+    let found = sides_among(left, right, right)?;
+    Ok(found)
+}
+
+// The sides of one of the sorts of a table.
+fn sides_among(left: &Table, right: &Table, sorts: &Table) -> Result<Option<Found<Sides>>, Memory>
+    ensures { IfOk result (λ found. found
+        ≡ sides_found left.now.found.value.entries right.now.found.value.entries
+        (sorts_in sorts.now.found.value.entries)) }
 {
     let mut found = None;
-    for sort in left.found.keys() {
+    for sort in sorts.found.keys() {
         let now = sides_at(left, right, sort)?;
         found = with_sides(found, now);
+        if are_several(&found) {
+            return Ok(Some(Found::Several));
+        }
     }
     Ok(found)
+}
+
+// Whether several sides were found: then further ones change nothing.
+fn are_several(found: &Option<Found<Sides>>) -> bool
+    ensures { IsTrue result → found.now ≡ Some Several }
+{
+    matches!(found, Some(Found::Several))
 }
 
 // The sides of a sort.

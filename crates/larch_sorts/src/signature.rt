@@ -1,9 +1,11 @@
 ghost use Rattle.std.specs.Prelude.{◌≡◌, ℕ, List, ◌++◌, ◌∷◌, [], IfOk, OnOk};
-ghost use Rattle.larch_sorts.specs.Signature.{kept_under};
+ghost use Rattle.std.specs.Option.{option_copied};
+ghost use Rattle.larch_sorts.specs.Signature.{kept, kept_under};
 ghost use Rattle.larch_operators.specs.Sorts.{exists_sort};
 ghost use Rattle.larch_sorts.specs.Signature.{taking_part};
 ghost use Rattle.larch_sorts.specs.Signature.{named};
 
+use crate::overloads::Overloads;
 use indexmap::IndexMap;
 use larch_base::{Memory, Name, Sequence};
 use larch_operators::{SortSet, existing_sorts, push_built_ins};
@@ -16,7 +18,7 @@ use std::marker::Model;
 pub struct Signature {
     operators: Operators,
     sorts: SortSet,
-    index: IndexMap<Name, Operators>,
+    index: IndexMap<Name, Overloads>,
 }
 
 impl Model for Signature {
@@ -72,18 +74,58 @@ impl Signature {
     }
 
     // The operators of a name that take part.
-    pub(crate) fn named(&self, name: &Name) -> &[Operator]
-        ensures { result.now ≡ named name.now (taking_part self.now) }
+    pub(crate) fn named(&self, name: &Name) -> Option<&Overloads>
+        ensures { kept (option_copied result) ≡ named name.now (taking_part self.now) }
     {
-        match self.index.get(name) {
-            Some(operators) => operators.as_slice(),
-            None => &[],
+        self.index.get(name)
+    }
+}
+
+// Each operator under its name, ready to be read.
+fn index_of(alloc: Global, operators: &[Operator]) -> Result<IndexMap<Name, Overloads>, Memory>
+    ensures { IfOk result (λ index. (n : List ℕ) → kept_under index.entries n ≡ named n operators.now) }
+{
+    let named = by_name(alloc, operators)?;
+    let index = overloads_of(alloc, &named)?;
+    Ok(index)
+}
+
+// The operators of each name, ready to be read.
+fn overloads_of(
+    alloc: Global,
+    named: &IndexMap<Name, Operators>,
+) -> Result<IndexMap<Name, Overloads>, Memory>
+    ensures { IfOk result (λ index. (n : List ℕ) → kept_under index.entries n ≡ kept_under named.now.entries n) }
+{
+    let mut index = IndexMap::new(alloc);
+    for name in named.keys() {
+        let operators = kept_operators(alloc, named, name)?;
+        let overloads = Overloads::of(alloc, operators)?;
+        let name = name.copy()?;
+        index.insert(name, overloads)?;
+    }
+    Ok(index)
+}
+
+// The operators of one name.
+fn kept_operators(
+    alloc: Global,
+    named: &IndexMap<Name, Operators>,
+    name: &Name,
+) -> Result<Operators, Memory>
+    ensures { IfOk result (λ operators. operators ≡ kept_under named.now.entries name.now) }
+{
+    match named.get(name) {
+        Some(operators) => {
+            let operators = copy_operators(alloc, operators.as_slice())?;
+            Ok(operators)
         }
+        None => Ok(Sequence::new(alloc)),
     }
 }
 
 // Each operator under its name.
-fn index_of(alloc: Global, operators: &[Operator]) -> Result<IndexMap<Name, Operators>, Memory>
+fn by_name(alloc: Global, operators: &[Operator]) -> Result<IndexMap<Name, Operators>, Memory>
     ensures { IfOk result (λ index. (n : List ℕ) → kept_under index.entries n ≡ named n operators.now) }
 {
     let mut index = IndexMap::new(alloc);

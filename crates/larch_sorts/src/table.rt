@@ -6,7 +6,8 @@ ghost use Rattle.larch_sorts.specs.Table.{reading_at, merged, application};
 
 use crate::found::{Found, Table};
 use crate::reading::{Reading, same_reading};
-use larch_base::{Memory, Sequence};
+use indexmap::IndexMap;
+use larch_base::{Memory, Name, Sequence};
 use larch_term::{Operator, Sort};
 use std::alloc::Global;
 
@@ -20,20 +21,20 @@ pub(crate) fn at<'a>(table: &'a Table, sort: &Sort) -> Option<&'a Found<Reading>
 // Adds what an operator makes of the arguments that were found for it.
 pub(crate) fn add(
     alloc: Global,
-    table: &mut Table,
+    entries: &mut IndexMap<Name, Found<Reading>>,
     operator: &Operator,
     arguments: Found<Sequence<Reading>>,
 ) -> Result<(), Memory>
     ensures { OnOk result ((s : List ℕ)
-        → reading_at table.new.found.value.entries s
+        → reading_at entries.new.entries s
         ≡ cond (bytes_eq operator.now.range s)
-        (Some (merged (reading_at table.old.found.value.entries s) (application operator.now arguments)))
-        (reading_at table.old.found.value.entries s)) }
+        (Some (merged (reading_at entries.old.entries s) (application operator.now arguments)))
+        (reading_at entries.old.entries s)) }
 {
     let added = apply(alloc, operator, arguments)?;
-    let merged = join(at(table, operator.range()), added);
+    let merged = join(entries.get(operator.range()), added);
     let sort = operator.range().copy()?;
-    table.found.insert(sort, merged)?;
+    entries.insert(sort, merged)?;
     Ok(())
 }
 
@@ -107,9 +108,10 @@ pub(crate) fn single(alloc: Global, sort: &Sort, found: Found<Reading>) -> Resul
     ensures { IfOk result (λ table. (s : List ℕ)
         → reading_at table.found.value.entries s ≡ cond (bytes_eq sort.now s) (Some found) None) }
 {
-    let mut table = Table::new(alloc)?;
+    let mut entries = IndexMap::new(alloc);
     let sort = sort.copy()?;
-    table.found.insert(sort, found)?;
+    entries.insert(sort, found)?;
+    let table = Table::new(alloc, entries)?;
     Ok(table)
 }
 
@@ -121,7 +123,7 @@ pub(crate) fn narrowed(alloc: Global, table: &Table, sort: &Sort) -> Result<Tabl
 {
     match at(table, sort) {
         None => {
-            let table = Table::new(alloc)?;
+            let table = Table::new(alloc, IndexMap::new(alloc))?;
             Ok(table)
         }
         Some(found) => {

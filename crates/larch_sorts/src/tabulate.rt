@@ -11,8 +11,8 @@ ghost use Rattle.larch_sorts.specs.Tabulate.{AllTell, TableTells, Unread};
 ghost use Rattle.larch_sorts.specs.Parts.{inner_parts};
 ghost use Rattle.larch_sorts.specs.Table.{reading_at};
 
+use crate::application::applied;
 use crate::found::{Found, Table};
-use crate::operators::by_operators;
 use crate::reading::Reading;
 use crate::refusal::ReadRefusal;
 use crate::scope::Scope;
@@ -66,7 +66,7 @@ fn table_from_parts(
                 return Ok(table);
             }
             let tables = tables_of(alloc, signature, scope, arguments)?;
-            let table = by_operators(alloc, tables.as_slice(), signature.named(name))?;
+            let table = applied(alloc, tables.as_slice(), signature.named(name))?;
             Ok(table)
         }
         RawNode::Qualified(term, sort, _) => {

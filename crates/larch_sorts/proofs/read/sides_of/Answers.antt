@@ -23,8 +23,7 @@ returns-in_err-right-in-Some-clause-unread c =
 
 pub returns-clause-tells : goal.returns-clause-tells
 returns-clause-tells c =
-    subst (λ found. Tells found (ReadsSides c.args.signature.now c.args.scope.now c.args.raw.now)) (sym c.in_ok-found-in-Some.ensures)
-    (sides_tell c.args.signature.now c.args.scope.now c.args.raw.now c.in-Some.right c.in_ok-left.left.found.value.entries c.in_ok-right-in-Some.right.found.value.entries c.in-Some.is c.in_ok-left.ensures.tells c.in_ok-right-in-Some.ensures.tells)
+    sides_tell c.args.signature.now c.args.scope.now c.args.raw.now c.in-Some.right c.in_ok-left.left.found.value.entries c.in_ok-right-in-Some.right.found.value.entries c.in_ok-found-in-Some.found c.in-Some.is c.in_ok-found-in-Some.ensures c.in_ok-left.ensures.tells c.in_ok-right-in-Some.ensures.tells
 
 pub returns-clause-read : goal.returns-clause-read
 returns-clause-read c = sides_read c.args.signature.now c.args.scope.now c.args.raw.now c.in-Some.right c.in-Some.is c.in_ok-left.ensures.read c.in_ok-right-in-Some.ensures.read

@@ -1,4 +1,4 @@
-use Rattle.std.proofs.Common.{◌≡◌, ◌∙◌, Some, None, sym, ap, ap₂, subst, arith, map, length}
+use Rattle.std.proofs.Common.{◌≡◌, ◌∙◌, Some, None, sym, ap, subst, arith, map, length}
 use Rattle.std.specs.Option.{option_copied}
 use Rattle.std.proofs.lemmas.Result.{err_from_is_err_and}
 use Rattle.larch_raw.specs.RawTree.{apply, raw_forest, qualified}
@@ -8,7 +8,8 @@ use Rattle.larch_sorts.specs.Parts.{parts_of}
 use Rattle.larch_sorts.specs.Readings.{Reads}
 use Rattle.larch_sorts.specs.Tabulate.{TableTells}
 use Rattle.larch_sorts.specs.Parts.{inner_parts}
-use Rattle.larch_sorts.specs.Operators.{operators_at}
+use Rattle.larch_sorts.specs.Overloads.{IsMade}
+use Rattle.larch_sorts.specs.Signature.{named, taking_part}
 use Rattle.larch_base.specs.declared.code.Code.TheVariants.{NoReading}
 use Rattle.larch_sorts.specs.Faults.{fault, fault_at}
 use Rattle.larch_sorts.proofs.Tables.{application_tells, variable_tells, narrowed_tells}
@@ -34,7 +35,8 @@ table_from_parts-returns-in_ok-table-in-Apply-2-clause-tells t c =
     subst (λ r. TableTells c.in_ok-table-in-Apply-2.table.found.value.entries (Reads c.args.signature.now c.args.scope.now r)) raw
     (application_tells c.args.signature.now c.args.scope.now c.in-Apply.name c.in-Apply.arguments c.in-Apply.field-2 c.in_ok-table-in-Apply-2.table.found.value.entries (map (λ t. t.found.value.entries) c.in_ok-tables-in-Apply.tables)
     (sym c.variable_sort.ensures ∙ ap option_copied c.in_default.is) c.in_ok-tables-in-Apply.ensures.tell
-    (λ s. c.in_ok-table-in-Apply-2.ensures s ∙ ap₂ (λ ts fs. operators_at (map (λ t. t.found.value.entries) ts) fs s) c.as_slice.ensures c.named.ensures))
+    (subst (λ ts. IsMade c.in_ok-table-in-Apply-2.table.found.value.entries (map (λ t. t.found.value.entries) ts) (named c.in-Apply.name (taking_part c.args.signature.now))) c.as_slice.ensures
+    (subst (IsMade c.in_ok-table-in-Apply-2.table.found.value.entries (map (λ t. t.found.value.entries) c.as_slice.result.now)) c.named.ensures c.in_ok-table-in-Apply-2.ensures)))
 
 pub table_from_parts-returns-in_ok-narrow-in-Qualified-clause-tells : goal.table_from_parts-returns-in_ok-narrow-in-Qualified-clause-tells
 table_from_parts-returns-in_ok-narrow-in-Qualified-clause-tells t c =

@@ -1,7 +1,7 @@
 use Rattle.std.proofs.Common.{◌≡◌, ◌++◌, ℕ, List, drop}
 use Rattle.larch_sorts.specs.Signature.{kept_under}
 use Rattle.larch_sorts.specs.Signature.{named}
-use Rattle.larch_sorts.proofs.signature.index_of.Given as goal
+use Rattle.larch_sorts.proofs.signature.by_name.Given as goal
 
 -- the operators of each name that are kept, with those that are left, are all
 abbrev pub invariant-loop-operator : goal.invariant-loop-operator

@@ -1,0 +1,82 @@
+ghost use Rattle.std.specs.Prelude.{◌≡◌, IfOk, IfSome};
+ghost use Rattle.larch_sorts.specs.Overloads.{IsOfConstants};
+ghost use Rattle.larch_sorts.specs.Places.{IsPlaced};
+
+use crate::found::Table;
+use crate::operators::by_operators;
+use crate::places::Places;
+use larch_base::Memory;
+use larch_term::{Operator, Operators};
+use std::alloc::Global;
+use std::marker::Model;
+
+// So many operators of one name are gone through, more are found by their places.
+const FEW: usize = 4;
+
+/// The operators of one name, with what it reads as without arguments. Contracts see them as a list.
+#[derive(Drop)]
+pub(crate) struct Overloads {
+    operators: Operators,
+    constants: Table,
+    places: Option<Places>,
+}
+
+impl Model for Overloads {
+    ghost use Rattle.std.specs.Prelude.{List, IfSome};
+    ghost use Rattle.larch_term.specs.Operator.{PlainOperator};
+    ghost use Rattle.larch_sorts.specs.Overloads.{IsOfConstants};
+    ghost use Rattle.larch_sorts.specs.Places.{IsPlaced};
+
+    ghost Value = { List PlainOperator };
+
+    ghost view = { λ overloads. overloads.operators };
+
+    ghost invariant = { λ overloads. IsOfConstants overloads.constants.found.value.entries overloads.operators × IfSome overloads.places (λ places. IsPlaced places.kept.entries overloads.operators) };
+}
+
+impl Overloads {
+    // These operators.
+    pub(crate) fn of(alloc: Global, operators: Operators) -> Result<Overloads, Memory>
+        ensures { IfOk result (λ overloads. overloads ≡ operators) }
+    {
+        let constants = by_operators(alloc, &[], operators.as_slice())?;
+        let places = places_of(alloc, operators.as_slice())?;
+        Ok(Overloads {
+            operators,
+            constants,
+            places,
+        })
+    }
+
+    // The operators.
+    pub(crate) fn as_slice(&self) -> &[Operator]
+        ensures { result.now ≡ self.now }
+    {
+        self.operators.as_slice()
+    }
+
+    // What the name reads as without arguments.
+    pub(crate) fn constants(&self) -> &Table
+        ensures { IsOfConstants result.now.found.value.entries self.now }
+    {
+        &self.constants
+    }
+
+    // The operators at their places, where there are many.
+    pub(crate) fn places(&self) -> Option<&Places>
+        ensures { IfSome result (λ places. IsPlaced places.now.kept.entries self.now) }
+    {
+        self.places.as_ref()
+    }
+}
+
+// Operators at their places, where there are many.
+fn places_of(alloc: Global, operators: &[Operator]) -> Result<Option<Places>, Memory>
+    ensures { IfOk result (λ found. IfSome found (λ places. IsPlaced places.kept.entries operators.now)) }
+{
+    if operators.len() <= FEW {
+        return Ok(None);
+    }
+    let places = Places::of(alloc, operators)?;
+    Ok(Some(places))
+}
