@@ -7,12 +7,13 @@ computes.
                                                    random blocks as lemmas, crates/larch_replay/proofs/Random.antt;
                                                    with --small under rewriting limits from 1 to 8
 
-EVALUATOR is a folder with a Python package `larchref`, which is no part of this repository: it reads traits and scripts
-and says what each block comes to. `rows` is run where a worked example changes; what it writes is kept, and the gate
+EVALUATOR is FOLDER:PACKAGE, a Python package that is no part of this repository: its modules base, syntax, script, prove
+and session read traits and scripts and say what each block comes to. `rows` is run where a worked example changes; what it writes is kept, and the gate
 evaluates it by the definitions alone. `random` is no part of the gate: run it, check the crate, see that each lemma holds,
 and delete the file. It prints how often each command, code and outcome came up.
 """
 import collections
+import importlib
 import os
 import random
 import re
@@ -228,11 +229,12 @@ class Writer:
 class Larch:
     """The other reading."""
 
-    def __init__(self, folder):
+    def __init__(self, evaluator):
+        folder, package = evaluator.rsplit(':', 1)
         sys.path.insert(0, folder)
-        os.environ.setdefault('LARCHREF_STAGE', '14')
-        from larchref import base, prove, script, session, syntax
-        self.base, self.prove, self.script, self.session, self.syntax = base, prove, script, session, syntax
+        modules = ('base', 'prove', 'script', 'session', 'syntax')
+        self.base, self.prove, self.script, self.session, self.syntax = (
+            importlib.import_module(f'{package}.{module}') for module in modules)
 
     def is_built_in(self, o):
         if o.name not in BUILT_IN:
@@ -392,17 +394,17 @@ ROWS = [
 ]
 
 HEAD = '''-- Traits and duties of the examples. Written by tools/replay_examples.py.
-use Rattle.std.specs.Prelude.{List, [], ◌∷◌, codes}
+use Rattle.std.specs.Prelude.{[], ◌∷◌, codes}
 use Rattle.larch_term.specs.Operator.{PlainOperator, plain}
-use Rattle.larch_term.specs.Tree.{Tree, var, app, forest_of}
+use Rattle.larch_term.specs.Tree.{var, app, forest_of}
 use Rattle.larch_term.specs.BuiltIn.{built_in, bool_sort}
 use Rattle.larch_term.specs.Truth.{truth}
-use Rattle.larch_term.specs.declared.built_in.BuiltIn.TheVariants.{True, False, Not, And, Or, Implies, Iff, Equal, Unequal, If}
+use Rattle.larch_term.specs.declared.built_in.BuiltIn.TheVariants.{False, Not, Or, Implies, Equal, If}
 use Rattle.larch_term.specs.declared.statement.Statement.TheVariants.{Equation, Generated, Partitioned}
 use Rattle.larch_term.specs.declared.statement.Theory.{Theory}
 use Rattle.larch_calculus.specs.Formula.{constant, applied, joined}
-use Rattle.larch_replay.specs.Levels.{EarlierDuty}
 use Rattle.larch_replay.specs.Replays.{Duty}
+
 '''
 
 RUST_HEAD = '''//! What blocks come to, computed by the definitions. No function here does anything.
@@ -796,7 +798,9 @@ def random_blocks(larch, seed, count, small):
         print(f'{n:6} {key}')
 
 
-RANDOM_HEAD = HEAD.replace('-- Traits and duties of the examples.', '-- Random blocks.').replace('EarlierDuty}', 'EarlierDuty, Proof}') + '''use Rattle.std.specs.Prelude.{◌≡◌, refl, true, false, None, Some}
+ALL_BUILT_IN = '{True, False, Not, And, Or, Implies, Iff, Equal, Unequal, If}'
+RANDOM_HEAD = re.sub(r'(BuiltIn\.TheVariants\.)\{.*\}', lambda m: m.group(1) + ALL_BUILT_IN, HEAD).replace(
+    '-- Traits and duties of the examples.', '-- Random blocks.') + '''use Rattle.std.specs.Prelude.{◌≡◌, refl, true, false, None, Some}
 use Rattle.larch_base.specs.declared.code.Code.TheVariants as refusal
 use Rattle.larch_base.specs.declared.way.Way.TheVariants.{LeftToRight, RightToLeft, Multiset}
 use Rattle.larch_replay.specs.Commands.{said, said_of, no_spelling, spelling, Declare, SetLimit, BoxChecking, Height, SetStatus, Prove, ByCases, ByImplication, ByConjunction, ByContradiction, ByInduction, ByPartition, Instantiate, CriticalPairs, Normalize, Qed, Mark, Bad}
