@@ -413,6 +413,50 @@ tables_convert_1 = record {
   lemmas = [];
 }
 
+-- ---- the trait Shapes
+
+abbrev pub shapes_tip : PlainOperator
+shapes_tip = record { name = plain (codes "tip"); domain = []; range = codes "T" }
+
+abbrev pub shapes_up : PlainOperator
+shapes_up = record { name = plain (codes "up"); domain = codes "T" ∷ []; range = codes "T" }
+
+abbrev pub shapes_mirror : PlainOperator
+shapes_mirror = record { name = plain (codes "mirror"); domain = codes "T" ∷ []; range = codes "T" }
+
+abbrev pub shapes_join : PlainOperator
+shapes_join = record { name = plain (codes "join"); domain = codes "T" ∷ codes "T" ∷ []; range = codes "T" }
+
+abbrev pub shapes : Theory
+shapes = record {
+  operators = shapes_tip ∷ shapes_up ∷ shapes_mirror ∷ shapes_join ∷ [];
+  statements = Generated (codes "T") (shapes_tip ∷ shapes_up ∷ shapes_join ∷ []) ∷
+      Equation (applied shapes_mirror (constant shapes_tip)) (constant shapes_tip) ∷
+      Equation
+      (applied shapes_mirror (applied shapes_up (var (codes "t") (codes "T"))))
+      (applied shapes_up (applied shapes_mirror (var (codes "t") (codes "T")))) ∷
+      Equation
+      (applied shapes_mirror (joined shapes_join (var (codes "t") (codes "T")) (var (codes "u") (codes "T"))))
+      (joined
+      shapes_join
+      (applied shapes_mirror (var (codes "u") (codes "T")))
+      (applied shapes_mirror (var (codes "t") (codes "T")))) ∷
+      [];
+}
+
+abbrev pub shapes_imply_1 : Duty
+shapes_imply_1 = record {
+  theory = shapes;
+  statement = Equation (applied shapes_mirror (var (codes "t") (codes "T"))) (var (codes "t") (codes "T"));
+  lemmas = [];
+}
+
+abbrev pub shapes_tc1 : PlainOperator
+shapes_tc1 = record { name = plain (codes "tc1"); domain = []; range = codes "T" }
+
+abbrev pub shapes_tc2 : PlainOperator
+shapes_tc2 = record { name = plain (codes "tc2"); domain = []; range = codes "T" }
+
 -- ---- the trait User
 
 abbrev pub user_le : PlainOperator

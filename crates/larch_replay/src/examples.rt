@@ -186,6 +186,50 @@ pub fn marks_unchecked()
         ≡ Proved }
 {}
 
+/// While a mark waits, no other command is taken.
+pub fn a_mark_is_owed()
+    ensures { replay worked.tables_imply_1 1000 (BoxChecking true ∷ []) (ByInduction (codes "t") ∷ Qed ∷ [])
+        ≡ Refused (record { place = AtCommand 2; code = refusal.Mark }) }
+{}
+
+/// What a command proves is a fact of the level below.
+pub fn a_proved_formula_is_a_fact()
+    ensures { replay
+        worked.numbers_imply_2
+        1000
+        []
+        (Prove
+        (record {
+          left = said
+              (codes "__ + __")
+              (spelling (said (codes "0") no_spelling) (spelling (said (codes "x") no_spelling) no_spelling));
+          right = Some (said (codes "x") no_spelling);
+        }) ∷
+        ByInduction (codes "x") ∷
+        Instantiate
+        (record {
+          variable = codes "x";
+          term = said (codes "s") (spelling (said (codes "y") no_spelling) no_spelling);
+        } ∷
+        [])
+        (whole_name Derived 1) ∷
+        [])
+        ≡ Refused (record { place = AtCommand 3; code = refusal.Fact }) }
+{}
+
+/// The constants of a subgoal are new beside those of the one before.
+pub fn constants_of_all_subgoals_differ()
+    ensures { replay worked.shapes_imply_1 1000 [] (ByInduction (codes "t") ∷ [])
+        ≡ Suspended
+        1
+        (joined
+        (built_in Equal (codes "T"))
+        (applied
+        worked.shapes_mirror
+        (joined worked.shapes_join (constant worked.shapes_tc1) (constant worked.shapes_tc2)))
+        (joined worked.shapes_join (constant worked.shapes_tc1) (constant worked.shapes_tc2))) }
+{}
+
 /// An operator is converted, by induction.
 pub fn a_conversion_is_proved()
     ensures { replay worked.tables_convert_1 1000 [] (ByInduction (codes "x1") ∷ []) ≡ Proved }

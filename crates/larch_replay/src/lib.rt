@@ -7,9 +7,10 @@ mod laws;
 pub use examples::{
     a_conversion_is_proved, a_conversion_with_a_choice, a_conversion_without_a_proof,
     a_critical_pair_contradicts, a_generation_is_proved, a_hypothesis_is_instantiated,
-    a_limit_is_met, a_limit_is_passed, a_mark_out_of_order, a_table_without_a_proof, a_term_grows,
-    a_term_is_too_large, an_assumption_is_discharged, an_implication_is_wanted,
-    an_open_goal_is_suspended, cases_close_it, induction_on_numbers, induction_with_a_lemma,
+    a_limit_is_met, a_limit_is_passed, a_mark_is_owed, a_mark_out_of_order,
+    a_proved_formula_is_a_fact, a_table_without_a_proof, a_term_grows, a_term_is_too_large,
+    an_assumption_is_discharged, an_implication_is_wanted, an_open_goal_is_suspended,
+    cases_close_it, constants_of_all_subgoals_differ, induction_on_numbers, induction_with_a_lemma,
     marks_in_order, marks_unchecked, observers_show_the_same, qed_wants_all_proved,
     the_wrong_variable_is_suspended,
 };
