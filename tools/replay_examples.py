@@ -437,7 +437,7 @@ ghost use Rattle.larch_term.specs.Tree.{var, app, forest_of};
 ghost use Rattle.larch_term.specs.BuiltIn.{built_in, bool_sort};
 ghost use Rattle.larch_term.specs.declared.built_in.BuiltIn.TheVariants.{And, Or, Not, Equal, Iff, Implies, If, False};
 ghost use Rattle.larch_calculus.specs.Formula.{constant, applied, joined};
-ghost use Rattle.larch_replay.specs.Commands.{said, no_spelling, spelling, SetLimit, BoxChecking, ByCases, ByImplication, ByContradiction, ByInduction, ByPartition, Instantiate, CriticalPairs, Normalize, Qed, Mark};
+ghost use Rattle.larch_replay.specs.Commands.{said, no_spelling, spelling, SetLimit, BoxChecking, Prove, ByCases, ByImplication, ByContradiction, ByInduction, ByPartition, Instantiate, CriticalPairs, Normalize, Qed, Mark};
 ghost use Rattle.larch_replay.specs.Facts.{Axiom, Hypothesis, Derived, whole_name};
 ghost use Rattle.larch_replay.specs.Replays.{replay, Proved, Suspended, Refused, AtOpening, AtCommand};
 ghost use Rattle.larch_replay.specs.Worked as worked;
