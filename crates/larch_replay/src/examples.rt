@@ -195,26 +195,29 @@ pub fn a_mark_is_owed()
 /// What a command proves is a fact of the level below.
 pub fn a_proved_formula_is_a_fact()
     ensures { replay
-        worked.numbers_imply_2
+        worked.numbers_imply_1
         1000
         []
         (Prove
         (record {
           left = said
               (codes "__ + __")
-              (spelling (said (codes "0") no_spelling) (spelling (said (codes "x") no_spelling) no_spelling));
-          right = Some (said (codes "x") no_spelling);
+              (spelling
+              (said (codes "s") (spelling (said (codes "0") no_spelling) no_spelling))
+              (spelling (said (codes "x") no_spelling) no_spelling));
+          right = Some (said (codes "s") (spelling (said (codes "x") no_spelling) no_spelling));
         }) ∷
         ByInduction (codes "x") ∷
         Instantiate
-        (record {
-          variable = codes "x";
-          term = said (codes "s") (spelling (said (codes "y") no_spelling) no_spelling);
-        } ∷
-        [])
+        (record { variable = codes "x"; term = said (codes "0") no_spelling } ∷ [])
         (whole_name Derived 1) ∷
         [])
-        ≡ Refused (record { place = AtCommand 3; code = refusal.Fact }) }
+        ≡ Suspended
+        1
+        (joined
+        (built_in Equal (codes "N"))
+        (joined worked.numbers_plus (constant worked.numbers_nought) (var (codes "x") (codes "N")))
+        (var (codes "x") (codes "N"))) }
 {}
 
 /// The constants of a subgoal are new beside those of the one before.
