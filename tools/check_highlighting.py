@@ -24,9 +24,9 @@ FILES = sorted(str(path.relative_to(TOP)) for folder in ("examples", "editors/sa
 
 
 def definitions():
-    """The texts in the definitions that say what each token is to the grammar: the specs that name `partitioned`."""
+    """The texts in the definitions that say what each token is to the grammar: the specs that name `introduces`."""
     specs = [path.read_text() for path in (TOP / "crates").glob("*/specs/**/*.antt")]
-    return {text.replace("\\\\", "\\") for spec in specs if 'codes "partitioned"' in spec
+    return {text.replace("\\\\", "\\") for spec in specs if 'codes "introduces"' in spec
             for text in re.findall(r'codes "([^"]+)"', spec)}
 
 
