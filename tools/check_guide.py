@@ -1,7 +1,8 @@
 #!/usr/bin/env python3
-"""Runs the examples of docs/TRAITS.md against the built program: python3 tools/check_guide.py [PROGRAM]
+"""Runs the examples of docs/TRAITS.md against the built program: python3 tools/check_guide.py [PROGRAM WORD..]
 
-Each block marked `lsl` is a file T.lsl; the line below it is what the report says: `right`, or `L:C CODE`. Two files
+Each block marked `lsl` is a file T.lsl, or of the name that stands over it as a line "`NAME.lsl`:", which stays for the
+blocks below it; the line below a block is what the report says of it: `right`, or `L:C CODE`. Two files
 that are too long to print are made here. Each code of the program has exactly one part `### CODE`, and each such part
 is of a code; no other document or tool repeats a sentence of such a part. Ends with 1 where an answer is another one, a
 code lacks its part, a sentence stands twice, or no example is found."""
@@ -14,15 +15,16 @@ TOP = pathlib.Path(__file__).resolve().parent.parent
 
 
 def examples(text):
-    """The blocks with the lines below them."""
-    return re.findall(r"^```lsl\n(.*?)^```\n(.*?)$", text, re.M | re.S)
+    """The names of the files, the blocks and the lines below them."""
+    found = re.findall(r"(?:^`([A-Za-z]+)\.lsl`:\n\n)?^```lsl\n(.*?)^```\n(.*?)$", text, re.M | re.S)
+    return [(name or "T", block, line) for name, block, line in found]
 
 
 def long_examples():
     """A trait with 201 open parentheses, and one with 5,001 head tokens."""
     head = "T: trait introduces a: -> Bool\n  asserts\n    "
-    yield head + "(" * 201 + "a" + ")" * 201 + "\n", "3:205 DEEP"
-    yield head + "a" + " = a" * 2500 + "\n", "3:10005 SIZE"
+    yield "T", head + "(" * 201 + "a" + ")" * 201 + "\n", "3:205 DEEP"
+    yield "T", head + "a" + " = a" * 2500 + "\n", "3:10005 SIZE"
 
 
 def without_part(text):
@@ -48,19 +50,19 @@ def told_elsewhere(text):
                 yield from (f"{path.relative_to(TOP)}: {sentence}" for sentence in told if sentence in other)
 
 
-def said(program, trait):
-    """What a report says of T.lsl."""
-    data = trait.encode()
-    commands = b"put T.lsl %d\n" % len(data) + data + b"report\n"
-    done = subprocess.run([program, "session"], input=commands, capture_output=True, timeout=60)
-    line = done.stdout.decode().splitlines()[0]
-    return "right" if line == "trait T" else line.removeprefix("trait T error ")
+def said(program, files, name):
+    """What a report on these files says of the trait of a name."""
+    commands = b"".join(b"put %s.lsl %d\n%s" % (file.encode(), len(text), text) for file, text in files.items())
+    done = subprocess.run([*program, "session"], input=commands + b"report\n", capture_output=True, timeout=60)
+    lines = [line for line in done.stdout.decode().splitlines() if line.split()[:2] == ["trait", name]]
+    return "right" if lines == [f"trait {name}"] else " ".join(lines).removeprefix(f"trait {name} error ")
 
 
 def main():
-    program = sys.argv[1] if len(sys.argv) > 1 else str(TOP / "crates/larch/out/larch")
+    program = sys.argv[1:] or [str(TOP / "crates/larch/out/larch")]
     guide = (TOP / "docs/TRAITS.md").read_text()
-    pairs = examples(guide) + list(long_examples())
+    found = examples(guide) + list(long_examples())
+    files = {}
     wrong = 0
     for code in without_part(guide):
         wrong += 1
@@ -68,13 +70,16 @@ def main():
     for place in told_elsewhere(guide):
         wrong += 1
         print(f"a code's sentence in two places: {place}")
-    for trait, expected in pairs:
-        answer = said(program, trait)
+    for name, trait, expected in found:
+        files[name] = trait.encode()
+        answer = said(program, files, name)
+        if name == "T":
+            del files[name]
         if answer != expected:
             wrong += 1
             print(f"expected {expected}, said {answer}:\n{trait[:400]}")
-    print(f"guide: {len(pairs)} examples, {wrong} wrong")
-    return 1 if wrong or len(pairs) < 20 else 0
+    print(f"guide: {len(found)} examples, {wrong} wrong")
+    return 1 if wrong or len(found) < 20 else 0
 
 
 if __name__ == "__main__":

@@ -1,12 +1,13 @@
 #!/usr/bin/env python3
 """Compares two programs with larch's command line on random sessions: what they write, and their status.
 
-    compare_session.py PROGRAM OTHER [--count N] [--traits N] [--limits] [--seed N] [--jobs N]
+    compare_session.py PROGRAM OTHER [--count N] [--traits N] [--sets N] [--limits] [--seed N] [--jobs N]
 
 PROGRAM and OTHER are commands, in quotes where they have words of their own; each is run with the word `session`
 behind them and one random input. The inputs are sessions with whole and mutated traits, cut and spliced streams,
 wrong lengths, odd names, long lines and bytes above 126; with --traits, sessions of a hundred random traits each (see
-random_traits.py), with how often each code came; with --limits, the traits of limit_traits.py, one after the other.
+random_traits.py), with --sets, sessions of fifty random sets of traits that refer to one another (random_sets.py), both
+with how often each code came; with --limits, the traits of limit_traits.py, one after the other.
 The seed is printed first. An input on which the two differ is written to a file that the output names. Ends with
 'N passed, N failed', and status 1 where one failed.
 """
@@ -20,6 +21,7 @@ import sys
 import tempfile
 
 import limit_traits
+import random_sets
 import random_traits
 
 WORDS = ['trait', 'introduces', 'a', 'b', 'S', 'Set', "x'", 'f_1', '0', 'includes', 'asserts', 'of', 'One', 'Two']
@@ -105,6 +107,17 @@ def many_traits(pick):
     return stream + b'report\n'
 
 
+def many_sets(pick):
+    stream = b''
+    for i in range(50):
+        names = [f'T{i}_{part}' for part in 'abcde'[:pick.randint(2, 5)]]
+        texts = random_sets.a_set(pick, names)
+        for name in pick.sample(names, len(names)):
+            text = texts[name].encode()
+            stream += b'put %s.lsl %d\n' % (name.encode(), len(text)) + text
+    return stream + b'report\n'
+
+
 def at_limits():
     texts = [text.encode() for text in limit_traits.texts('T')]
     return [b''.join(b'put T.lsl %d\n' % len(text) + text + b'report\n' for text in texts[i:i + 20]) for i in range(0, len(texts), 20)]
@@ -121,6 +134,7 @@ def main():
     words.add_argument('other')
     words.add_argument('--count', type=int, default=5000)
     words.add_argument('--traits', type=int, default=0)
+    words.add_argument('--sets', type=int, default=0)
     words.add_argument('--limits', action='store_true')
     words.add_argument('--seed', type=int, default=random.randrange(2 ** 31))
     words.add_argument('--jobs', type=int, default=4)
@@ -129,6 +143,8 @@ def main():
     streams = [session(random.Random(f'{words.seed} {i}')) for i in range(words.count)]
     if words.traits:
         streams = [many_traits(random.Random(f'{words.seed} {i}')) for i in range((words.traits + 99) // 100)]
+    if words.sets:
+        streams = [many_sets(random.Random(f'{words.seed} {i}')) for i in range((words.sets + 49) // 50)]
     if words.limits:
         streams = at_limits()
     codes = collections.Counter()

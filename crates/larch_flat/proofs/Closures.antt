@@ -101,12 +101,12 @@ closure_holds files zero names ms e = cc
 closure_holds files (suc n) names ms e =
     holds_by files names ms (closure files n (spread files names)) (length (spread files names) == length names) refl (closure_holds files n (spread files names) ms) e
 
-has_text : (o : Option (Result RawTrait Fault)) (c : List ℕ) → Contains (targets_in o) c → is_some o ≡ true
+pub has_text : (o : Option (Result RawTrait Fault)) (c : List ℕ) → Contains (targets_in o) c → is_some o ≡ true
 has_text None c t = absurd (contains_none c t)
 has_text (Some text) c t = refl
 
 -- what leads to a file is a file
-leads_there : (files : Files) (a b : List ℕ) → Reaches files a b → is_there files b ≡ true → is_there files a ≡ true
+pub leads_there : (files : Files) (a b : List ℕ) → Reaches files a b → is_there files b ≡ true → is_there files a ≡ true
 leads_there files a b here h = h
 leads_there files a b (there {b = m} t r) h = has_text (files a) m t
 

@@ -53,7 +53,7 @@ distinct_round : (names ms : Names) (rest : Result Names Stop) (b : Bool) → Di
 distinct_round names ms rest true d k e = subst Distinct (ok_inj e) d
 distinct_round names ms rest false d k e = k e
 
-closure_distinct : (files : Files) (n : ℕ) (names ms : Names) → Distinct names → closure files n names ≡ Ok ms → Distinct ms
+pub closure_distinct : (files : Files) (n : ℕ) (names ms : Names) → Distinct names → closure files n names ≡ Ok ms → Distinct ms
 closure_distinct files zero names ms d e = cc
 closure_distinct files (suc n) names ms d e =
     distinct_round names ms (closure files n (spread files names)) (length (spread files names) == length names) d
@@ -78,14 +78,14 @@ there_round : (files : Files) (names ms : Names) (rest : Result Names Stop) (b :
 there_round files names ms rest true h k e = subst (Every (λ m. is_there files m ≡ true)) (ok_inj e) h
 there_round files names ms rest false h k e = k e
 
-closure_there : (files : Files) (n : ℕ) (names ms : Names) → Every (λ m. is_there files m ≡ true) names → closure files n names ≡ Ok ms → Every (λ m. is_there files m ≡ true) ms
+pub closure_there : (files : Files) (n : ℕ) (names ms : Names) → Every (λ m. is_there files m ≡ true) names → closure files n names ≡ Ok ms → Every (λ m. is_there files m ≡ true) ms
 closure_there files zero names ms h e = cc
 closure_there files (suc n) names ms h e =
     there_round files names ms (closure files n (spread files names)) (length (spread files names) == length names) h
     (closure_there files n (spread files names) ms (spread_there files names h)) e
 
 -- the closure of a target that doesn't lead back is shorter
-shorter : (files : Files) (limit : ℕ) (name m : List ℕ) (ms ks : Names) → closure files limit (name ∷ []) ≡ Ok ms → Contains (targets_in (files name)) m → is_there files m ≡ true
+pub shorter : (files : Files) (limit : ℕ) (name m : List ℕ) (ms ks : Names) → closure files limit (name ∷ []) ≡ Ok ms → Contains (targets_in (files name)) m → is_there files m ≡ true
     → closure files limit (m ∷ []) ≡ Ok ks → list_any (bytes_eq name) ks ≡ false → length ks < length ms
 shorter files limit name m ms ks e t there_m d q =
     let start : Contains ms name = (closure_holds files limit (name ∷ []) ms e).0 name (contains_here name []) in
@@ -142,7 +142,7 @@ told_deep files all among limit l (suc n) name ms e s =
     (every_contained (Asked files limit name (λ m. flat_by n limit files m)) (targets_in (files name)) (λ m t ks h d q.
     let k = shorter files limit name m ms ks e t h d q in told_deep files all among limit l n m ks d (omega (arith, k, s))))
 
-names_of : (o : Result Names Stop) → IsFound o → (ms : Names) × (o ≡ Ok ms)
+pub names_of : (o : Result Names Stop) → IsFound o → (ms : Names) × (o ≡ Ok ms)
 names_of (Ok ms) h = (ms, refl)
 names_of (Err stop) h = absurd h
 

@@ -8,7 +8,9 @@ pub mod Every
 pub mod Proper
 pub mod Sizes
 pub mod Sound
+pub mod Shrinking
 pub mod Stated
 pub mod Theory
+pub mod Unfolding
 pub mod Words
 pub mod Variables

@@ -1,6 +1,6 @@
 //! What holds of all flat traits, for crates above to cite. No function here does anything.
 ghost use Rattle.std.specs.Prelude.{◌≡◌, ◌≤◌, ℕ, suc, true, false, bytes_eq, length, List, All, [], ◌∷◌, Ok};
-ghost use Rattle.std.specs.Prelude.{nat_lt, Err};
+ghost use Rattle.std.specs.Prelude.{nat_lt, ◌<◌, Contains, Err};
 ghost use Rattle.std.specs.Bool.{Decides};
 ghost use Rattle.larch_base.specs.declared.fault.Fault.{Fault};
 ghost use Rattle.larch_base.specs.declared.limits.TheConstants.{MAX_OPERATORS};
@@ -15,10 +15,11 @@ ghost use Rattle.larch_term.specs.Operator.{PlainOperator};
 ghost use Rattle.larch_term.specs.Statement.{IsTheory};
 ghost use Rattle.larch_sorts.specs.Laws.{OperatorSorts, StatementSorts, StatementVariables};
 ghost use Rattle.larch_items.specs.Laws.{IsWord};
-ghost use Rattle.larch_flat.specs.Files.{Files, Reaches, closure, is_there};
-ghost use Rattle.larch_flat.specs.Flat.{FlatTrait, flat, flat_by, take_flat, take_own, take_rest, theory_of};
+ghost use Rattle.larch_flat.specs.Files.{Files, Reaches, closure, is_there, targets_in};
+ghost use Rattle.larch_flat.specs.Flat.{FlatTrait, flat, flat_by, flat_file, take_flat, take_own, take_rest, theory_of};
 ghost use Rattle.larch_flat.specs.Gathered.{Gathered, is_too_large, with_operators};
 ghost use Rattle.larch_flat.specs.Laws.{AgreeFrom, AreAmong, AreWorded, IsKeptBy, IsStatedOver, IsTold, gathered_in};
+ghost use Rattle.larch_flat.specs.Reach.{reach_count};
 ghost use Rattle.larch_flat.specs.Replacements.{Replacements, new_operator, renaming, replacements_of};
 
 /// References that are followed deeper tell no other answer.
@@ -33,6 +34,32 @@ pub fn deeper_tells_the_same()
 pub fn files_are_deep_enough()
     ensures { (files : Files) (all : List (List ℕ)) → AreAmong files all → (limit : ℕ) → length all ≤ limit
         → (name : List ℕ) → IsTold (flat limit files name) }
+{}
+
+/// A flat trait is that of its text, where its references are followed just as deep.
+pub fn flat_unfolds()
+    ensures { (files : Files) (all : List (List ℕ)) → AreAmong files all → (limit : ℕ) → length all ≤ limit
+        → (name : List ℕ) → flat limit files name ≡ flat_file (suc limit) files name (flat limit files) (files name) }
+{}
+
+/// As many rounds as there are files tell what a file leads to.
+pub fn closures_are_told()
+    ensures { (files : Files) (all : List (List ℕ)) → AreAmong files all → (limit : ℕ) → length all ≤ limit
+        → (name : List ℕ) → is_there files name ≡ true
+        → (ms : List (List ℕ)) × (closure files limit (name ∷ []) ≡ Ok ms) }
+{}
+
+/// A file leads to more files than one that it refers to and that doesn't lead back, and to no more than there are.
+pub fn reach_falls()
+    ensures reached { (files : Files) (all : List (List ℕ)) → AreAmong files all → (limit : ℕ) → length all ≤ limit
+        → (name b : List ℕ) → Contains (targets_in (files name)) b → is_there files b ≡ true
+        → (Reaches files b name → ⊥) → reach_count limit files b < reach_count limit files name }
+    ensures told { (files : Files) (all : List (List ℕ)) → AreAmong files all → (limit : ℕ) → length all ≤ limit
+        → (name b : List ℕ) → Contains (targets_in (files name)) b → is_there files b ≡ true
+        → (n : ℕ) (ms : List (List ℕ)) → closure files n (b ∷ []) ≡ Ok ms → list_any (bytes_eq name) ms ≡ false
+        → reach_count limit files b < reach_count limit files name }
+    ensures bounded { (files : Files) (all : List (List ℕ)) → AreAmong files all → (limit : ℕ) (name : List ℕ)
+        → is_there files name ≡ true → reach_count limit files name ≤ length all }
 {}
 
 /// A flat trait depends only on the files that its own leads to.

@@ -1,28 +1,54 @@
 -- A step of the machine can be taken back.
-use Rattle.std.proofs.Common.{Bool, List, ◌∷◌}
+use Rattle.std.proofs.Common.{Bool, List, [], ◌∷◌, refl, subst, ap, ◌∙◌}
+use Rattle.larch_raw.specs.declared.declared.RawWord.{RawWord}
 use Rattle.larch_fronts.specs.Walks.{Taken}
+use Rattle.larch_fronts.specs.declared.mark.Mark.TheVariants.{Outside}
 use Rattle.larch_grammar.specs.declared.terminal.Terminal.{Terminal}
-use Rattle.larch_grammar.specs.declared.terminal.Terminal.TheVariants.{Word, Arrow, Colon, Comma, Marker, Trait, By}
+use Rattle.larch_grammar.specs.declared.terminal.Terminal.TheVariants.{Word, Arrow, Colon, Comma, Marker, Open, Trait, By, Of}
 use Rattle.larch_grammar.specs.declared.machine.Before.TheVariants as before
-use Rattle.larch_grammar.specs.declared.machine.Signing.TheVariants.{Declaration, Reference}
+use Rattle.larch_grammar.specs.declared.machine.Signing.TheVariants.{Declaration, Reference, Replacement}
 use Rattle.larch_grammar.specs.declared.machine.State.{State}
-use Rattle.larch_grammar.specs.declared.machine.State.TheVariants.{Start, AfterName, NeedTrait, AfterHead, InPart, NeedForm, AfterSymbolForm, AfterDotForm, AfterMarker, AfterMarkerSymbol, NeedMarks, AfterMark, NeedMark, AfterForm, NeedSig, AfterSort, NeedSort, NeedRange, AfterReference, InItems, FirstWord, AfterSemicolon, WordBehind, ClauseWord, NeedBy, NeedVariable, AfterVariable, NeedFurtherVariable, NeedVariableSort, AfterGroup, NeedEquation, NeedTerm, NeedOperand, NeedPrefixed, NeedPost, NeedField, NeedSortOf, AfterWord, NeedFirst, AfterSymbol, Have}
+use Rattle.larch_grammar.specs.declared.machine.State.TheVariants.{Start, AfterName, AfterFormals, NeedTrait, AfterHead, ShortWord, NeedConstants, NeedConstant, AfterConstant, NeedFields, NeedName, AfterNames, NeedFurtherName, NeedNamesSort, AfterField, NeedRef, AfterRefName, AfterRef, AfterRename, InPart, NeedForm, AfterSymbolForm, AfterDotForm, AfterMarker, AfterMarkerSymbol, NeedMarks, AfterMark, NeedMark, AfterForm, NeedSig, AfterSort, NeedSort, NeedRange, AfterReference, InItems, FirstWord, AfterSemicolon, WordBehind, ClauseWord, NeedBy, NeedVariable, AfterVariable, NeedFurtherVariable, NeedVariableSort, AfterGroup, NeedEquation, NeedTerm, NeedOperand, NeedPrefixed, NeedPost, NeedField, NeedSortOf, AfterWord, NeedFirst, AfterSymbol, Have}
 use Rattle.larch_grammar.specs.declared.machine.Whole.{Whole}
+use Rattle.larch_grammar.specs.Composition.{HasFormals, a_ref, fields_of_sort, formals, no_formal}
 use Rattle.larch_grammar.specs.Forms.{Marked, a_word, another_marker, another_word, group, no_word, signature, no_sort, sorts}
 use Rattle.larch_grammar.specs.Machine.{step}
 use Rattle.larch_grammar.specs.Terms.{field, of_sort}
-use Rattle.larch_grammar.specs.Traits.{trait_of_parts}
+use Rattle.larch_grammar.specs.Traits.{trait_of_body}
 use Rattle.larch_grammar.proofs.Fits.{Fits}
-use Rattle.larch_grammar.proofs.BackForms.{form_back, form_read_back, head_back, mark_back, marker_back, marker_symbol_back, marks_back, part_of_decls_back, symbol_form_back}
+use Rattle.larch_grammar.proofs.BackForms.{constant_back, constants_back, field_back, fields_back, form_back, form_read_back, head_back, mark_back, marker_back, marker_symbol_back, marks_back, part_of_decls_back, ref_back, ref_name_back, rename_back, short_word_back, symbol_form_back}
 use Rattle.larch_grammar.proofs.BackItems.{by_back, clause_back, first_back, group_back, item_back, reference_back, semicolon_back, word_behind_back}
 use Rattle.larch_grammar.proofs.BackTerms.{bracket_back, equation_back, hand_back, oper_back, operand_back, post_back, symbol_back, term_back, word_back}
 
+-- the name of a trait is read
+name_back : (s : Bool) (w : RawWord) (i : List Marked) (z : Whole) → Fits s (AfterName w) i z → Fits s Start ((Word w, Outside) ∷ i) z
+name_back s w i z f =
+    let t = f.3.3 in
+    (t.2.0, trait_of_body a_word (subst (λ x. HasFormals i x f.1) (f.3.2 ∙ ap (λ x. (Colon f.3.1, Outside) ∷ x) t.1) f.2) t.2.1, t.2.2)
+
 -- a step can be taken back
 pub step_back : (s : Bool) (n : State) (l : Terminal) → Taken (step s n l) (λ m k. (i : List Marked) (z : Whole) → Fits s k i z → Fits s n ((l, m) ∷ i) z)
-step_back s Start (Word w) = λ i z f. f
-step_back s (AfterName w) (Colon p) = λ i z f. f p
-step_back s (NeedTrait w) Trait = λ i z f. λ p. (f.0, trait_of_parts a_word f.1, f.2)
+step_back s Start (Word w) = name_back s w
+step_back s (AfterName w) (Colon p) = λ i z f. ((Colon p, Outside) ∷ i, [], no_formal, (i, p, refl, f))
+step_back s (AfterName w) (Open p) = λ i z f. (f.3.0, f.3.1, formals f.2 f.3.2, f.3.3)
+step_back s (AfterFormals w fs) (Colon p) = λ i z f. (i, p, refl, f)
+step_back s (NeedTrait w fs) Trait = λ i z f. (i, refl, f)
 step_back s (AfterHead r) t = head_back s r t
+step_back s (ShortWord r w) t = short_word_back s r w t
+step_back s (NeedConstants r w) Of = constants_back s r w
+step_back s (NeedConstant r sort ws) (Word w) = λ i z f. (i, w, a_word, f)
+step_back s (AfterConstant r sort ws) t = constant_back s r sort ws t
+step_back s (NeedFields r kind w) Of = fields_back s r kind w
+step_back s (NeedName n) (Word w) = λ i z f. (f.1, _, fields_of_sort a_word f.5 f.6, f.7)
+step_back s (AfterNames n ws) Comma = λ i z f. f
+step_back s (AfterNames n ws) (Colon p) = λ i z f. (i, f.0, p, ws, f.1, no_word, f.2, f.3)
+step_back s (NeedFurtherName n ws) (Word w) = λ i z f. (f.0, f.1, f.2, f.3, f.4, another_word a_word f.5, f.6, f.7)
+step_back s (NeedNamesSort n ws) (Word sort) = λ i z f. (i, sort, a_word, f)
+step_back s (AfterField n) t = field_back s n t
+step_back s (NeedRef r b) (Word w) = λ i z f. (f.0, _, a_ref a_word f.2, f.3)
+step_back s (AfterRefName r b w) t = ref_name_back s r b w t
+step_back s (AfterRef r b) t = ref_back s r b t
+step_back s (AfterRename n) t = rename_back s n t
 step_back s (InPart r) t = part_of_decls_back s r t
 step_back s (NeedForm n) t = form_back s n t
 step_back s (AfterSymbolForm n x) t = symbol_form_back s n x t
@@ -40,6 +66,7 @@ step_back s (AfterSort n ws) Arrow = λ i z f. (i, f.0, ws, f.1, no_word, f.2, f
 step_back s (NeedSort n ws) (Word w) = λ i z f. (f.0, f.1, f.2, f.3, another_word a_word f.4, f.5, f.6)
 step_back s (NeedRange (Declaration r fs) ws) (Word w) = λ i z f. (i, w, a_word, f)
 step_back s (NeedRange (Reference c rs g) ws) (Word w) = λ i z f. (i, w, a_word, f)
+step_back s (NeedRange (Replacement n g h) ws) (Word w) = λ i z f. (i, w, a_word, f)
 step_back s (AfterReference c rs) t = reference_back s c rs t
 step_back s (InItems r) t = item_back s r t
 step_back s (FirstWord r w) t = first_back s r w t

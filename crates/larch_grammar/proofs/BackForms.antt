@@ -1,24 +1,32 @@
 -- A step inside a form, a signature or a declaration can be taken back.
-use Rattle.std.proofs.Common.{◌≡◌, ℕ, Bool, List, [], ◌∷◌, ◌++◌, refl, subst, sym}
+use Rattle.std.proofs.Common.{◌≡◌, ℕ, Bool, true, false, None, List, [], ◌∷◌, ◌++◌, refl, subst, sym}
 use Rattle.larch_base.specs.declared.position.Pos.{Pos}
 use Rattle.larch_fronts.specs.declared.mark.Mark.TheVariants.{Outside}
 use Rattle.larch_raw.specs.declared.declared.RawForm.{RawForm}
 use Rattle.larch_raw.specs.declared.declared.RawWord.{RawWord}
 use Rattle.larch_raw.specs.declared.equation.RawTrait.{RawTrait}
+use Rattle.larch_raw.specs.declared.reference.RawActual.TheVariants as actual
+use Rattle.larch_raw.specs.declared.shorthand.RawField.{RawField}
+use Rattle.larch_raw.specs.declared.shorthand.RawShorthand.TheVariants as shorthand
 use Rattle.larch_grammar.specs.declared.terminal.Bracket.{Bracket}
 use Rattle.larch_grammar.specs.declared.terminal.Bracket.TheVariants.{Square, Curly}
 use Rattle.larch_grammar.specs.declared.terminal.Terminal.{Terminal}
-use Rattle.larch_grammar.specs.declared.terminal.Terminal.TheVariants.{Word, Symbol, Colon, Comma, Dot, Marker, OpenBracket, CloseBracket, Introduces, Asserts}
+use Rattle.larch_grammar.specs.declared.terminal.Terminal.TheVariants.{Word, Symbol, Colon, Comma, Dot, Marker, Open, Close, OpenBracket, CloseBracket, Introduces, Asserts, Includes, Assumes, For, Enumeration, Tuple, Union, Of}
+use Rattle.larch_grammar.specs.declared.machine.FieldsKind.{FieldsKind}
+use Rattle.larch_grammar.specs.declared.machine.FieldsKind.TheVariants as fields_kind
 use Rattle.larch_grammar.specs.declared.machine.FormBracket.{FormBracket}
 use Rattle.larch_grammar.specs.declared.machine.Naming.{Naming}
-use Rattle.larch_grammar.specs.declared.machine.Naming.TheVariants.{Declared, Referred}
-use Rattle.larch_grammar.specs.declared.machine.State.TheVariants.{AfterSymbolForm, AfterMarker, AfterMarkerSymbol, NeedMarks, AfterMark}
+use Rattle.larch_grammar.specs.declared.machine.Naming.TheVariants.{Declared, Referred, Formal, Actual, Renaming, Renamed}
+use Rattle.larch_grammar.specs.declared.machine.OpenFields.{OpenFields}
+use Rattle.larch_grammar.specs.declared.machine.OpenRef.{OpenRef}
+use Rattle.larch_grammar.specs.declared.machine.State.TheVariants.{NeedConstants, NeedConstant, NeedFields, NeedName, AfterSymbolForm, AfterMarker, AfterMarkerSymbol, NeedMarks, AfterMark}
 use Rattle.larch_grammar.specs.declared.machine.Whole.{Whole}
-use Rattle.larch_grammar.specs.Forms.{Marked, AreMarkers, Markers, another_form, a_word, bare_field, bare_symbol, bare_word, bracket_behind, bracketed_form, by_form, by_signature, empty, field_form, infix_form, marked, no_form, no_marker, postfix_form, prefix_form}
-use Rattle.larch_grammar.specs.Machine.{after_form, after_head, after_mark, after_marker, after_marker_symbol, after_reference, after_symbol_form, begin_form, end_marks, in_part, need_marks, with_reference}
-use Rattle.larch_grammar.specs.Traits.{another_declaration, asserted, assertions, declaration, introduced, no_declaration}
+use Rattle.larch_grammar.specs.Composition.{AreFields, IsField, IsShort, a_tuple, a_union, actuals, an_enumeration, another_actual, another_field, another_ref, assumes, bare, close_fields, close_ref, in_place, includes, no_actual, no_field, no_ref, open_fields, open_ref, replaces, shorthand_of, with_actual, with_shorthand}
+use Rattle.larch_grammar.specs.Forms.{Marked, AreMarkers, Markers, another_form, a_word, bare_field, bare_symbol, bare_word, bracket_behind, bracketed_form, by_form, by_signature, no_word, another_word, empty, field_form, infix_form, marked, no_form, no_marker, postfix_form, prefix_form}
+use Rattle.larch_grammar.specs.Machine.{after_actual, after_constant, after_field, after_form, after_head, after_mark, after_marker, after_marker_symbol, after_ref, after_ref_name, after_reference, after_rename, after_symbol_form, begin_form, end_marks, in_part, need_marks, short_word, with_reference}
+use Rattle.larch_grammar.specs.Traits.{a_shorthand, another_declaration, asserted, assertions, declaration, introduced, no_declaration, parts, references}
 use Rattle.larch_grammar.specs.Trees.{bracket_form, infix_name, mixfix, plain_form, postfix_name}
-use Rattle.larch_grammar.proofs.Fits.{Fits, FitsDecls, FitsForm, FitsNaming, FitsParts, FitsReferences}
+use Rattle.larch_grammar.proofs.Fits.{Fits, FitsActual, FitsBody, FitsConstants, FitsDecls, FitsFields, FitsForm, FitsNaming, FitsRefName, FitsReferences, FitsRefs, fields_terminal}
 use Rattle.larch_grammar.proofs.BackItems.{reference_back}
 use Rattle.larch_grammar.proofs.BackTerms.{Back, passed}
 
@@ -31,6 +39,18 @@ form_back s n (Marker p) = λ i z f. f
 form_back s n (OpenBracket b p) = λ i z f. (f.0, _, bracketed_form f.2, f.3)
 form_back s n _ = tt
 
+-- an actual is read, the last of these, and a token stands behind it
+actual_back : (s : Bool) (n : OpenRef) (t : Terminal) → Back s (after_actual n t) t (FitsActual s false n)
+actual_back s n Comma = λ i z f. let r = f.3 i f.2 in (r.0, r.1, another_actual r.2, r.3)
+actual_back s n Close = λ i z f. (i, n.actuals, no_actual, f)
+actual_back s n _ = tt
+
+-- the same of a replacement
+pub rename_back : (s : Bool) (n : OpenRef) (t : Terminal) → Back s (after_rename n t) t (FitsActual s true n)
+rename_back s n Comma = λ i z f. let r = f.3 i f.2 in (r.0, r.1, another_actual r.2, r.3)
+rename_back s n Close = λ i z f. (i, n.actuals, no_actual, f)
+rename_back s n _ = tt
+
 -- a form is read, and a token stands behind it
 pub form_read_back : (s : Bool) (n : Naming) (f : RawForm) (t : Terminal) → Back s (after_form n f t) t (FitsForm s n f)
 form_read_back s (Declared r fs) f Comma = λ i z h. (h.3.0, h.3.1, h.3.2, another_form h.2 h.3.3, h.3.4)
@@ -39,6 +59,17 @@ form_read_back s (Declared r fs) f _ = tt
 form_read_back s (Referred c rs) f (Colon p) = λ i z h. λ j form. (h.0, _, by_signature form h.2, h.3)
 form_read_back s (Referred c rs) f t =
     passed s (after_reference c (with_reference rs f) t) t (FitsReferences s c (with_reference rs f)) (FitsForm s (Referred c rs) f) (λ m i z h. λ j form. ((t, m) ∷ i, _, by_form form, h)) (reference_back s c (with_reference rs f) t)
+form_read_back s (Formal w fs) f Comma = λ i z h. (h.3.0, h.3.1, another_form h.2 h.3.2, h.3.3)
+form_read_back s (Formal w fs) f Close = λ i z h. (i, fs ++ f ∷ [], no_form, h)
+form_read_back s (Formal w fs) f _ = tt
+form_read_back s (Actual n) f For = λ i z h. λ j form. let r = h.3 i h.2 in (r.3.0, r.3.1, replaces form r.2 r.3.2, r.3.3)
+form_read_back s (Actual n) f t =
+    passed s (after_actual (with_actual n (actual.Plain f)) t) t (FitsActual s false (with_actual n (actual.Plain f))) (FitsForm s (Actual n) f) (λ m i z h. λ j form. (h.0, h.1, in_place form h.2, h.3)) (actual_back s (with_actual n (actual.Plain f)) t)
+form_read_back s (Renaming n) f For = λ i z h. λ j form. let r = h.3 i h.2 in (r.3.0, r.3.1, replaces form r.2 r.3.2, r.3.3)
+form_read_back s (Renaming n) f _ = tt
+form_read_back s (Renamed n f) g (Colon p) = λ i z h. λ j form. (h.0, _, by_signature form h.2, h.3)
+form_read_back s (Renamed n f) g t =
+    passed s (after_rename (with_actual n (actual.Replace f g None)) t) t (FitsActual s true (with_actual n (actual.Replace f g None))) (FitsForm s (Renamed n f) g) (λ m i z h. λ j form. ((t, m) ∷ i, _, by_form form, h)) (rename_back s (with_actual n (actual.Replace f g None)) t)
 
 -- a symbol that begins a form is read
 pub symbol_form_back : (s : Bool) (n : Naming) (x : RawWord) (t : Terminal) → Back s (after_symbol_form n x t) t (Fits s (AfterSymbolForm n x))
@@ -90,7 +121,50 @@ part_of_decls_back s r Asserts = λ i z f. ((Asserts, Outside) ∷ i, r, f.2, no
 part_of_decls_back s r t = passed s (begin_form (Declared r []) t) t (FitsNaming s (Declared r [])) (FitsDecls s r) (λ m i z f. decl_of_form s r ((t, m) ∷ i) z f) (form_back s (Declared r []) t)
 
 -- the head of a trait is read
-pub head_back : (s : Bool) (r : RawTrait) (t : Terminal) → Back s (after_head r t) t (FitsParts s r)
-head_back s r Introduces = λ i z f. (f.2, introduced f.3 f.4, f.5)
-head_back s r Asserts = λ i z f. (f.2, assertions (asserted f.3 f.4), f.5)
+pub head_back : (s : Bool) (r : RawTrait) (t : Terminal) → Back s (after_head r t) t (FitsBody s r)
+head_back s r (Word w) = λ i z f. f
+head_back s r Includes = λ i z f. (f.3.3.0, references includes f.2 f.3.2 f.3.3.1, f.3.3.2)
+head_back s r Assumes = λ i z f. (f.3.3.0, references assumes f.2 f.3.2 f.3.3.1, f.3.3.2)
+head_back s r Introduces = λ i z f. (f.2, parts (introduced f.3 f.4), f.5)
+head_back s r Asserts = λ i z f. (f.2, parts (assertions (asserted f.3 f.4)), f.5)
 head_back s r _ = tt
+
+-- the word that begins a shorthand is read
+pub short_word_back : (s : Bool) (r : RawTrait) (w : RawWord) (t : Terminal) → Back s (short_word r w t) t (λ i z. FitsBody s r ((Word w, Outside) ∷ i) z)
+short_word_back s r w Enumeration = λ i z f. f
+short_word_back s r w Tuple = λ i z f. f
+short_word_back s r w Union = λ i z f. f
+short_word_back s r w _ = tt
+
+-- `of` behind `enumeration` is read
+pub constants_back : (s : Bool) (r : RawTrait) (w : RawWord) (i : List Marked) (z : Whole) → Fits s (NeedConstant r w []) i z → Fits s (NeedConstants r w) ((Of, Outside) ∷ i) z
+constants_back s r w i z f = (f.3.3.0, a_shorthand (an_enumeration a_word f.2 f.3.2) f.3.3.1, f.3.3.2)
+
+-- a constant of an enumeration is read
+pub constant_back : (s : Bool) (r : RawTrait) (sort : RawWord) (ws : List RawWord) (t : Terminal) → Back s (after_constant r sort ws t) t (FitsConstants s r sort ws)
+constant_back s r sort ws Comma = λ i z f. (f.3.0, f.3.1, another_word f.2 f.3.2, f.3.3)
+constant_back s r sort ws t = passed s (after_head (with_shorthand r (shorthand.Enumeration sort ws)) t) t (FitsBody s (with_shorthand r (shorthand.Enumeration sort ws))) (FitsConstants s r sort ws) (λ m i z f. ((t, m) ∷ i, ws, no_word, f)) (head_back s (with_shorthand r (shorthand.Enumeration sort ws)) t)
+
+-- a tuple or a union of fields
+short_of_fields : {i j o : List Marked} {gs fs : List RawField} → IsField i j gs → AreFields gs j o fs → (kind : FieldsKind) (sort : RawWord) → IsShort ((Word sort, Outside) ∷ (fields_terminal kind, Outside) ∷ (Of, Outside) ∷ i) o (shorthand_of kind sort fs)
+short_of_fields q more fields_kind.Tuple sort = a_tuple a_word q more
+short_of_fields q more fields_kind.Union sort = a_union a_word q more
+
+-- `of` behind `tuple` or `union` is read
+pub fields_back : (s : Bool) (r : RawTrait) (kind : FieldsKind) (w : RawWord) (i : List Marked) (z : Whole) → Fits s (NeedName (open_fields r kind w [])) i z → Fits s (NeedFields r kind w) ((Of, Outside) ∷ i) z
+fields_back s r kind w i z f = (f.3.3.0, a_shorthand (short_of_fields f.2 f.3.2 kind w) f.3.3.1, f.3.3.2)
+
+-- fields with their sorts are read
+pub field_back : (s : Bool) (n : OpenFields) (t : Terminal) → Back s (after_field n t) t (FitsFields s n)
+field_back s n Comma = λ i z f. (f.3.0, f.3.1, another_field f.2 f.3.2, f.3.3)
+field_back s n t = passed s (after_head (close_fields n) t) t (FitsBody s (close_fields n)) (FitsFields s n) (λ m i z f. ((t, m) ∷ i, n.fields, no_field, f)) (head_back s (close_fields n) t)
+
+-- a reference is read
+pub ref_back : (s : Bool) (r : RawTrait) (b : Bool) (t : Terminal) → Back s (after_ref r b t) t (FitsRefs s b r)
+ref_back s r b Comma = λ i z f. (f.3.0, f.3.1, another_ref f.2 f.3.2, f.3.3)
+ref_back s r b t = passed s (after_head r t) t (FitsBody s r) (FitsRefs s b r) (λ m i z f. ((t, m) ∷ i, r, no_ref, f)) (head_back s r t)
+
+-- the name of a trait that is referred to is read
+pub ref_name_back : (s : Bool) (r : RawTrait) (b : Bool) (w : RawWord) (t : Terminal) → Back s (after_ref_name r b w t) t (FitsRefName s r b w)
+ref_name_back s r b w (Open p) = λ i z f. let h = f.3 i f.2 in (h.0, h.1, actuals h.2, h.3)
+ref_name_back s r b w t = passed s (after_ref (close_ref (open_ref r b w [])) b t) t (FitsRefs s b (close_ref (open_ref r b w []))) (FitsRefName s r b w) (λ m i z f. ((t, m) ∷ i, [], bare, f)) (ref_back s (close_ref (open_ref r b w [])) b t)

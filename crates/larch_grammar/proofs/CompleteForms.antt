@@ -20,7 +20,7 @@ use Rattle.larch_grammar.specs.declared.terminal.Terminal.{Terminal}
 use Rattle.larch_grammar.specs.declared.terminal.Terminal.TheVariants.{Colon, Comma, Marker, CloseBracket}
 use Rattle.larch_grammar.specs.declared.machine.Clause.{Clause}
 use Rattle.larch_grammar.specs.declared.machine.Naming.{Naming}
-use Rattle.larch_grammar.specs.declared.machine.Naming.TheVariants.{Declared, Referred}
+use Rattle.larch_grammar.specs.declared.machine.Naming.TheVariants.{Declared, Referred, Formal, Actual, Renaming, Renamed}
 use Rattle.larch_grammar.specs.declared.machine.Signing.{Signing}
 use Rattle.larch_grammar.specs.declared.machine.Signing.TheVariants.{Declaration, Reference}
 use Rattle.larch_grammar.specs.declared.machine.State.{State}
@@ -40,6 +40,10 @@ AcceptsBy s first end (m ∷ ms) z = (after : State) × (first m.0 ≡ Some (m.1
 no_marker_behind : (n : Naming) (f : RawForm) (p : Pos) → after_form n f (Marker p) ≡ None
 no_marker_behind (Declared raw fs) f p = refl
 no_marker_behind (Referred c rs) f p = refl
+no_marker_behind (Formal name fs) f p = refl
+no_marker_behind (Actual n) f p = refl
+no_marker_behind (Renaming n) f p = refl
+no_marker_behind (Renamed n f) g p = refl
 
 -- a symbol alone is a form where no `__` follows
 symbol_alone : (s : Bool) (o : List Marked) (n : Naming) (x : RawWord) (z : Whole) → AcceptsFrom s (AfterForm n (mixfix (infix_name x.name) 2 x.pos)) o z → AcceptsFrom s (AfterSymbolForm n x) o z

@@ -1,5 +1,5 @@
 -- What the grammar of equations, items and traits allows the machine reads, from behind.
-use Rattle.std.proofs.Common.{◌≡◌, Bool, Some, None, List, [], ◌∷◌, ◌++◌, map, refl, sym, ap, subst, ◌∙◌}
+use Rattle.std.proofs.Common.{◌≡◌, Bool, true, false, Some, None, List, [], ◌∷◌, ◌++◌, map, refl, sym, ap, subst, ◌∙◌}
 use Rattle.larch_base.specs.declared.position.Pos.{Pos}
 use Rattle.larch_lexer.specs.declared.token.Token.{Token}
 use Rattle.larch_fronts.specs.Walks.{Accepts}
@@ -14,10 +14,11 @@ use Rattle.larch_raw.specs.declared.equation.RawItem.{RawItem}
 use Rattle.larch_raw.specs.declared.equation.RawTrait.{RawTrait}
 use Rattle.larch_raw.specs.declared.equation.RawVar.{RawVar}
 use Rattle.larch_raw.specs.RawTree.{RawTree}
+use Rattle.larch_grammar.specs.Composition.{assumes, includes}
 use Rattle.larch_grammar.specs.Forms.{Marked, a_word}
 use Rattle.larch_grammar.specs.Machine.{Taking, at_head, begin_part, end_equation, final, hand_equation, outside, step_at, with_clause, word_frames, open_item}
 use Rattle.larch_grammar.specs.Terms.{IsEquation, formula, two_sides, first_position, formula_of, equation_of}
-use Rattle.larch_grammar.specs.Traits.{with_equations, with_item, clause_mark, generates, partitions, MayEnd, no_end, an_end, IsClause, clause, AreEquations, no_equation, ended, another_equation, AreItems, no_item, a_clause, for_all, without_variables, AreAssertions, no_assertion, asserted, AreDecls, no_declaration, another_declaration, AreParts, assertions, introduced, IsMarkedTrait, trait_of_parts, seen}
+use Rattle.larch_grammar.specs.Traits.{with_equations, with_item, clause_mark, generates, partitions, MayEnd, no_end, an_end, IsClause, clause, AreEquations, no_equation, ended, another_equation, AreItems, no_item, a_clause, for_all, without_variables, AreAssertions, no_assertion, asserted, AreDecls, no_declaration, another_declaration, AreParts, assertions, introduced, IsBody, parts, a_shorthand, references, IsMarkedTrait, trait_of_body, seen}
 use Rattle.larch_grammar.specs.declared.terminal.Terminal.{Terminal}
 use Rattle.larch_grammar.specs.declared.terminal.Terminal.TheVariants.{Word, Equates, Comma, Semicolon, ForAll, Introduces, Asserts, Generated, Partitioned, By}
 use Rattle.larch_grammar.specs.declared.machine.Before.{Before}
@@ -32,6 +33,7 @@ use Rattle.larch_grammar.specs.declared.machine.Waiting.TheVariants.{Alone, Item
 use Rattle.larch_grammar.specs.declared.machine.Whole.{Whole}
 use Rattle.larch_grammar.specs.declared.machine.Whole.TheVariants as whole
 use Rattle.larch_grammar.proofs.CompleteForms.{AcceptsBy, AcceptsFrom, decl_reads, group_reads, groups_read, references_read}
+use Rattle.larch_grammar.proofs.CompleteHeads.{head_formals_read, ref_reads, refs_end, refs_read, short_reads}
 use Rattle.larch_grammar.proofs.CompleteTerms.{TermEnds, cond_reads}
 
 -- equations
@@ -255,9 +257,16 @@ head_reads : {s : Bool} {r t : RawTrait} {i o : List Marked} → AreParts s r i 
 head_reads (assertions {s = s} {r = r} {i = i} a) z h = part_first s i r z (assertions_read a z h)
 head_reads (introduced {s = s} decls more) z h = (_, refl, decls_read decls s z (parts_read more z h))
 
+-- shorthands and references, and the parts behind them
+body_reads : {s : Bool} {r t : RawTrait} {i o : List Marked} → IsBody s r i o t → (z : Whole) → AcceptsPart s t o z → AcceptsFrom s (AfterHead r) i z
+body_reads (parts p) z h = head_reads p z h
+body_reads (a_shorthand {s = s} {r = r} q more) z h = short_reads q s r z (body_reads more z h)
+body_reads (references {s = s} {r = r} {y = y} {k = k} includes q qs more) z h = (_, refl, ref_reads q s r false z (refs_read qs s z (refs_end s k y false z (body_reads more z h))))
+body_reads (references {s = s} {r = r} {y = y} {k = k} assumes q qs more) z h = (_, refl, ref_reads q s r true z (refs_read qs s z (refs_end s k y true z (body_reads more z h))))
+
 -- a trait
 pub trait_reads : (s : Bool) {i : List Marked} {raw : RawTrait} → IsMarkedTrait s i raw → AcceptsFrom s Start i (whole.Trait raw)
-trait_reads s (trait_of_parts {z = z} a_word parts) = (_, refl, (_, refl, (_, refl, head_reads parts (whole.Trait z) refl)))
+trait_reads s (trait_of_body {w = w} {z = z} a_word named body) = (_, refl, head_formals_read named s w (whole.Trait z) (_, refl, (_, refl, body_reads body (whole.Trait z) refl)))
 
 -- the same of the tokens of a text
 tokens_read : (s : Bool) (ms : List (Token × Mark)) (n : State) (z : Whole) → AcceptsFrom s n (map seen ms) z → Accepts (step_at s) final n ms z

@@ -27,25 +27,36 @@ use Rattle.larch_grammar.specs.declared.machine.Frame.{Frame}
 use Rattle.larch_grammar.specs.declared.machine.Frame.TheVariants.{InFields, InStrays, Prefixed, InPostfixes, InInfixes, InEqualities, InConnectives, InParentheses, InList, InIf, InThen, InElse, InLeft, InRight}
 use Rattle.larch_grammar.specs.declared.machine.Listing.TheVariants.{Call, Bracketed}
 use Rattle.larch_grammar.specs.declared.machine.Naming.{Naming}
-use Rattle.larch_grammar.specs.declared.machine.Naming.TheVariants.{Declared, Referred}
+use Rattle.larch_grammar.specs.declared.machine.Naming.TheVariants.{Declared, Referred, Formal, Actual, Renaming, Renamed}
+use Rattle.larch_grammar.specs.declared.machine.OpenFields.{OpenFields}
+use Rattle.larch_grammar.specs.declared.machine.OpenRef.{OpenRef}
 use Rattle.larch_grammar.specs.declared.machine.Signing.{Signing}
-use Rattle.larch_grammar.specs.declared.machine.Signing.TheVariants.{Declaration, Reference}
+use Rattle.larch_grammar.specs.declared.machine.Signing.TheVariants.{Declaration, Reference, Replacement}
 use Rattle.larch_grammar.specs.declared.machine.State.{State}
-use Rattle.larch_grammar.specs.declared.machine.State.TheVariants.{Start, AfterName, NeedTrait, AfterHead, InPart, NeedForm, AfterSymbolForm, AfterDotForm, AfterMarker, AfterMarkerSymbol, NeedMarks, AfterMark, NeedMark, AfterForm, NeedSig, AfterSort, NeedSort, NeedRange, AfterReference, InItems, FirstWord, AfterSemicolon, WordBehind, ClauseWord, NeedBy, NeedVariable, AfterVariable, NeedFurtherVariable, NeedVariableSort, AfterGroup, NeedEquation, NeedTerm, NeedOperand, NeedPrefixed, NeedPost, NeedField, NeedSortOf, AfterWord, NeedFirst, AfterSymbol, Have}
+use Rattle.larch_grammar.specs.declared.machine.State.TheVariants.{Start, AfterName, AfterFormals, NeedTrait, AfterHead, ShortWord, NeedConstants, NeedConstant, AfterConstant, NeedFields, NeedName, AfterNames, NeedFurtherName, NeedNamesSort, AfterField, NeedRef, AfterRefName, AfterRef, AfterRename, InPart, NeedForm, AfterSymbolForm, AfterDotForm, AfterMarker, AfterMarkerSymbol, NeedMarks, AfterMark, NeedMark, AfterForm, NeedSig, AfterSort, NeedSort, NeedRange, AfterReference, InItems, FirstWord, AfterSemicolon, WordBehind, ClauseWord, NeedBy, NeedVariable, AfterVariable, NeedFurtherVariable, NeedVariableSort, AfterGroup, NeedEquation, NeedTerm, NeedOperand, NeedPrefixed, NeedPost, NeedField, NeedSortOf, AfterWord, NeedFirst, AfterSymbol, Have}
 use Rattle.larch_grammar.specs.declared.machine.Waiting.{Waiting}
 use Rattle.larch_grammar.specs.declared.machine.Waiting.TheVariants.{Alone, Item}
 use Rattle.larch_grammar.specs.declared.machine.Whole.{Whole}
 use Rattle.larch_grammar.specs.declared.machine.Whole.TheVariants as whole
-use Rattle.larch_grammar.specs.Forms.{bare_symbol, by_form, no_reference, postfix_form}
+use Rattle.larch_grammar.specs.Composition.{bare, close_fields, close_ref, no_field as no_further_field, no_ref, open_fields, open_ref}
+use Rattle.larch_grammar.specs.Forms.{bare_symbol, by_form, no_reference, no_word, postfix_form}
 use Rattle.larch_grammar.specs.Terminals.{terminal_of}
 use Rattle.larch_grammar.specs.Machine.{form_bracket, Taking, end_equation, end_form, final, finish, step, with_clause, word_frames, open_item}
 use Rattle.larch_grammar.specs.Terms.{behind, formula_of, equation_of, no_connective, no_equality, no_field, no_infix, no_postfix, no_stray, no_symbol, word_alone}
-use Rattle.larch_grammar.specs.Traits.{assertions, no_assertion, no_declaration, no_end, no_equation, no_item, seen, with_equations}
+use Rattle.larch_grammar.specs.Traits.{assertions, no_assertion, no_declaration, no_end, no_equation, no_item, parts, seen, with_equations}
 use Rattle.larch_grammar.specs.Trees.{bracket_tree, call_tree, field_tree, if_tree, chain_tree, listing_tree, postfix_tree, prefix_tree}
-use Rattle.larch_grammar.proofs.Fits.{Fits, FitsBehind, FitsForm, FitsIn, FitsItems, FitsPost, FitsReferences}
+use Rattle.larch_grammar.proofs.Fits.{Fits, FitsBehind, FitsBody, FitsForm, FitsRefs, FitsIn, FitsItems, FitsPost, FitsReferences}
 use Rattle.larch_grammar.proofs.Back.{step_back}
 use Rattle.larch_grammar.proofs.BackItems.{ended_by_equation, ended_by_item, equation_of_post, item_of_equation}
 use Rattle.larch_grammar.proofs.BackTerms.{Back}
+
+-- nothing behind the head of a trait
+head_end : (s : Bool) (r : RawTrait) (z : Whole) → Some (whole.Trait r) ≡ Some z → FitsBody s r [] z
+head_end s r z e = (r, parts (assertions no_assertion), some_equal e)
+
+-- nothing behind a reference
+refs_end : (s : Bool) (b : Bool) (r : RawTrait) (z : Whole) → Some (whole.Trait r) ≡ Some z → FitsRefs s b r [] z
+refs_end s b r z e = ([], r, no_ref, head_end s r z e)
 
 -- no further items
 items_end : (s : Bool) (b : Before) (r : RawTrait) (z : Whole) → Some (whole.Trait r) ≡ Some z → FitsItems s b r [] z
@@ -59,6 +70,10 @@ references_end s c rs z e = ([], [], rs, no_reference, no_end, items_end s befor
 form_fits : (s : Bool) (n : Naming) (f : RawForm) (z : Whole) → end_form n f ≡ Some z → FitsForm s n f [] z
 form_fits s (Declared r fs) f z e = absurd (none_some e)
 form_fits s (Referred c rs) f z e = λ h form. ([], _, by_form form, references_end s c _ z e)
+form_fits s (Formal name fs) f z e = absurd (none_some e)
+form_fits s (Actual n) f z e = absurd (none_some e)
+form_fits s (Renaming n) f z e = absurd (none_some e)
+form_fits s (Renamed n f) g z e = absurd (none_some e)
 
 -- the tokens may end behind an equation
 behind_fits : (s : Bool) (e : RawEquation) (w : Waiting) (z : Whole) → end_equation e w ≡ Some z → FitsBehind s e w [] z
@@ -90,7 +105,11 @@ word_fits s w k z e = ([], call_tree w [], word_alone no_field, finish_fits s (c
 
 -- where the tokens may end, nothing need follow
 pub final_fits : (s : Bool) (n : State) (z : Whole) → final n ≡ Some z → Fits s n [] z
-final_fits s (AfterHead r) z e = (r, assertions no_assertion, some_equal e)
+final_fits s (AfterHead r) z e = head_end s r z e
+final_fits s (AfterConstant r sort ws) z e = ([], ws, no_word, head_end s _ z e)
+final_fits s (AfterField n) z e = ([], n.fields, no_further_field, head_end s (close_fields n) z e)
+final_fits s (AfterRefName r b w) z e = ([], [], bare, refs_end s b (close_ref (open_ref r b w [])) z e)
+final_fits s (AfterRef r b) z e = refs_end s b r z e
 final_fits s (InPart r) z e = ([], r, r, no_declaration, assertions no_assertion, some_equal e)
 final_fits s (AfterSymbolForm n x) z e = ([], _, bare_symbol, form_fits s n _ z e)
 final_fits s (AfterMarkerSymbol n p x) z e = ([], _, postfix_form, form_fits s n _ z e)
@@ -139,6 +158,15 @@ the_trait = some_token kind.Word (codes "trait")
 abbrev by : Token
 by = some_token kind.Word (codes "by")
 
+abbrev of_token : Token
+of_token = some_token kind.Word (codes "of")
+
+abbrev for_token : Token
+for_token = some_token kind.Word (codes "for")
+
+abbrev enumeration_token : Token
+enumeration_token = some_token kind.Word (codes "enumeration")
+
 abbrev generated : Token
 generated = some_token kind.Word (codes "generated")
 
@@ -165,10 +193,43 @@ onward s n t = before_step s n t (step s n (terminal_of t)) (step_back s n (term
 ended_in : (s : Bool) (n : State) (z : Whole) → final n ≡ Some z → Completes s n
 ended_in s n z e = ([], z, final_fits s n z e)
 
+-- shorthands and references to traits
+
+constant_some : (s : Bool) (r : RawTrait) (sort : RawWord) (ws : List RawWord) → Completes s (NeedConstant r sort ws)
+constant_some s r sort ws = onward s (NeedConstant r sort ws) word (ended_in s (AfterConstant r sort _) _ refl)
+
+constants_some : (s : Bool) (r : RawTrait) (sort : RawWord) → Completes s (NeedConstants r sort)
+constants_some s r sort = onward s (NeedConstants r sort) of_token (constant_some s r sort [])
+
+sort_some : (s : Bool) (n : OpenFields) (ws : List RawWord) → Completes s (NeedNamesSort n ws)
+sort_some s n ws = onward s (NeedNamesSort n ws) word (ended_in s (AfterField _) _ refl)
+
+field_names_some : (s : Bool) (n : OpenFields) (ws : List RawWord) → Completes s (AfterNames n ws)
+field_names_some s n ws = onward s (AfterNames n ws) colon (sort_some s n ws)
+
+fields_some : (s : Bool) (n : OpenFields) → Completes s (NeedName n)
+fields_some s n = onward s (NeedName n) word (field_names_some s n _)
+
+ref_some : (s : Bool) (r : RawTrait) (b : Bool) → Completes s (AfterRef r b)
+ref_some s r b = ended_in s (AfterRef r b) _ refl
+
+rename_some : (s : Bool) (n : OpenRef) → Completes s (AfterRename n)
+rename_some s n = onward s (AfterRename n) close (ref_some s (close_ref n) n.assumed)
+
+old_some : (s : Bool) (n : OpenRef) (f g : RawForm) → Completes s (AfterForm (Renamed n f) g)
+old_some s n f g = onward s (AfterForm (Renamed n f) g) close (ref_some s _ n.assumed)
+
+head_some : (s : Bool) (w : RawWord) (fs : List RawForm) → Completes s (NeedTrait w fs)
+head_some s w fs = onward s (NeedTrait w fs) the_trait (ended_in s (AfterHead _) _ refl)
+
+formals_some : (s : Bool) (w : RawWord) (fs : List RawForm) → Completes s (AfterFormals w fs)
+formals_some s w fs = onward s (AfterFormals w fs) colon (head_some s w fs)
+
 -- declarations and references
 range_some : (s : Bool) (n : Signing) (ws : List RawWord) → Completes s (NeedRange n ws)
 range_some s (Declaration r fs) ws = onward s (NeedRange (Declaration r fs) ws) word (ended_in s (InPart _) _ refl)
 range_some s (Reference c rs f) ws = onward s (NeedRange (Reference c rs f) ws) word (ended_in s (AfterReference c _) _ refl)
+range_some s (Replacement n f g) ws = onward s (NeedRange (Replacement n f g) ws) word (rename_some s _)
 
 sorts_some : (s : Bool) (n : Signing) (ws : List RawWord) → Completes s (AfterSort n ws)
 sorts_some s n ws = onward s (AfterSort n ws) arrow (range_some s n ws)
@@ -179,6 +240,10 @@ sig_some s n = onward s (NeedSig n) arrow (range_some s n [])
 form_some : (s : Bool) (n : Naming) (f : RawForm) → Completes s (AfterForm n f)
 form_some s (Declared r fs) f = onward s (AfterForm (Declared r fs) f) colon (sig_some s (Declaration r (fs ++ f ∷ [])))
 form_some s (Referred c rs) f = ended_in s (AfterForm (Referred c rs) f) _ refl
+form_some s (Formal name fs) f = onward s (AfterForm (Formal name fs) f) close (formals_some s name _)
+form_some s (Actual n) f = onward s (AfterForm (Actual n) f) close (ref_some s _ n.assumed)
+form_some s (Renaming n) f = onward s (AfterForm (Renaming n) f) for_token (onward s (NeedForm (Renamed n f)) word (old_some s n f _))
+form_some s (Renamed n f) g = old_some s n f g
 
 naming_some : (s : Bool) (n : Naming) → Completes s (NeedForm n)
 naming_some s n = onward s (NeedForm n) word (form_some s n _)
@@ -252,18 +317,30 @@ first_some s Curly l p k = onward s (NeedFirst Curly l p k) close_curly (have_so
 brackets_some : (s : Bool) (n : Naming) (front : Bool) (b : Bracket) (p : Pos) → Completes s (NeedMarks (form_bracket n front b p))
 brackets_some s n front b p = onward s (NeedMarks (form_bracket n front b p)) marker (marks_some s n front b 1 p)
 
-head_some : (s : Bool) (w : RawWord) → Completes s (NeedTrait w)
-head_some s w = onward s (NeedTrait w) the_trait (ended_in s (AfterHead _) _ refl)
-
 name_some : (s : Bool) (w : RawWord) → Completes s (AfterName w)
-name_some s w = onward s (AfterName w) colon (head_some s w)
+name_some s w = onward s (AfterName w) colon (head_some s w [])
 
 -- every state can be completed
 pub some_fit : (s : Bool) (n : State) → (i : List (Token × Mark)) × (z : Whole) × Fits s n (map seen i) z
 some_fit s Start = onward s Start word (name_some s _)
 some_fit s (AfterName w) = name_some s w
-some_fit s (NeedTrait w) = head_some s w
+some_fit s (AfterFormals w fs) = formals_some s w fs
+some_fit s (NeedTrait w fs) = head_some s w fs
 some_fit s (AfterHead r) = ended_in s (AfterHead r) _ refl
+some_fit s (ShortWord r w) = onward s (ShortWord r w) enumeration_token (constants_some s r w)
+some_fit s (NeedConstants r w) = constants_some s r w
+some_fit s (NeedConstant r sort ws) = constant_some s r sort ws
+some_fit s (AfterConstant r sort ws) = ended_in s (AfterConstant r sort ws) _ refl
+some_fit s (NeedFields r kind w) = onward s (NeedFields r kind w) of_token (fields_some s (open_fields r kind w []))
+some_fit s (NeedName n) = fields_some s n
+some_fit s (AfterNames n ws) = field_names_some s n ws
+some_fit s (NeedFurtherName n ws) = onward s (NeedFurtherName n ws) word (field_names_some s n _)
+some_fit s (NeedNamesSort n ws) = sort_some s n ws
+some_fit s (AfterField n) = ended_in s (AfterField n) _ refl
+some_fit s (NeedRef r b) = onward s (NeedRef r b) word (ended_in s (AfterRefName r b _) _ refl)
+some_fit s (AfterRefName r b w) = ended_in s (AfterRefName r b w) _ refl
+some_fit s (AfterRef r b) = ref_some s r b
+some_fit s (AfterRename n) = rename_some s n
 some_fit s (InPart r) = ended_in s (InPart r) _ refl
 some_fit s (NeedForm n) = naming_some s n
 some_fit s (AfterSymbolForm n x) = onward s (AfterSymbolForm n x) marker (form_some s n _)

@@ -1,5 +1,5 @@
 -- What may follow in each state of the machine, so that the whole is this trait or this equation.
-use Rattle.std.proofs.Common.{◌≡◌, ℕ, suc, Bool, ◌⊎◌, Option, Some, None, List, [], ◌∷◌, ◌++◌, subst}
+use Rattle.std.proofs.Common.{◌≡◌, ℕ, suc, Bool, true, false, ◌⊎◌, Option, Some, None, List, [], ◌∷◌, ◌++◌, subst}
 use Rattle.larch_base.specs.declared.position.Pos.{Pos}
 use Rattle.larch_fronts.specs.declared.mark.Mark.{Mark}
 use Rattle.larch_fronts.specs.declared.mark.Mark.TheVariants.{Outside, Plain, Head}
@@ -14,38 +14,89 @@ use Rattle.larch_raw.specs.declared.equation.ClauseKind.TheVariants as clause_ki
 use Rattle.larch_raw.specs.declared.equation.RawItem.{RawItem}
 use Rattle.larch_raw.specs.declared.equation.RawTrait.{RawTrait}
 use Rattle.larch_raw.specs.declared.equation.RawVar.{RawVar}
+use Rattle.larch_raw.specs.declared.reference.RawActual.{RawActual}
+use Rattle.larch_raw.specs.declared.reference.RawActual.TheVariants as actual
+use Rattle.larch_raw.specs.declared.reference.RawRef.{RawRef}
+use Rattle.larch_raw.specs.declared.shorthand.RawField.{RawField}
+use Rattle.larch_raw.specs.declared.shorthand.RawShorthand.TheVariants as shorthand
 use Rattle.larch_grammar.specs.declared.terminal.Bracket.{Bracket}
 use Rattle.larch_grammar.specs.declared.terminal.Terminal.{Terminal}
-use Rattle.larch_grammar.specs.declared.terminal.Terminal.TheVariants.{Word, Symbol, Equates, Arrow, Colon, Comma, Semicolon, Dot, Marker, Close, OpenBracket, CloseBracket, Generated, Partitioned, Then, Else}
+use Rattle.larch_grammar.specs.declared.terminal.Terminal.TheVariants.{Word, Symbol, Equates, Arrow, Colon, Comma, Semicolon, Dot, Marker, Close, OpenBracket, CloseBracket, Trait, Generated, Partitioned, Enumeration, Tuple, Union, Then, Else}
 use Rattle.larch_grammar.specs.declared.machine.Before.{Before}
 use Rattle.larch_grammar.specs.declared.machine.Before.TheVariants as before
 use Rattle.larch_grammar.specs.declared.machine.Clause.{Clause}
+use Rattle.larch_grammar.specs.declared.machine.FieldsKind.{FieldsKind}
+use Rattle.larch_grammar.specs.declared.machine.FieldsKind.TheVariants as fields_kind
 use Rattle.larch_grammar.specs.declared.machine.Frame.{Frame}
 use Rattle.larch_grammar.specs.declared.machine.Frame.TheVariants.{InFields, InStrays, Prefixed, InPostfixes, InInfixes, InEqualities, InConnectives, InParentheses, InList, InIf, InThen, InElse, InLeft, InRight}
 use Rattle.larch_grammar.specs.declared.machine.Listing.{Listing}
 use Rattle.larch_grammar.specs.declared.machine.Listing.TheVariants.{Call, Bracketed}
 use Rattle.larch_grammar.specs.declared.machine.Naming.{Naming}
-use Rattle.larch_grammar.specs.declared.machine.Naming.TheVariants.{Declared, Referred}
+use Rattle.larch_grammar.specs.declared.machine.Naming.TheVariants.{Declared, Referred, Formal, Actual, Renaming, Renamed}
+use Rattle.larch_grammar.specs.declared.machine.OpenFields.{OpenFields}
+use Rattle.larch_grammar.specs.declared.machine.OpenRef.{OpenRef}
 use Rattle.larch_grammar.specs.declared.machine.Signing.{Signing}
-use Rattle.larch_grammar.specs.declared.machine.Signing.TheVariants.{Declaration, Reference}
+use Rattle.larch_grammar.specs.declared.machine.Signing.TheVariants.{Declaration, Reference, Replacement}
 use Rattle.larch_grammar.specs.declared.machine.State.{State}
-use Rattle.larch_grammar.specs.declared.machine.State.TheVariants.{Start, AfterName, NeedTrait, AfterHead, InPart, NeedForm, AfterSymbolForm, AfterDotForm, AfterMarker, AfterMarkerSymbol, NeedMarks, AfterMark, NeedMark, AfterForm, NeedSig, AfterSort, NeedSort, NeedRange, AfterReference, InItems, FirstWord, AfterSemicolon, WordBehind, ClauseWord, NeedBy, NeedVariable, AfterVariable, NeedFurtherVariable, NeedVariableSort, AfterGroup, NeedEquation, NeedTerm, NeedOperand, NeedPrefixed, NeedPost, NeedField, NeedSortOf, AfterWord, NeedFirst, AfterSymbol, Have}
+use Rattle.larch_grammar.specs.declared.machine.State.TheVariants.{Start, AfterName, AfterFormals, NeedTrait, AfterHead, ShortWord, NeedConstants, NeedConstant, AfterConstant, NeedFields, NeedName, AfterNames, NeedFurtherName, NeedNamesSort, AfterField, NeedRef, AfterRefName, AfterRef, AfterRename, InPart, NeedForm, AfterSymbolForm, AfterDotForm, AfterMarker, AfterMarkerSymbol, NeedMarks, AfterMark, NeedMark, AfterForm, NeedSig, AfterSort, NeedSort, NeedRange, AfterReference, InItems, FirstWord, AfterSemicolon, WordBehind, ClauseWord, NeedBy, NeedVariable, AfterVariable, NeedFurtherVariable, NeedVariableSort, AfterGroup, NeedEquation, NeedTerm, NeedOperand, NeedPrefixed, NeedPost, NeedField, NeedSortOf, AfterWord, NeedFirst, AfterSymbol, Have}
 use Rattle.larch_grammar.specs.declared.machine.Waiting.{Waiting}
 use Rattle.larch_grammar.specs.declared.machine.Waiting.TheVariants.{Alone, Item}
 use Rattle.larch_grammar.specs.declared.machine.Whole.{Whole}
 use Rattle.larch_grammar.specs.declared.machine.Whole.TheVariants as whole
+use Rattle.larch_grammar.specs.Composition.{AreActuals, AreFields, AreRefs, EndActuals, HasActuals, HasFormals, IsField, IsRef, fields_at, replacement, shorthand_of, with_actual, with_fields, with_ref, with_shorthand}
 use Rattle.larch_grammar.specs.Depth.{depth_of}
 use Rattle.larch_grammar.specs.Forms.{Marked, AreForms, AreGroups, AreMarkers, AreOpRefs, AreWords, IsForm, IsGroup, IsOpRef, IsSig, IsWord, Markers, variables_at}
 use Rattle.larch_grammar.specs.Machine.{symbol_of, with_clause, open_item}
 use Rattle.larch_grammar.specs.Terms.{Cond, Connectives, Equalities, Fields, InBracket, Infixes, IsEquation, Oper, Operand, Others, Post, Postfixes, Strays, Symbols, equation_of, formula_of, opens_head}
-use Rattle.larch_grammar.specs.Traits.{AreAssertions, AreDecls, AreEquations, AreItems, AreParts, IsClause, IsMarkedTrait, MayEnd, with_declaration, with_equations, with_item}
+use Rattle.larch_grammar.specs.Traits.{AreAssertions, AreDecls, AreEquations, AreItems, AreParts, IsBody, IsClause, IsMarkedTrait, MayEnd, named, with_declaration, with_equations, with_item}
 use Rattle.larch_grammar.specs.Trees.{bracket_form, field_name, if_tree, chain_tree, listing_tree, mixfix, prefix_tree}
 
 -- parts and items
 
 -- what may follow the head of a trait
-abbrev pub FitsParts : Bool → RawTrait → List Marked → Whole → Type 0
-FitsParts s r i z = (y : RawTrait) × AreParts s r i [] y × (whole.Trait y ≡ z)
+abbrev pub FitsBody : Bool → RawTrait → List Marked → Whole → Type 0
+FitsBody s r i z = (y : RawTrait) × IsBody s r i [] y × (whole.Trait y ≡ z)
+
+-- what may follow the `:` of a trait with this name and these formals
+abbrev pub FitsTrait : Bool → RawWord → List RawForm → List Marked → Whole → Type 0
+FitsTrait s w fs i z = (j : List Marked) × (i ≡ (Trait, Outside) ∷ j) × FitsBody s (named w fs) j z
+
+-- what may follow the formals of a trait
+abbrev pub FitsFormals : Bool → RawWord → List RawForm → List Marked → Whole → Type 0
+FitsFormals s w fs i z = (j : List Marked) × (p : Pos) × (i ≡ (Colon p, Outside) ∷ j) × FitsTrait s w fs j z
+
+-- what may follow these constants of an enumeration
+abbrev pub FitsConstants : Bool → RawTrait → RawWord → List RawWord → List Marked → Whole → Type 0
+FitsConstants s r sort ws i z = (j : List Marked) × (us : List RawWord) × AreWords ws i j us × FitsBody s (with_shorthand r (shorthand.Enumeration sort us)) j z
+
+-- what may follow the fields of a tuple or a union
+abbrev pub FitsFields : Bool → OpenFields → List Marked → Whole → Type 0
+FitsFields s n i z = (j : List Marked) × (fs : List RawField) × AreFields n.fields i j fs × FitsBody s (with_shorthand n.raw (shorthand_of n.kind n.sort fs)) j z
+
+-- what may follow these names of fields
+abbrev pub FitsFieldNames : Bool → OpenFields → List RawWord → List Marked → Whole → Type 0
+FitsFieldNames s n ws i z = (j k : List Marked) × (p : Pos) × (us : List RawWord) × (sort : RawWord) × AreWords ws i ((Colon p, Outside) ∷ j) us × IsWord j k sort × FitsFields s (with_fields n (fields_at us sort)) k z
+
+-- the word behind the sort of a tuple or a union
+abbrev pub fields_terminal : FieldsKind → Terminal
+fields_terminal fields_kind.Tuple = Tuple
+fields_terminal fields_kind.Union = Union
+
+-- what may follow a reference, which is assumed or included
+abbrev pub FitsRefs : Bool → Bool → RawTrait → List Marked → Whole → Type 0
+FitsRefs s b r i z = (j : List Marked) × (t : RawTrait) × AreRefs b r i j t × FitsBody s t j z
+
+-- what may follow the name of a trait that is referred to
+abbrev pub FitsRefName : Bool → RawTrait → Bool → RawWord → List Marked → Whole → Type 0
+FitsRefName s r b w i z = (j : List Marked) × (ps : List RawActual) × HasActuals i j ps × FitsRefs s b (with_ref r b (record { name = w; actuals = ps })) j z
+
+-- what may follow where an actual is needed; with `true` it is a replacement
+abbrev pub FitsActuals : Bool → Bool → OpenRef → List Marked → Whole → Type 0
+FitsActuals s b n i z = (j : List Marked) × (ps : List RawActual) × AreActuals b n.actuals i j ps × FitsRefs s n.assumed (with_ref n.raw n.assumed (record { name = n.name; actuals = ps })) j z
+
+-- what may follow an actual
+abbrev pub FitsActual : Bool → Bool → OpenRef → List Marked → Whole → Type 0
+FitsActual s b n i z = (j : List Marked) × (ps : List RawActual) × EndActuals b n.actuals i j ps × FitsRefs s n.assumed (with_ref n.raw n.assumed (record { name = n.name; actuals = ps })) j z
 
 -- what may follow inside a part of declarations
 abbrev pub FitsDecls : Bool → RawTrait → List Marked → Whole → Type 0
@@ -95,6 +146,7 @@ FitsBy s c i z = (m : Mark) → (j : List Marked) × (y : RawItem) × IsClause m
 abbrev pub FitsSigned : Bool → Signing → RawSig → List Marked → Whole → Type 0
 FitsSigned s (Declaration r fs) sig i z = FitsDecls s (with_declaration r (record { forms = fs; sig = sig })) i z
 FitsSigned s (Reference c rs f) sig i z = FitsReferences s c (rs ++ record { form = f; sig = Some sig } ∷ []) i z
+FitsSigned s (Replacement n f g) sig i z = FitsActual s true (with_actual n (actual.Replace f g (Some sig))) i z
 
 -- what may follow where a signature is needed
 abbrev pub FitsSig : Bool → Signing → List Marked → Whole → Type 0
@@ -108,10 +160,14 @@ FitsSorts s n ws i z = (j k : List Marked) × (us : List RawWord) × (w : RawWor
 abbrev pub FitsRange : Bool → Signing → List RawWord → List Marked → Whole → Type 0
 FitsRange s n ws i z = (j : List Marked) × (w : RawWord) × IsWord i j w × FitsSigned s n (record { domain = ws; range = w }) j z
 
--- what may follow a form: of a reference, wherever the form begins
+-- what may follow a form: of a reference or an actual, wherever the form begins
 abbrev pub FitsForm : Bool → Naming → RawForm → List Marked → Whole → Type 0
 FitsForm s (Declared r fs) f i z = (j : List Marked) × (p : Pos) × (gs : List RawForm) × AreForms (fs ++ f ∷ []) i ((Colon p, Outside) ∷ j) gs × FitsSig s (Declaration r gs) j z
 FitsForm s (Referred c rs) f i z = (h : List Marked) → IsForm h i f → (j : List Marked) × (r : RawOpRef) × IsOpRef h j r × FitsReferences s c (rs ++ r ∷ []) j z
+FitsForm s (Formal w fs) f i z = (j : List Marked) × (gs : List RawForm) × AreForms (fs ++ f ∷ []) i ((Close, Outside) ∷ j) gs × FitsFormals s w gs j z
+FitsForm s (Actual n) f i z = (h : List Marked) → IsForm h i f → FitsActuals s false n h z
+FitsForm s (Renaming n) f i z = (h : List Marked) → IsForm h i f → FitsActuals s true n h z
+FitsForm s (Renamed n f) g i z = (h : List Marked) → IsForm h i g → (j : List Marked) × (r : RawOpRef) × IsOpRef h j r × FitsActual s true (with_actual n (replacement f r)) j z
 
 -- what may follow where a form is needed
 abbrev pub FitsNaming : Bool → Naming → List Marked → Whole → Type 0
@@ -170,9 +226,24 @@ FitsBracket s l k i z = (o : List Marked) × (q : RawTree) × InBracket s (depth
 -- what may follow in a state; a token that is read but not yet decided on stands in front
 abbrev pub Fits : Bool → State → List Marked → Whole → Type 0
 Fits s Start i z = (r : RawTrait) × IsMarkedTrait s i r × (whole.Trait r ≡ z)
-Fits s (AfterName w) i z = (r : RawTrait) × IsMarkedTrait s ((Word w, Outside) ∷ i) r × (whole.Trait r ≡ z)
-Fits s (NeedTrait w) i z = (p : Pos) → (r : RawTrait) × IsMarkedTrait s ((Word w, Outside) ∷ (Colon p, Outside) ∷ i) r × (whole.Trait r ≡ z)
-Fits s (AfterHead r) i z = FitsParts s r i z
+Fits s (AfterName w) i z = (j : List Marked) × (fs : List RawForm) × HasFormals i j fs × FitsFormals s w fs j z
+Fits s (AfterFormals w fs) i z = FitsFormals s w fs i z
+Fits s (NeedTrait w fs) i z = FitsTrait s w fs i z
+Fits s (AfterHead r) i z = FitsBody s r i z
+Fits s (ShortWord r w) i z = FitsBody s r ((Word w, Outside) ∷ i) z
+Fits s (NeedConstants r w) i z = FitsBody s r ((Word w, Outside) ∷ (Enumeration, Outside) ∷ i) z
+Fits s (NeedConstant r sort ws) i z = (j : List Marked) × (w : RawWord) × IsWord i j w × FitsConstants s r sort (ws ++ w ∷ []) j z
+Fits s (AfterConstant r sort ws) i z = FitsConstants s r sort ws i z
+Fits s (NeedFields r kind w) i z = FitsBody s r ((Word w, Outside) ∷ (fields_terminal kind, Outside) ∷ i) z
+Fits s (NeedName n) i z = (j : List Marked) × (gs : List RawField) × IsField i j gs × FitsFields s (with_fields n gs) j z
+Fits s (AfterNames n ws) i z = FitsFieldNames s n ws i z
+Fits s (NeedFurtherName n ws) i z = FitsFieldNames s n ws ((Comma, Outside) ∷ i) z
+Fits s (NeedNamesSort n ws) i z = (j : List Marked) × (sort : RawWord) × IsWord i j sort × FitsFields s (with_fields n (fields_at ws sort)) j z
+Fits s (AfterField n) i z = FitsFields s n i z
+Fits s (NeedRef r b) i z = (j : List Marked) × (q : RawRef) × IsRef i j q × FitsRefs s b (with_ref r b q) j z
+Fits s (AfterRefName r b w) i z = FitsRefName s r b w i z
+Fits s (AfterRef r b) i z = FitsRefs s b r i z
+Fits s (AfterRename n) i z = FitsActual s true n i z
 Fits s (InPart r) i z = FitsDecls s r i z
 Fits s (NeedForm n) i z = FitsNaming s n i z
 Fits s (AfterSymbolForm n x) i z = FitsNaming s n ((Symbol x, Outside) ∷ i) z

@@ -4,6 +4,7 @@ pub mod BackForms
 pub mod BackItems
 pub mod BackTerms
 pub mod CompleteForms
+pub mod CompleteHeads
 pub mod CompleteTerms
 pub mod CompleteTraits
 pub mod Ends

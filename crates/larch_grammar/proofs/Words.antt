@@ -11,7 +11,7 @@ use Rattle.larch_lexer.specs.declared.token.Token.{Token}
 use Rattle.larch_fronts.specs.Claims.{Spells, tokens_of}
 use Rattle.larch_fronts.specs.declared.mark.Mark.{Mark}
 use Rattle.larch_raw.specs.RawTree.{RawTree, raw_forest}
-use Rattle.larch_raw.specs.Worded.{Worded, WordedDecl, WordedEquation, WordedForm, WordedItem, WordedRef, WordedReference, WordedShorthand, WordedSig, WordedTerm, WordedTerms, WordedTrait, WordedVar}
+use Rattle.larch_raw.specs.Worded.{Worded, WordedActual, WordedDecl, WordedField, WordedEquation, WordedForm, WordedItem, WordedRef, WordedReference, WordedShorthand, WordedSig, WordedTerm, WordedTerms, WordedTrait, WordedVar}
 use Rattle.larch_raw.specs.declared.declared.RawDecl.{RawDecl}
 use Rattle.larch_raw.specs.declared.declared.RawForm.{RawForm}
 use Rattle.larch_raw.specs.declared.declared.RawOpRef.{RawOpRef}
@@ -21,11 +21,17 @@ use Rattle.larch_raw.specs.declared.equation.RawEquation.{RawEquation}
 use Rattle.larch_raw.specs.declared.equation.RawItem.{RawItem}
 use Rattle.larch_raw.specs.declared.equation.RawTrait.{RawTrait}
 use Rattle.larch_raw.specs.declared.equation.RawVar.{RawVar}
+use Rattle.larch_raw.specs.declared.reference.RawActual.{RawActual}
+use Rattle.larch_raw.specs.declared.reference.RawActual.TheVariants as actual
+use Rattle.larch_raw.specs.declared.reference.RawRef.{RawRef}
+use Rattle.larch_raw.specs.declared.shorthand.RawField.{RawField}
+use Rattle.larch_raw.specs.declared.shorthand.RawShorthand.{RawShorthand}
 use Rattle.larch_grammar.specs.Answers.{Traits}
+use Rattle.larch_grammar.specs.Composition.{AreActuals, AreFields, AreRefs, EndActuals, HasActuals, HasFormals, IsField, IsRef, IsRefsWord, IsShort, a_ref, a_tuple, a_union, actuals, an_enumeration, another_actual, another_field as further_field, another_ref, bare, fields_at, fields_of_sort, formals, in_place, no_actual, no_field as no_further_field, no_formal, no_ref, replaces, replacement, with_ref, with_shorthand}
 use Rattle.larch_grammar.specs.Forms.{Marked, IsWord, a_word, AreWords, no_word, another_word, AreMarkers, no_marker, another_marker, Markers, empty, marked, IsForm, bare_word, bare_symbol, bare_field, field_form, prefix_form, postfix_form, infix_form, bracketed_form, bracket_behind, AreForms, no_form, another_form, IsDomain, no_sort, sorts, IsSig, signature, IsOpRef, by_form, by_signature, AreOpRefs, no_reference, another_reference, variables_at, IsGroup, group, AreGroups, no_group, another_group}
-use Rattle.larch_grammar.specs.Terminals.{stands_nowhere, bracket_terminal, punctuation_terminal, run_terminal, term_word, terminal_by, terminal_of, word_terminal}
+use Rattle.larch_grammar.specs.Terminals.{stands_nowhere, bracket_terminal, head_word, punctuation_terminal, run_terminal, term_word, terminal_by, terminal_of, word_terminal}
 use Rattle.larch_grammar.specs.Terms.{Cond, conditional, logic, Connectives, no_connective, connective, Equal, equal, Equalities, no_equality, equality, Oper, prefixed, plain, Operand, another_prefix, operand, Symbols, no_symbol, behind, between, Infixes, no_infix, another_infix, Postfixes, no_postfix, another_postfix, Strays, no_stray, stray, Post, word_alone, call, parentheses, bracketed, Fields, no_field, of_sort, field, bracket, InBracket, no_operand, operands, Others, no_other, another, IsEquation, formula, two_sides}
-use Rattle.larch_grammar.specs.Traits.{IsMarkedTrait, trait_of_parts, AreParts, assertions, introduced, AreAssertions, no_assertion, asserted, AreItems, no_item, a_clause, for_all, without_variables, AreEquations, no_equation, ended, another_equation, IsClause, clause, MayEnd, no_end, an_end, AreDecls, no_declaration, another_declaration, IsDecl, declaration, seen}
+use Rattle.larch_grammar.specs.Traits.{IsMarkedTrait, trait_of_body, IsBody, parts, a_shorthand, references, AreParts, assertions, introduced, AreAssertions, no_assertion, asserted, AreItems, no_item, a_clause, for_all, without_variables, AreEquations, no_equation, ended, another_equation, IsClause, clause, MayEnd, no_end, an_end, AreDecls, no_declaration, another_declaration, IsDecl, declaration, seen}
 use Rattle.larch_grammar.specs.Trees.{bracket_tree}
 use Rattle.larch_grammar.specs.WordTokens.{AreWordTokens, IsWordToken}
 use Rattle.larch_grammar.specs.declared.machine.Before.{Before}
@@ -73,6 +79,18 @@ form_left postfix_form h = h.1.1
 form_left infix_form h = h.1.1.1
 form_left (bracketed_form q) h = marks_left q h.1
 form_left (bracket_behind q) h = marks_left q h.1.1
+
+-- a form that is a bare word is a word
+form_worded : {i o : List Marked} {f : RawForm} → IsForm i o f → AllLettered i → WordedForm f
+form_worded (bare_word q) h = λ bare. (word_lettered q h).0
+form_worded bare_symbol h = λ bare. absurd cc
+form_worded (bare_field q) h = λ bare. absurd cc
+form_worded (field_form q) h = λ bare. absurd cc
+form_worded prefix_form h = λ bare. absurd cc
+form_worded (postfix_form) h = λ bare. absurd cc
+form_worded infix_form h = λ bare. absurd cc
+form_worded (bracketed_form q) h = λ bare. absurd cc
+form_worded (bracket_behind q) h = λ bare. absurd cc
 
 forms_left : {fs gs : List RawForm} {i o : List Marked} → AreForms fs i o gs → AllLettered i → AllLettered o
 forms_left no_form h = h
@@ -267,10 +285,97 @@ parts_lettered : {s : Bool} {r z : RawTrait} {i o : List Marked} → AreParts s 
 parts_lettered (assertions q) w h = assertions_lettered q w h
 parts_lettered (introduced q more) w h = let x = decls_lettered q w h.1 in parts_lettered more x.0 x.1
 
-trait_lettered : {s : Bool} {i : List Marked} {z : RawTrait} → IsMarkedTrait s i z → AllLettered i → WordedTrait z
-trait_lettered (trait_of_parts q parts) h =
+-- formals, shorthands and references
+
+formals_lettered : {fs gs : List RawForm} {i o : List Marked} → AreForms fs i o gs → All WordedForm fs → AllLettered i → All WordedForm gs × AllLettered o
+formals_lettered no_form a h = (a, h)
+formals_lettered (another_form {fs = fs} {f = f} q more) a h = formals_lettered more (All-push WordedForm fs f a (form_worded q h.1)) (form_left q h.1)
+
+has_formals_lettered : {i o : List Marked} {fs : List RawForm} → HasFormals i o fs → AllLettered i → All WordedForm fs × AllLettered o
+has_formals_lettered no_formal h = (All-nil WordedForm, h)
+has_formals_lettered (formals {f = f} q more) h =
+    let x = formals_lettered more (All-push WordedForm [] f (All-nil WordedForm) (form_worded q h.1)) (form_left q h.1) in
+    (x.0, x.1.1)
+
+fields_worded : (sort : RawWord) → Worded sort → (ws : List RawWord) → All Worded ws → All WordedField (fields_at ws sort)
+fields_worded sort s ws a = All-map WordedField (λ name. record { name = name; sort = sort }) ws (λ k d lt. (a k d lt, s))
+
+field_lettered : {i o : List Marked} {gs : List RawField} → IsField i o gs → AllLettered i → All WordedField gs × AllLettered o
+field_lettered (fields_of_sort {w = w} {sort = sort} {ws = ws} q more range) h =
     let n = word_lettered q h in
-    (parts_lettered parts (n.0, All-nil WordedDecl, All-nil WordedItem, All-nil WordedForm, All-nil WordedShorthand, All-nil WordedReference) n.1.1.1).0
+    let ns = words_lettered more (All-push Worded [] w (All-nil Worded) n.0) n.1 in
+    let s = word_lettered range ns.1.1 in
+    (fields_worded sort s.0 ws ns.0, s.1)
+
+fields_lettered_behind : {fs gs : List RawField} {i o : List Marked} → AreFields fs i o gs → All WordedField fs → AllLettered i → All WordedField gs × AllLettered o
+fields_lettered_behind no_further_field a h = (a, h)
+fields_lettered_behind (further_field {fs = fs} {gs = gs} q more) a h =
+    let p = field_lettered q h.1 in
+    fields_lettered_behind more (All-append WordedField fs gs a p.0) p.1
+
+short_lettered : {i o : List Marked} {h : RawShorthand} → IsShort i o h → AllLettered i → WordedShorthand h × AllLettered o
+short_lettered (an_enumeration {w = w} q first more) h =
+    let n = word_lettered q h in
+    let c = word_lettered first n.1.1.1 in
+    let cs = words_lettered more (All-push Worded [] w (All-nil Worded) c.0) c.1 in
+    ((n.0, cs.0), cs.1)
+short_lettered (a_tuple q first more) h =
+    let n = word_lettered q h in
+    let c = field_lettered first n.1.1.1 in
+    let cs = fields_lettered_behind more c.0 c.1 in
+    ((n.0, cs.0), cs.1)
+short_lettered (a_union q first more) h =
+    let n = word_lettered q h in
+    let c = field_lettered first n.1.1.1 in
+    let cs = fields_lettered_behind more c.0 c.1 in
+    ((n.0, cs.0), cs.1)
+
+-- a replacement of a reference to an operator
+old_worded : {i o : List Marked} {q : RawOpRef} → IsOpRef i o q → AllLettered i → (f : RawForm) → WordedForm f → WordedActual (replacement f q)
+old_worded (by_form q) h f w = (w, form_worded q h, tt)
+old_worded (by_signature q sig) h f w = (w, form_worded q h, (sig_lettered sig (form_left q h).1).0)
+
+mutual
+  actuals_lettered : {b : Bool} {ps qs : List RawActual} {i o : List Marked} → AreActuals b ps i o qs → All WordedActual ps → AllLettered i → All WordedActual qs × AllLettered o
+  actuals_lettered (in_place {ps = ps} {f = f} q ends) a h = actuals_end_lettered ends (All-push WordedActual ps (actual.Plain f) a (form_worded q h)) (form_left q h)
+  actuals_lettered (replaces {ps = ps} {f = f} {r = r} q old ends) a h =
+      let x = (form_left q h).1 in
+      actuals_end_lettered ends (All-push WordedActual ps (replacement f r) a (old_worded old x f (form_worded q h))) (ref_lettered old x).1
+
+  actuals_end_lettered : {b : Bool} {ps qs : List RawActual} {i o : List Marked} → EndActuals b ps i o qs → All WordedActual ps → AllLettered i → All WordedActual qs × AllLettered o
+  actuals_end_lettered no_actual a h = (a, h.1)
+  actuals_end_lettered (another_actual more) a h = actuals_lettered more a h.1
+
+has_actuals_lettered : {i o : List Marked} {ps : List RawActual} → HasActuals i o ps → AllLettered i → All WordedActual ps × AllLettered o
+has_actuals_lettered bare h = (All-nil WordedActual, h)
+has_actuals_lettered (actuals more) h = actuals_lettered more (All-nil WordedActual) h.1
+
+-- the trait with a reference more
+ref_worded : {i o : List Marked} {q : RawRef} → IsRef i o q → (b : Bool) (r : RawTrait) → WordedTrait r → AllLettered i → WordedTrait (with_ref r b q) × AllLettered o
+ref_worded (a_ref {w = n} {ps = ps} q more) b r w h =
+    let x = word_lettered q h in
+    let y = has_actuals_lettered more x.1 in
+    ((w.0, w.1, w.2, w.3, w.4, All-push WordedReference r.references (record { assumed = b; target = record { name = n; actuals = ps } }) w.5 (x.0, y.0)), y.1)
+
+refs_worded : {b : Bool} {r z : RawTrait} {i o : List Marked} → AreRefs b r i o z → WordedTrait r → AllLettered i → WordedTrait z × AllLettered o
+refs_worded no_ref w h = (w, h)
+refs_worded (another_ref {b = b} {r = r} q more) w h = let x = ref_worded q b r w h.1 in refs_worded more x.0 x.1
+
+body_lettered : {s : Bool} {r z : RawTrait} {i o : List Marked} → IsBody s r i o z → WordedTrait r → AllLettered i → WordedTrait z × AllLettered o
+body_lettered (parts p) w h = parts_lettered p w h
+body_lettered (a_shorthand {r = r} {h = short} q more) w h =
+    let x = short_lettered q h in
+    body_lettered more (w.0, w.1, w.2, w.3, All-push WordedShorthand r.shorthands short w.4 x.0, w.5) x.1
+body_lettered (references {b = b} {r = r} word q qs more) w h =
+    let x = ref_worded q b r w h.1 in
+    let y = refs_worded qs x.0 x.1 in
+    body_lettered more y.0 y.1
+
+trait_lettered : {s : Bool} {i : List Marked} {z : RawTrait} → IsMarkedTrait s i z → AllLettered i → WordedTrait z
+trait_lettered (trait_of_body q named body) h =
+    let n = word_lettered q h in
+    let f = has_formals_lettered named n.1 in
+    (body_lettered body (n.0, All-nil WordedDecl, All-nil WordedItem, f.0, All-nil WordedShorthand, All-nil WordedReference) f.1.1.1).0
 
 -- tokens
 
@@ -324,6 +429,17 @@ term_choice text pos w =
     (choice (stands_nowhere text) (terminal.Other) _ tt
     (other (terminal.Word (record { name = text; pos = pos })) w))))
 
+head_choice : (text : List ℕ) (pos : Pos) → IsTrue (is_word text) → Sealed (head_word text pos)
+head_choice text pos w =
+    choice (bytes_eq text (codes "includes")) (terminal.Includes) _ tt
+    (choice (bytes_eq text (codes "assumes")) (terminal.Assumes) _ tt
+    (choice (bytes_eq text (codes "for")) (terminal.For) _ tt
+    (choice (bytes_eq text (codes "enumeration")) (terminal.Enumeration) _ tt
+    (choice (bytes_eq text (codes "tuple")) (terminal.Tuple) _ tt
+    (choice (bytes_eq text (codes "union")) (terminal.Union) _ tt
+    (choice (bytes_eq text (codes "of")) (terminal.Of) _ tt
+    (term_choice text pos w)))))))
+
 word_choice : (text : List ℕ) (pos : Pos) → IsTrue (is_word text) → Sealed (word_terminal text pos)
 word_choice text pos w =
     choice (bytes_eq text (codes "trait")) (terminal.Trait) _ tt
@@ -332,7 +448,7 @@ word_choice text pos w =
     (choice (bytes_eq text (codes "generated")) (terminal.Generated) _ tt
     (choice (bytes_eq text (codes "partitioned")) (terminal.Partitioned) _ tt
     (choice (bytes_eq text (codes "by")) (terminal.By) _ tt
-    (term_choice text pos w))))))
+    (head_choice text pos w))))))
 
 lettered_by : (k : Kind) (text : List ℕ) (pos : Pos) → (k ≡ kind.Word → IsTrue (is_word text)) → Sealed (terminal_by k text pos)
 lettered_by kind.Word text pos w = word_choice text pos (w refl)

@@ -1,4 +1,5 @@
 pub mod Answers
+pub mod Composition
 pub mod Depth
 pub mod Forms
 pub mod Machine

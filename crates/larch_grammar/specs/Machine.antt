@@ -14,12 +14,15 @@ use Rattle.larch_raw.specs.declared.equation.ClauseKind.TheVariants as clause_ki
 use Rattle.larch_raw.specs.declared.equation.RawItem.TheVariants as item
 use Rattle.larch_raw.specs.declared.equation.RawTrait.{RawTrait}
 use Rattle.larch_raw.specs.declared.equation.RawVar.{RawVar}
+use Rattle.larch_raw.specs.declared.reference.RawActual.TheVariants as actual
+use Rattle.larch_raw.specs.declared.shorthand.RawShorthand.TheVariants as shorthand
 use Rattle.larch_raw.specs.RawTree.{RawTree, qualified}
 use Rattle.larch_grammar.specs.declared.terminal.Bracket.{Bracket}
 use Rattle.larch_grammar.specs.declared.terminal.Bracket.TheVariants.{Square, Curly}
 use Rattle.larch_grammar.specs.declared.terminal.Terminal.{Terminal}
-use Rattle.larch_grammar.specs.declared.terminal.Terminal.TheVariants.{Word, Symbol, Not, Connective, Equality, Equates, Arrow, Colon, Comma, Semicolon, Dot, Marker, Open, Close, OpenBracket, CloseBracket, ForAll, Trait, Introduces, Asserts, Generated, Partitioned, By, If, Then, Else}
+use Rattle.larch_grammar.specs.declared.terminal.Terminal.TheVariants.{Word, Symbol, Not, Connective, Equality, Equates, Arrow, Colon, Comma, Semicolon, Dot, Marker, Open, Close, OpenBracket, CloseBracket, ForAll, Trait, Introduces, Asserts, Generated, Partitioned, By, Includes, Assumes, For, Enumeration, Tuple, Union, Of, If, Then, Else}
 use Rattle.larch_grammar.specs.declared.machine.Clause.{Clause}
+use Rattle.larch_grammar.specs.declared.machine.FieldsKind.TheVariants as fields_kind
 use Rattle.larch_grammar.specs.declared.machine.FormBracket.{FormBracket}
 use Rattle.larch_grammar.specs.declared.machine.Frame.{Frame}
 use Rattle.larch_grammar.specs.declared.machine.Frame.TheVariants.{InFields, InStrays, Prefixed, InPostfixes, InInfixes, InEqualities, InConnectives, InParentheses, InList, InIf, InThen, InElse, InLeft, InRight}
@@ -27,16 +30,19 @@ use Rattle.larch_grammar.specs.declared.machine.Link.{Link}
 use Rattle.larch_grammar.specs.declared.machine.Listing.{Listing}
 use Rattle.larch_grammar.specs.declared.machine.Listing.TheVariants.{Call, Bracketed}
 use Rattle.larch_grammar.specs.declared.machine.Naming.{Naming}
-use Rattle.larch_grammar.specs.declared.machine.Naming.TheVariants.{Declared, Referred}
+use Rattle.larch_grammar.specs.declared.machine.Naming.TheVariants.{Declared, Referred, Formal, Actual, Renaming, Renamed}
+use Rattle.larch_grammar.specs.declared.machine.OpenFields.{OpenFields}
 use Rattle.larch_grammar.specs.declared.machine.OpenItem.{OpenItem}
+use Rattle.larch_grammar.specs.declared.machine.OpenRef.{OpenRef}
 use Rattle.larch_grammar.specs.declared.machine.Signing.{Signing}
-use Rattle.larch_grammar.specs.declared.machine.Signing.TheVariants.{Declaration, Reference}
+use Rattle.larch_grammar.specs.declared.machine.Signing.TheVariants.{Declaration, Reference, Replacement}
 use Rattle.larch_grammar.specs.declared.machine.State.{State}
-use Rattle.larch_grammar.specs.declared.machine.State.TheVariants.{Start, AfterName, NeedTrait, AfterHead, InPart, NeedForm, AfterSymbolForm, AfterDotForm, AfterMarker, AfterMarkerSymbol, NeedMarks, AfterMark, NeedMark, AfterForm, NeedSig, AfterSort, NeedSort, NeedRange, AfterReference, InItems, FirstWord, AfterSemicolon, WordBehind, ClauseWord, NeedBy, NeedVariable, AfterVariable, NeedFurtherVariable, NeedVariableSort, AfterGroup, NeedEquation, NeedTerm, NeedOperand, NeedPrefixed, NeedPost, NeedField, NeedSortOf, AfterWord, NeedFirst, AfterSymbol, Have}
+use Rattle.larch_grammar.specs.declared.machine.State.TheVariants.{Start, AfterName, AfterFormals, NeedTrait, AfterHead, ShortWord, NeedConstants, NeedConstant, AfterConstant, NeedFields, NeedName, AfterNames, NeedFurtherName, NeedNamesSort, AfterField, NeedRef, AfterRefName, AfterRef, AfterRename, InPart, NeedForm, AfterSymbolForm, AfterDotForm, AfterMarker, AfterMarkerSymbol, NeedMarks, AfterMark, NeedMark, AfterForm, NeedSig, AfterSort, NeedSort, NeedRange, AfterReference, InItems, FirstWord, AfterSemicolon, WordBehind, ClauseWord, NeedBy, NeedVariable, AfterVariable, NeedFurtherVariable, NeedVariableSort, AfterGroup, NeedEquation, NeedTerm, NeedOperand, NeedPrefixed, NeedPost, NeedField, NeedSortOf, AfterWord, NeedFirst, AfterSymbol, Have}
 use Rattle.larch_grammar.specs.declared.machine.Waiting.{Waiting}
 use Rattle.larch_grammar.specs.declared.machine.Waiting.TheVariants.{Alone, Item}
 use Rattle.larch_grammar.specs.declared.machine.Whole.{Whole}
 use Rattle.larch_grammar.specs.declared.machine.Whole.TheVariants as whole
+use Rattle.larch_grammar.specs.Composition.{close_fields, close_ref, fields_at, open_fields, open_ref, with_actual, with_fields, with_shorthand}
 use Rattle.larch_grammar.specs.Depth.{depth_of}
 use Rattle.larch_grammar.specs.Forms.{variables_at}
 use Rattle.larch_grammar.specs.Terminals.{terminal_of, position_of}
@@ -239,6 +245,18 @@ after_reference c rs t = begin_item (with_clause c rs) t
 abbrev pub with_reference : List RawOpRef → RawForm → List RawOpRef
 with_reference rs f = rs ++ record { form = f; sig = None } ∷ []
 
+-- an actual is read, the last of these, and a token stands behind it
+abbrev pub after_actual : OpenRef → Terminal → Taking
+after_actual o Comma = outside (NeedForm (Actual o))
+after_actual o Close = outside (AfterRef (close_ref o) o.assumed)
+after_actual o _ = None
+
+-- the same of a replacement
+abbrev pub after_rename : OpenRef → Terminal → Taking
+after_rename o Comma = outside (NeedForm (Renaming o))
+after_rename o Close = outside (AfterRef (close_ref o) o.assumed)
+after_rename o _ = None
+
 -- a form is read, and a token stands behind it
 abbrev pub after_form : Naming → RawForm → Terminal → Taking
 after_form (Declared raw fs) f Comma = outside (NeedForm (Declared raw (fs ++ f ∷ [])))
@@ -246,11 +264,21 @@ after_form (Declared raw fs) f (Colon p) = outside (NeedSig (Declaration raw (fs
 after_form (Declared raw fs) f _ = None
 after_form (Referred c rs) f (Colon p) = outside (NeedSig (Reference c rs f))
 after_form (Referred c rs) f t = after_reference c (with_reference rs f) t
+after_form (Formal name fs) f Comma = outside (NeedForm (Formal name (fs ++ f ∷ [])))
+after_form (Formal name fs) f Close = outside (AfterFormals name (fs ++ f ∷ []))
+after_form (Formal name fs) f _ = None
+after_form (Actual o) f For = outside (NeedForm (Renamed o f))
+after_form (Actual o) f t = after_actual (with_actual o (actual.Plain f)) t
+after_form (Renaming o) f For = outside (NeedForm (Renamed o f))
+after_form (Renaming o) f _ = None
+after_form (Renamed o f) g (Colon p) = outside (NeedSig (Replacement o f g))
+after_form (Renamed o f) g t = after_rename (with_actual o (actual.Replace f g None)) t
 
 -- a signature is read: what waits for it takes it
 abbrev pub hand_sig : Signing → RawSig → State
 hand_sig (Declaration raw fs) sig = InPart (with_declaration raw (record { forms = fs; sig = sig }))
 hand_sig (Reference c rs f) sig = AfterReference c (rs ++ record { form = f; sig = Some sig } ∷ [])
+hand_sig (Replacement o f g) sig = AfterRename (with_actual o (actual.Replace f g (Some sig)))
 
 -- a symbol that begins a form is read
 abbrev pub after_symbol_form : Naming → RawWord → Terminal → Taking
@@ -321,18 +349,65 @@ in_part raw Introduces = outside (InPart raw)
 in_part raw Asserts = outside (InItems raw)
 in_part raw t = begin_form (Declared raw []) t
 
--- the head of a trait is read
+-- the head of a trait is read, or a shorthand or references of it
 abbrev pub after_head : RawTrait → Terminal → Taking
+after_head raw (Word w) = outside (ShortWord raw w)
+after_head raw Includes = outside (NeedRef raw false)
+after_head raw Assumes = outside (NeedRef raw true)
 after_head raw Introduces = outside (InPart raw)
 after_head raw Asserts = outside (InItems raw)
 after_head raw _ = None
 
+-- the word that begins a shorthand is read
+abbrev pub short_word : RawTrait → RawWord → Terminal → Taking
+short_word raw w Enumeration = outside (NeedConstants raw w)
+short_word raw w Tuple = outside (NeedFields raw fields_kind.Tuple w)
+short_word raw w Union = outside (NeedFields raw fields_kind.Union w)
+short_word raw w _ = None
+
+-- a constant of an enumeration is read, the last of these
+abbrev pub after_constant : RawTrait → RawWord → List RawWord → Terminal → Taking
+after_constant raw sort ws Comma = outside (NeedConstant raw sort ws)
+after_constant raw sort ws t = after_head (with_shorthand raw (shorthand.Enumeration sort ws)) t
+
+-- fields with their sorts are read
+abbrev pub after_field : OpenFields → Terminal → Taking
+after_field o Comma = outside (NeedName o)
+after_field o t = after_head (close_fields o) t
+
+-- a reference is read, which is assumed or included
+abbrev pub after_ref : RawTrait → Bool → Terminal → Taking
+after_ref raw b Comma = outside (NeedRef raw b)
+after_ref raw b t = after_head raw t
+
+-- the name of a trait that is referred to is read
+abbrev pub after_ref_name : RawTrait → Bool → RawWord → Terminal → Taking
+after_ref_name raw b w (Open p) = outside (NeedForm (Actual (open_ref raw b w [])))
+after_ref_name raw b w t = after_ref (close_ref (open_ref raw b w [])) b t
+
 -- the mark of a token and the state behind it
 abbrev pub step : Bool → State → Terminal → Taking
 step s Start (Word name) = outside (AfterName name)
-step s (AfterName name) (Colon p) = outside (NeedTrait name)
-step s (NeedTrait name) Trait = outside (AfterHead (named name))
+step s (AfterName name) (Colon p) = outside (NeedTrait name [])
+step s (AfterName name) (Open p) = outside (NeedForm (Formal name []))
+step s (AfterFormals name fs) (Colon p) = outside (NeedTrait name fs)
+step s (NeedTrait name fs) Trait = outside (AfterHead (named name fs))
 step s (AfterHead raw) t = after_head raw t
+step s (ShortWord raw w) t = short_word raw w t
+step s (NeedConstants raw sort) Of = outside (NeedConstant raw sort [])
+step s (NeedConstant raw sort ws) (Word w) = outside (AfterConstant raw sort (ws ++ w ∷ []))
+step s (AfterConstant raw sort ws) t = after_constant raw sort ws t
+step s (NeedFields raw kind sort) Of = outside (NeedName (open_fields raw kind sort []))
+step s (NeedName o) (Word w) = outside (AfterNames o (w ∷ []))
+step s (AfterNames o ws) Comma = outside (NeedFurtherName o ws)
+step s (AfterNames o ws) (Colon p) = outside (NeedNamesSort o ws)
+step s (NeedFurtherName o ws) (Word w) = outside (AfterNames o (ws ++ w ∷ []))
+step s (NeedNamesSort o ws) (Word sort) = outside (AfterField (with_fields o (fields_at ws sort)))
+step s (AfterField o) t = after_field o t
+step s (NeedRef raw b) (Word w) = outside (AfterRefName raw b w)
+step s (AfterRefName raw b w) t = after_ref_name raw b w t
+step s (AfterRef raw b) t = after_ref raw b t
+step s (AfterRename o) t = after_rename o t
 step s (InPart raw) t = in_part raw t
 step s (NeedForm n) t = begin_form n t
 step s (AfterSymbolForm n x) t = after_symbol_form n x t
@@ -377,12 +452,16 @@ step s _ _ = None
 
 -- the whole, where the tokens may end behind a form
 abbrev pub end_form : Naming → RawForm → Option Whole
-end_form (Declared raw fs) f = None
 end_form (Referred c rs) f = Some (whole.Trait (with_clause c (with_reference rs f)))
+end_form _ f = None
 
 -- the whole, where the tokens may end in this state
 abbrev pub final : State → Option Whole
 final (AfterHead raw) = Some (whole.Trait raw)
+final (AfterConstant raw sort ws) = Some (whole.Trait (with_shorthand raw (shorthand.Enumeration sort ws)))
+final (AfterField o) = Some (whole.Trait (close_fields o))
+final (AfterRefName raw b w) = Some (whole.Trait (close_ref (open_ref raw b w [])))
+final (AfterRef raw b) = Some (whole.Trait raw)
 final (InPart raw) = Some (whole.Trait raw)
 final (AfterSymbolForm n x) = end_form n (mixfix (infix_name x.name) 2 x.pos)
 final (AfterMarkerSymbol n p x) = end_form n (mixfix (postfix_name x.name) 1 p)

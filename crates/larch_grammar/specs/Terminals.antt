@@ -8,11 +8,12 @@ use Rattle.larch_lexer.specs.declared.token.Kind.TheVariants as kind
 use Rattle.larch_lexer.specs.declared.token.Token.{Token}
 use Rattle.larch_grammar.specs.declared.terminal.Bracket.TheVariants.{Square, Curly}
 use Rattle.larch_grammar.specs.declared.terminal.Terminal.{Terminal}
-use Rattle.larch_grammar.specs.declared.terminal.Terminal.TheVariants.{Word, Symbol, Not, Connective, Equality, Equates, Arrow, Colon, Comma, Semicolon, Dot, Marker, Open, Close, OpenBracket, CloseBracket, ForAll, Trait, Introduces, Asserts, Generated, Partitioned, By, If, Then, Else, Other}
+use Rattle.larch_grammar.specs.declared.terminal.Terminal.TheVariants.{Word, Symbol, Not, Connective, Equality, Equates, Arrow, Colon, Comma, Semicolon, Dot, Marker, Open, Close, OpenBracket, CloseBracket, ForAll, Trait, Introduces, Asserts, Generated, Partitioned, By, Includes, Assumes, For, Enumeration, Tuple, Union, Of, If, Then, Else, Other}
 
--- words of what the grammar doesn't have: composition, shorthands and claims
+-- words of what the grammar doesn't have: claims
 abbrev pub stands_nowhere : List ℕ → Bool
-stands_nowhere text = bytes_eq text (codes "includes") || bytes_eq text (codes "assumes") || bytes_eq text (codes "implies") || bytes_eq text (codes "converts") || bytes_eq text (codes "exempting") || bytes_eq text (codes "for") || bytes_eq text (codes "enumeration") || bytes_eq text (codes "tuple") || bytes_eq text (codes "union") || bytes_eq text (codes "of")
+stands_nowhere text =
+    bytes_eq text (codes "implies") || bytes_eq text (codes "converts") || bytes_eq text (codes "exempting")
 
 -- a word of terms, or one that isn't reserved
 abbrev pub term_word : List ℕ → Pos → Terminal
@@ -22,6 +23,17 @@ term_word text pos =
     (cond (bytes_eq text (codes "else")) Else
     (cond (stands_nowhere text) Other (Word (record { name = text; pos = pos })))))
 
+-- a word of shorthands and references, or one of those above
+abbrev pub head_word : List ℕ → Pos → Terminal
+head_word text pos =
+    cond (bytes_eq text (codes "includes")) Includes
+    (cond (bytes_eq text (codes "assumes")) Assumes
+    (cond (bytes_eq text (codes "for")) For
+    (cond (bytes_eq text (codes "enumeration")) Enumeration
+    (cond (bytes_eq text (codes "tuple")) Tuple
+    (cond (bytes_eq text (codes "union")) Union
+    (cond (bytes_eq text (codes "of")) Of (term_word text pos)))))))
+
 -- a token of kind word with this text, which stands there
 abbrev pub word_terminal : List ℕ → Pos → Terminal
 word_terminal text pos =
@@ -30,7 +42,7 @@ word_terminal text pos =
     (cond (bytes_eq text (codes "asserts")) Asserts
     (cond (bytes_eq text (codes "generated")) Generated
     (cond (bytes_eq text (codes "partitioned")) Partitioned
-    (cond (bytes_eq text (codes "by")) By (term_word text pos))))))
+    (cond (bytes_eq text (codes "by")) By (head_word text pos))))))
 
 -- a run: one with a meaning of its own, or a symbol
 abbrev pub run_terminal : List ℕ → Pos → Terminal

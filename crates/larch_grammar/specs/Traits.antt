@@ -16,17 +16,20 @@ use Rattle.larch_raw.specs.declared.equation.RawItem.{RawItem}
 use Rattle.larch_raw.specs.declared.equation.RawItem.TheVariants as item
 use Rattle.larch_raw.specs.declared.equation.RawTrait.{RawTrait}
 use Rattle.larch_raw.specs.declared.equation.RawVar.{RawVar}
+use Rattle.larch_raw.specs.declared.reference.RawRef.{RawRef}
+use Rattle.larch_raw.specs.declared.shorthand.RawShorthand.{RawShorthand}
 use Rattle.larch_grammar.specs.declared.terminal.Terminal.{Terminal}
 use Rattle.larch_grammar.specs.declared.terminal.Terminal.TheVariants.{Word, Colon, Semicolon, ForAll, Trait, Introduces, Asserts, Generated, Partitioned, By}
 use Rattle.larch_grammar.specs.declared.machine.Before.{Before}
 use Rattle.larch_grammar.specs.declared.machine.Before.TheVariants.{Anything, Equations, Semicolon as semicolon}
+use Rattle.larch_grammar.specs.Composition.{AreRefs, HasFormals, IsRef, IsRefsWord, IsShort, with_ref, with_shorthand}
 use Rattle.larch_grammar.specs.Forms.{Marked, IsWord, IsForm, AreForms, IsSig, IsOpRef, AreOpRefs, IsGroup, AreGroups}
 use Rattle.larch_grammar.specs.Terminals.{terminal_of}
 use Rattle.larch_grammar.specs.Terms.{IsEquation}
 
--- a trait of this name with nothing in it
-abbrev pub named : RawWord → RawTrait
-named name = record { name = name; formals = []; shorthands = []; references = []; declarations = []; items = [] }
+-- a trait of this name with these formals and nothing in it
+abbrev pub named : RawWord → List RawForm → RawTrait
+named name formals = record { name = name; formals = formals; shorthands = []; references = []; declarations = []; items = [] }
 
 -- the trait with a declaration more
 abbrev pub with_declaration : RawTrait → RawDecl → RawTrait
@@ -93,9 +96,20 @@ pub data AreParts : Bool → RawTrait → List Marked → List Marked → RawTra
   assertions : {s : Bool} {r z : RawTrait} {i o : List Marked} → AreAssertions s r i o z → AreParts s r i o z
   introduced : {s : Bool} {r t z : RawTrait} {i j o : List Marked} → AreDecls r i j t → AreParts s t j o z → AreParts s r ((Introduces, Outside) ∷ i) o z
 
--- Trait = Word ":" "trait" { "introduces" { Decl } } { "asserts" { Item } }
+-- Body = { Short | ( "includes" | "assumes" ) Ref { "," Ref } } { "introduces" { Decl } } { "asserts" { Item } }, from
+-- the trait so far to the whole trait
+pub data IsBody : Bool → RawTrait → List Marked → List Marked → RawTrait → Type 0 where
+  parts : {s : Bool} {r z : RawTrait} {i o : List Marked} → AreParts s r i o z → IsBody s r i o z
+  a_shorthand : {s : Bool} {r z : RawTrait} {h : RawShorthand} {i j o : List Marked} → IsShort i j h
+      → IsBody s (with_shorthand r h) j o z → IsBody s r i o z
+  references : {s b : Bool} {t : Terminal} {q : RawRef} {r y z : RawTrait} {i j k o : List Marked} → IsRefsWord t b
+      → IsRef i j q → AreRefs b (with_ref r b q) j k y → IsBody s y k o z → IsBody s r ((t, Outside) ∷ i) o z
+
+-- Trait = Word [ "(" Form { "," Form } ")" ] ":" "trait" Body
 pub data IsMarkedTrait : Bool → List Marked → RawTrait → Type 0 where
-  trait_of_parts : {s : Bool} {i j : List Marked} {w : RawWord} {p : Pos} {z : RawTrait} → IsWord i ((Colon p, Outside) ∷ (Trait, Outside) ∷ j) w → AreParts s (named w) j [] z → IsMarkedTrait s i z
+  trait_of_body : {s : Bool} {i j k : List Marked} {w : RawWord} {fs : List RawForm} {p : Pos} {z : RawTrait}
+      → IsWord i j w → HasFormals j ((Colon p, Outside) ∷ (Trait, Outside) ∷ k) fs → IsBody s (named w fs) k [] z
+      → IsMarkedTrait s i z
 
 -- a token of a text beside its mark
 abbrev pub seen : Token × Mark → Marked

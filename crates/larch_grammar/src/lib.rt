@@ -4,6 +4,8 @@
 //! The reader that takes tokens with memory of its own is in the crate above.
 #![tactic(auto)]
 
+mod composition;
+mod draft;
 mod form;
 pub mod laws;
 mod machine;
@@ -13,10 +15,14 @@ mod terminal;
 mod traits;
 mod trees;
 
+pub use composition::{
+    close_fields, close_ref, open_fields, open_ref, with_actual, with_fields, with_shorthand,
+};
+pub use draft::Draft;
 pub use form::{bracket_form, field_form, infix_form, plain_form, postfix_form, prefix_form};
 pub use machine::{
-    Before, Clause, FormBracket, Frame, Link, Listing, Naming, OpenItem, Signing, State, Waiting,
-    Whole,
+    Before, Clause, FieldsKind, FormBracket, Frame, Link, Listing, Naming, OpenFields, OpenItem,
+    OpenRef, Signing, State, Waiting, Whole,
 };
 pub use stack::Stack;
 pub use terminal::{Bracket, Terminal, position_of, terminal_of};

@@ -1,27 +1,56 @@
 ghost use Rattle.std.specs.Prelude.{◌≡◌};
 ghost use Rattle.larch_grammar.specs.Opening.{is_opening};
 
+use crate::draft::Draft;
 use crate::stack::Stack;
 use crate::terminal::Bracket;
 use larch_base::Pos;
 use larch_raw::{
-    ClauseKind, RawEquation, RawEquations, RawForm, RawForms, RawOpRefs, RawSig, RawTerm, RawTerms,
-    RawTrait, RawVars, RawWord, RawWords,
+    ClauseKind, RawActuals, RawEquation, RawEquations, RawFields, RawForm, RawForms, RawOpRefs,
+    RawSig, RawTerm, RawTerms, RawVars, RawWord, RawWords,
 };
 
 /// What tokens are read as.
 #[derive(Drop)]
 pub enum Whole {
     /// A trait.
-    Trait(RawTrait),
+    Trait(Draft),
     /// An equation by itself.
     Equation(RawEquation),
+}
+
+/// The shorthands that have fields.
+#[derive(Clone, Copy, Debug, PartialEq, Eq)]
+pub enum FieldsKind {
+    /// `tuple`.
+    Tuple,
+    /// `union`.
+    Union,
+}
+
+/// A tuple or a union that is open: the trait before it, its kind, its sort, and its fields so far.
+#[derive(Drop)]
+pub struct OpenFields {
+    pub raw: Draft,
+    pub kind: FieldsKind,
+    pub sort: RawWord,
+    pub fields: RawFields,
+}
+
+/// A reference that is open: the trait before it, whether it is assumed, the name of the trait that it refers to, and
+/// its actuals so far.
+#[derive(Drop)]
+pub struct OpenRef {
+    pub raw: Draft,
+    pub assumed: bool,
+    pub name: RawWord,
+    pub actuals: RawActuals,
 }
 
 /// A clause of which so much is read: the trait before it, its kind and its sort.
 #[derive(Drop)]
 pub struct Clause {
-    pub raw: RawTrait,
+    pub raw: Draft,
     pub kind: ClauseKind,
     pub sort: RawWord,
 }
@@ -30,9 +59,17 @@ pub struct Clause {
 #[derive(Drop)]
 pub enum Naming {
     /// A declaration with these forms, in a trait.
-    Declared(RawTrait, RawForms),
+    Declared(Draft, RawForms),
     /// A clause with these references.
     Referred(Clause, RawOpRefs),
+    /// The name of a trait, with these formals.
+    Formal(RawWord, RawForms),
+    /// A reference without replacements: an actual, or the new name of a replacement.
+    Actual(OpenRef),
+    /// A reference with replacements: the new name of a further one.
+    Renaming(OpenRef),
+    /// A replacement, of which this is the new name.
+    Renamed(OpenRef, RawForm),
 }
 
 /// A bracket that is open in a form: what waits for the form, whether a `__` stands in front, which bracket it is, and
@@ -49,15 +86,17 @@ pub struct FormBracket {
 #[derive(Drop)]
 pub enum Signing {
     /// A declaration with these forms, in a trait.
-    Declaration(RawTrait, RawForms),
+    Declaration(Draft, RawForms),
     /// The last reference of a clause, whose form it is, behind these.
     Reference(Clause, RawOpRefs, RawForm),
+    /// A replacement, with its new name and its old one.
+    Replacement(OpenRef, RawForm, RawForm),
 }
 
 /// An item of equations that is open: the trait before it, its variables, and its equations so far.
 #[derive(Drop)]
 pub struct OpenItem {
-    pub raw: RawTrait,
+    pub raw: Draft,
     pub variables: RawVars,
     pub equations: RawEquations,
 }
@@ -136,14 +175,44 @@ pub enum Frame {
 pub enum State {
     /// Nothing is read: a name.
     Start,
-    /// A name: `:`.
+    /// A name: `(` or `:`.
     AfterName(RawWord),
-    /// A name and `:`: `trait`.
-    NeedTrait(RawWord),
-    /// The head of a trait: a part, or the end.
-    AfterHead(RawTrait),
+    /// A name with its formals: `:`.
+    AfterFormals(RawWord, RawForms),
+    /// The same and `:`: `trait`.
+    NeedTrait(RawWord, RawForms),
+    /// The head of a trait, or a shorthand or references of it: another one, a part, or the end.
+    AfterHead(Draft),
+    /// A word that begins a shorthand: which one.
+    ShortWord(Draft, RawWord),
+    /// `enumeration` behind its sort: `of`.
+    NeedConstants(Draft, RawWord),
+    /// An enumeration with these constants: a word.
+    NeedConstant(Draft, RawWord, RawWords),
+    /// The same behind the last of them: `,`, or what follows a shorthand.
+    AfterConstant(Draft, RawWord, RawWords),
+    /// `tuple` or `union` behind its sort: `of`.
+    NeedFields(Draft, FieldsKind, RawWord),
+    /// A tuple or a union: the name of a field.
+    NeedName(OpenFields),
+    /// The same with names of which the sort is to come: `,` or `:`.
+    AfterNames(OpenFields, RawWords),
+    /// A `,` behind the names: a word.
+    NeedFurtherName(OpenFields, RawWords),
+    /// The `:` behind the names: a word.
+    NeedNamesSort(OpenFields, RawWords),
+    /// Fields with their sorts: `,`, or what follows a shorthand.
+    AfterField(OpenFields),
+    /// `includes` or `assumes`, or a `,` behind a reference: the name of a trait, and whether it is assumed.
+    NeedRef(Draft, bool),
+    /// The name of a trait that is referred to: `(`, `,`, or what follows references.
+    AfterRefName(Draft, bool, RawWord),
+    /// A reference: `,`, or what follows references.
+    AfterRef(Draft, bool),
+    /// A replacement, the last of these actuals: `,` or `)`.
+    AfterRename(OpenRef),
     /// `introduces`, or a declaration of its part: a declaration, a part, or the end.
-    InPart(RawTrait),
+    InPart(Draft),
     /// A form.
     NeedForm(Naming),
     /// A symbol that begins a form: perhaps `__`.
@@ -173,27 +242,27 @@ pub enum State {
     /// A reference with its signature, the last of these.
     AfterReference(Clause, RawOpRefs),
     /// `asserts`, or a clause of its part: an item, a part, or the end.
-    InItems(RawTrait),
+    InItems(Draft),
     /// A word that begins an item of either kind.
-    FirstWord(RawTrait, RawWord),
+    FirstWord(Draft, RawWord),
     /// A `;` behind the equations of an item: an equation, an item, a part, or the end.
     AfterSemicolon(OpenItem),
     /// The same and a word, which begins an equation or a clause.
     WordBehind(OpenItem, RawWord),
     /// A word directly behind an item of equations: it begins a clause.
-    ClauseWord(RawTrait, RawWord),
+    ClauseWord(Draft, RawWord),
     /// `generated` or `partitioned`: `by`.
     NeedBy(Clause),
     /// `\forall`, or a `,` behind these variables: a word.
-    NeedVariable(RawTrait, RawVars),
+    NeedVariable(Draft, RawVars),
     /// These variables, and names of which the sort is to come: `,` or `:`.
-    AfterVariable(RawTrait, RawVars, RawWords),
+    AfterVariable(Draft, RawVars, RawWords),
     /// A `,` behind the names: a word.
-    NeedFurtherVariable(RawTrait, RawVars, RawWords),
+    NeedFurtherVariable(Draft, RawVars, RawWords),
     /// The `:` behind the names: a word.
-    NeedVariableSort(RawTrait, RawVars, RawWords),
+    NeedVariableSort(Draft, RawVars, RawWords),
     /// These variables with their sorts: `,` or an equation.
-    AfterGroup(RawTrait, RawVars),
+    AfterGroup(Draft, RawVars),
     /// An equation.
     NeedEquation(Waiting),
     /// A term.

@@ -1,5 +1,5 @@
 ghost use Rattle.std.specs.Prelude.{◌≡◌, IfOk};
-ghost use Rattle.larch_grammar.specs.Terminals.{bracket_terminal, terminal_by, terminal_of, position_of, punctuation_terminal, run_terminal, stands_nowhere, term_word, word_terminal};
+ghost use Rattle.larch_grammar.specs.Terminals.{bracket_terminal, terminal_by, terminal_of, position_of, punctuation_terminal, run_terminal, head_word, stands_nowhere, term_word, word_terminal};
 ghost use Rattle.larch_lexer.specs.declared.token.Kind.TheVariants.{Backslash};
 
 use larch_base::{Memory, Name, Pos};
@@ -64,6 +64,20 @@ pub enum Terminal {
     Partitioned,
     /// `by`.
     By,
+    /// `includes`.
+    Includes,
+    /// `assumes`.
+    Assumes,
+    /// `for`.
+    For,
+    /// `enumeration`.
+    Enumeration,
+    /// `tuple`.
+    Tuple,
+    /// `union`.
+    Union,
+    /// `of`.
+    Of,
     /// `if`.
     If(Pos),
     /// `then`.
@@ -118,6 +132,30 @@ fn word_terminal(text: &Name, pos: Pos) -> Result<Terminal, Memory>
     } else if bytes == b"by".as_slice() {
         Ok(Terminal::By)
     } else {
+        head_word(text, pos)
+    }
+}
+
+// A word of shorthands and references, or a word of terms, or one that isn't reserved.
+fn head_word(text: &Name, pos: Pos) -> Result<Terminal, Memory>
+    ensures { IfOk result (λ terminal. terminal ≡ head_word text.now pos) }
+{
+    let bytes = text.bytes();
+    if bytes == b"includes".as_slice() {
+        Ok(Terminal::Includes)
+    } else if bytes == b"assumes".as_slice() {
+        Ok(Terminal::Assumes)
+    } else if bytes == b"for".as_slice() {
+        Ok(Terminal::For)
+    } else if bytes == b"enumeration".as_slice() {
+        Ok(Terminal::Enumeration)
+    } else if bytes == b"tuple".as_slice() {
+        Ok(Terminal::Tuple)
+    } else if bytes == b"union".as_slice() {
+        Ok(Terminal::Union)
+    } else if bytes == b"of".as_slice() {
+        Ok(Terminal::Of)
+    } else {
         term_word(text, pos)
     }
 }
@@ -145,16 +183,9 @@ fn term_word(text: &Name, pos: Pos) -> Result<Terminal, Memory>
 fn stands_nowhere(text: &[u8]) -> bool
     ensures { result ≡ stands_nowhere text.now }
 {
-    text == b"includes".as_slice()
-        || text == b"assumes".as_slice()
-        || text == b"implies".as_slice()
+    text == b"implies".as_slice()
         || text == b"converts".as_slice()
         || text == b"exempting".as_slice()
-        || text == b"for".as_slice()
-        || text == b"enumeration".as_slice()
-        || text == b"tuple".as_slice()
-        || text == b"union".as_slice()
-        || text == b"of".as_slice()
 }
 
 // A backslash word: `\forall`, or a symbol.

@@ -4,52 +4,55 @@ ghost use Rattle.larch_grammar.specs.Machine.{with_clause, with_reference};
 ghost use Rattle.larch_grammar.specs.Terms.{equation_of, formula_of};
 ghost use Rattle.larch_grammar.specs.Traits.{named, with_declaration, with_equations, with_item};
 
+use crate::draft::Draft;
 use crate::machine::Clause;
 use larch_base::{Memory, Pos, Sequence};
 use larch_raw::{
-    RawDecl, RawEquation, RawEquations, RawForm, RawItem, RawOpRef, RawOpRefs, RawRight, RawTerm,
-    RawTrait, RawVar, RawVars, RawWord, RawWords,
+    RawDecl, RawEquation, RawEquations, RawForm, RawForms, RawItem, RawOpRef, RawOpRefs, RawRight,
+    RawTerm, RawTrait, RawVar, RawVars, RawWord, RawWords,
 };
 use std::alloc::Global;
 
-/// A trait of this name with nothing in it.
-pub fn named(alloc: Global, name: RawWord) -> RawTrait
-    ensures { result ≡ named name }
+/// A trait of this name with these formals and nothing in it.
+pub fn named(alloc: Global, name: RawWord, formals: RawForms) -> Result<Draft, Memory>
+    ensures { IfOk result (λ draft. draft ≡ named name formals) }
 {
-    RawTrait {
+    let raw = RawTrait {
         name,
-        formals: Sequence::new(alloc),
+        formals,
         shorthands: Sequence::new(alloc),
         references: Sequence::new(alloc),
         declarations: Sequence::new(alloc),
         items: Sequence::new(alloc),
-    }
+    };
+    let raw = Box::new(alloc, raw)?;
+    Ok(Draft { raw })
 }
 
 /// The trait with a declaration more.
-pub fn with_declaration(raw: RawTrait, declaration: RawDecl) -> Result<RawTrait, Memory>
+pub fn with_declaration(raw: Draft, declaration: RawDecl) -> Result<Draft, Memory>
     ensures { IfOk result (λ more. more ≡ with_declaration raw declaration) }
 {
-    let mut raw = raw;
-    raw.declarations.push(declaration)?;
-    Ok(raw)
+    let mut draft = raw;
+    draft.raw.declarations.push(declaration)?;
+    Ok(draft)
 }
 
 // The trait with an item more.
-fn with_item(raw: RawTrait, item: RawItem) -> Result<RawTrait, Memory>
+fn with_item(raw: Draft, item: RawItem) -> Result<Draft, Memory>
     ensures { IfOk result (λ more. more ≡ with_item raw item) }
 {
-    let mut raw = raw;
-    raw.items.push(item)?;
-    Ok(raw)
+    let mut draft = raw;
+    draft.raw.items.push(item)?;
+    Ok(draft)
 }
 
 /// The trait with these equations as an item more.
 pub fn with_equations(
-    raw: RawTrait,
+    raw: Draft,
     variables: RawVars,
     equations: RawEquations,
-) -> Result<RawTrait, Memory>
+) -> Result<Draft, Memory>
     ensures { IfOk result (λ more. more ≡ with_equations raw variables equations) }
 {
     let raw = with_item(raw, RawItem::Equations(variables, equations))?;
@@ -58,11 +61,11 @@ pub fn with_equations(
 
 /// The same with an equation more.
 pub fn with_last(
-    raw: RawTrait,
+    raw: Draft,
     variables: RawVars,
     equations: RawEquations,
     equation: RawEquation,
-) -> Result<RawTrait, Memory>
+) -> Result<Draft, Memory>
     ensures { IfOk result (λ more. more ≡ with_equations raw variables (equations ++ equation ∷ [])) }
 {
     let mut equations = equations;
@@ -72,7 +75,7 @@ pub fn with_last(
 }
 
 /// The trait with a clause of these references.
-pub fn with_clause(clause: Clause, refs: RawOpRefs) -> Result<RawTrait, Memory>
+pub fn with_clause(clause: Clause, refs: RawOpRefs) -> Result<Draft, Memory>
     ensures { IfOk result (λ raw. raw ≡ with_clause clause refs) }
 {
     let Clause { raw, kind, sort } = clause;
@@ -112,7 +115,7 @@ pub fn with_group(variables: RawVars, names: &RawWords, sort: &RawWord) -> Resul
 }
 
 // The same word once more.
-fn copy_word(word: &RawWord) -> Result<RawWord, Memory>
+pub(crate) fn copy_word(word: &RawWord) -> Result<RawWord, Memory>
     ensures { IfOk result (λ copy. copy ≡ word.now) }
 {
     let name = word.name.copy()?;

@@ -76,8 +76,8 @@ fn own_operator(alloc: Global, sig: &RawSig, form: &RawForm) -> Result<Operator,
     Ok(operator)
 }
 
-// The operator of a form with a signature.
-pub(crate) fn operator_of(alloc: Global, sig: &RawSig, form: &RawForm) -> Result<Operator, Memory>
+/// The operator of a form with a signature.
+pub fn operator_of(alloc: Global, sig: &RawSig, form: &RawForm) -> Result<Operator, Memory>
     ensures { IfOk result (λ operator. operator ≡ operator_of sig.now form.now) }
 {
     let name = form.name.copy()?;

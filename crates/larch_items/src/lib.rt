@@ -10,7 +10,7 @@ mod references;
 mod refusal;
 mod variables;
 
-pub use declarations::declare;
+pub use declarations::{declare, operator_of};
 pub use items::{state_item, state_items};
 pub use presentation::present;
 pub use references::find_operator;

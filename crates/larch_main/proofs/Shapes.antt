@@ -6,7 +6,7 @@ use Rattle.std.proofs.lemmas.List.Sums.{prefix_len-le-length}
 use Rattle.larch_main.specs.declared.status.Status.{Status}
 use Rattle.larch_main.specs.declared.status.Status.TheVariants.{Good, Remains, Words, ReadFault, WriteFault, Memory, Malformed, Size, NoFile}
 use Rattle.larch_main.specs.declared.command.Command.{Command}
-use Rattle.larch_main.specs.declared.command.Command.TheVariants.{Skip, Put, Report, Quit}
+use Rattle.larch_main.specs.declared.command.Command.TheVariants.{Skip, Put, Drop, Report, Quit}
 use Rattle.larch_base.specs.declared.limits.TheConstants.{MAX_FILE_BYTES, MAX_LINE_BYTES}
 use Rattle.larch_main.specs.Command.{command_of}
 use Rattle.larch_main.specs.Laws.{IsEnd, Ends}
@@ -78,6 +78,7 @@ command_step ended size before state rest None less = tt
 command_step ended size before state rest (Some Skip) less = less
 command_step ended size before state rest (Some Report) less = less
 command_step ended size before state rest (Some Quit) less = status_shape state
+command_step ended size before state rest (Some (Drop name)) less = less
 command_step ended size before state rest (Some (Put name count)) less =
     chosen (Shape ended size) (nat_lt MAX_FILE_BYTES count) (stops state too_large Size) _ (λ _. tt)
     (λ _. bytes_step ended size before state name rest (bytes_at ended (room_left state) count rest) less (bytes_shape ended (room_left state) count rest))

@@ -7,7 +7,7 @@ use Rattle.larch_base.specs.declared.limits.TheConstants.{MAX_FILE_BYTES, MAX_LI
 use Rattle.larch_io.specs.Reader.{Taken, Reads, Takes, room_of}
 use Rattle.larch_io.specs.Refusals.{LineRefused, BytesRefused}
 use Rattle.larch_io.specs.Take.{TakesLine}
-use Rattle.larch_traits.specs.Files.{Table}
+use Rattle.larch_traits.specs.Files.{Table, drop_file}
 use Rattle.larch_io.specs.declared.refusal.TakeRefusal.{TakeRefusal}
 use Rattle.larch_io.specs.declared.refusal.TakeRefusal.TheVariants as take_
 use Rattle.larch_main.specs.declared.progress.Progress.{Progress}
@@ -16,7 +16,7 @@ use Rattle.larch_main.specs.declared.progress.Move.TheVariants.{Goes, Stops}
 use Rattle.larch_main.specs.declared.progress.Halt.{Halt}
 use Rattle.larch_main.specs.declared.progress.Halt.TheVariants.{ReadFault, Memory}
 use Rattle.larch_main.specs.declared.command.Command.{Command}
-use Rattle.larch_main.specs.declared.command.Command.TheVariants.{Put, Quit, Report, Skip}
+use Rattle.larch_main.specs.declared.command.Command.TheVariants.{Drop, Put, Quit, Report, Skip}
 use Rattle.larch_main.specs.declared.status.Status.{Status}
 use Rattle.larch_main.specs.declared.status.Status.TheVariants.{Malformed, Size}
 use Rattle.larch_main.specs.Command.{command_of}
@@ -286,6 +286,19 @@ none_moves p x before result is =
 pub skip_moves : (p : Progress) (x : Option (List ℕ)) (before : ℕ) (written : List ℕ) → written ≡ []
     → Moves (at_command before (state_of p) (Some Skip)) p p x x (Ok (Goes written))
 skip_moves p x before written is = (nothing, is, record { given = []; reads = reads_none p.reader x; step_is = λ ended rest follows. refl })
+
+-- a file was taken out
+pub drop_moves : (p : Progress) (files : Table) (x : Option (List ℕ)) (before : ℕ) (name written : List ℕ) → files ≡ drop_file p.files name → written ≡ []
+    → Moves (at_command before (state_of p) (Some (Drop name))) p (record p { files = files }) x x (Ok (Goes written))
+drop_moves p files x before name written is nothing_said = (
+  nothing,
+  nothing_said,
+  record {
+    given = [];
+    reads = reads_none p.reader x;
+    step_is = λ ended rest follows. λ i. goes (record { files = sym is i; taken = p.reader.count; good = p.good }) nothing (p.reader.kept ++ rest);
+  },
+)
 
 -- `quit` ends the session
 pub quit_moves : (p : Progress) (x : Option (List ℕ)) (before : ℕ) (command : Option Command) (move : Move) → command ≡ Some Quit

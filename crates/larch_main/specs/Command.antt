@@ -4,9 +4,9 @@ use Rattle.std.specs.Prelude.{List, [], ◌∷◌, length, Option, Some, None, c
 use Rattle.std.specs.Char.{is_ascii_digit}
 use Rattle.std.specs.List.{before_first, after_first, list_all}
 use Rattle.std.specs.Str.{bytes_eq}
-use Rattle.larch_base.specs.FileNames.{is_trait_file}
+use Rattle.larch_base.specs.FileNames.{is_file_name, is_trait_file}
 use Rattle.larch_main.specs.declared.command.Command.{Command}
-use Rattle.larch_main.specs.declared.command.Command.TheVariants.{Skip, Put, Report, Quit}
+use Rattle.larch_main.specs.declared.command.Command.TheVariants.{Skip, Put, Drop, Report, Quit}
 
 -- a space or a tab stands between the words of a line
 abbrev pub is_blank : ℕ → Bool
@@ -32,6 +32,10 @@ put_of words =
     then Some (Put (before_first is_blank words) (number_of_digits (after_first is_blank words)))
     else None
 
+-- `drop` with these words behind it: the name of a file
+abbrev pub drop_of : List ℕ → Option Command
+drop_of words = if is_file_name words then Some (Drop words) else None
+
 -- the command of a line, which has no newline; other lines aren't in the grammar
 abbrev pub command_of : List ℕ → Option Command
 command_of line =
@@ -39,4 +43,5 @@ command_of line =
     else if bytes_eq line (codes "report") then Some Report
     else if bytes_eq line (codes "quit") then Some Quit
     else if bytes_eq (before_first is_blank line) (codes "put") then put_of (after_first is_blank line)
+    else if bytes_eq (before_first is_blank line) (codes "drop") then drop_of (after_first is_blank line)
     else None

@@ -1,28 +1,36 @@
 -- The report on the trait files of a session: its lines, and what is said and counted by them.
 use Rattle.std.specs.Prelude.{ℕ, ◌==◌, Bool, true, false, List, [], ◌∷◌, ◌++◌, length, flat_map, count_by, decimal, codes}
-use Rattle.std.specs.Prelude.{Option, Some, None, Result, Ok, Err}
+use Rattle.std.specs.Prelude.{Result, Ok, Err}
 use Rattle.larch_base.specs.CodeText.{code_text}
-use Rattle.larch_base.specs.FileNames.{stem_of}
 use Rattle.larch_base.specs.Position.{position_text}
 use Rattle.larch_base.specs.declared.fault.Fault.{Fault}
-use Rattle.larch_traits.specs.TraitFile.{presented}
-use Rattle.larch_traits.specs.Files.{Table, text_of, names_of}
+use Rattle.larch_flat.specs.Flat.{FlatTrait}
+use Rattle.larch_flat.specs.Stops.{Stop, Refused, TooDeep}
+use Rattle.larch_sources.specs.Sources.{Table as Sources}
+use Rattle.larch_flatten.specs.Parts.{flat_trait}
+use Rattle.larch_traits.specs.Files.{Table}
+use Rattle.larch_traits.specs.Reading.{read_files}
 use Rattle.larch_main.specs.declared.report.ReportLine.{ReportLine}
 use Rattle.larch_main.specs.declared.report.ReportLine.TheVariants.{Right, Wrong}
 
--- the line of the trait with this stem, by what its file presents
+-- the line of a trait, by what is told of it: something, or what is wrong with it first
 abbrev pub line_of : {A : Type 0} → List ℕ → Result A Fault → ReportLine
-line_of stem (Ok presentation) = Right stem
+line_of stem (Ok flat) = Right stem
 line_of stem (Err fault) = Wrong stem fault
 
--- the lines of the file of this name, which has this text
-abbrev pub text_lines : List ℕ → Option (List ℕ) → List ReportLine
-text_lines name None = []
-text_lines name (Some text) = line_of (stem_of name) (presented (stem_of name) text) ∷ []
+-- the line of a trait, by its flat trait; there is one of each, since references are followed deep enough
+abbrev pub trait_lines : List ℕ → Result FlatTrait Stop → List ReportLine
+trait_lines stem (Ok flat) = Right stem ∷ []
+trait_lines stem (Err (Refused fault)) = Wrong stem fault ∷ []
+trait_lines stem (Err TooDeep) = []
 
--- the report on these files: the lines of each, in byte order of the names
+-- the lines of what is read of files: a line of each
+abbrev pub source_lines : Sources → List ReportLine
+source_lines sources = flat_map (λ source. trait_lines source.0 (flat_trait sources source.0)) sources
+
+-- the report on these files: the lines of the trait files, in byte order of their names
 abbrev pub report_of : Table → List ReportLine
-report_of files = flat_map (λ name. text_lines name (text_of files name)) (names_of files)
+report_of files = source_lines (read_files files)
 
 -- what is wrong, and where
 abbrev pub fault_text : Fault → List ℕ

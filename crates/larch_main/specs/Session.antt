@@ -2,11 +2,11 @@
 use Rattle.std.specs.Prelude.{◌≡◌, ℕ, ◌+◌, ◌-◌, ◌&&◌, not, nat_lt, nat_le, if◌then◌else◌, Bool, true}
 use Rattle.std.specs.Prelude.{List, [], ◌++◌, length, decimal, codes, Option, Some, None}
 use Rattle.larch_base.specs.declared.limits.TheConstants.{MAX_FILES, MAX_FILE_BYTES, MAX_SOURCE_BYTES}
-use Rattle.larch_traits.specs.Files.{Table, has_file, put_file}
+use Rattle.larch_traits.specs.Files.{Table, drop_file, has_file, put_file}
 use Rattle.larch_main.specs.declared.status.Status.{Status}
 use Rattle.larch_main.specs.declared.status.Status.TheVariants.{Good, Remains, Malformed, Size}
 use Rattle.larch_main.specs.declared.command.Command.{Command}
-use Rattle.larch_main.specs.declared.command.Command.TheVariants.{Skip, Put, Report, Quit}
+use Rattle.larch_main.specs.declared.command.Command.TheVariants.{Skip, Put, Drop, Report, Quit}
 use Rattle.larch_main.specs.declared.report.ReportLine.{ReportLine}
 use Rattle.larch_main.specs.Command.{command_of}
 use Rattle.larch_main.specs.Lines.{LineFound, line, no_line, long_line, full, unfinished, line_at}
@@ -93,6 +93,8 @@ on_command ended before state rest (Some Skip) = goes state nothing rest
 on_command ended before state rest (Some Report) =
     goes (record state { good = is_good (report_of state.files) }) (reported (report_of state.files)) rest
 on_command ended before state rest (Some Quit) = stops state nothing (status_of state)
+on_command ended before state rest (Some (Drop name)) =
+    goes (record state { files = drop_file state.files name }) nothing rest
 on_command ended before state rest (Some (Put name count)) =
     if nat_lt MAX_FILE_BYTES count then stops state too_large Size
     else on_bytes before state name rest (bytes_at ended (room_left state) count rest)

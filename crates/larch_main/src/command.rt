@@ -1,7 +1,7 @@
 ghost use Rattle.std.specs.Prelude.{◌≡◌, ◌≤◌, ◌<◌, ◌^◌, length, IfOk, Some, None, IsTrue};
 ghost use Rattle.std.specs.List.{before_first, after_first, position_or_len};
-ghost use Rattle.larch_base.specs.FileNames.{is_trait_file};
-ghost use Rattle.larch_main.specs.Command.{is_blank, are_digits, is_length, number_of_digits, put_of, command_of};
+ghost use Rattle.larch_base.specs.FileNames.{is_file_name, is_trait_file};
+ghost use Rattle.larch_main.specs.Command.{is_blank, are_digits, is_length, number_of_digits, put_of, drop_of, command_of};
 
 use larch_base::{FileName, Memory, NameRefusal};
 use std::alloc::Global;
@@ -13,6 +13,8 @@ pub enum Command {
     Skip,
     /// To take so many bytes as the file of this name.
     Put(FileName, u32),
+    /// To take the file of this name out.
+    Drop(FileName),
     /// To write the report.
     Report,
     /// To end the session.
@@ -31,6 +33,8 @@ pub fn command_of(alloc: Global, line: &[u8]) -> Result<Option<Command>, Memory>
             let (first, words) = split_at_blank(line);
             if first == b"put".as_slice() {
                 put_of(alloc, words)
+            } else if first == b"drop".as_slice() {
+                drop_of(alloc, words)
             } else {
                 Ok(None)
             }
@@ -52,6 +56,17 @@ fn put_of(alloc: Global, words: &[u8]) -> Result<Option<Command>, Memory>
         Ok(Some(Command::Put(name, number_of_digits(digits))))
     } else {
         Ok(None)
+    }
+}
+
+// What `drop` with these words behind it asks for.
+fn drop_of(alloc: Global, words: &[u8]) -> Result<Option<Command>, Memory>
+    ensures { IfOk result (λ command. command ≡ drop_of words.now) }
+{
+    match FileName::new(alloc, words) {
+        Ok(name) => Ok(Some(Command::Drop(name))),
+        Err(NameRefusal::NotAName) => Ok(None),
+        Err(NameRefusal::Memory) => Err(Memory),
     }
 }
 

@@ -167,6 +167,10 @@ fn carry_out<S: Source>(
         Some(Command::Skip) => Ok(Move::Goes(Bytes::new(alloc))),
         Some(Command::Report) => answer_report(alloc, progress),
         Some(Command::Quit) => Ok(ended(alloc, progress)),
+        Some(Command::Drop(name)) => {
+            progress.files.remove(&name);
+            Ok(Move::Goes(Bytes::new(alloc)))
+        }
         Some(Command::Put(name, count)) => {
             if MAX_FILE_BYTES < count {
                 too_large(alloc)

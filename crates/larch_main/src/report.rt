@@ -1,12 +1,13 @@
-ghost use Rattle.std.specs.Prelude.{◌≡◌, ◌≤◌, ◌++◌, length, IfOk, OnOk};
-ghost use Rattle.larch_base.specs.FileNames.{stem_of};
-ghost use Rattle.larch_base.specs.declared.limits.TheConstants.{MAX_FILE_BYTES};
-ghost use Rattle.larch_traits.specs.TraitFile.{presented};
-ghost use Rattle.larch_main.specs.Report.{is_good, is_wrong, line_of, line_text, report_of, report_text, total_text};
+ghost use Rattle.std.specs.Prelude.{◌≡◌, ◌++◌, IfOk, OnOk};
+ghost use Rattle.larch_flatten.specs.Known.{AreAllKnown, Knows};
+ghost use Rattle.larch_main.specs.Report.{is_good, is_wrong, line_of, line_text, report_of, report_text, source_lines, total_text};
 ghost use Rattle.larch_main.specs.Report.{error_count, fault_text};
 
-use larch_base::{Bytes, Fault, FileName, Memory, Name, Sequence};
-use larch_traits::{Files, TraitRefusal, present_file};
+use larch_base::{Bytes, Fault, Memory, Name, Sequence};
+use larch_flatten::{FlatTraits, flatten};
+use larch_gathered::Flat;
+use larch_sources::Sources;
+use larch_traits::{Files, read_files};
 use std::alloc::Global;
 
 /// A line of a report.
@@ -18,29 +19,45 @@ pub enum ReportLine {
     Wrong(Name, Fault),
 }
 
-/// The lines of the report on these files.
+/// The lines of the report on these files. It takes as long as their texts and their flat traits are large; each flat
+/// trait is worked out once.
 pub fn report_on(alloc: Global, files: &Files) -> Result<Sequence<ReportLine>, Memory>
     ensures { IfOk result (λ lines. lines ≡ report_of files.now) }
 {
+    let sources = read_files(alloc, files)?;
+    let flat_traits = flatten(alloc, &sources)?;
+    let lines = source_lines(alloc, &sources, &flat_traits)?;
+    Ok(lines)
+}
+
+// The lines of what is read of files, of which all flat traits are known.
+fn source_lines(
+    alloc: Global,
+    sources: &Sources,
+    flat_traits: &FlatTraits,
+) -> Result<Sequence<ReportLine>, Memory>
+    requires known { Knows sources.now flat_traits.now }
+    requires all { AreAllKnown sources.now flat_traits.now }
+    ensures { IfOk result (λ lines. lines ≡ source_lines sources.now) }
+{
     let mut lines = Sequence::new(alloc);
-    for name in files.names() {
-        if let Some(text) = files.get(name) {
-            lines.push(line_of(alloc, name, text)?)?;
+    for number in 0..sources.len() {
+        if let Some(answer) = flat_traits.get(number) {
+            let line = line_of(sources.name(number), answer)?;
+            lines.push(line)?;
         }
     }
     Ok(lines)
 }
 
-// The line of the trait file of this name, which has this text.
-fn line_of(alloc: Global, name: &FileName, text: &[u8]) -> Result<ReportLine, Memory>
-    requires { length text.now ≤ MAX_FILE_BYTES }
-    ensures { IfOk result (λ line. line ≡ line_of (stem_of name.now) (presented (stem_of name.now) text.now)) }
+// The line of the trait of this name, by its flat trait or what is wrong with it.
+fn line_of(name: &Name, answer: &Result<Flat, Fault>) -> Result<ReportLine, Memory>
+    ensures { IfOk result (λ line. line ≡ line_of name.now answer.now) }
 {
-    let stem = Name::new(alloc, name.stem())?;
-    match present_file(alloc, name.stem(), text) {
-        Ok(_) => Ok(ReportLine::Right(stem)),
-        Err(TraitRefusal::Wrong(pos, code)) => Ok(ReportLine::Wrong(stem, Fault { pos, code })),
-        Err(TraitRefusal::Memory) => Err(Memory),
+    let name = name.copy()?;
+    match answer {
+        Ok(_) => Ok(ReportLine::Right(name)),
+        Err(fault) => Ok(ReportLine::Wrong(name, *fault)),
     }
 }
 

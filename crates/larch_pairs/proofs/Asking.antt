@@ -1,5 +1,5 @@
 -- What lists of equations ask for.
-use Rattle.std.proofs.Common.{◌≡◌, ◌==◌, ◌&&◌, Bool, true, false, cond, List, [], length, refl, ap, ◌∙◌}
+use Rattle.std.proofs.Common.{◌≡◌, ◌==◌, Bool, true, false, cond, List, [], length, refl, ap, ◌∙◌}
 use Rattle.std.proofs.lemmas.Bool.Decides.{Decides-eqb}
 use Rattle.larch_base.proofs.Bools.{and_both}
 use Rattle.larch_term.proofs.Decided.{operator_Decides}

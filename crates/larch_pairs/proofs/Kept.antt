@@ -1,22 +1,20 @@
 -- What a unification keeps: bound variables are gone from all that is left, and from the bound terms.
-use Rattle.std.proofs.Common.{◌≡◌, ◌≢◌, ℕ, zero, suc, ◌+◌, ◌==◌, ◌&&◌, ◌||◌, ◌<◌, ◌≤◌, ◌⊎◌, inl, inr, cond, not, Bool, true, false, List, [], ◌∷◌, ◌++◌, map, length, Option, Some, None, Result, Ok, Err, All, AllPairs, Contains, bytes_eq, arith, refl, sym, ◌∙◌, ap, subst}
-use Rattle.std.specs.List.{filter, flat_map, list_any}
+use Rattle.std.proofs.Common.{◌≡◌, ◌≢◌, suc, ◌==◌, ◌&&◌, ◌||◌, ◌<◌, ◌≤◌, ◌⊎◌, inl, inr, cond, not, Bool, true, false, List, [], ◌∷◌, ◌++◌, length, All, AllPairs, Contains, arith, refl, sym, ◌∙◌, ap, subst}
+use Rattle.std.specs.List.{filter, list_any}
 use Rattle.std.proofs.lemmas.List.Elements.{All-nil, All-cons, All-head, All-tail, All-append}
-use Rattle.std.proofs.lemmas.List.Folds.{list_any-append}
 use Rattle.std.proofs.lemmas.List.Quantifiers.{all_pairs_push}
 use Rattle.larch_base.proofs.Bools.{true_or_false, or_left, or_right}
-use Rattle.larch_base.proofs.Lists.{all_from, pairs_map}
-use Rattle.larch_base.proofs.Members.{contains_here, contains_later, contains_cases, contains_none, contains_one, contains_left, contains_right, contains_either, contained_in_flat_map, contains_filter, contained_in_filter}
+use Rattle.larch_base.proofs.Lists.{pairs_map}
+use Rattle.larch_base.proofs.Members.{contains_here, contains_cases, contains_none, contains_one, contains_left, contains_right, contained_in_flat_map, contains_filter, contained_in_filter}
 use Rattle.larch_term.specs.Equality.{same_operator}
-use Rattle.larch_term.specs.Operator.{PlainOperator}
-use Rattle.larch_term.specs.Substitution.{image, is_entry_of, substituted}
+use Rattle.larch_term.specs.Substitution.{is_entry_of, substituted}
 use Rattle.larch_term.specs.Tree.{Tree, Forest, var, app, none, more, list_of}
 use Rattle.larch_term.specs.Variable.{occurrences, occurrences_in, same_variable}
 use Rattle.larch_term.specs.declared.substitution.Entry.{Entry}
 use Rattle.larch_term.specs.declared.variable.Variable.{Variable}
 use Rattle.larch_term_laws.proofs.Agreement.{substituted_occurrences, image_occurrences}
 use Rattle.larch_term_laws.proofs.Occurring.{variable_Decides}
-use Rattle.larch_pairs.specs.Demand.{binding, demand, demand_all, first_demand, occurs, or_next, paired}
+use Rattle.larch_pairs.specs.Demand.{demand, demand_all, first_demand, occurs, or_next, paired}
 use Rattle.larch_pairs.specs.Unify.{entries_under, entry, extended, sides_under}
 use Rattle.larch_pairs.specs.declared.demand.Demand.{Demand}
 use Rattle.larch_pairs.specs.declared.demand.Demand.TheVariants.{Nothing, Bind, Clash}

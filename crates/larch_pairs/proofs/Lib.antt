@@ -1,5 +1,6 @@
 -- Lemmas.
 pub mod Asking
+pub mod Fitting
 pub mod Kept
 pub mod Meaning
 pub mod Solving

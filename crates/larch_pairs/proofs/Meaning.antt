@@ -1,23 +1,21 @@
 -- What a demand means: it is met by exactly the substitutions that make the sides of its equations one.
-use Rattle.std.proofs.Common.{◌≡◌, ◌≢◌, ◌↔◌, ℕ, zero, suc, ◌+◌, ◌==◌, ◌&&◌, ◌||◌, ◌<◌, ◌≤◌, ◌⊎◌, inl, inr, cond, Bool, true, false, List, [], ◌∷◌, ◌++◌, length, All, Contains, arith, refl, sym, ◌∙◌, ap, ap₂, subst}
+use Rattle.std.proofs.Common.{◌≡◌, ◌↔◌, suc, ◌==◌, ◌&&◌, ◌||◌, ◌≤◌, inl, inr, cond, Bool, true, false, List, [], ◌∷◌, ◌++◌, length, All, arith, refl, sym, ◌∙◌, ap, ap₂}
 use Rattle.std.specs.Bool.{Decides}
 use Rattle.std.specs.List.{list_any}
 use Rattle.std.proofs.lemmas.Bool.Decides.{Decides-and, Decides-eqb}
 use Rattle.std.proofs.lemmas.List.Elements.{All-nil, All-cons, All-head, All-tail, All-append}
 use Rattle.std.proofs.lemmas.List.Folds.{list_any-append}
-use Rattle.std.proofs.lemmas.Slice.Eq.{bytes_eq-Decides}
-use Rattle.larch_base.proofs.Bools.{true_or_false, and_left, and_right}
+use Rattle.larch_base.proofs.Bools.{true_or_false}
 use Rattle.larch_term.proofs.Decided.{operator_Decides}
 use Rattle.larch_term.specs.Equality.{same_operator}
 use Rattle.larch_term.specs.Operator.{PlainOperator}
-use Rattle.larch_term.specs.Substitution.{image, is_entry_of, substituted, substituted_all}
+use Rattle.larch_term.specs.Substitution.{image, substituted, substituted_all}
 use Rattle.larch_term.specs.Tree.{Tree, Forest, var, app, none, more, nodes, nodes_all, list_of}
-use Rattle.larch_term.specs.Variable.{occurrences, occurrences_in, same_variable}
+use Rattle.larch_term.specs.Variable.{occurrences_in, same_variable}
 use Rattle.larch_term.specs.declared.substitution.Entry.{Entry}
 use Rattle.larch_term.specs.declared.variable.Variable.{Variable}
 use Rattle.larch_term_laws.proofs.Occurring.{variable_Decides}
-use Rattle.larch_pairs.specs.Demand.{binding, demand, demand_all, first_demand, occurs, or_next, paired}
-use Rattle.larch_pairs.specs.Unify.{entry, sides_under}
+use Rattle.larch_pairs.specs.Demand.{demand, demand_all, first_demand, occurs, or_next, paired}
 use Rattle.larch_pairs.specs.declared.demand.Demand.{Demand}
 use Rattle.larch_pairs.specs.declared.demand.Demand.TheVariants.{Nothing, Bind, Clash}
 use Rattle.larch_pairs.specs.declared.demand.Sides.{Sides}

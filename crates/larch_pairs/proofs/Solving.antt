@@ -1,23 +1,22 @@
 -- What a unification answers: its bindings make both terms one, and from them all others come.
-use Rattle.std.proofs.Common.{◌≡◌, ◌↔◌, ℕ, zero, suc, ◌<◌, ◌≤◌, cond, Bool, true, false, List, [], ◌∷◌, ◌++◌, length, fold, Option, Some, None, Result, Ok, Err, All, AllPairs, Contains, arith, refl, sym, ◌∙◌, ap, subst}
+use Rattle.std.proofs.Common.{◌≡◌, ◌↔◌, ℕ, zero, suc, ◌≤◌, cond, Bool, true, false, List, [], ◌∷◌, ◌++◌, length, fold, Some, None, Result, Ok, Err, All, AllPairs, Contains, arith, refl, sym, ◌∙◌, ap, subst}
 use Rattle.std.proofs.lemmas.List.Elements.{All-nil, All-cons, All-head, All-tail, All-append}
 use Rattle.std.proofs.lemmas.List.Sums.{fold-append}
 use Rattle.std.proofs.lemmas.List.{append-nil}
 use Rattle.larch_base.proofs.Lists.{all_from, pairs_head, pairs_tail}
-use Rattle.larch_base.proofs.Members.{contains_left, contains_right, contains_none}
-use Rattle.larch_base.specs.Answering.{Answers}
+use Rattle.larch_base.proofs.Members.{contains_left, contains_right}
 use Rattle.larch_term.specs.Substitution.{image, is_entry_of, substituted, substituted_all}
 use Rattle.larch_term.specs.Tree.{Tree, Forest, var, app, none, more}
-use Rattle.larch_term.specs.Operator.{PlainOperator, plain}
-use Rattle.larch_term.specs.Variable.{occurrences, occurrences_in, same_variable, variables_of, with_variable}
+use Rattle.larch_term.specs.Operator.{plain}
+use Rattle.larch_term.specs.Variable.{occurrences, variables_of, with_variable}
 use Rattle.larch_term.specs.declared.substitution.Entry.{Entry}
 use Rattle.larch_term.specs.declared.variable.Variable.{Variable}
 use Rattle.larch_term_laws.proofs.Agreement.{AgreeOn, same_by_agreement}
 use Rattle.larch_term_laws.proofs.Substitutions.{substituted_nil}
 use Rattle.larch_term_laws.proofs.Occurring.{listed_occurs, variable_Decides}
-use Rattle.larch_pairs.proofs.Kept.{Among, another, itself, shorter, DemandAmong, Kept, SidesAmong, demand_among, first_among, kept_on, left_among, none_kept, variable_of, without}
+use Rattle.larch_pairs.proofs.Kept.{Among, another, itself, shorter, DemandAmong, Kept, demand_among, first_among, kept_on, left_among, none_kept, variable_of, without}
 use Rattle.larch_pairs.proofs.Meaning.{Meets, Solves, Unifies, demand_met, first_met}
-use Rattle.larch_pairs.proofs.Unifying.{from_nothing, from_clash, from_zero, unify_is}
+use Rattle.larch_pairs.proofs.Unifying.{from_nothing, from_clash, unify_is}
 use Rattle.larch_pairs.specs.Demand.{demand, first_demand}
 use Rattle.larch_pairs.specs.Unify.{Oversize, a_term_is_too_large, entries_under, entry, extended, sides_under, some_large, unify, unify_from, variables_of_both}
 use Rattle.larch_pairs.specs.declared.demand.Demand.{Demand}
@@ -29,12 +28,12 @@ small_enough true o x y e = cc
 small_enough false o x y e = e
 
 -- what each round keeps
-abbrev Steps : (Demand → List Entry → Type 0) → Type 0
+abbrev pub Steps : (Demand → List Entry → Type 0) → Type 0
 Steps P = (v : Variable) (t : Tree) (es : List Sides) (bs : List Entry) → P (Bind v t es) bs
     → P (first_demand (sides_under (entry v t ∷ []) es)) (extended v t bs)
 
 -- what holds at the start and is kept holds at the end
-at_end : (P : Demand → List Entry → Type 0) → Steps P → (n : ℕ) (d : Demand) (bs r : List Entry) → P d bs → unify_from n d bs ≡ Ok (Some r) → P Nothing r
+pub at_end : (P : Demand → List Entry → Type 0) → Steps P → (n : ℕ) (d : Demand) (bs r : List Entry) → P d bs → unify_from n d bs ≡ Ok (Some r) → P Nothing r
 unfolding unify_from
 at_end P step n Nothing bs r p e =
     let q = sym (from_nothing n bs) ∙ e in

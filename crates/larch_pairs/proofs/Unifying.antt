@@ -1,5 +1,5 @@
 -- The steps of a unification.
-use Rattle.std.proofs.Common.{◌≡◌, ℕ, zero, suc, ◌<◌, ◌-◌, cond, Bool, false, List, [], ◌∷◌, take, length, get_or, Option, Some, None, Ok, Err, AllPairs, All, arith, refl}
+use Rattle.std.proofs.Common.{◌≡◌, ℕ, zero, suc, ◌<◌, ◌-◌, cond, false, List, [], ◌∷◌, take, length, get_or, Some, None, Ok, Err, AllPairs, arith, refl}
 use Rattle.std.specs.List.{list_any}
 use Rattle.larch_base.proofs.Bools.{or_both}
 use Rattle.larch_base.proofs.Lists.{pairs_tail}

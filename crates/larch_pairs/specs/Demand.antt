@@ -1,5 +1,5 @@
 -- What equations ask for first, on the way to a unifier.
-use Rattle.std.specs.Prelude.{if◌then◌else◌, ◌==◌, ◌&&◌, Bool, true, false, List, [], ◌∷◌, ◌++◌, length}
+use Rattle.std.specs.Prelude.{if◌then◌else◌, ◌==◌, ◌&&◌, Bool, List, [], ◌∷◌, ◌++◌, length}
 use Rattle.std.specs.List.{list_any}
 use Rattle.larch_term.specs.Equality.{same_operator}
 use Rattle.larch_term.specs.Tree.{Tree, Forest, var, app, none, more, list_of}

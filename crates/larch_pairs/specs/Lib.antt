@@ -1,5 +1,3 @@
 pub mod Demand
-pub mod Overlap
-pub mod Pairs
 pub mod Refusals
 pub mod Unify

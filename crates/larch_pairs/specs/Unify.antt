@@ -2,6 +2,7 @@
 use Rattle.std.specs.Prelude.{if◌then◌else◌, ℕ, zero, suc, nat_lt, ◌||◌, Bool, List, [], ◌∷◌, ◌++◌, map, length, fold}
 use Rattle.std.specs.Prelude.{Option, Some, None, Result, Ok, Err}
 use Rattle.std.specs.List.{list_any}
+use Rattle.larch_base.specs.declared.limits.TheConstants.{MAX_TERM_NODES}
 use Rattle.larch_term.specs.Substitution.{substituted}
 use Rattle.larch_term.specs.Tree.{Tree, nodes}
 use Rattle.larch_term.specs.Variable.{occurrences, with_variable, variables_of}
@@ -34,7 +35,7 @@ extended v t bs = entries_under (entry v t ∷ []) bs ++ entry v t ∷ []
 
 -- whether a term has more than 5,000 nodes
 abbrev pub is_large : Tree → Bool
-is_large t = nat_lt 5_000 (nodes t)
+is_large t = nat_lt MAX_TERM_NODES (nodes t)
 
 -- the term, unless it has more than 5,000 nodes
 abbrev pub within : Tree → Result Tree Oversize

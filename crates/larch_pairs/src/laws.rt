@@ -1,7 +1,9 @@
 //! What holds of the definitions, for crates above to cite. No function here does anything.
 ghost use Rattle.std.specs.Prelude.{◌≡◌, ◌≤◌, ℕ, List, [], length, AllPairs, Ok, Some, None, false};
-ghost use Rattle.larch_term.specs.Substitution.{is_entry_of, substituted};
-ghost use Rattle.larch_term.specs.Tree.{Tree};
+ghost use Rattle.larch_term.specs.Operator.{PlainOperator};
+ghost use Rattle.larch_term.specs.Sorts.{sort_of, WellSorted};
+ghost use Rattle.larch_term.specs.Substitution.{is_entry_of, substituted, Fits};
+ghost use Rattle.larch_term.specs.Tree.{Tree, Forest, app};
 ghost use Rattle.larch_term.specs.declared.substitution.Entry.{Entry};
 ghost use Rattle.larch_pairs.specs.Demand.{demand};
 ghost use Rattle.larch_pairs.specs.Unify.{unify, unify_from, variables_of_both};
@@ -35,4 +37,12 @@ pub fn equal_sides_are_dropped()
 /// More rounds than there are variables answer the same: unification ends of itself.
 pub fn rounds_suffice()
     ensures { (t u : Tree) (n : ℕ) → length (variables_of_both t u) ≤ n → unify_from n (demand t u) [] ≡ unify t u }
+{}
+
+/// A unifier of well sorted terms keeps sorts, where both have one sort or are applications.
+pub fn unifiers_keep_sorts()
+    ensures one_sort { (t u : Tree) (r : List Entry) → WellSorted t → WellSorted u → sort_of t ≡ sort_of u
+        → unify t u ≡ Ok (Some r) → Fits r }
+    ensures applications { (f g : PlainOperator) (ts us : Forest) (r : List Entry) → WellSorted (app f ts)
+        → WellSorted (app g us) → unify (app f ts) (app g us) ≡ Ok (Some r) → Fits r }
 {}

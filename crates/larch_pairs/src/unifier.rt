@@ -16,8 +16,8 @@ use larch_term::{
 };
 use std::alloc::Global;
 
-// Bindings of variables, in order.
-type Entries = Sequence<Entry>;
+/// Bindings of variables, in order.
+pub type Entries = Sequence<Entry>;
 
 /// The substitution that makes two terms one, from which every other one comes by a further substitution; `None` where
 /// no substitution makes them one. By eager substitution (Robinson 1965), a variable on the left being bound first.
@@ -141,8 +141,8 @@ fn push_copies(alloc: Global, entries: &[Entry], copies: &mut Entries) -> Result
     Ok(())
 }
 
-// The term under a substitution, unless it then has more than 5,000 nodes.
-fn substitute_within(alloc: Global, term: &Term, by: &Substitution) -> Result<Term, PairRefusal>
+/// The term under a substitution; `TooLarge` where it then has more than 5,000 nodes. It takes time by the size of both.
+pub fn substitute_within(alloc: Global, term: &Term, by: &Substitution) -> Result<Term, PairRefusal>
     ensures { Answers told result (within (substituted by.now term.now)) }
 {
     let under = substitute(alloc, term, by)?;
@@ -159,8 +159,9 @@ fn is_large(term: &Term) -> bool
     size(term) > u64::from(MAX_TERM_NODES)
 }
 
-// The different variables of two terms, those of the first one first.
-fn variables_of_both(alloc: Global, left: &Term, right: &Term) -> Result<Variables, Memory>
+/// The different variables of two terms, those of the first one first. Each occurrence is compared with all that are
+/// found.
+pub fn variables_of_both(alloc: Global, left: &Term, right: &Term) -> Result<Variables, Memory>
     ensures { IfOk result (λ vs. vs ≡ variables_of_both left.now right.now) }
 {
     let mut found = variables(alloc, left)?;
@@ -168,9 +169,9 @@ fn variables_of_both(alloc: Global, left: &Term, right: &Term) -> Result<Variabl
     Ok(found)
 }
 
-// The substitution with these entries, which are of different variables.
+/// The substitution with copies of these entries, which are of different variables.
 #[tactic(auto, using(crate::proofs::Unifying::none_before))]
-fn substitution_of(alloc: Global, entries: Entries) -> Result<Substitution, Memory>
+pub fn substitution_of(alloc: Global, entries: Entries) -> Result<Substitution, Memory>
     requires { AllPairs (λ d e. is_entry_of e.name e.sort d ≡ false) entries }
     ensures { IfOk result (λ es. es ≡ entries) }
 {

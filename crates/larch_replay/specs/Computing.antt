@@ -7,7 +7,7 @@ use Rattle.larch_sorts.specs.Read.{read_equation, read_term, unread_in}
 use Rattle.larch_sorts.specs.ReadingLists.{readings}
 use Rattle.larch_sorts.specs.Unknown.{unknown_among}
 use Rattle.larch_normal_forms.specs.NormalForm.{normal}
-use Rattle.larch_pairs.specs.Pairs.{critical_pairs, pair_at}
+use Rattle.larch_critical_pairs.specs.Pairs.{critical_pairs, pair_at}
 use Rattle.larch_pairs.specs.Unify.{unify, unify_from}
 use Rattle.larch_replay.specs.Facts.{add}
 use Rattle.larch_replay.specs.Plans.{plan}

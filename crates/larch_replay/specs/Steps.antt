@@ -21,10 +21,10 @@ use Rattle.larch_sorts.specs.Read.{read_equation, read_term}
 use Rattle.larch_sorts.specs.Scope.{Variables, sort_in}
 use Rattle.larch_order.specs.Precedence.{raised, with_status}
 use Rattle.larch_normal_forms.specs.Sides.{Sides, sides_under}
-use Rattle.larch_pairs.specs.Pairs.{critical_pairs}
+use Rattle.larch_critical_pairs.specs.Pairs.{critical_pairs}
 use Rattle.larch_pairs.specs.Unify.{Oversize}
-use Rattle.larch_pairs.specs.declared.pair.Pair.{Pair}
-use Rattle.larch_pairs.specs.declared.pair.Rule.{Rule}
+use Rattle.larch_critical_pairs.specs.declared.pair.Pair.{Pair}
+use Rattle.larch_critical_pairs.specs.declared.pair.Rule.{Rule}
 use Rattle.larch_replay.specs.Facts.{Fact, FactName, FactLetter, Axiom, Lemma, Hypothesis, Derived}
 use Rattle.larch_replay.specs.Plans.{Method, plan, with_found, Cases, Implication, Conjunction, Contradiction, Induction, Partition}
 use Rattle.larch_replay.specs.Commands.{Command, SpelledEquation, Spelling, SpelledSignature, Reference, Instance, placed_equation}

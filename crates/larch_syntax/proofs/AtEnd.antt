@@ -9,15 +9,15 @@ use Rattle.larch_grammar.specs.declared.machine.Frame.{Frame}
 use Rattle.larch_grammar.specs.declared.machine.Frame.TheVariants.{InFields, InStrays, Prefixed, InPostfixes, InInfixes, InEqualities, InConnectives, InParentheses, InList, InIf, InThen, InElse, InLeft, InRight}
 use Rattle.larch_grammar.specs.declared.machine.Listing.TheVariants.{Call, Bracketed}
 use Rattle.larch_grammar.specs.declared.machine.Naming.{Naming}
-use Rattle.larch_grammar.specs.declared.machine.Naming.TheVariants.{Declared, Referred}
+use Rattle.larch_grammar.specs.declared.machine.Naming.TheVariants.{Declared, Referred, Formal, Actual, Renaming, Renamed}
 use Rattle.larch_grammar.specs.declared.machine.State.{State}
 use Rattle.larch_grammar.specs.declared.machine.State.TheVariants.{AfterSymbolForm, AfterMarkerSymbol, NeedMarks, AfterMark, AfterForm, AfterWord, NeedFirst, AfterSymbol, Have}
 use Rattle.larch_grammar.specs.declared.machine.Waiting.TheVariants.{Alone, Item}
 use Rattle.larch_grammar.specs.declared.terminal.Bracket.{Bracket}
 use Rattle.larch_grammar.specs.declared.terminal.Bracket.TheVariants.{Square, Curly}
 use Rattle.larch_grammar.specs.declared.terminal.Terminal.TheVariants.{Other}
-use Rattle.larch_syntax.specs.Outcome.{outcome, stepped}
-use Rattle.larch_syntax.specs.declared.outcome.Outcome.TheVariants.{Stops}
+use Rattle.larch_heads.specs.Outcome.{outcome, stepped}
+use Rattle.larch_heads.specs.declared.outcome.Outcome.TheVariants.{Stops}
 
 hand_nothing : (r : RawTree) (k : List Frame) → hand true r k Other ≡ None
 hand_nothing r [] = refl
@@ -44,6 +44,10 @@ hand_nothing r (InRight p l q (Item j) ∷ k) = refl
 form_nothing : (n : Naming) (f : RawForm) → after_form n f Other ≡ None
 form_nothing (Declared raw fs) f = refl
 form_nothing (Referred c rs) f = refl
+form_nothing (Formal name fs) f = refl
+form_nothing (Actual n) f = refl
+form_nothing (Renaming n) f = refl
+form_nothing (Renamed n f) g = refl
 
 marks_nothing : (n : Naming) (behind : Bool) (b : Bracket) (m : ℕ) (p : Pos) → end_marks n behind b m p Other ≡ None
 marks_nothing n behind Square m p = refl

@@ -23,7 +23,7 @@ use Rattle.larch_grammar.specs.declared.machine.Naming.TheVariants.{Referred}
 use Rattle.larch_grammar.specs.declared.machine.State.TheVariants.{Have}
 use Rattle.larch_grammar.specs.declared.machine.Waiting.{Waiting}
 use Rattle.larch_grammar.specs.declared.machine.Waiting.TheVariants.{Item}
-use Rattle.larch_syntax.specs.Outcome.{closes}
+use Rattle.larch_heads.specs.Outcome.{closes}
 
 pub other_operand : (t : Terminal) (k : List Frame) → ((y : RawWord) → t ≡ Symbol y → ⊥) → ((y : RawWord) → t ≡ Not y → ⊥) → begin_operand t k ≡ begin_post t (InInfixes None ∷ k)
 other_operand (Symbol y) k h i = absurd (h y refl)

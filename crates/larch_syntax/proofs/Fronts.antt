@@ -13,7 +13,7 @@ use Rattle.larch_fronts.specs.declared.mark.Flaw.{Flaw}
 use Rattle.larch_fronts.specs.declared.mark.Flaw.TheVariants as flaw
 use Rattle.larch_raw.specs.declared.equation.RawEquation.{RawEquation}
 use Rattle.larch_raw.specs.declared.equation.RawTrait.{RawTrait}
-use Rattle.larch_syntax.specs.Outcome.{outcome}
+use Rattle.larch_heads.specs.Outcome.{outcome}
 use Rattle.larch_syntax.specs.Read.{counted, fault_at, leads_to, taken_at, with_fault}
 use Rattle.larch_syntax.specs.Refusals.{fault_of, told}
 use Rattle.larch_syntax.specs.declared.read.Taken.{Taken}

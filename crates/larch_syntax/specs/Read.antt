@@ -12,10 +12,10 @@ use Rattle.larch_lexer.specs.TokenList.{TokenList}
 use Rattle.larch_lexer.specs.declared.token.Token.{Token}
 use Rattle.larch_raw.specs.declared.equation.RawEquation.{RawEquation}
 use Rattle.larch_raw.specs.declared.equation.RawTrait.{RawTrait}
-use Rattle.larch_syntax.specs.Outcome.{stepped}
+use Rattle.larch_heads.specs.Outcome.{stepped}
 use Rattle.larch_syntax.specs.Refusals.{fault_of, flaw_told}
-use Rattle.larch_syntax.specs.declared.outcome.Outcome.{Outcome}
-use Rattle.larch_syntax.specs.declared.outcome.Outcome.TheVariants as outcome
+use Rattle.larch_heads.specs.declared.outcome.Outcome.{Outcome}
+use Rattle.larch_heads.specs.declared.outcome.Outcome.TheVariants as outcome
 use Rattle.larch_syntax.specs.declared.read.Taken.{Taken}
 use Rattle.larch_syntax.specs.declared.read.Taken.TheVariants.{On, Stops}
 use Rattle.larch_syntax.specs.declared.refusal.SyntaxRefusal.{SyntaxRefusal}

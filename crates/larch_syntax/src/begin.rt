@@ -5,14 +5,14 @@ ghost use Rattle.larch_grammar.specs.Terms.{opens, opens_head};
 ghost use Rattle.larch_grammar.specs.Trees.{bracket_tree};
 ghost use Rattle.larch_grammar.specs.declared.machine.Frame.TheVariants.{Prefixed};
 ghost use Rattle.larch_grammar.specs.declared.machine.State.TheVariants.{NeedPrefixed};
-ghost use Rattle.larch_syntax.specs.Outcome.{Settles, closes, outcome, settled, stepped};
+ghost use Rattle.larch_heads.specs.Outcome.{Settles, closes, outcome, settled, stepped};
 
-use crate::outcome::{Outcome, at_head, plainly, stops};
 use larch_base::{Memory, Pos};
 use larch_fronts::Mark;
 use larch_grammar::{
     Bracket, Frame, Listing, Stack, State, Terminal, Waiting, bracket_tree, no_terms, position_of,
 };
+use larch_heads::{Outcome, at_head, plainly, stops};
 use larch_raw::{RawTerm, RawWord};
 use std::alloc::Global;
 

@@ -3,12 +3,12 @@ ghost use Rattle.larch_grammar.specs.Machine.{symbol_of};
 ghost use Rattle.larch_grammar.specs.Terms.{chained};
 ghost use Rattle.larch_grammar.specs.Trees.{chain_tree};
 ghost use Rattle.larch_grammar.specs.declared.machine.Frame.TheVariants.{InConnectives, InEqualities, InInfixes, InPostfixes, InStrays};
-ghost use Rattle.larch_syntax.specs.Outcome.{Leaves, Settles, handed};
+ghost use Rattle.larch_heads.specs.Outcome.{Leaves, Settles, handed};
 
-use crate::outcome::{Outcome, at_head};
 use larch_base::Memory;
 use larch_fronts::Mark;
 use larch_grammar::{Frame, Link, Stack, State, Terminal, chain_tree, postfix_tree};
+use larch_heads::{Outcome, at_head};
 use larch_raw::{RawTerm, RawWord};
 use std::alloc::Global;
 

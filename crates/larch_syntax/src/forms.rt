@@ -1,18 +1,20 @@
 ghost use Rattle.std.specs.Prelude.{◌≡◌, IfOk, None};
 ghost use Rattle.larch_grammar.specs.Machine.{end_marks, hand_sig};
 ghost use Rattle.larch_grammar.specs.declared.machine.Naming.TheVariants.{Declared, Referred};
-ghost use Rattle.larch_syntax.specs.Outcome.{Settles, outcome, settled, stepped};
+ghost use Rattle.larch_heads.specs.Outcome.{Settles, outcome, settled, stepped};
 
 use crate::items::begin_item;
-use crate::outcome::{Outcome, outside, stops};
 use larch_base::{Memory, Pos, Sequence};
 use larch_grammar::{
-    Bracket, Clause, FormBracket, Naming, Signing, State, Terminal, bracket_form, field_form,
-    infix_form, plain_form, postfix_form, prefix_form, with_clause, with_declaration,
-    with_reference, with_word,
+    Bracket, Clause, Draft, FormBracket, Naming, Signing, State, Terminal, bracket_form,
+    field_form, infix_form, plain_form, postfix_form, prefix_form, with_actual, with_clause,
+    with_declaration, with_reference, with_word,
+};
+use larch_heads::{
+    Outcome, after_formal, after_plain, after_renamed, after_renaming, outside, stops,
 };
 use larch_raw::{
-    RawDecl, RawForm, RawForms, RawOpRef, RawOpRefs, RawSig, RawTrait, RawWord, RawWords,
+    RawActual, RawDecl, RawForm, RawForms, RawOpRef, RawOpRefs, RawSig, RawWord, RawWords,
 };
 use std::alloc::Global;
 
@@ -200,12 +202,16 @@ pub(crate) fn after_form(
     match naming {
         Naming::Declared(raw, forms) => after_declared(raw, forms, form, terminal),
         Naming::Referred(clause, refs) => after_referred(alloc, clause, refs, form, terminal),
+        Naming::Formal(name, formals) => after_formal(name, formals, form, terminal),
+        Naming::Actual(reference) => after_plain(reference, form, terminal),
+        Naming::Renaming(reference) => Ok(after_renaming(reference, form, terminal)),
+        Naming::Renamed(reference, renamed) => after_renamed(reference, renamed, form, terminal),
     }
 }
 
 // A form of a declaration is read.
 fn after_declared(
-    raw: RawTrait,
+    raw: Draft,
     forms: RawForms,
     form: RawForm,
     terminal: Terminal,
@@ -343,6 +349,11 @@ fn hand_sig(signing: Signing, sig: RawSig) -> Result<State, Memory>
             let sig = Some(sig);
             refs.push(RawOpRef { form, sig })?;
             Ok(State::AfterReference(clause, refs))
+        }
+        Signing::Replacement(reference, renamed, form) => {
+            let actual = RawActual::Replace(renamed, form, Some(sig));
+            let reference = with_actual(reference, actual)?;
+            Ok(State::AfterRename(reference))
         }
     }
 }

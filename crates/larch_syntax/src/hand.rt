@@ -1,17 +1,17 @@
 ghost use Rattle.std.specs.Prelude.{◌≡◌, ◌∷◌, IfOk};
 ghost use Rattle.larch_grammar.specs.declared.machine.Frame.TheVariants.{InFields, InIf, InLeft, InList, InParentheses, InThen};
-ghost use Rattle.larch_syntax.specs.Outcome.{Leaves, Settles, handed, settled, stepped};
+ghost use Rattle.larch_heads.specs.Outcome.{Leaves, Settles, handed, settled, stepped};
 
 use crate::begin::{begin_post, open_bracket, opens};
 use crate::chains::{in_connectives, in_equalities, in_infixes, in_postfixes, in_strays};
 use crate::items::hand_equation;
-use crate::outcome::{Outcome, at_head, plainly, stops};
 use larch_base::{Memory, Pos};
 use larch_grammar::{
     Bracket, Frame, Link, Listing, Stack, State, Terminal, Waiting, bracket_tree, call_tree,
     equation_of, field_tree, formula_of, if_tree, no_terms, postfix_tree, prefix_tree, qualified,
     with_term,
 };
+use larch_heads::{Outcome, at_head, plainly, stops};
 use larch_raw::{RawTerm, RawTerms, RawWord};
 use std::alloc::Global;
 

@@ -3,63 +3,22 @@ ghost use Rattle.larch_grammar.specs.Machine.{begin_part, end_equation, hand_equ
 ghost use Rattle.larch_grammar.specs.Traits.{with_equations};
 ghost use Rattle.larch_grammar.specs.declared.machine.Frame.{Frame};
 ghost use Rattle.larch_grammar.specs.declared.machine.Waiting.TheVariants.{Item};
-ghost use Rattle.larch_syntax.specs.Outcome.{Leaves, Settles, outcome, settled, stepped};
+ghost use Rattle.larch_heads.specs.Outcome.{Leaves, Settles, outcome, settled, stepped};
 
 use crate::begin::{begin_equation, word_frames};
 use crate::forms::begin_form;
 use crate::hand::after_word;
-use crate::outcome::{Outcome, at_head, ends, outside, stops};
 use larch_base::{Memory, Sequence};
 use larch_grammar::{
-    Clause, Naming, OpenItem, State, Terminal, Waiting, Whole, named, with_equations, with_group,
+    Clause, Draft, Naming, OpenItem, State, Terminal, Waiting, Whole, with_equations, with_group,
     with_word,
 };
-use larch_raw::{ClauseKind, RawEquation, RawTrait, RawVars, RawWord, RawWords};
+use larch_heads::{Outcome, at_head, ends, outside, stops};
+use larch_raw::{ClauseKind, RawEquation, RawVars, RawWord, RawWords};
 use std::alloc::Global;
 
-// A name is needed.
-pub(crate) fn at_start(terminal: Terminal) -> Outcome
-    ensures { settled result ≡ stepped State.Start terminal }
-{
-    match terminal {
-        Terminal::Word(name) => outside(State::AfterName(name)),
-        _ => stops(),
-    }
-}
-
-// A name is read.
-pub(crate) fn after_name(name: RawWord, terminal: Terminal) -> Outcome
-    ensures { settled result ≡ stepped (State.AfterName name) terminal }
-{
-    match terminal {
-        Terminal::Colon(_pos) => outside(State::NeedTrait(name)),
-        _ => stops(),
-    }
-}
-
-// A name and `:` are read.
-pub(crate) fn need_trait(alloc: Global, name: RawWord, terminal: Terminal) -> Outcome
-    ensures { settled result ≡ stepped (State.NeedTrait name) terminal }
-{
-    match terminal {
-        Terminal::Trait => outside(State::AfterHead(named(alloc, name))),
-        _ => stops(),
-    }
-}
-
-// The head of a trait is read.
-pub(crate) fn after_head(raw: RawTrait, terminal: Terminal) -> Outcome
-    ensures { settled result ≡ stepped (State.AfterHead raw) terminal }
-{
-    match terminal {
-        Terminal::Introduces => outside(State::InPart(raw)),
-        Terminal::Asserts => outside(State::InItems(raw)),
-        _ => ends(raw),
-    }
-}
-
 // `introduces` or a declaration is read.
-pub(crate) fn in_part(alloc: Global, raw: RawTrait, terminal: Terminal) -> Outcome
+pub(crate) fn in_part(alloc: Global, raw: Draft, terminal: Terminal) -> Outcome
     ensures { settled result ≡ stepped (State.InPart raw) terminal }
 {
     match terminal {
@@ -77,7 +36,7 @@ pub(crate) fn in_part(alloc: Global, raw: RawTrait, terminal: Terminal) -> Outco
 }
 
 // A part, or an item that needs no `;` before it.
-fn begin_part(alloc: Global, raw: RawTrait, terminal: Terminal) -> Outcome
+fn begin_part(alloc: Global, raw: Draft, terminal: Terminal) -> Outcome
     ensures outcome { settled result ≡ outcome (begin_part raw terminal) (Some (Whole.Trait raw)) }
     ensures frames { (frames : List Frame) → Leaves frames result }
 {
@@ -89,7 +48,7 @@ fn begin_part(alloc: Global, raw: RawTrait, terminal: Terminal) -> Outcome
 }
 
 // An equation of an item over no variables, which is its first.
-fn first_of_item(alloc: Global, raw: RawTrait) -> Waiting
+fn first_of_item(alloc: Global, raw: Draft) -> Waiting
     ensures { result ≡ Item (open_item raw [] []) }
 {
     Waiting::Item(OpenItem {
@@ -100,11 +59,7 @@ fn first_of_item(alloc: Global, raw: RawTrait) -> Waiting
 }
 
 // The first token of any item, or a part.
-pub(crate) fn begin_item(
-    alloc: Global,
-    raw: RawTrait,
-    terminal: Terminal,
-) -> Result<Outcome, Memory>
+pub(crate) fn begin_item(alloc: Global, raw: Draft, terminal: Terminal) -> Result<Outcome, Memory>
     ensures { Settles result (stepped (State.InItems raw) terminal) }
 {
     match terminal {
@@ -136,7 +91,7 @@ pub(crate) fn hand_equation(
 }
 
 // The trait with an item that is open no more.
-fn close_item(item: OpenItem) -> Result<RawTrait, Memory>
+fn close_item(item: OpenItem) -> Result<Draft, Memory>
     ensures { IfOk result (λ raw. raw ≡ with_equations item.raw item.variables item.equations) }
 {
     let OpenItem {
@@ -180,7 +135,7 @@ fn behind_equation(
 #[tactic(auto, using(crate::proofs::Defaults::other_first))]
 pub(crate) fn first_word(
     alloc: Global,
-    raw: RawTrait,
+    raw: Draft,
     word: RawWord,
     terminal: Terminal,
 ) -> Result<Outcome, Memory>
@@ -225,7 +180,7 @@ pub(crate) fn word_behind(
 }
 
 // The word that begins a clause is read.
-pub(crate) fn clause_word(raw: RawTrait, sort: RawWord, terminal: Terminal) -> Outcome
+pub(crate) fn clause_word(raw: Draft, sort: RawWord, terminal: Terminal) -> Outcome
     ensures { settled result ≡ stepped (State.ClauseWord raw sort) terminal }
 {
     let kind = match terminal {
@@ -278,7 +233,7 @@ pub(crate) fn after_semicolon(
 // A variable is needed.
 pub(crate) fn need_variable(
     alloc: Global,
-    raw: RawTrait,
+    raw: Draft,
     variables: RawVars,
     terminal: Terminal,
 ) -> Result<Outcome, Memory>
@@ -295,7 +250,7 @@ pub(crate) fn need_variable(
 
 // Names of variables are read.
 pub(crate) fn after_variable(
-    raw: RawTrait,
+    raw: Draft,
     variables: RawVars,
     names: RawWords,
     terminal: Terminal,
@@ -311,7 +266,7 @@ pub(crate) fn after_variable(
 
 // A `,` behind names of variables is read.
 pub(crate) fn need_further_variable(
-    raw: RawTrait,
+    raw: Draft,
     variables: RawVars,
     names: RawWords,
     terminal: Terminal,
@@ -329,7 +284,7 @@ pub(crate) fn need_further_variable(
 
 // The `:` behind names of variables is read.
 pub(crate) fn need_variable_sort(
-    raw: RawTrait,
+    raw: Draft,
     variables: RawVars,
     names: RawWords,
     terminal: Terminal,
@@ -349,7 +304,7 @@ pub(crate) fn need_variable_sort(
 #[tactic(auto, using(crate::proofs::Defaults::other_group))]
 pub(crate) fn after_group(
     alloc: Global,
-    raw: RawTrait,
+    raw: Draft,
     variables: RawVars,
     terminal: Terminal,
 ) -> Result<Outcome, Memory>

@@ -8,7 +8,7 @@ mod chains;
 mod forms;
 mod hand;
 mod items;
-mod outcome;
+pub mod laws;
 mod read;
 mod refusal;
 mod step;

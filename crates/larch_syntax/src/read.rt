@@ -8,12 +8,12 @@ ghost use Rattle.larch_grammar.specs.Machine.{as_equation, as_trait};
 ghost use Rattle.larch_syntax.specs.Read.{MeansFrom, Says, fault_at, taken_at, term_of, trait_of, with_fault};
 ghost use Rattle.larch_syntax.specs.Refusals.{told};
 
-use crate::outcome::Outcome;
 use crate::refusal::{SyntaxRefusal, refusal_of};
 use crate::step::{last, step};
 use larch_base::{Memory, Pos};
 use larch_fronts::{Mark, admit};
 use larch_grammar::{State, Waiting, Whole, terminal_of};
+use larch_heads::Outcome;
 use larch_lexer::{Token, Tokens};
 use larch_raw::{RawEquation, RawTrait};
 use std::alloc::Global;
@@ -54,7 +54,7 @@ fn as_trait(whole: Option<Whole>) -> Option<RawTrait>
     ensures { result ≡ as_trait whole }
 {
     match whole {
-        Some(Whole::Trait(raw)) => Some(raw),
+        Some(Whole::Trait(draft)) => Some(draft.into_raw()),
         _ => None,
     }
 }

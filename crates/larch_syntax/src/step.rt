@@ -1,7 +1,7 @@
 ghost use Rattle.std.specs.Prelude.{◌≡◌, IfOk, None, Option};
 ghost use Rattle.larch_grammar.specs.Machine.{final};
-ghost use Rattle.larch_syntax.specs.Outcome.{Settles, stepped};
-ghost use Rattle.larch_syntax.specs.declared.outcome.Outcome.TheVariants.{Stops};
+ghost use Rattle.larch_heads.specs.Outcome.{Settles, stepped};
+ghost use Rattle.larch_heads.specs.declared.outcome.Outcome.TheVariants.{Stops};
 
 use crate::begin::{
     begin_bracket, begin_equation, begin_operand, begin_post, begin_prefixed, begin_term,
@@ -13,13 +13,16 @@ use crate::forms::{
 };
 use crate::hand::{after_symbol, after_word, hand, need_field, need_sort_of};
 use crate::items::{
-    after_group, after_head, after_name, after_semicolon, after_variable, at_start, begin_item,
-    clause_word, first_word, in_part, need_by, need_further_variable, need_trait, need_variable,
-    need_variable_sort, word_behind,
+    after_group, after_semicolon, after_variable, begin_item, clause_word, first_word, in_part,
+    need_by, need_further_variable, need_variable, need_variable_sort, word_behind,
 };
-use crate::outcome::Outcome;
 use larch_base::Memory;
 use larch_grammar::{State, Terminal, Whole};
+use larch_heads::{
+    Outcome, after_constant, after_field, after_formals, after_head, after_name, after_names,
+    after_ref, after_ref_name, after_rename, at_start, need_constant, need_constants, need_fields,
+    need_further_name, need_name, need_names_sort, need_ref, need_trait, short_word,
+};
 use std::alloc::Global;
 
 // What a token does in a state: it is taken, or the whole ends before it, if there is one.
@@ -66,9 +69,26 @@ fn begin_step(alloc: Global, state: State, terminal: Terminal) -> Result<Outcome
 {
     match state {
         State::Start => Ok(at_start(terminal)),
-        State::AfterName(name) => Ok(after_name(name, terminal)),
-        State::NeedTrait(name) => Ok(need_trait(alloc, name, terminal)),
+        State::AfterName(name) => Ok(after_name(alloc, name, terminal)),
+        State::AfterFormals(name, formals) => Ok(after_formals(name, formals, terminal)),
+        State::NeedTrait(name, formals) => need_trait(alloc, name, formals, terminal),
         State::AfterHead(raw) => Ok(after_head(raw, terminal)),
+        State::ShortWord(raw, sort) => Ok(short_word(raw, sort, terminal)),
+        State::NeedConstants(raw, sort) => Ok(need_constants(alloc, raw, sort, terminal)),
+        State::NeedConstant(raw, sort, words) => need_constant(raw, sort, words, terminal),
+        State::AfterConstant(raw, sort, words) => after_constant(raw, sort, words, terminal),
+        State::NeedFields(raw, kind, sort) => Ok(need_fields(alloc, raw, kind, sort, terminal)),
+        State::NeedName(shorthand) => need_name(alloc, shorthand, terminal),
+        State::AfterNames(shorthand, names) => Ok(after_names(shorthand, names, terminal)),
+        State::NeedFurtherName(shorthand, names) => need_further_name(shorthand, names, terminal),
+        State::NeedNamesSort(shorthand, names) => need_names_sort(shorthand, names, terminal),
+        State::AfterField(shorthand) => after_field(shorthand, terminal),
+        State::NeedRef(raw, assumed) => Ok(need_ref(raw, assumed, terminal)),
+        State::AfterRefName(raw, assumed, name) => after_ref_name(
+            alloc, raw, assumed, name, terminal,
+        ),
+        State::AfterRef(raw, assumed) => Ok(after_ref(raw, assumed, terminal)),
+        State::AfterRename(reference) => after_rename(reference, terminal),
         State::InPart(raw) => Ok(in_part(alloc, raw, terminal)),
         State::NeedForm(naming) => Ok(begin_form(naming, terminal)),
         State::AfterSymbolForm(naming, symbol) => after_symbol_form(

@@ -4,7 +4,7 @@ use larch_lexer::{Tokens, lex_lsl};
 use std::alloc::Global;
 
 // Texts of one line, the code by which each is refused and the column; an empty code for a trait.
-const NEAR_MISSES: [(&str, &str, u32); 32] = [
+const NEAR_MISSES: [(&str, &str, u32); 55] = [
     ("N : trait", "", 0),
     (
         "N : trait introduces z : -> N s , p : N , M -> N introduces q : -> N",
@@ -14,7 +14,7 @@ const NEAR_MISSES: [(&str, &str, u32); 32] = [
     ("N", "SYNTAX", 2),
     ("N trait", "SYNTAX", 3),
     ("of : trait", "SYNTAX", 1),
-    ("N : trait z : -> N", "SYNTAX", 11),
+    ("N : trait z : -> N", "SYNTAX", 13),
     ("N : trait introduces z", "SYNTAX", 23),
     ("N : trait introduces z , : -> N", "SYNTAX", 26),
     ("N : trait introduces z : N , -> N", "SYNTAX", 30),
@@ -49,6 +49,49 @@ const NEAR_MISSES: [(&str, &str, u32); 32] = [
     ("N : trait asserts [ x }", "SYNTAX", 23),
     ("N : trait asserts x . if", "SYNTAX", 23),
     ("N : trait asserts \\forall x y == z", "SYNTAX", 29),
+    ("N ( E , __ + __ , [ __ ] ) : trait", "", 0),
+    ("N ( ) : trait", "SYNTAX", 5),
+    ("N ( E , ) : trait", "SYNTAX", 9),
+    ("N ( E for F ) : trait", "SYNTAX", 7),
+    (
+        "N : trait includes A , B ( c ) C enumeration of x , y assumes D",
+        "",
+        0,
+    ),
+    ("N : trait includes A B", "SYNTAX", 23),
+    ("N : trait assumes A ( b for c : S -> T ) , D", "", 0),
+    ("N : trait assumes A , includes B", "SYNTAX", 23),
+    ("N : trait includes A ( )", "SYNTAX", 24),
+    ("N : trait includes A ( b ) ( c )", "SYNTAX", 28),
+    (
+        "N : trait includes A ( a , b for c , d for e : -> F )",
+        "",
+        0,
+    ),
+    ("N : trait includes A ( a for b , c )", "SYNTAX", 36),
+    (
+        "N : trait includes A ( a for b : S , T -> U , c for d )",
+        "",
+        0,
+    ),
+    (
+        "N : trait includes A ( a for b : S , c for d )",
+        "SYNTAX",
+        40,
+    ),
+    ("N : trait includes A ( a for b for c )", "SYNTAX", 32),
+    ("N : trait includes A ( a : -> B )", "SYNTAX", 26),
+    ("N : trait introduces a : -> N includes A", "SYNTAX", 31),
+    (
+        "N : trait C tuple of x , y : S , z : T U union of a : N",
+        "",
+        0,
+    ),
+    ("N : trait C tuple of x , y", "SYNTAX", 27),
+    ("N : trait C tuple of x : S , : T", "SYNTAX", 30),
+    ("N : trait C union of x : S y", "SYNTAX", 29),
+    ("N : trait C enumeration x", "SYNTAX", 25),
+    ("N : trait C enumeration of x : S", "SYNTAX", 30),
 ];
 
 // Texts, and the number of tokens of the equation at their front.

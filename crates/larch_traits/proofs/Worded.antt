@@ -1,81 +1,73 @@
--- What is lexed and read has the words of its text.
-use Rattle.std.proofs.Common.{◌≡◌, ℕ, Bool, true, false, if◌then◌else◌, IsTrue, List, [], ◌∷◌, Result, Ok, Err, refl, ap, subst}
+-- What is read of files is written with words.
+use Rattle.std.proofs.Common.{◌≡◌, ℕ, Bool, true, false, cond, List, [], ◌∷◌, Option, Some, None, Result, Ok, Err, refl}
+use Rattle.std.specs.Prelude.{bytes_eq, fold}
+use Rattle.std.specs.Map.{lookup}
 use Rattle.std.specs.Result.{result_map_both}
-use Rattle.larch_base.specs.declared.code.Code.TheVariants.{Lex, TraitName}
-use Rattle.larch_items.specs.Steps.{after}
-use Rattle.std.proofs.lemmas.List.Elements.{All-nil, All-cons}
-use Rattle.std.specs.Str.{bytes_eq}
+use Rattle.indexmap.specs.IndexMap.{insert_entry}
+use Rattle.larch_base.specs.FileNames.{is_trait_file, stem_of}
+use Rattle.larch_base.specs.declared.code.Code.TheVariants.{Lex}
 use Rattle.larch_base.specs.declared.fault.Fault.{Fault}
-use Rattle.larch_base.specs.declared.position.Pos.{Pos}
 use Rattle.larch_lexer.specs.Lexing.{lexed}
-use Rattle.larch_lexer.specs.TokenList.{TokenList}
-use Rattle.larch_lexer.specs.TokenTable.{has_form, LexAnswer, with_tokens, Lexes, at_end, skips_blank, skips_comment, takes_token, no_token}
-use Rattle.larch_lexer.specs.declared.token.Token.{Token}
-use Rattle.larch_lexer.proofs.OneAnswer.{lexes_given}
-use Rattle.larch_fronts.specs.declared.mark.Flaw.{Flaw}
-use Rattle.larch_grammar.specs.Answers.{trait_answer}
-use Rattle.larch_grammar.specs.WordTokens.{IsWordToken, AreWordTokens}
-use Rattle.larch_grammar.proofs.Law.{trait_law}
-use Rattle.larch_grammar.proofs.Words.{trait_worded}
+use Rattle.larch_lexer.specs.TokenTable.{LexAnswer}
 use Rattle.larch_raw.specs.Worded.{WordedTrait}
 use Rattle.larch_raw.specs.declared.equation.RawTrait.{RawTrait}
-use Rattle.larch_syntax.specs.Read.{with_fault, trait_of}
-use Rattle.larch_items.specs.Presentation.{presentation_of}
-use Rattle.larch_term.specs.declared.statement.Theory.{Theory}
-use Rattle.larch_traits.specs.TraitFile.{presented, tokens_presented, trait_presented}
+use Rattle.larch_syntax.specs.Read.{trait_of}
+use Rattle.larch_syntax.proofs.Words.{lexed_words, read_words}
+use Rattle.larch_items.specs.Steps.{after}
+use Rattle.larch_flat.specs.Laws.{AreWorded}
+use Rattle.larch_sources.specs.Sources.{Table as Sources, files_in, put_text}
+use Rattle.larch_traits.specs.Files.{Table, names_of, text_of}
+use Rattle.larch_traits.specs.Reading.{read_files, read_text, with_file}
 
--- the words among the tokens that are answered are words
-abbrev WordsIn : LexAnswer → Type 0
-WordsIn (Ok all) = AreWordTokens all.tokens
-WordsIn (Err position) = Unit {0}
+-- what is read is written with words
+abbrev IsWorded : Result RawTrait Fault → Type 0
+IsWorded text = (raw : RawTrait) → text ≡ Ok raw → WordedTrait raw
 
-one_more_word : (token : Token) (answer : LexAnswer) → IsWordToken token → WordsIn answer → WordsIn (with_tokens (token ∷ []) answer)
-one_more_word token (Ok all) w ws = All-cons IsWordToken token all.tokens w ws
-one_more_word token (Err position) w ws = ws
-
-words_in : {position : Pos} {text : List ℕ} {answer : LexAnswer} → Lexes position text answer → WordsIn answer
-words_in (at_end position) = All-nil IsWordToken
-words_in (skips_blank blank rest) = words_in rest
-words_in (skips_comment words rest inside ends on) = words_in on
-words_in (takes_token {position} {answer} kind front behind longest rest) =
-    one_more_word (record { kind = kind; text = front; pos = position }) answer
-    (λ e. subst (λ k. IsTrue (has_form k front behind)) e longest.has_it) (words_in rest)
-words_in (no_token position byte rest blank percent none) = record {}
-
--- the words among the tokens of a text are words
-pub lexed_words : (text : List ℕ) (tokens : TokenList) → lexed text ≡ Ok tokens → AreWordTokens tokens.tokens
-lexed_words text tokens e = words_in (lexes_given text (Ok tokens) e)
-
-read_from : (answer : Result RawTrait (Flaw × Pos)) (raw : RawTrait) → with_fault answer ≡ Ok raw → answer ≡ Ok raw
-read_from (Ok other) raw e = let p : other ≡ raw = cc in ap Ok p
-read_from (Err found) raw e = absurd cc
-
--- what is read of them is written with words
-pub read_words : (tokens : TokenList) (raw : RawTrait) → AreWordTokens tokens.tokens → trait_of tokens ≡ Ok raw → WordedTrait raw
-read_words tokens raw ws e =
-    let means = (trait_law tokens (Ok raw)).0 (read_from (trait_answer tokens) raw e) in
-    trait_worded tokens.tokens raw ws means.1
-
--- what is read, by the answer that a trait gives: presented where its name is the stem
-named : (same : Bool) (answer : Result Theory Fault) (fault : Fault) (t : Theory)
-    → (if same then answer else Err fault) ≡ Ok t → answer ≡ Ok t
-named true answer fault t e = e
-named false answer fault t e = absurd cc
-
--- what a trait file presents is presented by a raw trait that is written with words
-pub presented_words : (stem text : List ℕ) (t : Theory) → presented stem text ≡ Ok t
-    → (raw : RawTrait) × WordedTrait raw × (presentation_of raw ≡ Ok t)
-presented_words stem text t e = by_tokens stem text t (lexed text) refl e
+text_worded : (text : List ℕ) → IsWorded (read_text text)
+text_worded text raw e = by_tokens (lexed text) refl e
   where
-    by_raw : (stem : List ℕ) (t : Theory) (tokens : TokenList) → AreWordTokens tokens.tokens
-        → (answer : Result RawTrait Fault) → trait_of tokens ≡ answer → after answer (trait_presented stem) ≡ Ok t
-        → (raw : RawTrait) × WordedTrait raw × (presentation_of raw ≡ Ok t)
-    by_raw stem t tokens ws (Ok raw) f e =
-        (raw, read_words tokens raw ws f, named (bytes_eq raw.name.name stem) (presentation_of raw) (record { pos = raw.name.pos; code = TraitName }) t e)
-    by_raw stem t tokens ws (Err fault) f e = absurd cc
+    by_tokens : (answer : LexAnswer) → lexed text ≡ answer → after (result_map_both (λ tokens. tokens) (λ pos. record { pos = pos; code = Lex }) answer) trait_of ≡ Ok raw → WordedTrait raw
+    by_tokens (Ok tokens) f e = read_words tokens raw (lexed_words text tokens f) e
+    by_tokens (Err position) f e = absurd cc
 
-    by_tokens : (stem text : List ℕ) (t : Theory) (answer : LexAnswer) → lexed text ≡ answer
-        → after (result_map_both (λ tokens. tokens) (λ pos. record { pos = pos; code = Lex }) answer) (tokens_presented stem) ≡ Ok t
-        → (raw : RawTrait) × WordedTrait raw × (presentation_of raw ≡ Ok t)
-    by_tokens stem text t (Ok tokens) f e = by_raw stem t tokens (lexed_words text tokens f) (trait_of tokens) refl e
-    by_tokens stem text t (Err position) f e = absurd cc
+-- all that is read is
+abbrev AreAllWorded : Sources → Type 0
+AreAllWorded [] = Unit {0}
+AreAllWorded (source ∷ sources) = IsWorded source.1 × AreAllWorded sources
+
+first_worded : (same : Bool) (text : Result RawTrait Fault) (rest : Option (Result RawTrait Fault)) (raw : RawTrait) → IsWorded text → (rest ≡ Some (Ok raw) → WordedTrait raw)
+    → cond same (Some text) rest ≡ Some (Ok raw) → WordedTrait raw
+first_worded true text rest raw w k e = w raw cc
+first_worded false text rest raw w k e = k e
+
+found_worded : (sources : Sources) (name : List ℕ) (raw : RawTrait) → AreAllWorded sources → lookup (bytes_eq name) sources ≡ Some (Ok raw) → WordedTrait raw
+found_worded [] name raw ws e = absurd cc
+found_worded (source ∷ sources) name raw ws e =
+    first_worded (bytes_eq name source.0) source.1 (lookup (bytes_eq name) sources) raw ws.0 (found_worded sources name raw ws.1) e
+
+put_first : (same : Bool) (source : List ℕ × Result RawTrait Fault) (sources next : Sources) (text : Result RawTrait Fault) → IsWorded source.1 → AreAllWorded sources → IsWorded text
+    → AreAllWorded next → AreAllWorded (cond same ((source.0, text) ∷ sources) (source ∷ next))
+put_first true source sources next text s ws w ns = (w, ws)
+put_first false source sources next text s ws w ns = (s, ns)
+
+put_worded : (sources : Sources) (name : List ℕ) (text : Result RawTrait Fault) → AreAllWorded sources → IsWorded text → AreAllWorded (insert_entry bytes_eq sources name text)
+put_worded [] name text ws w = (w, tt)
+put_worded (source ∷ sources) name text ws w =
+    put_first (bytes_eq name source.0) source sources (insert_entry bytes_eq sources name text) text ws.0 ws.1 w (put_worded sources name text ws.1 w)
+
+file_worded : (sources : Sources) (name : List ℕ) (text : Option (List ℕ)) → AreAllWorded sources → AreAllWorded (with_file sources name text)
+file_worded sources name None ws = ws
+file_worded sources name (Some text) ws = by_kind (is_trait_file name)
+  where
+    by_kind : (is_trait : Bool) → AreAllWorded (cond is_trait (put_text sources (stem_of name) (read_text text)) sources)
+    by_kind true = put_worded sources (stem_of name) (read_text text) ws (text_worded text)
+    by_kind false = ws
+
+files_worded : (files : Table) (names : List (List ℕ)) (sources : Sources) → AreAllWorded sources → AreAllWorded (fold (λ read name. with_file read name (text_of files name)) sources names)
+files_worded files [] sources ws = ws
+files_worded files (name ∷ names) sources ws =
+    files_worded files names (with_file sources name (text_of files name)) (file_worded sources name (text_of files name) ws)
+
+-- what is read of files is written with words
+pub read_worded : (files : Table) → AreWorded (files_in (read_files files))
+read_worded files name raw e = found_worded (read_files files) name raw (files_worded files (names_of files) [] tt) e

@@ -1,14 +1,13 @@
-//! The files of a session, and what one trait file presents.
+//! The files of a session, what is read of them, and their flat traits.
 #![tactic(auto)]
 
 mod files;
-mod laws;
-mod trait_file;
+pub mod laws;
+mod reading;
 
 pub use files::Files;
 pub use larch_items::TraitRefusal;
-pub use laws::file_presents_words;
-pub use trait_file::present_file;
+pub use reading::{read_files, read_text};
 
 #[cfg(test)]
 mod tests;

@@ -19,11 +19,11 @@ fn text(alloc: Global, bytes: &[u8]) -> Result<Bytes, NameRefusal>
     Ok(text)
 }
 
-// What is wrong with a trait file of the stem `One`.
+// What is wrong with a text.
 fn fault(alloc: Global, text: &[u8]) -> Option<TraitRefusal>
     requires { length text.now ≤ MAX_FILE_BYTES }
 {
-    present_file(alloc, b"One", text).err()
+    read_text(alloc, text).err()
 }
 
 fn wrong(line: u32, column: u32, code: Code) -> Option<TraitRefusal> {
@@ -54,23 +54,28 @@ fn names_are_in_byte_order(rt: HostRuntime) -> Result<(), Fail> {
 }
 
 #[test]
-fn the_first_fault_is_told(rt: HostRuntime) -> Result<(), Fail> {
+fn the_first_fault_of_a_text_is_told(rt: HostRuntime) -> Result<(), Fail> {
     assert_eq!(rt; fault(rt.alloc(), b"One: trait"), None);
     assert_eq!(rt;
         fault(rt.alloc(), b"One: trait a_ introduces"),
         wrong(1, 13, Code::Lex)
     );
     assert_eq!(rt;
-        fault(rt.alloc(), b"Two: trait introduces f"),
+        fault(rt.alloc(), b"One: trait introduces f"),
         wrong(1, 24, Code::Syntax)
     );
-    assert_eq!(rt;
-        fault(rt.alloc(), b"Two: trait introduces true: -> Bool"),
-        wrong(1, 1, Code::TraitName)
-    );
-    assert_eq!(rt;
-        fault(rt.alloc(), b"One: trait introduces true: -> Bool"),
-        wrong(1, 23, Code::BuiltIn)
-    );
+    Ok(())
+}
+
+#[test]
+fn trait_files_are_read(rt: HostRuntime) -> Result<(), Fail> {
+    let mut files = Files::new(rt.alloc());
+    files.insert(
+        name(rt.alloc(), b"One.lsl")?,
+        text(rt.alloc(), b"One: trait")?,
+    )?;
+    files.insert(name(rt.alloc(), b"One.lp")?, text(rt.alloc(), b"")?)?;
+    let sources = read_files(rt.alloc(), &files)?;
+    assert_eq!(rt; sources.len(), 1);
     Ok(())
 }

@@ -1,8 +1,8 @@
 -- The line's command, and what is done at it.
 use Rattle.std.proofs.Common.{◌≡◌, Some, None, sym, ap, ◌∙◌, arith}
-use Rattle.larch_main.specs.declared.command.Command.TheVariants.{Put, Quit, Report, Skip}
+use Rattle.larch_main.specs.declared.command.Command.TheVariants.{Drop, Put, Quit, Report, Skip}
 use Rattle.larch_main.specs.Command.{command_of}
-use Rattle.larch_main.proofs.Steps.{none_moves, skip_moves, quit_moves, report_moves, put_too_large, put_passes}
+use Rattle.larch_main.proofs.Steps.{none_moves, skip_moves, drop_moves, quit_moves, report_moves, put_too_large, put_passes}
 use Rattle.larch_main.proofs.progress.carry_out.Goals as goal
 
 pub returns-in-None-clause-moves : goal.returns-in-None-clause-moves
@@ -19,6 +19,11 @@ pub returns-in-Some-Quit-clause-moves : goal.returns-in-Some-Quit-clause-moves
 returns-in-Some-Quit-clause-moves g c =
     let is : command_of c.args.line.now ≡ Some Quit = sym c.in_ok-command_of.ensures ∙ c.in-Some-Quit.is ∙ ap Some c.in-Some-Quit.field-0-is in
     quit_moves c.args.progress.now _ c.args.before (command_of c.args.line.now) c.ended.result is c.ended.ensures
+
+pub returns-in-Some-Drop-clause-moves : goal.returns-in-Some-Drop-clause-moves
+returns-in-Some-Drop-clause-moves g c =
+    let is : command_of c.args.line.now ≡ Some (Drop c.in-Some-Drop.name) = sym c.in_ok-command_of.ensures ∙ c.in-Some-Drop.is ∙ ap Some c.in-Some-Drop.field-0-is in
+    rw is (drop_moves c.args.progress.now c.remove.new.self _ c.args.before c.in-Some-Drop.name c.new-in-Some-Drop.result c.remove.ensures c.new-in-Some-Drop.ensures)
 
 pub returns-in-Some-Report-clause-moves : goal.returns-in-Some-Report-clause-moves
 returns-in-Some-Report-clause-moves g c =

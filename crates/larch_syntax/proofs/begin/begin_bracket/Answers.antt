@@ -2,7 +2,7 @@ use Rattle.std.proofs.Common.{◌≡◌, ◌∷◌, [], false, None, ap, sym, su
 use Rattle.larch_grammar.specs.Machine.{begin_term}
 use Rattle.larch_grammar.specs.declared.machine.Frame.TheVariants.{InFields, InList}
 use Rattle.larch_grammar.specs.declared.machine.Listing.TheVariants.{Bracketed}
-use Rattle.larch_syntax.specs.Outcome.{Settles, closes, outcome}
+use Rattle.larch_heads.specs.Outcome.{Settles, closes, outcome}
 use Rattle.larch_syntax.proofs.Defaults.{bracket_open}
 use Rattle.larch_syntax.proofs.begin.begin_bracket.Goals as goal
 

@@ -1,7 +1,7 @@
 use Rattle.std.proofs.Common.{ap, sym, subst, ◌∙◌}
 use Rattle.larch_grammar.specs.Machine.{final}
 use Rattle.larch_grammar.specs.declared.machine.State.TheVariants.{AfterReference, InItems}
-use Rattle.larch_syntax.specs.Outcome.{Settles, outcome, stepped}
+use Rattle.larch_heads.specs.Outcome.{Settles, outcome, stepped}
 use Rattle.larch_syntax.proofs.Defaults.{other_reference}
 use Rattle.larch_syntax.proofs.forms.after_reference.Goals as goal
 

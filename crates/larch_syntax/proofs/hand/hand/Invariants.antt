@@ -1,5 +1,5 @@
 use Rattle.std.proofs.Common.{◌≡◌, length}
-use Rattle.larch_syntax.specs.Outcome.{handed}
+use Rattle.larch_heads.specs.Outcome.{handed}
 use Rattle.larch_syntax.proofs.hand.hand.Given as goal
 
 -- what is handed on comes to what was handed first

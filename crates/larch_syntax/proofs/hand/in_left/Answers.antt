@@ -1,7 +1,7 @@
 use Rattle.std.proofs.Common.{ap, sym, subst, ◌∙◌}
 use Rattle.larch_grammar.specs.Machine.{end_equation, hand_equation}
 use Rattle.larch_grammar.specs.Terms.{formula_of}
-use Rattle.larch_syntax.specs.Outcome.{Settles, outcome as outcome_by}
+use Rattle.larch_heads.specs.Outcome.{Settles, outcome as outcome_by}
 use Rattle.larch_syntax.proofs.Defaults.{other_left}
 use Rattle.larch_syntax.proofs.hand.in_left.Goals as goal
 

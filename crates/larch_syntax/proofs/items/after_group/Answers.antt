@@ -1,7 +1,7 @@
 use Rattle.std.proofs.Common.{None, ap, sym, subst, ◌∙◌}
 use Rattle.larch_grammar.specs.Machine.{begin_equation, open_item}
 use Rattle.larch_grammar.specs.declared.machine.Waiting.TheVariants.{Item}
-use Rattle.larch_syntax.specs.Outcome.{Settles, outcome}
+use Rattle.larch_heads.specs.Outcome.{Settles, outcome}
 use Rattle.larch_syntax.proofs.Defaults.{other_group}
 use Rattle.larch_syntax.proofs.items.after_group.Goals as goal
 

@@ -1,7 +1,7 @@
 use Rattle.std.proofs.Common.{ap, sym, subst, ◌∙◌}
 use Rattle.larch_grammar.specs.Machine.{final, word_frames}
 use Rattle.larch_grammar.specs.declared.machine.State.TheVariants.{AfterWord, FirstWord}
-use Rattle.larch_syntax.specs.Outcome.{Settles, outcome, stepped}
+use Rattle.larch_heads.specs.Outcome.{Settles, outcome, stepped}
 use Rattle.larch_syntax.proofs.Defaults.{other_first}
 use Rattle.larch_syntax.proofs.items.first_word.Goals as goal
 

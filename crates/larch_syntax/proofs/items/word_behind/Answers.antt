@@ -1,7 +1,7 @@
 use Rattle.std.proofs.Common.{ap, sym, subst}
 use Rattle.larch_grammar.specs.Machine.{final}
 use Rattle.larch_grammar.specs.declared.machine.State.TheVariants.{WordBehind}
-use Rattle.larch_syntax.specs.Outcome.{Settles, outcome}
+use Rattle.larch_heads.specs.Outcome.{Settles, outcome}
 use Rattle.larch_syntax.proofs.Defaults.{other_behind}
 use Rattle.larch_syntax.proofs.items.word_behind.Goals as goal
 

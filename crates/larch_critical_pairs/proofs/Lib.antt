@@ -1,0 +1,7 @@
+-- Lemmas.
+pub mod Different
+pub mod Every
+pub mod Listing
+pub mod Overlapping
+pub mod Pairing
+pub mod Sorting

@@ -1,0 +1,17 @@
+//! Critical pairs of rules.
+//!
+//! The calls go down a term by recursion, so a term that is 5,000 deep takes 4 MB of stack at most.
+#![tactic(auto)]
+
+pub mod examples;
+mod inner;
+pub mod laws;
+mod naming;
+mod pair;
+mod pairs;
+
+pub use pair::{Pair, Pairs, Place, Rule};
+pub use pairs::critical_pairs;
+
+#[cfg(test)]
+mod tests;

@@ -1,0 +1,4 @@
+pub mod Evaluating
+pub mod Orders
+pub mod Owned
+pub mod Steps

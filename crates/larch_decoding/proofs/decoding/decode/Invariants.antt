@@ -1,0 +1,15 @@
+use Rattle.std.proofs.Common.{◌≡◌, ◌<◌, [], All, length, map}
+use Rattle.std.specs.Prelude.{reverse}
+use Rattle.larch_lines.specs.Context.{find_symbol}
+use Rattle.larch_pool.specs.Pooled.{tree_in, Grows}
+use Rattle.larch_past.specs.Past.{history_of}
+use Rattle.larch_decoding.specs.Postorder.{postorder, values_after}
+use Rattle.larch_decoding.proofs.decoding.decode.Given as goal
+
+abbrev pub invariant-loop : goal.invariant-loop
+invariant-loop l = record {
+  grows : Grows l.fn.pool l.pool;
+  within : All (λ n. n < length l.pool.trees) l.values.items;
+  value : values_after (find_symbol l.theory (history_of l.fn.pool l.past)) (map (λ c. c.now) (reverse l.order.items)) (map (tree_in l.pool.trees) l.values.items)
+      ≡ values_after (find_symbol l.theory (history_of l.fn.pool l.past)) (postorder l.term) [];
+}

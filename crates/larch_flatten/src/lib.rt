@@ -1,0 +1,15 @@
+//! The flat traits of files that refer to one another: each is worked out once, when it is first asked for.
+//!
+//! References are followed by recursion, at most as deep as there are files, 256 in a session; a level takes a few
+//! kilobytes of stack at most.
+#![tactic(auto)]
+
+mod flat_traits;
+mod flattening;
+mod taking;
+
+pub use flat_traits::FlatTraits;
+pub use flattening::flatten;
+
+#[cfg(test)]
+mod tests;

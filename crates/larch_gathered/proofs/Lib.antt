@@ -1,0 +1,4 @@
+-- Lemmas.
+pub mod Growing
+pub mod Kept
+pub mod Leaving

@@ -1,0 +1,23 @@
+use larch_marked::MarkedStatements;
+use larch_term::{Operators, Statements};
+use std::marker::Model;
+
+/// All that a flat trait gathers: its operators, its statements with the mark of those that are only assumed, and the
+/// statements that are to be discharged. Contracts see it as what is gathered.
+#[derive(Drop)]
+pub struct Flat {
+    pub operators: Operators,
+    pub marked: MarkedStatements,
+    pub discharge: Statements,
+}
+
+impl Model for Flat {
+    ghost use Rattle.larch_flat.specs.Gathered.{Gathered};
+    ghost use Rattle.larch_gathered.specs.FlatCode.{coded_gathered};
+
+    ghost Value = { Gathered };
+
+    ghost coded = { coded_gathered };
+
+    ghost view = { λ flat. record { operators = flat.operators; marked = flat.marked; discharge = flat.discharge } };
+}

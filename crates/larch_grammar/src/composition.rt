@@ -1,0 +1,129 @@
+ghost use Rattle.std.specs.Prelude.{◌≡◌, ◌++◌, [], IfOk};
+ghost use Rattle.larch_grammar.specs.Composition.{close_fields, close_ref, fields_at, open_fields, open_ref, shorthand_of, with_actual, with_fields, with_shorthand};
+
+use crate::draft::Draft;
+use crate::machine::{FieldsKind, OpenFields, OpenRef};
+use crate::traits::copy_word;
+use larch_base::{Memory, Sequence};
+use larch_raw::{
+    RawActual, RawField, RawFields, RawRef, RawReference, RawShorthand, RawWord, RawWords,
+};
+use std::alloc::Global;
+
+/// The trait with a shorthand more.
+pub fn with_shorthand(raw: Draft, shorthand: RawShorthand) -> Result<Draft, Memory>
+    ensures { IfOk result (λ more. more ≡ with_shorthand raw shorthand) }
+{
+    let mut draft = raw;
+    draft.raw.shorthands.push(shorthand)?;
+    Ok(draft)
+}
+
+/// A tuple or a union with no fields yet.
+pub fn open_fields(alloc: Global, raw: Draft, kind: FieldsKind, sort: RawWord) -> OpenFields
+    ensures { result ≡ open_fields raw kind sort [] }
+{
+    OpenFields {
+        raw,
+        kind,
+        sort,
+        fields: Sequence::new(alloc),
+    }
+}
+
+/// The same with the fields of these names at a sort too.
+pub fn with_fields(
+    shorthand: OpenFields,
+    names: &RawWords,
+    sort: &RawWord,
+) -> Result<OpenFields, Memory>
+    ensures { IfOk result (λ more. more ≡ with_fields shorthand (fields_at names.now sort.now)) }
+{
+    let OpenFields {
+        raw,
+        kind,
+        sort: own,
+        fields,
+    } = shorthand;
+    let fields = more_fields(fields, names, sort)?;
+    Ok(OpenFields {
+        raw,
+        kind,
+        sort: own,
+        fields,
+    })
+}
+
+// The fields with those of these names at a sort.
+fn more_fields(fields: RawFields, names: &RawWords, sort: &RawWord) -> Result<RawFields, Memory>
+    ensures { IfOk result (λ more. more ≡ fields ++ fields_at names.now sort.now) }
+{
+    let mut fields = fields;
+    for name in names.as_slice() {
+        let name = copy_word(name)?;
+        let sort = copy_word(sort)?;
+        fields.push(RawField { name, sort })?;
+    }
+    Ok(fields)
+}
+
+// A tuple or a union.
+fn shorthand_of(kind: FieldsKind, sort: RawWord, fields: RawFields) -> RawShorthand
+    ensures { result ≡ shorthand_of kind sort fields }
+{
+    match kind {
+        FieldsKind::Tuple => RawShorthand::Tuple(sort, fields),
+        FieldsKind::Union => RawShorthand::Union(sort, fields),
+    }
+}
+
+/// The trait with a tuple or a union more.
+pub fn close_fields(shorthand: OpenFields) -> Result<Draft, Memory>
+    ensures { IfOk result (λ raw. raw ≡ close_fields shorthand) }
+{
+    let OpenFields {
+        raw,
+        kind,
+        sort,
+        fields,
+    } = shorthand;
+    let raw = with_shorthand(raw, shorthand_of(kind, sort, fields))?;
+    Ok(raw)
+}
+
+/// A reference with no actuals yet.
+pub fn open_ref(alloc: Global, raw: Draft, assumed: bool, name: RawWord) -> OpenRef
+    ensures { result ≡ open_ref raw assumed name [] }
+{
+    OpenRef {
+        raw,
+        assumed,
+        name,
+        actuals: Sequence::new(alloc),
+    }
+}
+
+/// The same with an actual more.
+pub fn with_actual(reference: OpenRef, actual: RawActual) -> Result<OpenRef, Memory>
+    ensures { IfOk result (λ more. more ≡ with_actual reference actual) }
+{
+    let mut reference = reference;
+    reference.actuals.push(actual)?;
+    Ok(reference)
+}
+
+/// The trait with a reference more.
+pub fn close_ref(reference: OpenRef) -> Result<Draft, Memory>
+    ensures { IfOk result (λ raw. raw ≡ close_ref reference) }
+{
+    let OpenRef {
+        raw,
+        assumed,
+        name,
+        actuals,
+    } = reference;
+    let mut draft = raw;
+    let target = RawRef { name, actuals };
+    draft.raw.references.push(RawReference { assumed, target })?;
+    Ok(draft)
+}

@@ -1,0 +1,13 @@
+use Rattle.std.proofs.Common.{ap, sym, ◌∙◌}
+use Rattle.larch_grammar.specs.Machine.{final}
+use Rattle.larch_grammar.specs.declared.machine.State.TheVariants.{AfterField, AfterHead}
+use Rattle.larch_heads.specs.Outcome.{outcome, stepped}
+use Rattle.larch_heads.proofs.Defaults.{other_field}
+use Rattle.larch_heads.proofs.shorthands.after_field.Goals as goal
+
+pub returns-in_ok-raw-in_default : goal.returns-in_ok-raw-in_default
+returns-in_ok-raw-in_default c =
+    c.after_head.ensures
+    ∙ ap (λ raw. stepped (AfterHead raw) c.args.terminal) c.in_ok-raw-in_default.ensures
+    ∙ ap (λ taking. outcome taking (final (AfterField c.args.shorthand)))
+    (sym (other_field c.args.shorthand c.args.terminal c.in_default.not-Comma))

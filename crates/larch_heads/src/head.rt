@@ -1,0 +1,92 @@
+ghost use Rattle.std.specs.Prelude.{◌≡◌};
+ghost use Rattle.larch_grammar.specs.declared.machine.Naming.TheVariants.{Formal};
+ghost use Rattle.larch_heads.specs.Outcome.{Settles, settled, stepped};
+
+use crate::outcome::{Outcome, ends, outside, stops};
+use larch_base::{Memory, Sequence};
+use larch_grammar::{Draft, Naming, State, Terminal, named};
+use larch_raw::{RawForm, RawForms, RawWord};
+use std::alloc::Global;
+
+/// A name is needed.
+pub fn at_start(terminal: Terminal) -> Outcome
+    ensures { settled result ≡ stepped State.Start terminal }
+{
+    match terminal {
+        Terminal::Word(name) => outside(State::AfterName(name)),
+        _ => stops(),
+    }
+}
+
+/// A name is read.
+pub fn after_name(alloc: Global, name: RawWord, terminal: Terminal) -> Outcome
+    ensures { settled result ≡ stepped (State.AfterName name) terminal }
+{
+    match terminal {
+        Terminal::Colon(_pos) => outside(State::NeedTrait(name, Sequence::new(alloc))),
+        Terminal::Open(_pos) => {
+            outside(State::NeedForm(Naming::Formal(name, Sequence::new(alloc))))
+        }
+        _ => stops(),
+    }
+}
+
+/// A formal is read, behind these. It fails where memory runs out.
+pub fn after_formal(
+    name: RawWord,
+    formals: RawForms,
+    form: RawForm,
+    terminal: Terminal,
+) -> Result<Outcome, Memory>
+    ensures { Settles result (stepped (State.AfterForm (Formal name formals) form) terminal) }
+{
+    let mut formals = formals;
+    formals.push(form)?;
+    match terminal {
+        Terminal::Comma => Ok(outside(State::NeedForm(Naming::Formal(name, formals)))),
+        Terminal::Close => Ok(outside(State::AfterFormals(name, formals))),
+        _ => Ok(stops()),
+    }
+}
+
+/// A name with its formals is read.
+pub fn after_formals(name: RawWord, formals: RawForms, terminal: Terminal) -> Outcome
+    ensures { settled result ≡ stepped (State.AfterFormals name formals) terminal }
+{
+    match terminal {
+        Terminal::Colon(_pos) => outside(State::NeedTrait(name, formals)),
+        _ => stops(),
+    }
+}
+
+/// The same and `:` are read. It fails where memory runs out.
+pub fn need_trait(
+    alloc: Global,
+    name: RawWord,
+    formals: RawForms,
+    terminal: Terminal,
+) -> Result<Outcome, Memory>
+    ensures { Settles result (stepped (State.NeedTrait name formals) terminal) }
+{
+    match terminal {
+        Terminal::Trait => {
+            let raw = named(alloc, name, formals)?;
+            Ok(outside(State::AfterHead(raw)))
+        }
+        _ => Ok(stops()),
+    }
+}
+
+/// The head of a trait is read, or a shorthand or references of it.
+pub fn after_head(raw: Draft, terminal: Terminal) -> Outcome
+    ensures { settled result ≡ stepped (State.AfterHead raw) terminal }
+{
+    match terminal {
+        Terminal::Word(word) => outside(State::ShortWord(raw, word)),
+        Terminal::Includes => outside(State::NeedRef(raw, false)),
+        Terminal::Assumes => outside(State::NeedRef(raw, true)),
+        Terminal::Introduces => outside(State::InPart(raw)),
+        Terminal::Asserts => outside(State::InItems(raw)),
+        _ => ends(raw),
+    }
+}

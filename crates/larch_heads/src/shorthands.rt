@@ -1,0 +1,163 @@
+ghost use Rattle.std.specs.Prelude.{◌≡◌};
+ghost use Rattle.larch_heads.specs.Outcome.{Settles, settled, stepped};
+
+use crate::head::after_head;
+use crate::outcome::{Outcome, outside, stops};
+use larch_base::{Memory, Sequence};
+use larch_grammar::{
+    Draft, FieldsKind, OpenFields, State, Terminal, close_fields, open_fields, with_fields,
+    with_shorthand, with_word,
+};
+use larch_raw::{RawShorthand, RawWord, RawWords};
+use std::alloc::Global;
+
+/// The word that begins a shorthand is read.
+pub fn short_word(raw: Draft, sort: RawWord, terminal: Terminal) -> Outcome
+    ensures { settled result ≡ stepped (State.ShortWord raw sort) terminal }
+{
+    match terminal {
+        Terminal::Enumeration => outside(State::NeedConstants(raw, sort)),
+        Terminal::Tuple => outside(State::NeedFields(raw, FieldsKind::Tuple, sort)),
+        Terminal::Union => outside(State::NeedFields(raw, FieldsKind::Union, sort)),
+        _ => stops(),
+    }
+}
+
+/// `enumeration` is read.
+pub fn need_constants(alloc: Global, raw: Draft, sort: RawWord, terminal: Terminal) -> Outcome
+    ensures { settled result ≡ stepped (State.NeedConstants raw sort) terminal }
+{
+    match terminal {
+        Terminal::Of => outside(State::NeedConstant(raw, sort, Sequence::new(alloc))),
+        _ => stops(),
+    }
+}
+
+/// A constant is needed, behind these. It fails where memory runs out.
+pub fn need_constant(
+    raw: Draft,
+    sort: RawWord,
+    constants: RawWords,
+    terminal: Terminal,
+) -> Result<Outcome, Memory>
+    ensures { Settles result (stepped (State.NeedConstant raw sort constants) terminal) }
+{
+    match terminal {
+        Terminal::Word(word) => {
+            let constants = with_word(constants, word)?;
+            Ok(outside(State::AfterConstant(raw, sort, constants)))
+        }
+        _ => Ok(stops()),
+    }
+}
+
+/// A constant is read, the last of these. It fails where memory runs out.
+#[tactic(auto, using(crate::proofs::Defaults::other_constant))]
+pub fn after_constant(
+    raw: Draft,
+    sort: RawWord,
+    constants: RawWords,
+    terminal: Terminal,
+) -> Result<Outcome, Memory>
+    ensures { Settles result (stepped (State.AfterConstant raw sort constants) terminal) }
+{
+    match terminal {
+        Terminal::Comma => Ok(outside(State::NeedConstant(raw, sort, constants))),
+        other => {
+            let raw = with_shorthand(raw, RawShorthand::Enumeration(sort, constants))?;
+            Ok(after_head(raw, other))
+        }
+    }
+}
+
+/// `tuple` or `union` is read.
+pub fn need_fields(
+    alloc: Global,
+    raw: Draft,
+    kind: FieldsKind,
+    sort: RawWord,
+    terminal: Terminal,
+) -> Outcome
+    ensures { settled result ≡ stepped (State.NeedFields raw kind sort) terminal }
+{
+    match terminal {
+        Terminal::Of => outside(State::NeedName(open_fields(alloc, raw, kind, sort))),
+        _ => stops(),
+    }
+}
+
+/// The name of a field is needed. It fails where memory runs out.
+pub fn need_name(
+    alloc: Global,
+    shorthand: OpenFields,
+    terminal: Terminal,
+) -> Result<Outcome, Memory>
+    ensures { Settles result (stepped (State.NeedName shorthand) terminal) }
+{
+    match terminal {
+        Terminal::Word(name) => {
+            let names = with_word(Sequence::new(alloc), name)?;
+            Ok(outside(State::AfterNames(shorthand, names)))
+        }
+        _ => Ok(stops()),
+    }
+}
+
+/// Names of fields are read.
+pub fn after_names(shorthand: OpenFields, names: RawWords, terminal: Terminal) -> Outcome
+    ensures { settled result ≡ stepped (State.AfterNames shorthand names) terminal }
+{
+    match terminal {
+        Terminal::Comma => outside(State::NeedFurtherName(shorthand, names)),
+        Terminal::Colon(_pos) => outside(State::NeedNamesSort(shorthand, names)),
+        _ => stops(),
+    }
+}
+
+/// A `,` behind names of fields is read. It fails where memory runs out.
+pub fn need_further_name(
+    shorthand: OpenFields,
+    names: RawWords,
+    terminal: Terminal,
+) -> Result<Outcome, Memory>
+    ensures { Settles result (stepped (State.NeedFurtherName shorthand names) terminal) }
+{
+    match terminal {
+        Terminal::Word(name) => {
+            let names = with_word(names, name)?;
+            Ok(outside(State::AfterNames(shorthand, names)))
+        }
+        _ => Ok(stops()),
+    }
+}
+
+/// The `:` behind names of fields is read. It fails where memory runs out.
+pub fn need_names_sort(
+    shorthand: OpenFields,
+    names: RawWords,
+    terminal: Terminal,
+) -> Result<Outcome, Memory>
+    ensures { Settles result (stepped (State.NeedNamesSort shorthand names) terminal) }
+{
+    match terminal {
+        Terminal::Word(sort) => {
+            let shorthand = with_fields(shorthand, &names, &sort)?;
+            Ok(outside(State::AfterField(shorthand)))
+        }
+        _ => Ok(stops()),
+    }
+}
+
+/// Fields with their sorts are read. It fails where memory runs out.
+#[tactic(auto, using(crate::proofs::Defaults::other_field))]
+pub fn after_field(shorthand: OpenFields, terminal: Terminal) -> Result<Outcome, Memory>
+    ensures { Settles result (stepped (State.AfterField shorthand) terminal) }
+{
+    match terminal {
+        Terminal::Comma => Ok(outside(State::NeedName(shorthand))),
+        other => {
+            let raw = close_fields(shorthand)?;
+            Ok(after_head(raw, other))
+        }
+    }
+}

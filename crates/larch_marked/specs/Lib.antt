@@ -1,0 +1,3 @@
+pub mod HashInput
+pub mod MarkedCode
+pub mod Marks

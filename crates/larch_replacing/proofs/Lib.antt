@@ -1,0 +1,5 @@
+-- Lemmas.
+pub mod Lookups
+pub mod Nothing
+pub mod Steps
+pub mod Terms

@@ -1,0 +1,4 @@
+pub mod Building
+pub mod Links
+pub mod Search
+pub mod Sources

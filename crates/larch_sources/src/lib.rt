@@ -1,0 +1,17 @@
+//! The texts of trait files as they were read, by number, and which of them lead to which.
+#![tactic(auto)]
+
+mod building;
+mod laws;
+mod links;
+mod marks;
+mod search;
+mod sources;
+
+pub use laws::sources_are_among;
+pub use links::{Links, links_of};
+pub use marks::Marks;
+pub use sources::Sources;
+
+#[cfg(test)]
+mod tests;

@@ -1,0 +1,37 @@
+-- What is read of the trait files of a session.
+use Rattle.std.specs.Prelude.{ℕ, if◌then◌else◌, fold, List, [], Option, Some, None, Result}
+use Rattle.std.specs.Result.{result_map_both}
+use Rattle.larch_base.specs.FileNames.{is_trait_file, stem_of}
+use Rattle.larch_base.specs.declared.code.Code.TheVariants.{Lex}
+use Rattle.larch_base.specs.declared.fault.Fault.{Fault}
+use Rattle.larch_lexer.specs.Lexing.{lexed}
+use Rattle.larch_lexer.specs.TokenList.{TokenList}
+use Rattle.larch_raw.specs.declared.equation.RawTrait.{RawTrait}
+use Rattle.larch_syntax.specs.Read.{trait_of}
+use Rattle.larch_items.specs.Steps.{after}
+use Rattle.larch_flat.specs.Flat.{FlatTrait}
+use Rattle.larch_flat.specs.Stops.{Stop}
+use Rattle.larch_sources.specs.Sources.{Table as Sources, put_text}
+use Rattle.larch_flatten.specs.Parts.{flat_trait}
+use Rattle.larch_traits.specs.Files.{Table, names_of, text_of}
+
+-- the tokens of a text, or the first byte that begins none
+abbrev pub tokens_of : List ℕ → Result TokenList Fault
+tokens_of text = result_map_both (λ tokens. tokens) (λ pos. record { pos = pos; code = Lex }) (lexed text)
+
+-- the trait that a text is as it is written, or what is wrong with it first: a byte, or else its grammar
+abbrev pub read_text : List ℕ → Result RawTrait Fault
+read_text text = after (tokens_of text) trait_of
+
+-- what is read so far, with the file of a name: a trait file by its stem
+abbrev pub with_file : Sources → List ℕ → Option (List ℕ) → Sources
+with_file read name None = read
+with_file read name (Some text) = if is_trait_file name then put_text read (stem_of name) (read_text text) else read
+
+-- what is read of the trait files, by their stems in byte order of the names
+abbrev pub read_files : Table → Sources
+read_files files = fold (λ read name. with_file read name (text_of files name)) [] (names_of files)
+
+-- the flat trait of a stem among the trait files, or what is wrong with it first
+abbrev pub flat_of : Table → List ℕ → Result FlatTrait Stop
+flat_of files stem = flat_trait (read_files files) stem
