@@ -76,7 +76,7 @@ same_lengths [] (s ∷ ss) h = absurd (h refl)
 same_lengths (es ∷ tables) [] h = absurd (h refl)
 same_lengths (es ∷ tables) (s ∷ ss) h = ap suc (same_lengths tables ss (λ e. h (ap (with_argument (reading_at es s)) e ∙ with_none (reading_at es s))))
 
-found_here : (es : Entries) (s : List ℕ) (rest : Option (Found (List Tree))) (o : Option (Found Tree)) → reading_at es s ≡ o → ((with_argument (reading_at es s) rest ≡ None) → ⊥) → Contains (sorts_in es) s
+pub found_here : (es : Entries) (s : List ℕ) (rest : Option (Found (List Tree))) (o : Option (Found Tree)) → reading_at es s ≡ o → ((with_argument (reading_at es s) rest ≡ None) → ⊥) → Contains (sorts_in es) s
 found_here es s rest None e h = absurd (h (ap (λ x. with_argument x rest) e))
 found_here es s rest (Some x) e h = found_in_entry es s x e
 

@@ -1,5 +1,6 @@
 pub mod Answers
 pub mod Arguments
+pub mod ByDomain
 pub mod Converse
 pub mod Enough
 pub mod Existing

@@ -1,4 +1,5 @@
 pub mod Application
+pub mod Domains
 pub mod Faults
 pub mod Found
 pub mod Laws

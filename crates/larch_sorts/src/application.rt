@@ -1,19 +1,23 @@
-ghost use Rattle.std.specs.Prelude.{◌≡◌, ◌<◌, ℕ, List, Option, IfOk, IfSome, map, length};
+ghost use Rattle.std.specs.Prelude.{◌≡◌, ◌<◌, ℕ, List, Option, IfOk, IfSome, OnOk, fold, map, length};
 ghost use Rattle.std.specs.Option.{option_copied};
 ghost use Rattle.larch_sorts.specs.Application.{found_by};
-ghost use Rattle.larch_sorts.specs.Operators.{operators_at};
+ghost use Rattle.larch_sorts.specs.Domains.{domains_of, found_among};
+ghost use Rattle.larch_sorts.specs.Operators.{operators_at, with_operator};
 ghost use Rattle.larch_sorts.specs.Overloads.{IsMade};
 ghost use Rattle.larch_sorts.specs.Places.{IsPlaced};
 ghost use Rattle.larch_sorts.specs.Signature.{kept};
 ghost use Rattle.larch_sorts.specs.Sides.{sorts_in};
 ghost use Rattle.larch_sorts.specs.Table.{reading_at};
 
-use crate::found::Table;
+use crate::domain::Domain;
+use crate::domains::{Domains, count_of, domains_of};
+use crate::found::{Found, Table};
 use crate::operators::{add_operators, by_operators};
 use crate::overloads::Overloads;
 use crate::places::Places;
+use crate::reading::Reading;
 use indexmap::IndexMap;
-use larch_base::Memory;
+use larch_base::{Memory, Name};
 use std::alloc::Global;
 
 // Arguments of few sorts are looked at first, and those of more only where the fewer leave more operators than that.
@@ -56,13 +60,51 @@ fn by_overloads(alloc: Global, tables: &[Table], overloads: &Overloads) -> Resul
         return Ok(table);
     }
     if let Some(places) = overloads.places() {
-        if let Some(position) = narrowest(tables, places, overloads.as_slice().len())? {
+        let choice = narrowest(tables, places, overloads.as_slice().len())?;
+        if count_of(tables) < choice.count {
+            let table = by_domain(alloc, tables, places.domains())?;
+            return Ok(table);
+        }
+        if let Some(position) = choice.position {
             let table = by_place(alloc, tables, places, position, &tables[position])?;
             return Ok(table);
         }
     }
     let table = by_operators(alloc, tables, overloads.as_slice())?;
     Ok(table)
+}
+
+// What the operators make of the arguments in tables that take a sort of each argument.
+fn by_domain(alloc: Global, tables: &[Table], domains: &Domains) -> Result<Table, Memory>
+    ensures { IfOk result (λ table. (s : List ℕ)
+        → reading_at table.found.value.entries s
+        ≡ operators_at (map (λ t. t.found.value.entries) tables.now)
+        (found_among domains.now.kept.entries (domains_of (map (λ t. t.found.value.entries) tables.now))) s) }
+{
+    let among = domains_of(alloc, tables)?;
+    let mut entries = IndexMap::new(alloc);
+    add_by_domains(alloc, tables, domains, among.as_slice(), &mut entries)?;
+    let table = Table::new(alloc, entries)?;
+    Ok(table)
+}
+
+// Adds what the operators with these domains make of the arguments in tables.
+fn add_by_domains(
+    alloc: Global,
+    tables: &[Table],
+    domains: &Domains,
+    among: &[Domain],
+    entries: &mut IndexMap<Name, Found<Reading>>,
+) -> Result<(), Memory>
+    ensures { OnOk result ((s : List ℕ)
+        → reading_at entries.new.entries s
+        ≡ fold (with_operator (map (λ t. t.found.value.entries) tables.now) s) (reading_at entries.old.entries s)
+        (found_among domains.now.kept.entries among.now)) }
+{
+    for domain in among {
+        add_operators(alloc, tables, domains.at(domain), entries)?;
+    }
+    Ok(())
 }
 
 // What the operators make of the arguments in tables that take a sort of one of the arguments at its position.
@@ -87,9 +129,9 @@ fn by_place(
     Ok(table)
 }
 
-// The position of the argument by whose sorts the fewest operators are found, where those are fewer than all.
-fn narrowest(tables: &[Table], places: &Places, all: usize) -> Result<Option<usize>, Memory>
-    ensures { IfOk result (λ found. IfSome found (λ position. position < length tables.now)) }
+// The argument by whose sorts the fewest operators are found, where those are fewer than all.
+fn narrowest(tables: &[Table], places: &Places, all: usize) -> Result<Choice, Memory>
+    ensures { IfOk result (λ choice. IfSome choice.position (λ position. position < length tables.now)) }
 {
     let mut choice = Choice {
         position: None,
@@ -100,7 +142,7 @@ fn narrowest(tables: &[Table], places: &Places, all: usize) -> Result<Option<usi
             choice = narrowed_to(tables, places, *limit, choice)?;
         }
     }
-    Ok(choice.position)
+    Ok(choice)
 }
 
 // The same among the arguments with at most so many sorts, and the choice before.

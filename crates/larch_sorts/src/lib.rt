@@ -2,6 +2,8 @@
 #![tactic(auto)]
 
 mod application;
+mod domain;
+mod domains;
 mod found;
 pub mod laws;
 mod lone;

@@ -1,4 +1,5 @@
 ghost use Rattle.std.specs.Prelude.{◌≡◌, IfOk, IfSome};
+ghost use Rattle.larch_sorts.specs.Domains.{IsByDomain};
 ghost use Rattle.larch_sorts.specs.Overloads.{IsOfConstants};
 ghost use Rattle.larch_sorts.specs.Places.{IsPlaced};
 
@@ -10,7 +11,7 @@ use larch_term::{Operator, Operators};
 use std::alloc::Global;
 use std::marker::Model;
 
-// So many operators of one name are gone through, more are found by their places.
+// So many operators of one name are gone through, more are found by their places or domains.
 const FEW: usize = 4;
 
 /// The operators of one name, with what it reads as without arguments. Contracts see them as a list.
@@ -24,6 +25,7 @@ pub(crate) struct Overloads {
 impl Model for Overloads {
     ghost use Rattle.std.specs.Prelude.{List, IfSome};
     ghost use Rattle.larch_term.specs.Operator.{PlainOperator};
+    ghost use Rattle.larch_sorts.specs.Domains.{IsByDomain};
     ghost use Rattle.larch_sorts.specs.Overloads.{IsOfConstants};
     ghost use Rattle.larch_sorts.specs.Places.{IsPlaced};
 
@@ -31,7 +33,7 @@ impl Model for Overloads {
 
     ghost view = { λ overloads. overloads.operators };
 
-    ghost invariant = { λ overloads. IsOfConstants overloads.constants.found.value.entries overloads.operators × IfSome overloads.places (λ places. IsPlaced places.kept.entries overloads.operators) };
+    ghost invariant = { λ overloads. IsOfConstants overloads.constants.found.value.entries overloads.operators × IfSome overloads.places (λ places. IsPlaced places.kept.entries overloads.operators × IsByDomain places.domains.kept.entries overloads.operators) };
 }
 
 impl Overloads {
@@ -64,7 +66,8 @@ impl Overloads {
 
     // The operators at their places, where there are many.
     pub(crate) fn places(&self) -> Option<&Places>
-        ensures { IfSome result (λ places. IsPlaced places.now.kept.entries self.now) }
+        ensures { IfSome result (λ places. IsPlaced places.now.kept.entries self.now
+            × IsByDomain places.now.domains.kept.entries self.now) }
     {
         self.places.as_ref()
     }
@@ -72,7 +75,8 @@ impl Overloads {
 
 // Operators at their places, where there are many.
 fn places_of(alloc: Global, operators: &[Operator]) -> Result<Option<Places>, Memory>
-    ensures { IfOk result (λ found. IfSome found (λ places. IsPlaced places.kept.entries operators.now)) }
+    ensures { IfOk result (λ found. IfSome found (λ places. IsPlaced places.kept.entries operators.now
+        × IsByDomain places.domains.kept.entries operators.now)) }
 {
     if operators.len() <= FEW {
         return Ok(None);

@@ -1,7 +1,9 @@
 ghost use Rattle.std.specs.Prelude.{◌≡◌, ◌<◌, ◌++◌, ◌∷◌, [], IfOk, OnOk, cond, filter, length};
+ghost use Rattle.larch_sorts.specs.Domains.{IsByDomain};
 ghost use Rattle.larch_sorts.specs.declared.place.Place.{Place};
 ghost use Rattle.larch_sorts.specs.Places.{IsPlaced, kept_at, same_place, takes_at};
 
+use crate::domains::Domains;
 use crate::found::Table;
 use crate::place::Place;
 use indexmap::IndexMap;
@@ -9,22 +11,30 @@ use larch_base::{Memory, Sequence};
 use larch_term::{Operator, Operators, Sort};
 use std::alloc::Global;
 
-/// Operators at each of their places, so that those that take a sort are found without the others.
+/// Operators at each of their places, so that those that take a sort are found without the others; and under their
+/// domains.
 #[derive(Drop)]
 pub(crate) struct Places {
     kept: IndexMap<Place, Operators>,
+    domains: Domains,
 }
 
 impl Places {
-    // Each of these operators at each of its places.
+    // Each of these operators at each of its places, and under its domain.
     pub(crate) fn of(alloc: Global, operators: &[Operator]) -> Result<Places, Memory>
-        ensures { IfOk result (λ places. IsPlaced places.kept.entries operators.now) }
+        ensures { IfOk result (λ places. IsPlaced places.kept.entries operators.now
+            × IsByDomain places.domains.kept.entries operators.now) }
     {
-        let mut kept = IndexMap::new(alloc);
-        for operator in operators {
-            keep(alloc, &mut kept, operator)?;
-        }
-        Ok(Places { kept })
+        let kept = placed(alloc, operators)?;
+        let domains = Domains::of(alloc, operators)?;
+        Ok(Places { kept, domains })
+    }
+
+    // The operators under their domains.
+    pub(crate) fn domains(&self) -> &Domains
+        ensures { result.now ≡ self.now.domains }
+    {
+        &self.domains
     }
 
     // The operators with so many arguments that take a sort at a position.
@@ -63,6 +73,17 @@ impl Places {
         }
         Ok(count)
     }
+}
+
+// Each operator at each of its places.
+fn placed(alloc: Global, operators: &[Operator]) -> Result<IndexMap<Place, Operators>, Memory>
+    ensures { IfOk result (λ kept. IsPlaced kept.entries operators.now) }
+{
+    let mut kept = IndexMap::new(alloc);
+    for operator in operators {
+        keep(alloc, &mut kept, operator)?;
+    }
+    Ok(kept)
 }
 
 // Puts an operator behind those at each of its places.

@@ -1,6 +1,8 @@
-use Rattle.std.proofs.Common.{◌∙◌, ◌<◌, IfSome, length, map, sym, ap, subst}
+use Rattle.std.proofs.Common.{◌≡◌, ◌∙◌, ◌<◌, ℕ, List, IfSome, length, map, sym, ap, subst}
+use Rattle.larch_sorts.specs.Domains.{domains_of, found_among}
 use Rattle.larch_sorts.specs.Operators.{operators_at}
 use Rattle.larch_sorts.specs.Table.{reading_at}
+use Rattle.larch_sorts.proofs.ByDomain.{domains_made}
 use Rattle.larch_sorts.proofs.Enough.{all_enough, found_made, no_tables}
 use Rattle.larch_sorts.proofs.application.by_overloads.Goals as goal
 
@@ -12,14 +14,21 @@ returns-then-is_empty c = (
       ∙ ap (λ ts. operators_at (map (λ t. t.found.value.entries) ts) c.args.overloads.now s) (sym (no_tables c.args.tables.now (sym c.is_empty.ensures ∙ c.if-is_empty.true))),
 )
 
-pub returns-in-Some-2 : goal.returns-in-Some-2
-returns-in-Some-2 c =
-    found_made (λ t. t.found.value.entries) c.args.tables.now c.in-Some.places.now.kept.entries c.args.overloads.now c.in-Some-2.position c.index-tables-position.result c.in_ok-table-2.table.found.value.entries
-    c.in-Some.ensures (subst (λ o. IfSome o (λ position. position < length c.args.tables.now)) c.in-Some-2.is c.in_ok-position.ensures) c.index-tables-position.is c.in_ok-table-2.ensures
+pub returns-then-count_of-choice : goal.returns-then-count_of-choice
+returns-then-count_of-choice c =
+    domains_made (λ t. t.found.value.entries) c.args.tables.now c.in-Some.places.now.domains.kept.entries c.args.overloads.now c.in_ok-table-2.table.found.value.entries
+    c.in-Some.ensures.1
+    (subst (λ d. (s : List ℕ) → reading_at c.in_ok-table-2.table.found.value.entries s ≡ operators_at (map (λ t. t.found.value.entries) c.args.tables.now) (found_among d.kept.entries (domains_of (map (λ t. t.found.value.entries) c.args.tables.now))) s)
+    c.domains.ensures c.in_ok-table-2.ensures)
+
+pub returns-in-Some-position : goal.returns-in-Some-position
+returns-in-Some-position c =
+    found_made (λ t. t.found.value.entries) c.args.tables.now c.in-Some.places.now.kept.entries c.args.overloads.now c.in-Some-position.position c.index-tables-position.result c.in_ok-table-3.table.found.value.entries
+    c.in-Some.ensures.0 (subst (λ o. IfSome o (λ position. position < length c.args.tables.now)) c.in-Some-position.is c.in_ok-choice.ensures) c.index-tables-position.is c.in_ok-table-3.ensures
 
 pub returns : goal.returns
 returns c = (
   c.args.overloads.now,
   all_enough (map (λ t. t.found.value.entries) c.args.tables.now) c.args.overloads.now,
-  λ s. c.in_ok-table-3.ensures s ∙ ap (λ fs. operators_at (map (λ t. t.found.value.entries) c.args.tables.now) fs s) c.as_slice-2.ensures,
+  λ s. c.in_ok-table-4.ensures s ∙ ap (λ fs. operators_at (map (λ t. t.found.value.entries) c.args.tables.now) fs s) c.as_slice-2.ensures,
 )
