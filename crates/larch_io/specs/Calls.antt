@@ -1,6 +1,7 @@
 -- Objects in memory whose calls may fail.
 use Rattle.std.specs.Prelude.{◌≡◌, ℕ, List}
 use Rattle.larch_io.specs.Faults.{one_more}
+use Rattle.larch_io.specs.Folder.{FileMap}
 
 -- which calls are to fail, how many bytes a call moves at most, how many calls there were, and how many failed
 pub record CallCounts : Type 0 where
@@ -22,4 +23,9 @@ pub record IsNextCall (old new : CallCounts) : Type 0 where
 -- an object in memory: the bytes that it has left or holds, and its calls
 pub record InMemory : Type 0 where
   pub bytes : List ℕ
+  pub calls : CallCounts
+
+-- files in memory, and the calls that looked at them
+pub record FilesInMemory : Type 0 where
+  pub files : FileMap
   pub calls : CallCounts

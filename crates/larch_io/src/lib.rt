@@ -8,6 +8,7 @@ mod clean_sink;
 mod clean_source;
 mod folder;
 mod line;
+mod memory_folder;
 mod memory_sink;
 mod memory_source;
 mod put;
@@ -18,12 +19,14 @@ mod source;
 mod standard_input;
 mod standard_output;
 mod take;
+mod working_folder;
 
 pub use clean_folder::CleanFolder;
 pub use clean_sink::CleanSink;
 pub use clean_source::CleanSource;
 pub use folder::Folder;
 pub use line::Line;
+pub use memory_folder::MemoryFolder;
 pub use memory_sink::MemorySink;
 pub use memory_source::MemorySource;
 pub use put::put_all;
@@ -34,6 +37,7 @@ pub use source::Source;
 pub use standard_input::StandardInput;
 pub use standard_output::StandardOutput;
 pub use take::{take_exact, take_line};
+pub use working_folder::WorkingFolder;
 
 #[cfg(test)]
 mod tests;

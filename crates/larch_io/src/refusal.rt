@@ -1,5 +1,5 @@
 ghost use Rattle.std.specs.Prelude.{◌≡◌};
-ghost use Rattle.larch_io.specs.declared.refusal.FolderRefusal.TheVariants.{Memory as folder_wants_memory};
+ghost use Rattle.larch_io.specs.declared.refusal.FolderRefusal.TheVariants.{Failed as folder_failed, Memory as folder_wants_memory};
 ghost use Rattle.larch_io.specs.declared.refusal.TakeRefusal.TheVariants.{Memory as take_wants_memory, ReadFault as read_failed};
 ghost use Rattle.larch_io.specs.declared.refusal.WriteRefusal.TheVariants.{Memory as write_wants_memory};
 
@@ -52,6 +52,14 @@ impl From<Memory> for FolderRefusal {
 
     fn from(_memory: Memory) -> FolderRefusal {
         FolderRefusal::Memory
+    }
+}
+
+impl From<Failed> for FolderRefusal {
+    ghost from_gives = { λ _ refusal. refusal ≡ folder_failed };
+
+    fn from(_fault: Failed) -> FolderRefusal {
+        FolderRefusal::Failed
     }
 }
 

@@ -1,0 +1,23 @@
+use Rattle.std.proofs.Common.{rules, ◌∙◌, sym, codes, map, false, ◌≡◌, []}
+use Rattle.clap.specs.Words.{found_of, rows_of}
+use Rattle.larch_words.specs.Call.{has_option}
+use Rattle.larch_words.specs.CommandLine.{Request, request_in}
+use Rattle.larch_words.proofs.Given.{all_taken, asks_for, none_taken}
+use Rattle.larch_words.proofs.call.asked.Goals as goal
+
+pub returns-in_ok-call-in-Some : goal.returns-in_ok-call-in-Some
+returns-in_ok-call-in-Some c =
+    let request : Request = request_in (rows_of (found_of c.args.matches.now)) in
+    let none : has_option request ≡ false = search rules in
+    asks_for request c.command_in-command.result.now (map (λ word. word.now) c.in-Some.words.now) c.in_ok-call-in-Some.call
+    none c.command_in-command.ensures
+    (all_taken (λ s. map (λ word. word.now) s.now) (found_of c.args.matches.now) (codes "WORD") c.get_strs.result c.in-Some.words
+    c.in-Some.is c.get_strs.ensures) c.in_ok-call-in-Some.ensures
+
+pub returns-in-None : goal.returns-in-None
+returns-in-None c =
+    let request : Request = request_in (rows_of (found_of c.args.matches.now)) in
+    let none : has_option request ≡ false = search rules in
+    asks_for request c.command_in-command.result.now [] c.called_alone.result none c.command_in-command.ensures
+    (none_taken (λ s. map (λ word. word.now) s.now) (found_of c.args.matches.now) (codes "WORD") c.get_strs.result
+    c.in-None.is c.get_strs.ensures) c.called_alone.ensures
