@@ -17,17 +17,20 @@ use Rattle.larch_raw.specs.declared.reference.RawReference.{RawReference}
 use Rattle.larch_raw.specs.declared.shorthand.RawField.{RawField}
 use Rattle.larch_raw.specs.declared.shorthand.RawShorthand.{RawShorthand}
 use Rattle.larch_raw.specs.declared.shorthand.RawShorthand.TheVariants.{Enumeration, Union}
-use Rattle.larch_term.specs.BuiltIn.{is_built_in}
+use Rattle.larch_term.specs.BuiltIn.{built_in, is_built_in}
 use Rattle.larch_term.specs.Equality.{same_tree, same_statement}
 use Rattle.larch_term.specs.OperatorKey.{same_operator}
+use Rattle.larch_term.specs.Tree.{var}
+use Rattle.larch_term.specs.Truth.{truth}
+use Rattle.larch_term.specs.declared.built_in.BuiltIn.TheVariants.{Unequal}
 use Rattle.larch_term.specs.Operator.{PlainOperator}
 use Rattle.larch_term.specs.declared.statement.Statement.{Statement}
-use Rattle.larch_term.specs.declared.statement.Statement.TheVariants.{Equation}
+use Rattle.larch_term.specs.declared.statement.Statement.TheVariants.{Equation, Generated, Partitioned}
 use Rattle.larch_term.specs.declared.statement.Theory.{Theory}
 use Rattle.larch_sorts.specs.Read.{read_equation, read_term, unread_in}
 use Rattle.larch_sorts.specs.ReadingLists.{readings}
 use Rattle.larch_sorts.specs.Unknown.{unknown_among}
-use Rattle.larch_shorthand.specs.Operators.{operator, constant, on}
+use Rattle.larch_shorthand.specs.Operators.{operator, constant, on, on_two}
 use Rattle.larch_flat.specs.Files.{Files}
 use Rattle.larch_flat.specs.Flat.{FlatTrait, flat, theory_of}
 use Rattle.larch_flat.specs.Gathered.{Gathered}
@@ -229,6 +232,55 @@ sorts_made =
     of_shorthands (codes "T")
     (Enumeration (word (codes "One")) (word (codes "only") ∷ [])
     ∷ Union (word (codes "U")) (field (codes "num") (codes "N") ∷ field (codes "flag") (codes "Bool") ∷ []) ∷ [])
+
+-- their operators
+abbrev pub only : PlainOperator
+only = operator (codes "only") [] (codes "One")
+
+abbrev pub num_tag : PlainOperator
+num_tag = operator (codes "num") [] (codes "U_tag")
+
+abbrev pub flag_tag : PlainOperator
+flag_tag = operator (codes "flag") [] (codes "U_tag")
+
+abbrev pub next_tag : PlainOperator
+next_tag = operator (codes "succ") (codes "U_tag" ∷ []) (codes "U_tag")
+
+abbrev pub of_num : PlainOperator
+of_num = operator (codes "num") (codes "N" ∷ []) (codes "U")
+
+abbrev pub of_flag : PlainOperator
+of_flag = operator (codes "flag") (codes "Bool" ∷ []) (codes "U")
+
+abbrev pub num_field : PlainOperator
+num_field = operator (codes "__.num") (codes "U" ∷ []) (codes "N")
+
+abbrev pub flag_field : PlainOperator
+flag_field = operator (codes "__.flag") (codes "U" ∷ []) (codes "Bool")
+
+abbrev pub tag_field : PlainOperator
+tag_field = operator (codes "tag") (codes "U" ∷ []) (codes "U_tag")
+
+-- the theory of both
+abbrev pub made_theory : Theory
+made_theory =
+    record {
+      operators =
+          only ∷ operator (codes "succ") (codes "One" ∷ []) (codes "One") ∷ num_tag ∷ flag_tag ∷ next_tag ∷ of_num ∷ of_flag
+          ∷ num_field ∷ flag_field ∷ tag_field ∷ [];
+      statements =
+          Generated (codes "One") (only ∷ [])
+          ∷ Generated (codes "U_tag") (num_tag ∷ flag_tag ∷ [])
+          ∷ Equation (on_two (built_in Unequal (codes "U_tag")) (constant num_tag) (constant flag_tag)) truth
+          ∷ Equation (on next_tag (constant num_tag)) (constant flag_tag)
+          ∷ Generated (codes "U") (of_num ∷ of_flag ∷ [])
+          ∷ Partitioned (codes "U") (num_field ∷ flag_field ∷ tag_field ∷ [])
+          ∷ Equation (on num_field (on of_num (var (codes "x") (codes "N")))) (var (codes "x") (codes "N"))
+          ∷ Equation (on flag_field (on of_flag (var (codes "x") (codes "Bool")))) (var (codes "x") (codes "Bool"))
+          ∷ Equation (on tag_field (on of_num (var (codes "x") (codes "N")))) (constant num_tag)
+          ∷ Equation (on tag_field (on of_flag (var (codes "x") (codes "Bool")))) (constant flag_tag)
+          ∷ [];
+    }
 
 -- an enumeration of E in which the third name is the first one again
 abbrev pub twice_named : RawTrait

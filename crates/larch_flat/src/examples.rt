@@ -1,14 +1,8 @@
 //! Flat traits worked out, as the definitions compute them. No function here does anything.
-ghost use Rattle.std.specs.Prelude.{◌≡◌, true, false, codes, [], ◌∷◌, Ok, Err};
+ghost use Rattle.std.specs.Prelude.{◌≡◌, true, false, codes, [], ◌∷◌, Ok, Err, replicate};
 ghost use Rattle.larch_base.specs.declared.code.Code.TheVariants.{Arity, BadReference, BuiltIn, Cycle, FieldTwice, NoReading, Rename, TraitName, UnknownTrait};
 ghost use Rattle.larch_raw.specs.declared.reference.RawActual.TheVariants.{Plain};
-ghost use Rattle.larch_term.specs.BuiltIn.{built_in, bool_sort};
-ghost use Rattle.larch_term.specs.Truth.{truth};
-ghost use Rattle.larch_term.specs.declared.built_in.BuiltIn.TheVariants.{Unequal};
-ghost use Rattle.larch_term.specs.declared.statement.Statement.TheVariants.{Equation, Generated, Partitioned};
-ghost use Rattle.larch_term.specs.Tree.{var};
-ghost use Rattle.larch_shorthand.specs.Operators.{constant, on, on_two, operator};
-ghost use Rattle.larch_flat.specs.Examples.{a_trait, alone, assumptions, bad_files, bare, base_statement, base_theory, beside_base, circle, constants, declares_truth, diamond, for_old, for_one, including_one, no_circle, no_theory, of_base, of_formal, of_overloaded, shown, so_many, sorts_made, states_nothing, twice_named, unfit, wrong};
+ghost use Rattle.larch_flat.specs.Examples.{a_trait, alone, assumptions, bad_files, bare, base_statement, base_theory, beside_base, circle, constants, declares_truth, diamond, for_old, for_one, including_one, made_theory, no_circle, no_theory, of_base, of_formal, of_overloaded, shown, so_many, sorts_made, states_nothing, twice_named, unfit, wrong};
 ghost use Rattle.larch_flat.specs.Flat.{flat};
 ghost use Rattle.larch_flat.specs.Gathered.{is_too_large};
 
@@ -60,6 +54,11 @@ pub fn assumptions_are_kept_or_discharged()
         ≡ Ok (base_theory (codes "A") (codes "B"), false ∷ [], []) }
     ensures asserted { shown (flat 256 assumptions (codes "Both"))
         ≡ Ok (base_theory (codes "A") (codes "B"), false ∷ [], []) }
+{}
+
+/// An enumeration and a union stand for operators and statements, in order.
+pub fn shorthands_stand_for_operators_and_statements()
+    ensures { alone sorts_made ≡ Ok (made_theory, replicate 10 false, []) }
 {}
 
 /// Each code of a reference or a trait, where it stands.

@@ -2,6 +2,7 @@ pub mod Digits
 pub mod Endings
 pub mod Found
 pub mod Once
+pub mod OneLine
 pub mod ReportLines
 pub mod Shapes
 pub mod Steps

@@ -1,7 +1,12 @@
-//! Laws about sessions.
-ghost use Rattle.std.specs.Prelude.{◌≡◌, ℕ, Bool, List};
-ghost use Rattle.larch_main.specs.Laws.{Ends};
+//! Laws about sessions and reports.
+ghost use Rattle.std.specs.Prelude.{◌≡◌, ℕ, Bool, List, map};
+ghost use Rattle.larch_traits.specs.Files.{Table};
+ghost use Rattle.larch_traits.specs.Reading.{read_files};
+ghost use Rattle.larch_main.specs.Laws.{Ends, stem_in};
+ghost use Rattle.larch_main.specs.Report.{report_of};
 ghost use Rattle.larch_main.specs.Session.{State, Ending, Session};
+
+use larch_traits::laws::each_flat_trait_is_told;
 
 /// On every input, from every state, a session ends by itself, with one of the statuses 0, 1, 6 and 7.
 pub fn every_session_ends()
@@ -21,3 +26,10 @@ pub fn one_output()
         → Session ended state input first here last → Session ended state input second there final
         → first ≡ second }
 {}
+
+/// A report has exactly one line of each trait file that was read, in their order.
+pub fn each_trait_has_one_line()
+    ensures { (files : Table) → map stem_in (report_of files) ≡ map (λ source. source.0) (read_files files) }
+{
+    each_flat_trait_is_told()
+}
