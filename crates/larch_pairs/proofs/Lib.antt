@@ -2,6 +2,8 @@
 pub mod Asking
 pub mod Fitting
 pub mod Kept
+pub mod Later
 pub mod Meaning
+pub mod Rounds
 pub mod Solving
 pub mod Unifying

@@ -1,8 +1,9 @@
 -- The steps of a unification.
-use Rattle.std.proofs.Common.{◌≡◌, ℕ, zero, suc, ◌<◌, ◌-◌, cond, false, List, [], ◌∷◌, take, length, get_or, Some, None, Ok, Err, AllPairs, arith, refl}
+use Rattle.std.proofs.Common.{◌≡◌, ℕ, zero, suc, ◌<◌, ◌-◌, cond, false, List, [], ◌∷◌, ◌++◌, length, Some, None, Ok, Err, All, AllPairs, arith, refl, ◌∙◌, ap, subst}
 use Rattle.std.specs.List.{list_any}
+use Rattle.std.proofs.lemmas.List.Elements.{All-head, All-tail}
 use Rattle.larch_base.proofs.Bools.{or_both}
-use Rattle.larch_base.proofs.Lists.{pairs_tail}
+use Rattle.larch_base.proofs.Lists.{pairs_head, pairs_tail}
 use Rattle.larch_term.specs.Substitution.{is_entry_of}
 use Rattle.larch_term.specs.Tree.{Tree}
 use Rattle.larch_term.specs.declared.substitution.Entry.{Entry}
@@ -38,11 +39,20 @@ pub unify_is : (t u : Tree) → unify t u ≡ unify_from (length (variables_of_b
 unfolding unify
 unify_is t u = refl
 
+All-middle : {X : Type 0} (P : X → Type 0) (xs ys : List X) (x : X) → All P (xs ++ x ∷ ys) → P x
+All-middle P [] ys x h = All-head P x ys h
+All-middle P (z ∷ xs) ys x h = All-middle P xs ys x (All-tail P z (xs ++ x ∷ ys) h)
+
 -- an entry has none of its variable before it
-pub none_before : (es : List Entry) (i : ℕ) (d : Entry) → i < length es → AllPairs (λ d e. is_entry_of e.name e.sort d ≡ false) es
-    → list_any (is_entry_of (get_or es i d).name (get_or es i d).sort) (take i es) ≡ false
-none_before [] i d lt h = absurd (omega arith)
-none_before (e ∷ es) zero d lt h = refl
-none_before (e ∷ es) (suc i) d lt h =
-    or_both (is_entry_of (get_or es i d).name (get_or es i d).sort e) (list_any (is_entry_of (get_or es i d).name (get_or es i d).sort) (take i es))
-    (h 0 (suc i) d (omega arith) (omega arith)) (none_before es i d (omega arith) (pairs_tail (λ d e. is_entry_of e.name e.sort d ≡ false) e es h))
+none_in_front : (ys zs : List Entry) (e : Entry) → AllPairs (λ d e. is_entry_of e.name e.sort d ≡ false) (ys ++ e ∷ zs)
+    → list_any (is_entry_of e.name e.sort) ys ≡ false
+none_in_front [] zs e h = refl
+none_in_front (y ∷ ys) zs e h =
+    or_both (is_entry_of e.name e.sort y) (list_any (is_entry_of e.name e.sort) ys)
+    (All-middle (λ d. is_entry_of d.name d.sort y ≡ false) ys zs e (pairs_head (λ d e. is_entry_of e.name e.sort d ≡ false) y (ys ++ e ∷ zs) h))
+    (none_in_front ys zs e (pairs_tail (λ d e. is_entry_of e.name e.sort d ≡ false) y (ys ++ e ∷ zs) h))
+
+pub none_before : (es ys rs zs : List Entry) (e : Entry) → AllPairs (λ d e. is_entry_of e.name e.sort d ≡ false) es → es ≡ ys ++ rs → rs ≡ e ∷ zs
+    → list_any (is_entry_of e.name e.sort) ys ≡ false
+none_before es ys rs zs e h a b =
+    none_in_front ys zs e (subst (AllPairs (λ d e. is_entry_of e.name e.sort d ≡ false)) (a ∙ ap (λ xs. ys ++ xs) b) h)

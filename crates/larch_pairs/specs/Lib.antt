@@ -1,3 +1,4 @@
 pub mod Demand
 pub mod Refusals
+pub mod Resolved
 pub mod Unify

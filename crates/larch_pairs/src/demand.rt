@@ -1,4 +1,4 @@
-ghost use Rattle.std.specs.Prelude.{◌≡◌, ◌++◌, [], length, IfOk, OnOk};
+ghost use Rattle.std.specs.Prelude.{◌≡◌, ◌≤◌, ◌++◌, [], drop, length, IfOk, OnOk};
 ghost use Rattle.std.specs.List.{list_any};
 ghost use Rattle.larch_term.specs.Variable.{occurrences_in, same_variable};
 ghost use Rattle.larch_term.specs.Tree.{forest_of};
@@ -83,22 +83,34 @@ fn demand_of_all(alloc: Global, terms: &[Term], others: &[Term]) -> Result<Deman
     Ok(Demand::Nothing)
 }
 
-// What a list of equations asks for.
-pub(crate) fn first_demand(alloc: Global, equations: &[Sides]) -> Result<Demand, Memory>
-    ensures { IfOk result (λ d. d ≡ first_demand equations.now) }
+// What a list of equations asks for. Of those that are left, what isn't asked is moved.
+pub(crate) fn first_demand(alloc: Global, equations: Equations) -> Result<Demand, Memory>
+    ensures { IfOk result (λ d. d ≡ first_demand equations) }
 {
+    let equations = equations.into_vec();
     for i in 0..equations.len() {
         match demand_of(alloc, &equations[i].left, &equations[i].right)? {
             Demand::Nothing => {}
             Demand::Bind(variable, term, left) => {
-                let mut left = left;
-                push_copies(alloc, &equations[i + 1..], &mut left)?;
+                let left = with_rest(left, equations, i + 1)?;
                 return Ok(Demand::Bind(variable, term, left));
             }
             Demand::Clash => return Ok(Demand::Clash),
         }
     }
     Ok(Demand::Nothing)
+}
+
+// Equations with those from a number on behind them.
+fn with_rest(equations: Equations, all: Vec<Sides>, start: usize) -> Result<Equations, Memory>
+    requires { start ≤ length all.items }
+    ensures { IfOk result (λ es. es ≡ equations ++ drop start all.items) }
+{
+    let mut equations = equations.into_vec();
+    let mut all = all;
+    let mut rest = all.split_off(start)?;
+    equations.append(&mut rest)?;
+    Ok(Sequence::from_vec(equations))
 }
 
 // The binding of a variable to an application, where it doesn't occur in it.
@@ -126,7 +138,7 @@ fn bind(alloc: Global, name: &Name, sort: &Sort, term: &Term) -> Result<Demand, 
 // Whether a variable occurs in a term.
 #[cycle(occurs)]
 #[tactic(auto, using(larch_term::specs::Tree::nodes_all_is_sum))]
-fn occurs(term: &Term, name: &Name, sort: &Sort) -> bool
+pub(crate) fn occurs(term: &Term, name: &Name, sort: &Sort) -> bool
     ensures { result ≡ occurs (record { name = name.now; sort = sort.now }) term.now }
 {
     match term.node() {
@@ -161,18 +173,6 @@ fn push_pairs(
     for i in 0..terms.len() {
         let left = copy(alloc, &terms[i])?;
         let right = copy(alloc, &others[i])?;
-        equations.push(Sides { left, right })?;
-    }
-    Ok(())
-}
-
-// Puts copies of equations behind others.
-fn push_copies(alloc: Global, copied: &[Sides], equations: &mut Equations) -> Result<(), Memory>
-    ensures { OnOk result (equations.new ≡ equations.old ++ copied.now) }
-{
-    for sides in copied {
-        let left = copy(alloc, &sides.left)?;
-        let right = copy(alloc, &sides.right)?;
         equations.push(Sides { left, right })?;
     }
     Ok(())

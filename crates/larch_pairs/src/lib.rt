@@ -6,10 +6,12 @@
 mod demand;
 pub mod laws;
 mod refusal;
+mod replacing;
 mod unifier;
 
 pub use refusal::PairRefusal;
-pub use unifier::{Entries, substitute_within, substitution_of, unify, variables_of_both};
+pub use replacing::substitute_within;
+pub use unifier::{Entries, substitution_of, unify, variables_of_both};
 
 #[cfg(test)]
 mod tests;

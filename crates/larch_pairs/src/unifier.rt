@@ -1,20 +1,20 @@
-ghost use Rattle.std.specs.Prelude.{◌≡◌, ◌++◌, ◌∷◌, [], ◌||◌, AllPairs, IfOk, IfErr, IfSome, OnOk, Ok, Err, true, if◌then◌else◌, false, length};
+ghost use Rattle.std.specs.Prelude.{◌≡◌, ◌+◌, ◌∷◌, [], ◌||◌, AllPairs, IfOk, Ok, Err, if◌then◌else◌, false};
 ghost use Rattle.std.specs.List.{list_any};
 ghost use Rattle.larch_base.specs.Answering.{Answers};
 ghost use Rattle.larch_term.specs.Substitution.{is_entry_of, substituted};
 ghost use Rattle.larch_pairs.specs.Refusals.{told};
-ghost use Rattle.larch_pairs.specs.Unify.{a_term_is_too_large, entry, entries_under, is_large, sides_under, variables_of_both, within};
+ghost use Rattle.larch_pairs.specs.Resolved.{resolved};
+ghost use Rattle.larch_pairs.specs.Unify.{a_term_is_too_large, is_large, sides_under, variables_of_both};
 ghost use Rattle.larch_pairs.specs.Unify.{unify, unify_from};
+ghost use Rattle.larch_term.specs.Tree.{nodes};
 
-use crate::demand::{Demand, Equations, Sides, demand_of, first_demand};
+use crate::demand::{Demand, Equations, Sides, demand_of, first_demand, occurs};
 use crate::refusal::PairRefusal;
-use larch_base::limits::MAX_TERM_NODES;
+use crate::replacing::{is_large_under, replaced, replaced_within};
 use larch_base::{Memory, Sequence};
-use larch_term::{
-    Entry, Substitution, Term, Variable, Variables, add_variables, copy, size, substitute,
-    variables,
-};
+use larch_term::{Entry, Substitution, Term, Variable, Variables, add_variables, size, variables};
 use std::alloc::Global;
+use std::slice;
 
 /// Bindings of variables, in order.
 pub type Entries = Sequence<Entry>;
@@ -22,8 +22,9 @@ pub type Entries = Sequence<Entry>;
 /// The substitution that makes two terms one, from which every other one comes by a further substitution; `None` where
 /// no substitution makes them one. By eager substitution (Robinson 1965), a variable on the left being bound first.
 /// `TooLarge` where a binding makes a side or a bound term of more than 5,000 nodes. Each of the bindings, which are at
-/// most as many as the terms have variables, takes time by the size of what is left and what is bound.
-#[tactic(auto, using(crate::proofs::Unifying::unify_is, crate::proofs::Unifying::from_clash, crate::proofs::Solving::started_different))]
+/// most as many as the terms have variables, takes time by the size of the equations that are left, of which those are
+/// copied that have its variable; bound terms are made once, at the end.
+#[tactic(auto, using(crate::proofs::Unifying::from_clash, crate::proofs::Rounds::unify_by_nodes, crate::proofs::Rounds::different_answer))]
 pub fn unify(alloc: Global, left: &Term, right: &Term) -> Result<Option<Substitution>, PairRefusal>
     ensures { Answers told result (unify left.now right.now) }
 {
@@ -31,17 +32,30 @@ pub fn unify(alloc: Global, left: &Term, right: &Term) -> Result<Option<Substitu
     if let Demand::Clash = demand {
         return Ok(None);
     }
-    let variables = variables_of_both(alloc, left, right)?;
-    let Some(bound) = unify_from(alloc, variables.as_slice().len(), demand)? else {
+    let rounds = nodes_of_both(left, right)?;
+    let Some(bound) = unify_from(alloc, rounds, demand)? else {
         return Ok(None);
     };
     let unifier = substitution_of(alloc, bound)?;
     Ok(Some(unifier))
 }
 
-// The bindings that meet a demand and all later ones, where at most so many variables are bound.
-#[tactic(auto, using(crate::proofs::Unifying::from_nothing, crate::proofs::Unifying::from_clash, crate::proofs::Unifying::from_zero, crate::proofs::Unifying::from_bind))]
-fn unify_from(alloc: Global, count: usize, demand: Demand) -> Result<Option<Entries>, PairRefusal>
+// How many nodes two terms have, which is more than they have variables. Memory doesn't hold terms of 2^64 nodes.
+fn nodes_of_both(left: &Term, right: &Term) -> Result<u64, Memory>
+    ensures { IfOk result (λ n. n ≡ nodes left.now + nodes right.now) }
+{
+    let total = size(left).saturating_add(size(right));
+    if total == u64::MAX {
+        return Err(Memory);
+    }
+    Ok(total)
+}
+
+// The bindings that meet a demand and all later ones, where at most so many variables are bound. A binding is put into
+// the equations that are left, but into those before it only at the end: their terms don't get smaller, so whether one
+// is too large shows there too.
+#[tactic(auto, using(crate::proofs::Later::round_made, crate::proofs::Later::round_refused, crate::proofs::Later::no_round, crate::proofs::Later::ended, crate::proofs::Later::clashed))]
+fn unify_from(alloc: Global, count: u64, demand: Demand) -> Result<Option<Entries>, PairRefusal>
     ensures { Answers told result (unify_from count demand []) }
 {
     let mut left = count;
@@ -52,111 +66,75 @@ fn unify_from(alloc: Global, count: usize, demand: Demand) -> Result<Option<Entr
             return Err(PairRefusal::TooLarge);
         }
         left -= 1;
-        let by = only(alloc, variable, term)?;
-        let equations = sides_under(alloc, equations.as_slice(), &by)?;
-        bound = extended(alloc, bound.as_slice(), &by)?;
-        asked = first_demand(alloc, equations.as_slice())?;
+        let entry = Entry {
+            name: variable.name,
+            sort: variable.sort,
+            term,
+        };
+        if some_side_is_large(equations.as_slice(), slice::from_ref(&entry)) {
+            return Err(PairRefusal::TooLarge);
+        }
+        let equations = sides_under(alloc, equations, &entry)?;
+        bound.push(entry)?;
+        asked = first_demand(alloc, equations)?;
     }
+    let bound = resolved(alloc, bound)?;
     match asked {
         Demand::Clash => Ok(None),
         _ => Ok(Some(bound)),
     }
 }
 
-// The substitution of one binding.
-fn only(alloc: Global, variable: Variable, term: Term) -> Result<Substitution, Memory>
-    ensures { IfOk result (λ es. es ≡ entry variable term ∷ []) }
+// Whether a side has more than 5,000 nodes under entries.
+fn some_side_is_large(equations: &[Sides], by: &[Entry]) -> bool
+    ensures { result ≡ list_any (λ e. is_large e.left || is_large e.right) (sides_under by.now equations.now) }
 {
-    let mut only = Substitution::new(alloc);
-    only.push(variable.name, variable.sort, term)?;
-    Ok(only)
+    for sides in equations {
+        if is_large_under(&sides.left, by) || is_large_under(&sides.right, by) {
+            return true;
+        }
+    }
+    false
 }
 
-// The equations under a substitution.
-fn sides_under(
-    alloc: Global,
-    equations: &[Sides],
-    by: &Substitution,
-) -> Result<Equations, PairRefusal>
-    ensures { Answers told result
-        (if list_any (λ e. is_large e.left || is_large e.right) (sides_under by.now equations.now)
-        then Err a_term_is_too_large else Ok (sides_under by.now equations.now)) }
+// The equations under a binding. A side is copied only where the variable occurs in it.
+fn sides_under(alloc: Global, equations: Equations, entry: &Entry) -> Result<Equations, Memory>
+    ensures { IfOk result (λ es. es ≡ sides_under (entry.now ∷ []) equations) }
 {
     let mut under = Sequence::new(alloc);
-    for sides in equations {
-        let left = substitute_within(alloc, &sides.left, by)?;
-        let right = substitute_within(alloc, &sides.right, by)?;
+    for sides in equations.into_vec() {
+        let Sides { left, right } = sides;
+        let left = side_under(alloc, left, entry)?;
+        let right = side_under(alloc, right, entry)?;
         under.push(Sides { left, right })?;
     }
     Ok(under)
 }
 
-// The bindings under a further one, which is put behind them.
-fn extended(alloc: Global, bound: &[Entry], by: &Substitution) -> Result<Entries, PairRefusal>
-    ensures { Answers told result
-        (if list_any (λ b. is_large b.term) (entries_under by.now bound.now ++ by.now)
-        then Err a_term_is_too_large else Ok (entries_under by.now bound.now ++ by.now)) }
+#[tactic(auto, using(crate::proofs::Later::same_without))]
+fn side_under(alloc: Global, side: Term, entry: &Entry) -> Result<Term, Memory>
+    ensures { IfOk result (λ t. t ≡ substituted (entry.now ∷ []) side) }
 {
-    let mut under = Sequence::new(alloc);
-    push_under(alloc, bound, by, &mut under)?;
-    push_copies(alloc, by.as_slice(), &mut under)?;
-    Ok(under)
-}
-
-fn push_under(
-    alloc: Global,
-    bound: &[Entry],
-    by: &Substitution,
-    under: &mut Entries,
-) -> Result<(), PairRefusal>
-    ensures items { OnOk result (under.new ≡ under.old ++ entries_under by.now bound.now) }
-    ensures small { OnOk result (list_any (λ b. is_large b.term) (entries_under by.now bound.now) ≡ false) }
-    ensures large { IfErr result (λ refusal. IfSome (told refusal) (λ _.
-        list_any (λ b. is_large b.term) (entries_under by.now bound.now) ≡ true)) }
-{
-    for entry in bound {
-        let name = entry.name.copy()?;
-        let sort = entry.sort.copy()?;
-        let term = substitute_within(alloc, &entry.term, by)?;
-        under.push(Entry { name, sort, term })?;
+    if occurs(&side, &entry.name, &entry.sort) {
+        let under = replaced(alloc, &side, slice::from_ref(entry))?;
+        return Ok(under);
     }
-    Ok(())
+    Ok(side)
 }
 
-fn push_copies(alloc: Global, entries: &[Entry], copies: &mut Entries) -> Result<(), PairRefusal>
-    ensures items { OnOk result (copies.new ≡ copies.old ++ entries.now) }
-    ensures small { OnOk result (list_any (λ b. is_large b.term) entries.now ≡ false) }
-    ensures large { IfErr result (λ refusal. IfSome (told refusal) (λ _.
-        list_any (λ b. is_large b.term) entries.now ≡ true)) }
+// The bindings, the later ones put into each.
+fn resolved(alloc: Global, bound: Entries) -> Result<Entries, PairRefusal>
+    ensures { Answers told result (if list_any (λ b. is_large b.term) (resolved bound)
+        then Err a_term_is_too_large else Ok (resolved bound)) }
 {
-    for entry in entries {
-        if is_large(&entry.term) {
-            return Err(PairRefusal::TooLarge);
-        }
-        let name = entry.name.copy()?;
-        let sort = entry.sort.copy()?;
-        let term = copy(alloc, &entry.term)?;
-        copies.push(Entry { name, sort, term })?;
+    let mut bound = bound.into_vec();
+    let mut left = bound.len();
+    while left > 0 {
+        left -= 1;
+        let term = replaced_within(alloc, &bound[left].term, &bound[left + 1..])?;
+        bound[left].term = term;
     }
-    Ok(())
-}
-
-/// The term under a substitution; `TooLarge` where it then has more than 5,000 nodes. It takes time by the size of both.
-pub fn substitute_within(alloc: Global, term: &Term, by: &Substitution) -> Result<Term, PairRefusal>
-    ensures { Answers told result (within (substituted by.now term.now)) }
-{
-    let under = substitute(alloc, term, by)?;
-    if is_large(&under) {
-        return Err(PairRefusal::TooLarge);
-    }
-    Ok(under)
-}
-
-// Whether a term has more than 5,000 nodes.
-fn is_large(term: &Term) -> bool
-    ensures { result ≡ is_large term.now }
-{
-    size(term) > u64::from(MAX_TERM_NODES)
+    Ok(Sequence::from_vec(bound))
 }
 
 /// The different variables of two terms, those of the first one first. Each occurrence is compared with all that are
@@ -169,17 +147,15 @@ pub fn variables_of_both(alloc: Global, left: &Term, right: &Term) -> Result<Var
     Ok(found)
 }
 
-/// The substitution with copies of these entries, which are of different variables.
+/// The substitution with these entries, which are of different variables.
 #[tactic(auto, using(crate::proofs::Unifying::none_before))]
 pub fn substitution_of(alloc: Global, entries: Entries) -> Result<Substitution, Memory>
     requires { AllPairs (λ d e. is_entry_of e.name e.sort d ≡ false) entries }
     ensures { IfOk result (λ es. es ≡ entries) }
 {
     let mut substitution = Substitution::new(alloc);
-    for entry in entries.as_slice() {
-        let name = entry.name.copy()?;
-        let sort = entry.sort.copy()?;
-        let term = copy(alloc, &entry.term)?;
+    for entry in entries.into_vec() {
+        let Entry { name, sort, term } = entry;
         substitution.push(name, sort, term)?;
     }
     Ok(substitution)
