@@ -30,6 +30,7 @@ use Rattle.larch_derive.specs.Predicates.{operators_at, written, written_stateme
 use Rattle.larch_derive.proofs.Growth.{carried, run_further}
 use Rattle.larch_derive.proofs.Runs.{after_saying, run_said, run_count, leads_said, still_open_said, down_run}
 use Rattle.larch_derive.proofs.Decoding.{written_means}
+use Rattle.larch_derive.proofs.Unchanged.{own_written, over_in_boxes}
 
 -- a line that says something keeps the theory and the open boxes
 pushed_alike : (a b : Builder) (line : Line) (n : ℕ) (st : State) (s : Statement) → IsPushed a b line n
@@ -80,6 +81,15 @@ pushed_says a b line n st s p h j w =
         over = w;
       },
     )
+
+-- a line that says a statement over the theory's own operators
+pub own_says : (a b : Builder) (line : Line) (n : ℕ) (st : State) (s : Statement) → IsPushed a b line n
+    → StandIn a.theory a.boxes a.lines st → judge a.theory st.history line ≡ Some s
+    → IsStatementOver a.theory.operators s → HasStatement b n s
+own_says a b line n st s p h j w =
+    let e = own_written a.theory a.boxes s h.plain h.others w in
+    pushed_says a b line n st s p h (j ∙ ap Some (sym e))
+    (subst (IsStatementOver (operators_at a.theory st)) (sym e) (over_in_boxes a.theory st.history s w))
 
 -- ---- refl
 

@@ -1,10 +1,10 @@
 -- What a theory states is written in lines as it stands.
-use Rattle.std.proofs.Common.{◌≡◌, inl, inr, ℕ, suc, Bool, true, false, List, [], ◌∷◌, All, Contains, Some, None, refl, ◌∙◌, ap, subst}
+use Rattle.std.proofs.Common.{◌≡◌, inl, inr, ℕ, suc, Bool, true, false, List, [], ◌∷◌, map, All, Contains, Some, None, refl, sym, ◌∙◌, ap, subst}
 use Rattle.std.specs.Option.{option_map, option_or}
 use Rattle.std.proofs.lemmas.Bool.{cond-false}
 use Rattle.std.proofs.lemmas.List.Elements.{All-head, All-tail, All-contains}
 use Rattle.larch_base.proofs.Members.{contains_here, contains_later, contains_left}
-use Rattle.larch_term.specs.BuiltIn.{built_in_name}
+use Rattle.larch_term.specs.BuiltIn.{built_in, built_in_name}
 use Rattle.larch_term.specs.Operator.{OperatorName, PlainOperator, plain, boxed}
 use Rattle.larch_term.specs.OperatorKey.{same_operator, operator_Decides}
 use Rattle.larch_term.specs.Sorts.{IsKnown}
@@ -13,7 +13,7 @@ use Rattle.larch_term.specs.declared.statement.Statement.{Statement}
 use Rattle.larch_term.specs.declared.statement.Theory.{Theory}
 use Rattle.larch_renaming.specs.Renaming.{unchanged}
 use Rattle.larch_renaming.proofs.RenamedStatements.{statement_unchanged, statement_alike_over}
-use Rattle.larch_calculus.specs.Renaming.{HasPlainNames, IsPlainName}
+use Rattle.larch_calculus.specs.Renaming.{IsFaithful, HasPlainNames, IsPlainName}
 use Rattle.larch_calculus.proofs.Sorted.{statement_over_more}
 use Rattle.larch_lines.specs.Context.{theory_of}
 use Rattle.larch_lines.specs.Events.{Event, Said, Opened, Closed, operators_of}
@@ -79,3 +79,29 @@ pub over_in_boxes : (t : Theory) (h : List Event) (s : Statement) → IsStatemen
     → IsStatementOver (theory_of t h).operators s
 over_in_boxes t h s w =
     statement_over_more t.operators (theory_of t h).operators (λ f k. known_in_boxes t h f k) s w
+
+map_itself : {X : Type 0} (xs : List X) → map (λ x. x) xs ≡ xs
+map_itself [] = refl
+map_itself (x ∷ xs) = ap (λ ys. x ∷ ys) (map_itself xs)
+
+-- what lines make of operators changes no signature and no built-in operator
+pub naming_faithful : (t : Theory) (bs : List OpenBox) → HasPlainNames t → All (λ x. AreOthers t x.constants) bs
+    → IsFaithful (naming bs)
+naming_faithful t bs p h =
+    record {
+      signatures = record { domain = λ f. sym (map_itself f.domain); range = λ f. refl };
+      built_in = record {
+        truth_values = refl;
+        operators = λ b s. own_in_lines t bs (built_in b s) p h (inr (b, (s, refl)));
+      };
+      apart = λ s z e. e;
+    }
+
+-- the theory's own operators are written as they stand
+pub own_operators_written : (t : Theory) (bs : List OpenBox) → HasPlainNames t → All (λ x. AreOthers t x.constants) bs
+    → (fs : List PlainOperator) → All (λ f. Contains t.operators f) fs → map (in_lines bs) fs ≡ fs
+own_operators_written t bs p h [] c = refl
+own_operators_written t bs p h (f ∷ fs) c =
+    let here = own_in_lines t bs f p h (inl (All-head (λ f. Contains t.operators f) f fs c)) in
+    let rest = own_operators_written t bs p h fs (All-tail (λ f. Contains t.operators f) f fs c) in
+    λ i. here i ∷ rest i

@@ -1,5 +1,6 @@
 pub mod Builder
 pub mod Coding
+pub mod Index
 pub mod OpenBox
 pub mod Predicates
 pub mod TheoryCode

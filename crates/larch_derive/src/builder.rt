@@ -74,12 +74,7 @@ impl Builder {
     pub fn code(&self, term: &Term) -> Result<Coded, Memory>
         ensures { IfOk result (IsCodeIn self.now term.now) }
     {
-        let coded = code(
-            self.alloc,
-            self.theory.theory().operators.as_slice(),
-            self.boxes.as_slice(),
-            term,
-        )?;
+        let coded = code(self.alloc, &self.theory, self.boxes.as_slice(), term)?;
         Ok(coded)
     }
 
@@ -148,8 +143,7 @@ impl Builder {
     ) -> Result<Line, Memory>
         ensures { IfOk result (IsBoxLine boxes.now (theory_in self.now).operators constants.now hypotheses.now) }
     {
-        let own = self.theory.theory().operators.as_slice();
-        let equations = code_equations(self.alloc, own, boxes, hypotheses.as_slice())?;
+        let equations = code_equations(self.alloc, &self.theory, boxes, hypotheses.as_slice())?;
         let parts = parts_for(self.alloc, constants.as_slice())?;
         Ok(Line::BoxLine(parts, equations))
     }

@@ -3,15 +3,16 @@ ghost use Rattle.larch_term.specs.Tree.{forest_of};
 ghost use Rattle.larch_certificate.specs.Coded.{coded_forest_of};
 ghost use Rattle.larch_derive.specs.Coding.{IsSymbolOf, IsCodeOf, AreCodesOf, AreCodesOfEquations};
 
-use crate::open_box::{OpenBox, constant_of, place_in};
+use crate::open_box::{OpenBox, constant_of};
+use crate::shared_theory::SharedTheory;
 use larch_base::{Memory, Sequence};
 use larch_certificate::{Coded, CodedEquation, CodedEquations, CodedTerms, Symbol};
 use larch_term::{Node, Operator, Statement, Term, Terms, built_in_of};
 use std::alloc::Global;
 
 // What names an operator in lines.
-pub(crate) fn symbol_of(own: &[Operator], boxes: &[OpenBox], operator: &Operator) -> Symbol
-    ensures { IsSymbolOf boxes.now own.now operator.now result }
+pub(crate) fn symbol_of(theory: &SharedTheory, boxes: &[OpenBox], operator: &Operator) -> Symbol
+    ensures { IsSymbolOf boxes.now theory.now.operators operator.now result }
 {
     if let Some((number, place)) = constant_of(boxes, operator) {
         return Symbol::Constant(number, place);
@@ -19,7 +20,7 @@ pub(crate) fn symbol_of(own: &[Operator], boxes: &[OpenBox], operator: &Operator
     if let Some(built_in) = built_in_of(operator) {
         return Symbol::BuiltIn(built_in);
     }
-    match place_in(own, operator) {
+    match theory.place_of(operator) {
         Some(place) => Symbol::Own(place),
         None => Symbol::Own(0),
     }
@@ -30,11 +31,11 @@ pub(crate) fn symbol_of(own: &[Operator], boxes: &[OpenBox], operator: &Operator
 #[tactic(auto, using(larch_term::specs::Tree::nodes_all_is_sum))]
 pub(crate) fn code(
     alloc: Global,
-    own: &[Operator],
+    theory: &SharedTheory,
     boxes: &[OpenBox],
     term: &Term,
 ) -> Result<Coded, Memory>
-    ensures { IfOk result (IsCodeOf boxes.now own.now term.now) }
+    ensures { IfOk result (IsCodeOf boxes.now theory.now.operators term.now) }
 {
     match term.node() {
         Node::Var(name, sort) => {
@@ -43,8 +44,8 @@ pub(crate) fn code(
             Ok(Coded::var(name, sort))
         }
         Node::App(operator, arguments) => {
-            let arguments = code_all(alloc, own, boxes, arguments)?;
-            Ok(Coded::app(symbol_of(own, boxes, operator), arguments))
+            let arguments = code_all(alloc, theory, boxes, arguments)?;
+            Ok(Coded::app(symbol_of(theory, boxes, operator), arguments))
         }
     }
 }
@@ -53,15 +54,15 @@ pub(crate) fn code(
 #[tactic(auto, using(larch_term::specs::Tree::nodes_all_is_sum))]
 fn code_all(
     alloc: Global,
-    own: &[Operator],
+    theory: &SharedTheory,
     boxes: &[OpenBox],
     terms: &Terms,
 ) -> Result<CodedTerms, Memory>
-    ensures { IfOk result (λ cs. AreCodesOf boxes.now own.now (forest_of terms.now) (coded_forest_of cs)) }
+    ensures { IfOk result (λ cs. AreCodesOf boxes.now theory.now.operators (forest_of terms.now) (coded_forest_of cs)) }
 {
     let mut items = Vec::with_capacity(alloc, terms.as_slice().len())?;
     for term in terms.as_slice() {
-        let coded = code(alloc, own, boxes, term)?;
+        let coded = code(alloc, theory, boxes, term)?;
         items.push(coded)?;
     }
     Ok(CodedTerms::from_vec(items))
@@ -70,18 +71,18 @@ fn code_all(
 // The equations among statements as lines write them.
 pub(crate) fn code_equations(
     alloc: Global,
-    own: &[Operator],
+    theory: &SharedTheory,
     boxes: &[OpenBox],
     statements: &[Statement],
 ) -> Result<CodedEquations, Memory>
-    ensures { IfOk result (AreCodesOfEquations boxes.now own.now statements.now) }
+    ensures { IfOk result (AreCodesOfEquations boxes.now theory.now.operators statements.now) }
 {
     let mut equations = Sequence::new(alloc);
     for statement in statements {
         match statement {
             Statement::Equation(left, right) => {
-                let left = code(alloc, own, boxes, left)?;
-                let right = code(alloc, own, boxes, right)?;
+                let left = code(alloc, theory, boxes, left)?;
+                let right = code(alloc, theory, boxes, right)?;
                 equations.push(CodedEquation { left, right })?;
             }
             Statement::Generated(_, _) => {}

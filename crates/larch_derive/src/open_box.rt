@@ -41,7 +41,7 @@ pub(crate) fn constant_of(boxes: &[OpenBox], operator: &Operator) -> Option<(u64
 }
 
 // The place of an operator in a list, counted from 1.
-pub(crate) fn place_in(operators: &[Operator], operator: &Operator) -> Option<u64>
+fn place_in(operators: &[Operator], operator: &Operator) -> Option<u64>
     ensures { result ≡ place_from 1 operators.now operator.now }
 {
     let mut place = 1;

@@ -1,19 +1,24 @@
 ghost use Rattle.std.specs.Prelude.{◌≡◌, IfOk};
+ghost use Rattle.larch_derive.specs.OpenBox.{place_from};
+ghost use Rattle.larch_derive.specs.Index.{IsIndex};
 
+use indexmap::IndexMap;
 use larch_base::Memory;
-use larch_term::{Theory, copy_theory};
+use larch_term::{Operator, Theory, copy_theory};
 use std::alloc::Global;
 use std::marker::Model;
 use std::rc::Rc;
 
-/// A theory that its copies share. Contracts see it as the theory.
+/// A theory that its copies share, with an index of its operators. Contracts see it as the theory.
 #[derive(Drop)]
 pub(crate) struct SharedTheory {
     theory: Rc<Theory>,
+    places: Rc<IndexMap<Operator, u64>>,
 }
 
 impl Model for SharedTheory {
     ghost use Rattle.larch_term.specs.declared.statement.Theory.{Theory};
+    ghost use Rattle.larch_derive.specs.Index.{IsIndex};
     ghost use Rattle.larch_derive.specs.TheoryCode.{coded_theory};
 
     ghost Value = { Theory };
@@ -21,6 +26,8 @@ impl Model for SharedTheory {
     ghost coded = { coded_theory };
 
     ghost view = { λ shared. shared.theory.value };
+
+    ghost invariant = { λ shared. IsIndex shared.places.value.entries shared.theory.value.operators };
 }
 
 impl SharedTheory {
@@ -28,9 +35,11 @@ impl SharedTheory {
     pub(crate) fn new(alloc: Global, theory: &Theory) -> Result<SharedTheory, Memory>
         ensures { IfOk result (λ shared. shared ≡ theory.now) }
     {
+        let places = places_in(alloc, theory.operators.as_slice())?;
+        let places = Rc::new(alloc, places)?;
         let theory = copy_theory(alloc, theory)?;
         let theory = Rc::new(alloc, theory)?;
-        Ok(SharedTheory { theory })
+        Ok(SharedTheory { theory, places })
     }
 
     // The same theory once more. It takes no memory of its own, but there may be too many copies.
@@ -38,13 +47,28 @@ impl SharedTheory {
         ensures { IfOk result (λ shared. shared ≡ self.now) }
     {
         let theory = self.theory.clone()?;
-        Ok(SharedTheory { theory })
+        let places = self.places.clone()?;
+        Ok(SharedTheory { theory, places })
     }
 
-    // The theory.
-    pub(crate) fn theory(&self) -> &Theory
-        ensures { result.now ≡ self.now }
+    // The place of an operator among the theory's own, counted from 1. It takes no memory.
+    pub(crate) fn place_of(&self, operator: &Operator) -> Option<u64>
+        ensures { result ≡ place_from 1 self.now.operators operator.now }
     {
-        self.theory.as_ref()
+        self.places.as_ref().get(operator).copied()
     }
+}
+
+// The place of each operator, from the last to the first: where an operator stands twice, the lower place counts.
+fn places_in(alloc: Global, operators: &[Operator]) -> Result<IndexMap<Operator, u64>, Memory>
+    ensures { IfOk result (λ places. IsIndex places.entries operators.now) }
+{
+    let mut places = IndexMap::new(alloc);
+    let mut place = operators.len();
+    while place > 0 {
+        let operator = operators[place - 1].copy()?;
+        places.insert(operator, place as u64)?;
+        place -= 1;
+    }
+    Ok(places)
 }

@@ -66,7 +66,7 @@ place_at k (g ∷ gs) (suc i) f d e =
     ∙ ap Some (let z : suc k + i ≡ k + suc i = omega arith in z)
 
 -- an operator that no outer box has is the constant of the inner one
-innermost_constant : (bs : List OpenBox) (x : OpenBox) (f : PlainOperator) (k : ℕ) → constant_of bs f ≡ None
+pub innermost_constant : (bs : List OpenBox) (x : OpenBox) (f : PlainOperator) (k : ℕ) → constant_of bs f ≡ None
     → place_from 1 x.constants f ≡ Some k → constant_of (bs ++ x ∷ []) f ≡ Some (x.number, k)
 innermost_constant [] x f k e p = ap (λ o. option_or (option_map (λ j. (x.number, j)) o) None) p
 innermost_constant (b ∷ bs) x f k e p =
@@ -80,7 +80,7 @@ innermost_constant (b ∷ bs) x f k e p =
 
 -- ---- the constants as they are written
 
-abbrev Named : List OpenBox → ℕ → ℕ → List PlainOperator → Type 0
+abbrev pub Named : List OpenBox → ℕ → ℕ → List PlainOperator → Type 0
 Named bs n j cs = (i : ℕ) (c : PlainOperator) → slice_get cs i ≡ Some c → part_operator n (j + i) (part_for c) ≡ in_lines bs c
 
 entries_written : (bs : List OpenBox) (n j : ℕ) (vs : List Variable) (cs : List PlainOperator) → Named bs n j cs
@@ -94,7 +94,7 @@ entries_written bs n j (v ∷ vs) (c ∷ cs) h =
     (λ i d e. ap (λ k. part_operator n k (part_for d)) (let z : suc j + i ≡ j + suc i = omega arith in z) ∙ h (suc i) d e) in
     λ i. record { name = v.name; sort = v.sort; term = app (sym here i) none } ∷ rest i
 
-own_named : (bs : List OpenBox) (x : OpenBox) → AreOwnConstants bs x → Named (bs ++ x ∷ []) x.number 1 x.constants
+pub own_named : (bs : List OpenBox) (x : OpenBox) → AreOwnConstants bs x → Named (bs ++ x ∷ []) x.number 1 x.constants
 own_named bs x h i c e =
     constant_in_lines (bs ++ x ∷ []) c x.number (1 + i)
     (got_differs (λ f. f.domain ≡ []) x.constants i c e h.constants)
@@ -103,7 +103,7 @@ own_named bs x h i c e =
 
 -- ---- the test
 
-sort_of_part : (c : PlainOperator) → c.domain ≡ [] → part_for c ≡ record { sort = c.range; predicate = false }
+pub sort_of_part : (c : PlainOperator) → c.domain ≡ [] → part_for c ≡ record { sort = c.range; predicate = false }
 sort_of_part c e = ap (part_sort c) e
 
 parts_sorts : (cs : List PlainOperator) → AreConstants cs
@@ -121,14 +121,14 @@ no_predicates (c ∷ cs) h =
     (ap (λ p. not p.predicate) (sort_of_part c (All-head (λ f. f.domain ≡ []) c cs h)))
     (no_predicates cs (All-tail (λ f. f.domain ≡ []) c cs h))
 
-has_sorts : (x : OpenBox) (hs : List Statement) (vs : List Variable) → AreConstants x.constants
-    → map (λ c. c.range) x.constants ≡ map (λ v. v.sort) vs → has_constants (box_of x hs) (map (λ v. v.sort) vs) ≡ true
-has_sorts x hs vs k e =
+-- the parts are constants of the sorts
+pub has_sorts : (x : OpenBox) (hs : List Statement) (ss : List (List ℕ)) → AreConstants x.constants
+    → map (λ c. c.range) x.constants ≡ ss → has_constants (box_of x hs) ss ≡ true
+has_sorts x hs ss k e =
     and_both (list_all (λ p. not p.predicate) (map part_for x.constants))
-    (pointwise bytes_eq (map (λ p. p.sort) (map part_for x.constants)) (map (λ v. v.sort) vs))
+    (pointwise bytes_eq (map (λ p. p.sort) (map part_for x.constants)) ss)
     (no_predicates x.constants k)
-    ((sorts_Decides (map (λ p. p.sort) (map part_for x.constants)) (map (λ v. v.sort) vs)).1
-    (parts_sorts x.constants k ∙ e))
+    ((sorts_Decides (map (λ p. p.sort) (map part_for x.constants)) ss).1 (parts_sorts x.constants k ∙ e))
 
 -- ---- fresh
 
@@ -162,15 +162,15 @@ fresh_judged a st x ws l r h own sorts kl kr =
     let s = written_statement xs (Equation (with_constants ws x l) (with_constants ws x r)) in
     ap (option_and_then (λ c. freed_result c.0 c.1 vs)) h.result
     ∙ cond-true (has_constants (box_of x []) (map (λ v. v.sort) vs)) (freed_equation cs vs s) None
-    (has_sorts x [] vs own.constants sorts)
+    (has_sorts x [] (map (λ v. v.sort) vs) own.constants sorts)
     ∙ ap₂ (λ p q. Some (Equation p q)) (freed_side a st x vs l h.new h.others kl own)
     (freed_side a st x vs r h.new h.others kr own)
 
-sort_written : (bs : List OpenBox) (t : Tree) → sort_of (written bs t) ≡ sort_of t
+pub sort_written : (bs : List OpenBox) (t : Tree) → sort_of (written bs t) ≡ sort_of t
 sort_written bs (var n s) = refl
 sort_written bs (app f ts) = refl
 
-known_at : (a : Builder) (st : State) (t : Tree) → StandIn a.theory a.boxes a.lines st → Known a t
+pub known_at : (a : Builder) (st : State) (t : Tree) → StandIn a.theory a.boxes a.lines st → Known a t
     → KnownIn a.theory a.boxes a.lines st t
 unfolding Known
 known_at a st t h (su, k) =

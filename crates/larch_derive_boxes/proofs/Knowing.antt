@@ -3,6 +3,7 @@ use Rattle.std.proofs.Common.{◌≡◌, inl, inr, ℕ, suc, Bool, true, false, 
 use Rattle.std.specs.Option.{option_map, option_or}
 use Rattle.larch_base.proofs.Members.{contains_here, contains_later, contains_left, contains_right, contains_either, contains_cases, contains_none, contains_one, contains_map}
 use Rattle.larch_base.proofs.Options.{some_inj}
+use Rattle.larch_term.specs.BuiltIn.{bool_sort}
 use Rattle.larch_term.specs.Operator.{PlainOperator, boxed}
 use Rattle.larch_term.specs.OperatorKey.{same_operator, operator_Decides}
 use Rattle.larch_term.specs.Tree.{app, none}
@@ -14,7 +15,8 @@ use Rattle.larch_derive.specs.declared.builder.Builder.{Builder}
 use Rattle.larch_derive.specs.declared.open_box.OpenBox.{OpenBox}
 use Rattle.larch_derive.specs.Builder.{part_for, part_sort, shape_of}
 use Rattle.larch_derive.specs.OpenBox.{place_from, constant_of, in_lines, name_in_lines}
-use Rattle.larch_derive.specs.Predicates.{shapes_of, operators_at, Stands, Known}
+use Rattle.larch_derive.specs.Predicates.{shapes_of, Stands, Known}
+use Rattle.larch_derive_boxes.specs.Boxes.{IsPart}
 
 -- ---- places
 
@@ -118,20 +120,39 @@ constant_in_lines bs f n k e q =
     ap (λ d. part_operator n k (part_sort f d)) e
     ∙ (λ i. record { name = name i; domain = sym e i; range = f.range })
 
+pub predicate_in_lines : (bs : List OpenBox) (f : PlainOperator) (s : List ℕ) (n k : ℕ) → f.domain ≡ s ∷ []
+    → f.range ≡ bool_sort → constant_of bs f ≡ Some (n, k) → part_operator n k (part_for f) ≡ in_lines bs f
+predicate_in_lines bs f s n k e r q =
+    let name : boxed n k ≡ name_in_lines (constant_of bs f) f.name = ap (λ o. name_in_lines o f.name) (sym q) in
+    ap (λ d. part_operator n k (part_sort f d)) e
+    ∙ (λ i. record { name = name i; domain = sym e i; range = sym r i })
+
+part_in_lines : (bs : List OpenBox) (f : PlainOperator) (n k : ℕ) → IsPart f → constant_of bs f ≡ Some (n, k)
+    → part_operator n k (part_for f) ≡ in_lines bs f
+part_in_lines bs f n k (inl e) q = constant_in_lines bs f n k e q
+part_in_lines bs f n k (inr (s, e, r)) q = predicate_in_lines bs f s n k e r q
+
+-- what stands for a part of an open box is there
+pub part_there : (t : Theory) (bs : List OpenBox) (h : List Event) → shapes_of h ≡ map shape_of bs → (x : OpenBox)
+    (f : PlainOperator) → Contains bs x → Contains x.constants f → IsPart f
+    → Contains (theory_of t h).operators (in_lines bs f)
+part_there t bs h opened x f c d e =
+    let r = named_by bs x f c d in
+    let there = subst (λ l. Contains l (shape_of r.box)) (sym opened) (contains_map shape_of bs r.box r.open_) in
+    let known = shape_there t h (shape_of r.box) (part_operator r.box.number r.place (part_for f)) there
+    (made r.box.number 1 r.box.constants f r.place r.placed) in
+    subst (Contains (theory_of t h).operators) (part_in_lines bs f r.box.number r.place e r.named) known
+
 pub constant_known : (b : Builder) (x : OpenBox) (f : PlainOperator) → Stands b → Contains b.boxes x
     → Contains x.constants f → f.domain ≡ [] → Known b (app f none)
 unfolding Stands Known
-constant_known b x f (st, h) c d e =
-    let r = named_by b.boxes x f c d in
-    let there = subst (λ l. Contains l (shape_of r.box)) (sym h.opened) (contains_map shape_of b.boxes r.box r.open_) in
-    let known = shape_there b.theory st.history (shape_of r.box) (part_operator r.box.number r.place (part_for f)) there
-    (made r.box.number 1 r.box.constants f r.place r.placed) in (
-      st,
-      record {
-        stand = h;
-        over = (
-          (sym e, tt),
-          (inl (subst (Contains (operators_at b.theory st)) (constant_in_lines b.boxes f r.box.number r.place e r.named) known), tt),
-        );
-      },
-    )
+constant_known b x f (st, h) c d e = (
+  st,
+  record {
+    stand = h;
+    over = (
+      (sym e, tt),
+      (inl (part_there b.theory b.boxes st.history h.opened x f c d (inl e)), tt),
+    );
+  },
+)

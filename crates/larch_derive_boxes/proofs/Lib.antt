@@ -1,6 +1,7 @@
 pub mod Cases
 pub mod Closing
 pub mod Freshness
+pub mod Inside
 pub mod Knowing
 pub mod Newness
 pub mod Opening

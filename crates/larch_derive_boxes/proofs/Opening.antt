@@ -37,7 +37,7 @@ use Rattle.larch_derive_boxes.proofs.Renaming.{inside_statement, inside_over}
 abbrev pub IsSupposed : List PlainOperator → List OpenBox → Statement → Type 0
 IsSupposed fs bs s = IsEquation s × IsStatementOver fs (written_statement bs s)
 
-between : (l r : Tree) → sort_of l ≡ sort_of r → equation_between l r ≡ Some (Equation l r)
+pub between : (l r : Tree) → sort_of l ≡ sort_of r → equation_between l r ≡ Some (Equation l r)
 between l r e =
     cond-true (bytes_eq (sort_of l) (sort_of r)) (Some (Equation l r)) None ((bytes_eq-Decides (sort_of l) (sort_of r)).1 e)
 

@@ -1,13 +1,16 @@
 -- What is known of boxes: that one was opened, what may be supposed in it, and what is left of it when it is closed. As
 -- with the predicates of builders, nobody above looks into these.
-use Rattle.std.specs.Prelude.{◌≡◌, ◌≢◌, ◌≤◌, ℕ, suc, List, [], ◌∷◌, ◌++◌, map, length, All, AllPairs, Some, None}
+use Rattle.std.specs.Prelude.{◌≡◌, ◌≢◌, ◌≤◌, ◌⊎◌, ℕ, suc, List, [], ◌∷◌, ◌++◌, map, length, All, AllPairs, Some, None}
+use Rattle.larch_term.specs.BuiltIn.{bool_sort}
 use Rattle.larch_term.specs.Operator.{PlainOperator}
+use Rattle.larch_term.specs.Sorts.{sort_of, IsTermOver}
 use Rattle.larch_term.specs.Substitution.{substituted}
 use Rattle.larch_term.specs.Tree.{Tree}
 use Rattle.larch_term.specs.Statement.{IsStatementOver}
 use Rattle.larch_term.specs.declared.statement.Statement.{Statement}
 use Rattle.larch_term.specs.declared.statement.Statement.TheVariants.{Equation, Generated, Partitioned}
 use Rattle.larch_term.specs.declared.statement.Theory.{Theory}
+use Rattle.larch_term.specs.declared.substitution.Entry.{Entry}
 use Rattle.larch_calculus.specs.Freed.{constants_for}
 use Rattle.larch_calculus.specs.Theories.{AreNew, AreConstants}
 use Rattle.larch_certificate.specs.declared.line.CodedVar.{CodedVar}
@@ -21,7 +24,7 @@ use Rattle.larch_derive.specs.declared.builder.Builder.{Builder}
 use Rattle.larch_derive.specs.declared.open_box.OpenBox.{OpenBox}
 use Rattle.larch_derive.specs.Builder.{IsPushed, part_for}
 use Rattle.larch_derive.specs.OpenBox.{constant_of}
-use Rattle.larch_derive.specs.Predicates.{AreOthers, operators_at, written_statement, StandIn, HasStatement, Grows}
+use Rattle.larch_derive.specs.Predicates.{AreOthers, operators_at, written, written_statement, StandIn, HasStatement, Grows}
 
 -- the box that lines open for this one
 abbrev pub box_of : OpenBox → List Statement → PlainBox
@@ -45,6 +48,22 @@ pub record MaySupposeIn (t : Theory) (bs : List OpenBox) (ls : List Line) (st : 
 
 unfoldable pub MaySuppose : Builder → OpenBox → Statement → Type 0
 MaySuppose b x s = (st : State) × MaySupposeIn b.theory b.boxes b.lines st x s
+
+-- the operator can stand for a constant or for a predicate of a box
+abbrev pub IsPart : PlainOperator → Type 0
+IsPart f = (f.domain ≡ []) ⊎ ((s : List ℕ) × (f.domain ≡ s ∷ []) × (f.range ≡ bool_sort))
+
+-- the term can be written in the box once that is open; it may have the box's own constants and predicates
+pub record KnownInsideIn (t : Theory) (bs : List OpenBox) (ls : List Line) (st : State) (x : OpenBox) (a : Tree) : Type 0 where
+  pub stand : StandIn t bs ls st
+  pub over : IsTermOver (operators_inside t st.history x) (written (bs ++ x ∷ []) a)
+
+unfoldable pub KnownInside : Builder → OpenBox → Tree → Type 0
+KnownInside b x a = (st : State) × KnownInsideIn b.theory b.boxes b.lines st x a
+
+-- each entry has such a term, of its variable's sort
+abbrev pub AreKnownInside : Builder → OpenBox → List Entry → Type 0
+AreKnownInside b x es = All (λ e. KnownInside b x e.term × (sort_of e.term ≡ e.sort)) es
 
 -- the second list of lines has one line more, which opens the box
 pub record OpensIn (t : Theory) (bs : List OpenBox) (ls ks : List Line) (x : OpenBox) (hs : List Statement) : Type 0 where

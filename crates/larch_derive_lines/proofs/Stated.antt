@@ -23,7 +23,6 @@ use Rattle.larch_tables.specs.Row.{numbered}
 use Rattle.larch_tables.specs.Statement.{IsIdentityStatement}
 use Rattle.larch_tables.specs.Tables.{built_in_rows}
 use Rattle.larch_tables.proofs.Identities.{row_identity}
-use Rattle.larch_certificate.specs.declared.line.Line.{Line}
 use Rattle.larch_certificate.specs.declared.line.Line.TheVariants.{Axiom, Row, Equal as EqualLine}
 use Rattle.larch_lines.specs.Events.{State}
 use Rattle.larch_lines.specs.Rules.{row_says, stated_equal}
@@ -31,20 +30,11 @@ use Rattle.larch_lines.specs.Run.{judge}
 use Rattle.larch_derive.specs.declared.builder.Builder.{Builder}
 use Rattle.larch_derive.specs.Builder.{IsPushed}
 use Rattle.larch_derive.specs.OpenBox.{in_lines}
-use Rattle.larch_derive.specs.Predicates.{operators_at, written, written_statement, StandIn, SaysIn, Stands, HasStatement, Extends}
-use Rattle.larch_derive.proofs.Pushing.{pushed_says, pushed_extends}
-use Rattle.larch_derive.proofs.Unchanged.{own_in_lines, own_written, over_in_boxes}
+use Rattle.larch_derive.specs.Predicates.{operators_at, written, written_statement, SaysIn, Stands, HasStatement, Extends}
+use Rattle.larch_derive.proofs.Pushing.{own_says, pushed_says, pushed_extends}
+use Rattle.larch_derive.proofs.Unchanged.{own_in_lines}
 
 -- ---- axiom, row
-
--- a line that says a statement over the theory's own operators
-own_says : (a b : Builder) (line : Line) (n : ℕ) (st : State) (s : Statement) → IsPushed a b line n
-    → StandIn a.theory a.boxes a.lines st → judge a.theory st.history line ≡ Some s
-    → IsStatementOver a.theory.operators s → HasStatement b n s
-own_says a b line n st s p h j w =
-    let e = own_written a.theory a.boxes s h.plain h.others w in
-    pushed_says a b line n st s p h (j ∙ ap Some (sym e))
-    (subst (IsStatementOver (operators_at a.theory st)) (sym e) (over_in_boxes a.theory st.history s w))
 
 pub axiom_says : (a b : Builder) (k n : ℕ) (s : Statement) → IsPushed a b (Axiom k) n → Stands a
     → slice_get (statement_zero ∷ a.theory.statements) k ≡ Some s → IsStatementOver a.theory.operators s

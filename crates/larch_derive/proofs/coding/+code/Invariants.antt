@@ -7,7 +7,7 @@ use Rattle.larch_derive.proofs.coding.+code.Given as goal
 -- the terms so far are written
 abbrev pub invariant-code_all-loop-term : goal.invariant-code_all-loop-term
 invariant-code_all-loop-term l =
-    AreCodesOf l.boxes l.own (forest_of (take l.term-index l.term-items)) (coded_forest_of l.items.items)
+    AreCodesOf l.boxes l.theory.operators (forest_of (take l.term-index l.term-items)) (coded_forest_of l.items.items)
 
 -- a term has more nodes than its arguments together
 abbrev pub decreases-code : goal.decreases-code
