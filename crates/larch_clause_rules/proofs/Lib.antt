@@ -1,0 +1,13 @@
+pub mod Clauses
+pub mod Comparing
+pub mod Finding
+pub mod Generators
+pub mod Observing
+pub mod Others
+pub mod Paired
+pub mod Parts
+pub mod Placed
+pub mod Premises
+pub mod Shown
+pub mod Staying
+pub mod Unbinding

@@ -1,0 +1,4 @@
+pub mod Inheriting
+pub mod Naming
+pub mod Observers
+pub mod Operators

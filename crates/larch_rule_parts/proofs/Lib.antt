@@ -1,0 +1,5 @@
+pub mod Alone
+pub mod Each
+pub mod Numbers
+pub mod Seen
+pub mod Twice

@@ -1,0 +1,37 @@
+ghost use Rattle.std.specs.Prelude.{◌≡◌, IfOk, IfSome, OnOk};
+ghost use Rattle.std.specs.Option.{option_map};
+ghost use Rattle.larch_lines.specs.Context.{find_symbol};
+ghost use Rattle.larch_lines.specs.Rules.{refl_says};
+ghost use Rattle.larch_pool.specs.Pooled.{Grows};
+ghost use Rattle.larch_past.specs.Past.{IsPast, IsEquated, equated_in, history_of};
+
+use larch_base::Memory;
+use larch_certificate::Coded;
+use larch_decoding::decode;
+use larch_past::{Equated, Past};
+use larch_pool::Pool;
+use larch_term::Theory;
+use std::alloc::Global;
+
+/// A term equals itself.
+pub fn refl_line(
+    alloc: Global,
+    pool: &mut Pool,
+    theory: &Theory,
+    past: &Past,
+    term: &Coded,
+) -> Result<Option<Equated>, Memory>
+    requires { IsPast theory.now pool.old past.now }
+    ensures within { IfOk result (λ o. IfSome o (IsEquated pool.new)) }
+    ensures says { IfOk result (λ o. option_map (equated_in pool.new) o ≡ refl_says (find_symbol theory.now (history_of pool.old past.now)) term.now) }
+    ensures grows { OnOk result (Grows pool.old pool.new) }
+{
+    let number = decode(alloc, pool, theory, past, term)?;
+    let Some(number) = number else {
+        return Ok(None);
+    };
+    Ok(Some(Equated {
+        left: number,
+        right: number,
+    }))
+}

@@ -1,0 +1,48 @@
+ghost use Rattle.std.specs.Prelude.{◌≡◌, All, IfOk, IfSome};
+ghost use Rattle.std.specs.Option.{option_map};
+ghost use Rattle.larch_lines.specs.Acceptance.{ends_with, last_statement};
+ghost use Rattle.larch_pool.specs.Pooled.{Pooled};
+ghost use Rattle.larch_past.specs.Past.{IsHappened, IsPast, IsStated, history_of, stated_in};
+
+use larch_base::Memory;
+use larch_past::{Happened, Past, Stated, intern_statement, same_stated};
+use larch_pool::Pool;
+use larch_term::{Statement, Theory};
+use std::alloc::Global;
+
+// Whether no box is open and the last line says the statement. This goes down the statement's terms by recursion; they
+// are those of `larch_term`, which are at most 5,000 deep.
+pub(crate) fn ends_with(
+    alloc: Global,
+    pool: &mut Pool,
+    theory: &Theory,
+    past: &Past,
+    statement: &Statement,
+) -> Result<bool, Memory>
+    requires { IsPast theory.now pool.old past.now }
+    ensures { IfOk result (λ b. b ≡ ends_with statement.now (history_of pool.old past.now)) }
+{
+    if !past.levels.is_empty() {
+        return Ok(false);
+    }
+    let Some(last) = last_statement(past) else {
+        return Ok(false);
+    };
+    let wanted = intern_statement(alloc, pool, statement)?;
+    Ok(same_stated(pool, &wanted, last))
+}
+
+// What the last line says, if it says something.
+fn last_statement(past: &Past) -> Option<&Stated>
+    ensures says { (p : Pooled) → option_map (λ s. stated_in p s.now) result ≡ last_statement (history_of p past.now) }
+    ensures within { (p : Pooled) → All (IsHappened p) past.now.events.items → IfSome result (λ s. IsStated p s.now) }
+{
+    let Some(event) = past.events.last() else {
+        return None;
+    };
+    match event {
+        Happened::Says(_, stated) => Some(stated),
+        Happened::Opens(_) => None,
+        Happened::Closes(_, _) => None,
+    }
+}

@@ -1,0 +1,64 @@
+ghost use Rattle.std.specs.Prelude.{◌≡◌, IfOk};
+ghost use Rattle.larch_term.specs.Statement.{IsWellSortedTheory};
+ghost use Rattle.larch_calculus.specs.Derivable.{Derivable};
+ghost use Rattle.larch_calculus.specs.Renaming.{HasPlainNames};
+ghost use Rattle.larch_lines.specs.Acceptance.{verdict};
+ghost use Rattle.larch_verify.specs.Verdict.{refusal};
+ghost use Rattle.larch_verify.specs.declared.verdict.Verdict.TheVariants.{Accepted};
+
+use crate::ending::ends_with;
+use crate::keeping::{intern_operators, intern_statements};
+use crate::steps::take_lines;
+use crate::verdict::Verdict;
+use larch_base::Memory;
+use larch_certificate::Line;
+use larch_lines_law::laws::accepted_is_derivable;
+use larch_past::Past;
+use larch_pool::Pool;
+use larch_term::{Statement, Theory};
+use std::alloc::Global;
+
+/// The verdict on a certificate for a statement over a theory. Whoever wrote the certificate: where it is accepted the
+/// statement is derivable, if the theory's statements are well sorted and its operators have plain names.
+///
+/// A line takes time by the size of its own terms. A certificate's terms may have any depth, and nothing goes down them
+/// by recursion; the theory's statements and the statement itself are at most 5,000 deep.
+pub fn verify(
+    alloc: Global,
+    theory: &Theory,
+    statement: &Statement,
+    certificate: &[Line],
+) -> Result<Verdict, Memory>
+    ensures verdict { IfOk result (λ v. refusal v ≡ verdict theory.now statement.now certificate.now) }
+    ensures derivable { IfOk result (λ v. v ≡ Accepted → IsWellSortedTheory theory.now → HasPlainNames theory.now
+        → Derivable theory.now statement.now) }
+{
+    accepted_is_derivable();
+    let verdict = checked(alloc, theory, statement, certificate)?;
+    Ok(verdict)
+}
+
+// The verdict, by all lines in order and what there is at the end.
+fn checked(
+    alloc: Global,
+    theory: &Theory,
+    statement: &Statement,
+    certificate: &[Line],
+) -> Result<Verdict, Memory>
+    ensures { IfOk result (λ v. refusal v ≡ verdict theory.now statement.now certificate.now) }
+{
+    let mut pool = Pool::new(alloc);
+    let own = intern_operators(alloc, &mut pool, theory.operators.as_slice())?;
+    let axioms = intern_statements(alloc, &mut pool, theory.statements.as_slice())?;
+    let mut past = Past::new(alloc, own);
+    let bad = take_lines(alloc, &mut pool, theory, &axioms, &mut past, certificate)?;
+    if let Some(number) = bad {
+        return Ok(Verdict::Refused(number));
+    }
+    let ends = ends_with(alloc, &mut pool, theory, &past, statement)?;
+    if ends {
+        Ok(Verdict::Accepted)
+    } else {
+        Ok(Verdict::Refused(past.places.len() as u64 + 1))
+    }
+}
