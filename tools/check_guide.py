@@ -4,8 +4,8 @@
 Each block marked `lsl` is a file T.lsl, or of the name that stands over it as a line "`NAME.lsl`:", which stays for the
 blocks below it; the line below a block is what the report says of it: `right`, or `L:C CODE`. Two files
 that are too long to print are made here. Each code of the program has exactly one part `### CODE`, and each such part
-is of a code; no other document or tool repeats a sentence of such a part. Ends with 1 where an answer is another one, a
-code lacks its part, a sentence stands twice, or no example is found."""
+is of a code; no other document, tool or comment of a crate repeats a sentence of such a part. Ends with 1 where an
+answer is another one, a code lacks its part, a sentence stands twice, or no example is found."""
 import pathlib
 import re
 import subprocess
@@ -36,18 +36,20 @@ def without_part(text):
 
 
 def told_elsewhere(text):
-    """The sentences of the parts of codes that stand in another document, tool or file of an editor as well; blocks of
-    documents show what programs print, and aren't looked at."""
+    """The sentences of the parts of codes that stand in another document, tool, file of an editor or file of a crate as
+    well; blocks of documents show what programs print, and aren't looked at."""
     def plain(words):
         return " ".join(words.lower().split())
 
     parts = re.findall(r"^### [A-Z-]+\n(.*?)(?=^#|^```|\Z)", text, re.M | re.S)
     told = {plain(sentence) for part in parts for sentence in re.split(r"(?<=\.)\s", part) if len(sentence) > 25}
-    for folder in ("docs", "tools", "editors", "bench", "."):
-        for path in (TOP / folder).rglob("*") if folder != "." else TOP.glob("*.md"):
-            if path.is_file() and path != TOP / "docs/TRAITS.md" and "node_modules" not in path.parts:
-                other = plain(re.sub(r"^```.*?^```$", "", path.read_text(errors="replace"), flags=re.M | re.S))
-                yield from (f"{path.relative_to(TOP)}: {sentence}" for sentence in told if sentence in other)
+    places = ["*.md", "crates/*/*.md", *(f"crates/*/{folder}/**/*" for folder in ("src", "specs", "proofs")),
+              *(f"{folder}/**/*" for folder in ("docs", "tools", "editors", "bench"))]
+    for path in sorted({path for place in places for path in TOP.glob(place)}):
+        if path.is_file() and path != TOP / "docs/TRAITS.md" and "node_modules" not in path.parts:
+            shown = re.sub(r"^```.*?^```$", "", path.read_text(errors="replace"), flags=re.M | re.S)
+            other = plain(re.sub(r"^\s*(?://[/!]?|--) ", "", shown, flags=re.M))
+            yield from (f"{path.relative_to(TOP)}: {sentence}" for sentence in told if sentence in other)
 
 
 def said(program, files, name):

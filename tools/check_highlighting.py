@@ -1,10 +1,11 @@
 #!/usr/bin/env python3
 """Tests what editors colour: python3 tools/check_highlighting.py [--write]
 
-The table of words has the reserved words and fixed symbols of the program's own definitions; the editors' files are
-those that tools/make_highlighting.py makes of it; and Vim, Emacs and the TextMate grammar colour the examples and
-editors/samples as editors/expected.txt says. An editor that isn't installed is named and left out. With --write the
-kept file is written anew, from the TextMate grammar, which Python reads."""
+The table of words has the reserved words and fixed symbols of the program's own definitions, and runs the bytes of its
+table of tokens; the editors' files are those that tools/make_highlighting.py makes of it; Vim, Emacs and the TextMate
+grammar colour the examples and editors/samples as editors/expected.txt says; and the extension starts the server, as
+far as that can be seen without its editor. An editor that isn't installed is named and left out. With --write the kept
+file is written anew, from the TextMate grammar, which Python reads."""
 import json
 import os
 import pathlib
@@ -20,7 +21,7 @@ from desk import TOP, server
 
 KEPT = TOP / "editors/expected.txt"
 FILES = sorted(str(path.relative_to(TOP)) for folder in ("examples", "editors/samples")
-               for path in (TOP / folder).iterdir() if path.suffix in (".lsl", ".lp"))
+               for path in (TOP / folder).rglob("*") if path.suffix in (".lsl", ".lp"))
 
 
 def definitions():
@@ -75,6 +76,18 @@ class Coloured(unittest.TestCase):
         fixed = set(table["fixed"] + table["quantifier"]) - {"/\\", "\\/"}
         self.assertEqual(fixed, {text for text in found if re.fullmatch(r"[!#$&*+/<>=?@^|~-]+|\\[a-z]+", text)})
 
+    def test_runs_are_the_programs(self):
+        table = (TOP / "crates/larch_lexer/specs/TokenTable.antt").read_text()
+        runs = re.search('^is_symbol byte = one_of [(]codes "(.*)"[)] byte$', table, re.M)[1]
+        self.assertEqual(sorted(make_highlighting.RUN + "/"), sorted(runs))
+        self.assertEqual({byte for byte in map(chr, range(33, 127)) if server.TOKEN.fullmatch(byte.encode() * 3)
+                          and not byte.isalnum()}, set(runs))
+
+    def test_words_are_those_of_the_guide(self):
+        told = re.search(r"words are reserved: `([a-z ]+)`", (TOP / "docs/TRAITS.md").read_text())[1].split()
+        self.assertEqual(sorted(told), sorted(word for kind in ("part", "clause", "choice")
+                                              for word in make_highlighting.words()[kind]))
+
     def test_words_are_the_servers(self):
         parts = {word for word in make_highlighting.words()["part"] if word != "trait"}
         self.assertEqual(parts, set(re.findall("[a-z]{2,}", server.PART.pattern.decode())))
@@ -92,6 +105,21 @@ class Coloured(unittest.TestCase):
         for name in named:
             self.assertTrue((folder / name).is_file(), name)
         self.assertEqual([grammar["scopeName"] for grammar in contributed["grammars"]], ["source.lsl", "source.lp"])
+
+    def test_extension_starts_the_server(self):
+        self.installed("node")
+        script = """
+            const modules = require("module"), load = modules._load;
+            class LanguageClient { constructor(...words) { this.words = words; } start() { return this.words; } }
+            const workspace = { getConfiguration: () => ({ get: name => name === "program" ? "a/larch" : "" }) };
+            const known = { vscode: { workspace }, "vscode-languageclient/node": { LanguageClient } };
+            modules._load = (name, ...rest) => known[name] || load(name, ...rest);
+            console.log(JSON.stringify(require("./editors/vscode/extension.js").activate()));"""
+        done = subprocess.run(["node", "-e", script], cwd=TOP, timeout=60, capture_output=True, text=True, check=True)
+        self.assertEqual(json.loads(done.stdout)[2:], [
+            {"command": str(TOP / "editors/larch-lsp"), "args": ["--larch", "a/larch"]},
+            {"documentSelector": [{"scheme": "file", "language": "lsl"}]}])
+        self.assertTrue(os.access(TOP / "editors/larch-lsp", os.X_OK))
 
     def test_textmate(self):
         self.assertEqual([line for path in FILES for line in textmate(path)], self.kept())

@@ -2,8 +2,7 @@
 """Tests the language server: python3 tools/check_lsp.py [PROGRAM]
 
 A small client speaks to editors/larch-lsp over its standard input and output, as an editor does, and looks at what is
-published and answered. Without PROGRAM the checkout's ./larch is taken. What needs composition of traits is tried
-where the program reads `includes`, and named where it doesn't."""
+published and answered. Without PROGRAM the checkout's ./larch is taken."""
 import json
 import os
 import pathlib
@@ -21,14 +20,6 @@ from desk import TOP, server
 PROGRAM = str(TOP / "larch")
 RIGHT = "T: trait\n  introduces\n    c: -> S\n"
 WRONG = "T: trait\n  introduces\n    c -> S\n"
-
-
-def reads_includes():
-    """Whether the program reads references to other traits."""
-    session = server.Session(PROGRAM)
-    found = session.report({"A.lsl": b"A: trait", "B.lsl": b"B: trait includes A"})
-    session.close()
-    return found["B.lsl"] is None
 
 
 class Client:
@@ -115,6 +106,11 @@ class Served(unittest.TestCase):
         (self.folder / name).write_bytes(text if isinstance(text, bytes) else text.encode())
         return self.folder / name
 
+    def sessions(self):
+        """The numbers of the server's processes."""
+        found = subprocess.run(["ps", "-o", "pid=", "--ppid", str(self.client.process.pid)], capture_output=True)
+        return found.stdout.split()
+
     def test_error_comes_and_goes(self):
         path = self.write("T.lsl", RIGHT)
         self.client.open(path, WRONG)
@@ -149,10 +145,12 @@ class Served(unittest.TestCase):
         self.client.open(path, RIGHT)
         self.write("U.lsl", "U: trait")
         self.client.published("U.lsl", [])
-        (self.folder / "U.lsl").write_text("V: trait")
+        self.write("U.lsl", "V: trait")
         self.client.published("U.lsl", ["TRAIT-NAME"])
+        before = self.sessions()
         (self.folder / "U.lsl").unlink()
         self.client.published("U.lsl", [])
+        self.assertEqual(self.sessions(), before)
 
     def test_closed_file_that_was_never_saved(self):
         self.write("U.lsl", "U: trait")
@@ -176,12 +174,22 @@ class Served(unittest.TestCase):
                          [("a", "M, N -> N"), ("[__, __]", "M, N -> N"), ("a(x, y) == [x, y]", "implied"),
                           ("b", "implied")])
 
+    def test_symbols_of_shorthands(self):
+        path = self.folder / "T.lsl"
+        self.client.open(path, "T: trait\n  C enumeration of red, green\n  P tuple of x, y: C, z: P % of\n"
+                               "  U union of one: C\n  introduces__ + __: C, C -> C\n")
+        symbols = self.client.request("textDocument/documentSymbol", {"textDocument": {"uri": path.as_uri()}})
+        self.assertEqual([(symbol["name"], symbol["detail"], symbol["kind"]) for symbol in symbols],
+                         [("red", "-> C", 14), ("green", "-> C", 14), ("x", "P -> C", 12), ("y", "P -> C", 12),
+                          ("z", "P -> P", 12), ("one", "C -> U", 12), ("__ + __", "C, C -> C", 12)])
+        self.assertEqual(symbols[4]["range"]["start"], {"line": 2, "character": 22})
+
     def test_definition(self):
         other = self.write("Other.lsl", "Other: trait")
-        text = "T: trait % Other\n  includes One,\n    Other (a for b)\n  implies Other\n"
+        text = "T: trait % Other\n  includes One,\n    Other (a for b)\n  assumes Other\n  implies Other\n"
         path = self.write("T.lsl", text)
         self.client.open(path, text)
-        for line, character in ((2, 4), (2, 9), (3, 11)):
+        for line, character in ((2, 4), (2, 9), (3, 11), (4, 11)):
             self.assertEqual(self.client.at("definition", path, line, character)["uri"], other.as_uri())
         for line, character in ((0, 12), (1, 12), (2, 11)):
             self.assertIsNone(self.client.at("definition", path, line, character))
@@ -190,8 +198,7 @@ class Served(unittest.TestCase):
         path = self.write("T.lsl", RIGHT)
         self.client.open(path, WRONG)
         self.client.published("T.lsl", ["SYNTAX"])
-        children = subprocess.run(["ps", "-o", "pid=", "--ppid", str(self.client.process.pid)], capture_output=True)
-        for child in children.stdout.split():
+        for child in self.sessions():
             os.kill(int(child), signal.SIGKILL)
         self.client.change(path, RIGHT)
         self.client.published("T.lsl", [])
@@ -240,14 +247,21 @@ class Served(unittest.TestCase):
         self.assertEqual(self.client.end(), 0)
 
     def test_fault_in_an_included_file(self):
-        if not reads_includes():
-            self.skipTest("the program doesn't read `includes` yet")
-        self.write("Base.lsl", "Base: trait\n  introduces\n    c -> S\n")
-        path = self.write("T.lsl", "T: trait\n  includes Base\n")
+        base = self.write("Base.lsl", WRONG.replace("T", "Base"))
+        path = self.write("T.lsl", "T: trait\n  assumes Base\n")
         self.client.open(path, path.read_text())
-        self.client.published("T.lsl", ["BAD-REFERENCE"])
-        self.write("Base.lsl", "Base: trait\n  introduces\n    c: -> S\n")
+        wrong = self.client.published("Base.lsl", ["SYNTAX"])[0]
+        self.assertEqual(wrong["range"]["start"], {"line": 2, "character": 6})
+        found = self.client.published("T.lsl", ["BAD-REFERENCE"])[0]
+        self.assertEqual(found["range"], {"start": {"line": 1, "character": 10}, "end": {"line": 1, "character": 14}})
+        self.assertEqual(found["message"], "BAD-REFERENCE: " + server.code_parts()["BAD-REFERENCE"].splitlines()[0])
+        self.write("Base.lsl", RIGHT.replace("T", "Base"))
         self.client.notify("textDocument/didSave", {"textDocument": {"uri": path.as_uri()}})
+        self.client.published("T.lsl", [])
+        self.client.open(base, "Base: trait includes Nothing")
+        self.client.published("Base.lsl", ["UNKNOWN-TRAIT"])
+        self.client.published("T.lsl", ["BAD-REFERENCE"])
+        self.client.close(base)
         self.client.published("T.lsl", [])
 
 

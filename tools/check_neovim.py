@@ -2,8 +2,8 @@
 """Neovim, headless, as a user has it: python3 tools/check_neovim.py [PROGRAM]
 
 It opens a trait with a wrong line, waits for the diagnostic, mends the line, and waits until the diagnostic is gone;
-then the same with a trait whose fault lies in an included file, where the program reads `includes`. Says what it saw.
-Ends with 1 where something else is seen; where Neovim isn't installed it says so and ends with 0."""
+then the same with a trait whose fault lies in an included file, which it mends there. Says what it saw. Ends with 1
+where something else is seen; where Neovim isn't installed it says so and ends with 0."""
 import json
 import pathlib
 import shutil
@@ -67,15 +67,10 @@ def main():
     wrong = {"T.lsl": "T: trait\n  introduces\n    c -> S\n"}
     syntax = [3, 7, "SYNTAX", server.sentence("SYNTAX", parts)]
     worse = compare("a wrong line comes and goes", seen(program, wrong), [[syntax], [], []])
-    session = server.Session(program)
-    if session.report({"A.lsl": b"A: trait", "B.lsl": b"B: trait includes A"})["B.lsl"]:
-        print("a fault in an included file: not tried, the program doesn't read `includes` yet")
-    else:
-        files = {"Base.lsl": wrong["T.lsl"].replace("T", "Base"), "T.lsl": "T: trait\n  includes Base\n"}
-        above = [2, 12, "BAD-REFERENCE", server.sentence("BAD-REFERENCE", parts)]
-        found = seen(program, files)
-        worse |= compare("a fault in an included file comes and goes", found, [[above], [syntax], [], []])
-    session.close()
+    files = {"Base.lsl": wrong["T.lsl"].replace("T", "Base"), "T.lsl": "T: trait\n  includes Base\n"}
+    above = [2, 12, "BAD-REFERENCE", server.sentence("BAD-REFERENCE", parts)]
+    found = seen(program, files)
+    worse |= compare("a fault in an included file comes and goes", found, [[above], [syntax], [], []])
     return int(worse)
 
 

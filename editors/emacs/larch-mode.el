@@ -86,12 +86,13 @@
 
 (defun lsl-indent-line ()
   "Indent a line of a trait.
-Parts stand at 2, their items at 4, equations behind a quantifier at 6."
+Parts and shorthands stand at 2, items at 4, equations behind a quantifier at 6."
   (interactive)
   (larch--indent-to
    (save-excursion
      (beginning-of-line)
      (cond ((looking-at-p (concat "[ \t]*" larch--part)) 2)
+           ((looking-at-p "[ \t]*[^ \t\n]+[ \t]+\\(enumeration\\|tuple\\|union\\)\\_>") 2)
            ((looking-at-p ".*:[ \t]*trait\\_>") 0)
            ((looking-at-p "[ \t]*\\(\\\\forall\\_>\\|[^ \t\n]+[ \t]+\\(generated\\|partitioned\\)\\_>\\|exempting\\_>\\)") 4)
            (t (larch--like-line-before))))))
