@@ -3,6 +3,7 @@
 
 mod bytes;
 mod code;
+mod fact_name;
 mod fault;
 mod file_name;
 mod label;
@@ -17,6 +18,7 @@ mod word;
 
 pub use bytes::Bytes;
 pub use code::Code;
+pub use fact_name::{FactLetter, FactName};
 pub use fault::Fault;
 pub use file_name::{FileName, NameRefusal};
 pub use label::Label;
