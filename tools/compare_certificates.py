@@ -21,6 +21,7 @@ WORDS = ["x", "y", "S", "N", "x'", "f_1", "0", "12", "if", "Bool", "trait"]
 BUILT_IN = ["true", "false", "if", "~", "/\\", "\\/", "=>", "<=>", "=", "~="]
 SOUP = ["0", "-", "+", "+0", "=", "==", "~", "~=", " ", "  ", "\n", "\n\n", "(", ")", ",", ";", ":", ".", "|", "#", "@",
         "#1", "@1.1", "x:S", "00", "18446744073709551615", "18446744073709551616", "line=", "by=", "term=", "box=", ">Bool",
+        ">", ">S", "->Bool", "#0", "ops=", "goal=", "lines=", "sort=", "observe", "generated", "partitioned",
         "certificate 2", "certificate 1", "\r", "\t", "_", "'", "\x01", "done", "axiom"]
 
 
@@ -70,6 +71,12 @@ class Writer:
     def bindings(self):
         return self.some(lambda: self.variable() + "=" + self.term(), ";")
 
+    def operators(self):
+        return self.some(lambda: "#" + self.number(), ",")
+
+    def box_part(self):
+        return self.pick.choice(WORDS) + self.pick.choice(["", ">Bool"])
+
     def rule(self):
         sort, ref, number = (lambda: self.pick.choice(WORDS)), self.ref, self.number
         return self.pick.choice([
@@ -78,11 +85,14 @@ class Writer:
             ("refl", [("term", self.term)]), ("sym", [("line", ref)]),
             ("inst", [("line", ref), ("by", self.bindings)]),
             ("repl", [("line", ref), ("at", self.place), ("with", ref)]), ("equal", [("line", ref)]),
-            ("box", [("sorts", lambda: self.some(sort, ",")), ("hyps", lambda: self.some(self.equation, ";"))]),
+            ("box", [("sorts", lambda: self.some(self.box_part, ",")), ("hyps", lambda: self.some(self.equation, ";"))]),
             ("done", []), ("fresh", [("box", ref), ("by", lambda: self.some(self.variable, ";"))]),
             ("cases", [("true", ref), ("false", ref)]),
             ("induct", [("line", ref), ("var", self.variable), ("goal", self.equation),
                         ("boxes", lambda: self.some(ref, ","))]),
+            ("observe", [("line", ref), ("goal", self.equation), ("lines", lambda: self.some(ref, ","))]),
+            ("generated", [("box", ref), ("sort", sort), ("ops", self.operators)]),
+            ("partitioned", [("box", ref), ("sort", sort), ("ops", self.operators)]),
         ])
 
     def text(self):

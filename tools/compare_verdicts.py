@@ -6,10 +6,10 @@
 PROGRAM and OTHER are commands, in quotes where they have words of their own. Each is run once, on problems with a byte 0
 between any two, and prints for each `accepted`, `refused N` or `malformed N` with a byte 0 behind it, as
 `larch_verify_table` does; its README says how a problem is written. The certificates are made so that most of their
-lines are good, by all rules; then lines are left out, doubled or exchanged, and numbers, symbols and signs changed. The
-seed is printed first, and at the end how often each verdict came and which rules stood in accepted certificates. A
-problem on which the two differ is written to a file that the output names. Ends with 'N passed, N failed', and status 1
-where one failed.
+lines are good, by all rules, and are written in either version; then lines are left out, doubled or exchanged, and
+numbers, symbols and signs changed. The seed is printed first, and at the end how often each verdict came and which rules
+stood in accepted certificates. A problem on which the two differ is written to a file that the output names. Ends with
+'N passed, N failed', and status 1 where one failed.
 """
 import argparse
 import collections
@@ -23,6 +23,13 @@ import tempfile
 BOOL = 'Bool'
 TRUE, FALSE = ('true', ()), ('false', ())
 PLAIN = {'true': [], 'false': [], '~': [BOOL], '/\\': [BOOL, BOOL], '\\/': [BOOL, BOOL], '=>': [BOOL, BOOL], '<=>': [BOOL, BOOL]}
+
+# The names of each rule's parts in the second version, and those whose numbers are distances there.
+PARTS = {'axiom': ['statement'], 'hyp': ['box', 'number'], 'row': ['number', 'sort'], 'refl': ['term'], 'sym': ['line'],
+         'inst': ['line', 'by'], 'repl': ['line', 'at', 'with'], 'equal': ['line'], 'box': ['sorts', 'hyps'], 'done': [],
+         'fresh': ['box', 'by'], 'cases': ['true', 'false'], 'induct': ['line', 'var', 'goal', 'boxes'],
+         'observe': ['line', 'goal', 'lines'], 'generated': ['box', 'sort', 'ops'], 'partitioned': ['box', 'sort', 'ops']}
+DISTANCES = {'box', 'line', 'with', 'true', 'false', 'boxes', 'lines'}
 
 
 # Terms are pairs: ('x:S', None) is a variable, (symbol, arguments) an application.
@@ -412,6 +419,18 @@ def lines_text(lines):
     return 'certificate 1\n' + ''.join(f'{number} {line}\n' for number, line in enumerate(lines, 1))
 
 
+def in_second(number, line):
+    """The line with this number, written in the second version."""
+    def distance(found):
+        named = int(found.group())
+        return str(number - named) if named <= number else f'+{named - number}'
+    word, *parts = line.split(' ')
+    parts = [part for part in parts if part != '|']
+    named = [(name, re.sub(r'\d+' if name in DISTANCES else r'(?<=@)\d+', distance, part))
+             for name, part in zip(PARTS[word], parts)]
+    return ' '.join([word] + [f'{name}={part}' for name, part in named])
+
+
 def mutated(pick, lines):
     """Lines changed; where one is left out or put in, the numbers behind it aren't mended."""
     lines = list(lines)
@@ -452,11 +471,15 @@ def problem(pick, theory):
     lines, last = writer.lines, writer.said[len(writer.lines)][1] if writer.lines else None
     if not last or pick.random() < 0.05:
         last = pick.choice(theory.statements)
+    second = pick.random() < 0.5
+    if second:
+        lines = [in_second(number, line) for number, line in enumerate(lines, 1)]
     if pick.random() < 0.6:
         lines = mutated(pick, lines)
     statements = theory.statements + [last]
     shown = 'certificate 1\n' + ''.join(statement_text(number, s) for number, s in enumerate(statements, 1))
-    return '\1'.join([theory.text(), shown, lines_text(lines)])
+    text = 'certificate 2\n' + ''.join(line + '\n' for line in lines) if second else lines_text(lines)
+    return '\1'.join([theory.text(), shown, text])
 
 
 def run(command, stdin):
@@ -483,7 +506,8 @@ def main():
     for text, ours, theirs in zip(problems, left, right):
         verdicts[ours.split(' ')[0]] += 1
         if ours == 'accepted':
-            rules.update(line.split(' ')[1] for line in text.split('\1')[2].splitlines()[1:])
+            header, *lines = text.split('\1')[2].splitlines()
+            rules.update(line.split(' ')[header == 'certificate 1'] for line in lines)
         if ours != theirs:
             failed += 1
             if failed <= 5:

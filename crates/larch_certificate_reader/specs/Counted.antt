@@ -2,7 +2,7 @@
 use Rattle.std.specs.Prelude.{ℕ, List, Option}
 use Rattle.larch_certificate_reader.specs.declared.list.Counted.{Counted}
 use Rattle.larch_certificate_reader.specs.declared.list.Counted.TheVariants as kind
-use Rattle.larch_certificate_text.specs.LineText.{read_argument}
+use Rattle.larch_certificate_text.specs.LineText.{read_argument, read_operator}
 use Rattle.larch_certificate_text.specs.Parts.{read_ref}
 use Rattle.larch_certificate_text.specs.declared.here.Here.{Here}
 
@@ -10,3 +10,4 @@ use Rattle.larch_certificate_text.specs.declared.here.Here.{Here}
 abbrev pub counted : Here → Counted → List ℕ → Option ℕ
 counted h kind.Argument = read_argument
 counted h kind.Line = read_ref h
+counted h kind.Operator = read_operator

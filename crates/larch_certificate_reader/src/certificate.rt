@@ -95,7 +95,7 @@ fn version_of(either: bool, line: &[u8]) -> Option<bool>
     None
 }
 
-#[tactic(auto, using(crate::proofs::Lines::line_step, crate::proofs::Lines::line_bad, crate::proofs::Lines::lines_end, crate::proofs::ListSteps::cut_shorter))]
+#[tactic(auto, using(crate::proofs::Lines::line_bad, crate::proofs::Lines::lines_end, crate::proofs::ListSteps::cut_shorter))]
 fn read_lines(alloc: Global, relative: bool, text: &[u8]) -> Result<Certificate, FormRefusal>
     ensures ok { IfOk result (λ lines. read_lines relative 1 (split_at 10 text.now) ≡ Ok lines) }
     ensures err { IfErr result (λ refusal. IfForm refusal (λ n. read_lines relative 1 (split_at 10 text.now) ≡ Err n)) }

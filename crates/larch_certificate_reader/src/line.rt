@@ -103,5 +103,14 @@ fn read_rule_word(text: &[u8]) -> Option<RuleWord>
     if text == b"induct".as_slice() {
         return Some(RuleWord::Induct);
     }
+    if text == b"observe".as_slice() {
+        return Some(RuleWord::Observe);
+    }
+    if text == b"generated".as_slice() {
+        return Some(RuleWord::Generated);
+    }
+    if text == b"partitioned".as_slice() {
+        return Some(RuleWord::Partitioned);
+    }
     None
 }

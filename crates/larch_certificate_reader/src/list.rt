@@ -1,8 +1,9 @@
 ghost use Rattle.std.specs.Prelude.{◌≡◌, ℕ, List, Option, IfOk};
 ghost use Rattle.larch_certificate_reader.specs.Counted.{counted};
 ghost use Rattle.larch_certificate_text.specs.EquationText.{read_equation};
-ghost use Rattle.larch_certificate_text.specs.LineText.{binding_of, positive, read_argument, read_binding};
-ghost use Rattle.larch_certificate_text.specs.LineText.{read_box_part, read_variable, read_word, words_of};
+ghost use Rattle.larch_certificate_text.specs.LineText.{binding_of, positive, predicate_of, read_argument};
+ghost use Rattle.larch_certificate_text.specs.LineText.{read_binding, read_box_part, read_operator, read_variable};
+ghost use Rattle.larch_certificate_text.specs.LineText.{read_word, sort_as, words_of};
 ghost use Rattle.larch_certificate_text.specs.ListText.{read_each, read_listed, split_at};
 ghost use Rattle.larch_certificate_text.specs.declared.here.Here.{Here};
 
@@ -68,6 +69,8 @@ pub enum Counted {
     Argument,
     /// A line or a box.
     Line,
+    /// An operator of the theory.
+    Operator,
 }
 
 /// The numbers between separators, or none for `-`.
@@ -117,6 +120,20 @@ fn read_counted(here: Here, kind: Counted, text: &[u8]) -> Option<u64>
     match kind {
         Counted::Argument => read_argument(text),
         Counted::Line => read_ref(here, text),
+        Counted::Operator => read_operator(text),
+    }
+}
+
+fn read_operator(text: &[u8]) -> Option<u64>
+    ensures { result ≡ read_operator text.now }
+{
+    let [first, number @ ..] = text else {
+        return None;
+    };
+    if *first == b'#' {
+        read_number(number)
+    } else {
+        None
     }
 }
 
@@ -156,13 +173,35 @@ impl Item for BoxPart {
     ghost reads = { λ here text. read_box_part text };
 
     fn read(alloc: Global, _here: Here, text: &[u8]) -> Result<Option<BoxPart>, Memory> {
-        match read_word(alloc, text)? {
-            Some(sort) => Ok(Some(BoxPart {
-                sort,
-                predicate: false,
-            })),
-            None => Ok(None),
-        }
+        read_box_part(alloc, text)
+    }
+}
+
+fn read_box_part(alloc: Global, text: &[u8]) -> Result<Option<BoxPart>, Memory>
+    ensures { IfOk result (λ part. part ≡ read_box_part text.now) }
+{
+    match cut_at(b'>', text) {
+        Some((sort, answer)) => predicate_of(alloc, sort, answer),
+        None => sort_as(alloc, false, text),
+    }
+}
+
+fn predicate_of(alloc: Global, sort: &[u8], answer: &[u8]) -> Result<Option<BoxPart>, Memory>
+    ensures { IfOk result (λ part. part ≡ predicate_of (sort.now, answer.now)) }
+{
+    if answer == b"Bool".as_slice() {
+        sort_as(alloc, true, sort)
+    } else {
+        Ok(None)
+    }
+}
+
+fn sort_as(alloc: Global, predicate: bool, text: &[u8]) -> Result<Option<BoxPart>, Memory>
+    ensures { IfOk result (λ part. part ≡ sort_as predicate text.now) }
+{
+    match read_word(alloc, text)? {
+        Some(sort) => Ok(Some(BoxPart { sort, predicate })),
+        None => Ok(None),
     }
 }
 

@@ -1,8 +1,8 @@
 ghost use Rattle.std.specs.Prelude.{◌≡◌, IfOk};
 ghost use Rattle.std.specs.Option.{option_copied};
-ghost use Rattle.larch_certificate_text.specs.LineText.{by_part, goal_part, hyps_part, number_part, place_part};
-ghost use Rattle.larch_certificate_text.specs.LineText.{ref_part, refs_part, sort_part, sorts_part, term_part};
-ghost use Rattle.larch_certificate_text.specs.LineText.{variable_part, variables_part};
+ghost use Rattle.larch_certificate_text.specs.LineText.{by_part, goal_part, hyps_part, number_part, operators_part};
+ghost use Rattle.larch_certificate_text.specs.LineText.{place_part, ref_part, refs_part, sort_part, sorts_part};
+ghost use Rattle.larch_certificate_text.specs.LineText.{term_part, variable_part, variables_part};
 ghost use Rattle.larch_certificate_text.specs.ListText.{unnamed};
 
 use crate::equation::{read_equation, read_term};
@@ -91,12 +91,27 @@ pub fn place_part(alloc: Global, here: Here, text: &[u8]) -> Result<Option<Path>
     }
 }
 
-/// The boxes of a part.
-pub fn refs_part(alloc: Global, here: Here, text: &[u8]) -> Result<Option<Numbers>, Memory>
-    ensures { IfOk result (λ boxes. boxes ≡ refs_part here text.now) }
+/// The lines or boxes that a named part lists.
+pub fn refs_part(
+    alloc: Global,
+    here: Here,
+    label: &[u8],
+    text: &[u8],
+) -> Result<Option<Numbers>, Memory>
+    ensures { IfOk result (λ numbers. numbers ≡ refs_part here label.now text.now) }
 {
-    match unnamed(here, b"boxes", text) {
+    match unnamed(here, label, text) {
         Some(text) => read_numbers(alloc, here, Counted::Line, b',', text),
+        None => Ok(None),
+    }
+}
+
+/// The operators that a part lists.
+pub fn operators_part(alloc: Global, here: Here, text: &[u8]) -> Result<Option<Numbers>, Memory>
+    ensures { IfOk result (λ operators. operators ≡ operators_part here text.now) }
+{
+    match unnamed(here, b"ops", text) {
+        Some(text) => read_numbers(alloc, here, Counted::Operator, b',', text),
         None => Ok(None),
     }
 }

@@ -1,14 +1,15 @@
 ghost use Rattle.std.specs.Prelude.{◌≡◌, ◌∷◌, IfOk, option_and_then};
 ghost use Rattle.larch_certificate_reader.specs.Views.{parts_of};
 ghost use Rattle.larch_certificate_text.specs.LineText.{axiom_of, box_by, box_of, cases_of, equal_of, four_of, fresh_of};
-ghost use Rattle.larch_certificate_text.specs.LineText.{hyp_of, induct_of, inst_of, one_of, read_by_word, read_done};
-ghost use Rattle.larch_certificate_text.specs.LineText.{refl_of, repl_of, row_at_of, row_by, row_of, sym_of};
-ghost use Rattle.larch_certificate_text.specs.LineText.{three_of, two_of};
+ghost use Rattle.larch_certificate_text.specs.LineText.{generated_of, hyp_of, induct_of, inst_of, observe_of};
+ghost use Rattle.larch_certificate_text.specs.LineText.{one_of, partitioned_of, read_by_word, read_done, refl_of};
+ghost use Rattle.larch_certificate_text.specs.LineText.{repl_of, row_at_of, row_by, row_of, sym_of, three_of};
+ghost use Rattle.larch_certificate_text.specs.LineText.{two_of};
 
 use crate::count::{box_by, four, one, three, two};
 use crate::named::{
-    by_part, goal_part, hyps_part, number_part, place_part, ref_part, refs_part, sort_part,
-    sorts_part, term_part, variable_part, variables_part,
+    by_part, goal_part, hyps_part, number_part, operators_part, place_part, ref_part, refs_part,
+    sort_part, sorts_part, term_part, variable_part, variables_part,
 };
 use larch_base::Memory;
 use larch_certificate::Line;
@@ -38,6 +39,9 @@ pub fn read_by_word(
         RuleWord::Fresh => read_fresh(alloc, here, parts),
         RuleWord::Cases => Ok(read_cases(here, parts)),
         RuleWord::Induct => read_induct(alloc, here, parts),
+        RuleWord::Observe => read_observe(alloc, here, parts),
+        RuleWord::Generated => read_generated(alloc, here, parts),
+        RuleWord::Partitioned => read_partitioned(alloc, here, parts),
     }
 }
 
@@ -276,8 +280,98 @@ fn induct_of(
     let Some(goal) = goal_part(alloc, here, goal)? else {
         return Ok(None);
     };
-    match refs_part(alloc, here, boxes)? {
+    match refs_part(alloc, here, b"boxes", boxes)? {
         Some(boxes) => Ok(Some(Line::Induct(line, variable, goal, boxes))),
+        None => Ok(None),
+    }
+}
+
+fn read_observe(alloc: Global, here: Here, parts: Option<&[u8]>) -> Result<Option<Line>, Memory>
+    ensures { IfOk result (λ line. line ≡ option_and_then (observe_of here) (three_of (parts_of parts.entry))) }
+{
+    match three(parts) {
+        Some((line, (goal, lines))) => observe_of(alloc, here, line, goal, lines),
+        None => Ok(None),
+    }
+}
+
+fn observe_of(
+    alloc: Global,
+    here: Here,
+    line: &[u8],
+    goal: &[u8],
+    lines: &[u8],
+) -> Result<Option<Line>, Memory>
+    ensures { IfOk result (λ found. found ≡ observe_of here (line.now, (goal.now, lines.now))) }
+{
+    let Some(line) = ref_part(here, b"line", line) else {
+        return Ok(None);
+    };
+    let Some(goal) = goal_part(alloc, here, goal)? else {
+        return Ok(None);
+    };
+    match refs_part(alloc, here, b"lines", lines)? {
+        Some(lines) => Ok(Some(Line::Observe(line, goal, lines))),
+        None => Ok(None),
+    }
+}
+
+fn read_generated(alloc: Global, here: Here, parts: Option<&[u8]>) -> Result<Option<Line>, Memory>
+    ensures { IfOk result (λ line. line ≡ option_and_then (generated_of here) (three_of (parts_of parts.entry))) }
+{
+    match three(parts) {
+        Some((closed, (sort, operators))) => generated_of(alloc, here, closed, sort, operators),
+        None => Ok(None),
+    }
+}
+
+fn generated_of(
+    alloc: Global,
+    here: Here,
+    closed: &[u8],
+    sort: &[u8],
+    operators: &[u8],
+) -> Result<Option<Line>, Memory>
+    ensures { IfOk result (λ found. found ≡ generated_of here (closed.now, (sort.now, operators.now))) }
+{
+    let Some(closed) = ref_part(here, b"box", closed) else {
+        return Ok(None);
+    };
+    let Some(sort) = sort_part(alloc, here, sort)? else {
+        return Ok(None);
+    };
+    match operators_part(alloc, here, operators)? {
+        Some(operators) => Ok(Some(Line::Generated(closed, sort, operators))),
+        None => Ok(None),
+    }
+}
+
+fn read_partitioned(alloc: Global, here: Here, parts: Option<&[u8]>) -> Result<Option<Line>, Memory>
+    ensures { IfOk result (λ line. line ≡ option_and_then (partitioned_of here) (three_of (parts_of parts.entry))) }
+{
+    match three(parts) {
+        Some((closed, (sort, operators))) => partitioned_of(alloc, here, closed, sort, operators),
+        None => Ok(None),
+    }
+}
+
+fn partitioned_of(
+    alloc: Global,
+    here: Here,
+    closed: &[u8],
+    sort: &[u8],
+    operators: &[u8],
+) -> Result<Option<Line>, Memory>
+    ensures { IfOk result (λ found. found ≡ partitioned_of here (closed.now, (sort.now, operators.now))) }
+{
+    let Some(closed) = ref_part(here, b"box", closed) else {
+        return Ok(None);
+    };
+    let Some(sort) = sort_part(alloc, here, sort)? else {
+        return Ok(None);
+    };
+    match operators_part(alloc, here, operators)? {
+        Some(operators) => Ok(Some(Line::Partitioned(closed, sort, operators))),
         None => Ok(None),
     }
 }

@@ -4,7 +4,7 @@ use Rattle.std.specs.Prelude.{codes, decimal, bytes_eq, option_map, option_and_t
 use Rattle.std.specs.List.{join_with_byte}
 use Rattle.std.specs.Char.{is_ascii_digit}
 use Rattle.std.proofs.lemmas.Fmt.{digits_decimal}
-use Rattle.std.proofs.lemmas.Bool.{cond-false, cond-true, or_left, ne_eqb, eqb-false}
+use Rattle.std.proofs.lemmas.Bool.{cond-false, cond-true, or_left, ne_eqb, eqb-false, eqb-true}
 use Rattle.std.proofs.lemmas.Option.{none-some, same_Some, option_and_then_some, cond_some}
 use Rattle.std.proofs.lemmas.Slice.Eq.{bytes_eq-Decides}
 use Rattle.larch_base.specs.Word.{is_word}
@@ -16,9 +16,9 @@ use Rattle.larch_certificate.specs.declared.line.Line.{Line}
 use Rattle.larch_certificate.specs.declared.line.Line.TheVariants as rule
 use Rattle.larch_certificate_text.specs.ByteClasses.{passes, Lacks, is_ref_byte, is_word_byte, is_op_byte, is_atom_byte, is_term_byte, is_part_byte, is_line_byte}
 use Rattle.larch_certificate_text.specs.EquationText.{equation_text, FitEquation, read_term, read_equation}
-use Rattle.larch_certificate_text.specs.LineText.{IsWord, read_word, two, three, four, variable_text, FitVariable, variable, words_of, read_variable, binding_text, FitBinding, binding, binding_of, read_binding, box_part_by, box_part_text, FitBoxPart, constant_part, read_box_part, IsArgument, positive, read_argument}
-use Rattle.larch_certificate_text.specs.LineText.{number_part, ref_part, refs_part, place_part, term_part, sort_part, variable_part, goal_part, by_part, variables_part, sorts_part, hyps_part, number_text, named_ref, refs_text, place_text, goal_text, sorts_text, hyps_text, by_text, variables_text, box_parts}
-use Rattle.larch_certificate_text.specs.LineText.{rule_fields, FitLine, behind, one_of, two_of, three_of, four_of, barred_by, box_by, axiom_of, hyp_of, row_of, row_at_of, row_by, refl_of, sym_of, inst_of, repl_of, equal_of, box_of, fresh_of, cases_of, induct_of, read_done, read_by_word, word_text, read_rule_word, read_rule, fields_by, line_fields, line_text, read_fields, read_line}
+use Rattle.larch_certificate_text.specs.LineText.{IsWord, read_word, two, three, four, variable_text, FitVariable, variable, words_of, read_variable, binding_text, FitBinding, binding, binding_of, read_binding, box_part_by, box_part_text, FitBoxPart, box_part, sort_as, box_part_of, read_box_part, IsArgument, positive, read_argument, operator_text, read_operator}
+use Rattle.larch_certificate_text.specs.LineText.{number_part, ref_part, refs_part, place_part, term_part, sort_part, variable_part, goal_part, by_part, variables_part, sorts_part, hyps_part, operators_part, number_text, named_ref, refs_text, place_text, goal_text, sorts_text, hyps_text, by_text, variables_text, operators_text, box_parts}
+use Rattle.larch_certificate_text.specs.LineText.{rule_fields, FitLine, behind, one_of, two_of, three_of, four_of, barred_by, box_by, axiom_of, hyp_of, row_of, row_at_of, row_by, refl_of, sym_of, inst_of, repl_of, equal_of, box_of, fresh_of, cases_of, induct_of, observe_of, generated_of, partitioned_of, read_done, read_by_word, word_text, read_rule_word, read_rule, fields_by, line_fields, line_text, read_fields, read_line}
 use Rattle.larch_certificate_text.specs.ListText.{Laws, split_at, named}
 use Rattle.larch_certificate_text.specs.SymbolText.{symbol_text}
 use Rattle.larch_certificate_text.specs.Parts.{IsSmall, Each, read_number, ref_text, read_ref, read_ref_by, cut_at}
@@ -27,7 +27,7 @@ use Rattle.larch_certificate_text.specs.declared.here.Here.{Here}
 use Rattle.larch_certificate_text.specs.declared.rule_word.RuleWord.{RuleWord}
 use Rattle.larch_certificate_text.specs.declared.rule_word.RuleWord.TheVariants as word
 use Rattle.larch_certificate_text.proofs.Bytes.{lacks, passes_more, passes_append, word_in_op, op_in_atom, atom_in_term, ref_in_op, word_passes, digits_pass, digit_in_word}
-use Rattle.larch_certificate_text.proofs.Cuts.{cut_again, cut_some}
+use Rattle.larch_certificate_text.proofs.Cuts.{cut_again, cut_none, cut_some}
 use Rattle.larch_certificate_text.proofs.EquationLaws.{term_again, term_read, equation_again, equation_read, equation_not_dash}
 use Rattle.larch_certificate_text.proofs.ListLaws.{list_laws, part_laws, split_joined, joined_split, joined_passes}
 use Rattle.larch_certificate_text.proofs.Numbers.{own, number_again, number_read}
@@ -164,28 +164,46 @@ binding_laws h l = record {
   bytes = λ b f. passes_append is_term_byte (b.name ++ (58 ∷ b.sort)) (61 ∷ term_text h b.term) (passes_more is_atom_byte is_term_byte atom_in_term (b.name ++ (58 ∷ b.sort)) (var_passes b.name b.sort f.0 f.1.0)) (tree_passes h b.term l f.1.1);
 }
 
-same_part_text : (s : List ℕ) (b : Bool) → b ≡ false → box_part_by s b ≡ s
-same_part_text s b e = ap (box_part_by s) e
+same_box_part : (p : BoxPart) (b : Bool) → b ≡ p.predicate → box_part b p.sort ≡ p
+same_box_part p b e = λ i. record { sort = p.sort; predicate = e i }
 
-same_box_part : (p : BoxPart) → p.predicate ≡ false → constant_part p.sort ≡ p
-same_box_part p e = λ i. record { sort = p.sort; predicate = sym e i }
+box_part_again_by : (p : BoxPart) (b : Bool) → b ≡ p.predicate → FitBoxPart p → read_box_part (box_part_by p.sort b) ≡ Some p
+box_part_again_by p false e f =
+    ap (box_part_of p.sort) (cut_none 62 p.sort (lacks is_word_byte 62 p.sort (word_passes p.sort f) refl))
+    ∙ ap (option_map (box_part false)) (word_laws.again p.sort f)
+    ∙ ap Some (same_box_part p false e)
+box_part_again_by p true e f =
+    ap (box_part_of (p.sort ++ (62 ∷ codes "Bool"))) (cut_again 62 p.sort (codes "Bool") (lacks is_word_byte 62 p.sort (word_passes p.sort f) refl))
+    ∙ ap (option_map (box_part true)) (word_laws.again p.sort f)
+    ∙ ap Some (same_box_part p true e)
 
 box_part_again : (p : BoxPart) → FitBoxPart p → read_box_part (box_part_text p) ≡ Some p
-box_part_again p f =
-    ap read_box_part (same_part_text p.sort p.predicate f.1)
-    ∙ ap (option_map constant_part) (word_laws.again p.sort f.0)
-    ∙ ap Some (same_box_part p f.1)
+box_part_again p f = box_part_again_by p p.predicate refl f
 
-box_part_back : (text : List ℕ) (p : BoxPart) → read_box_part text ≡ Some p → (text ≡ box_part_text p) × FitBoxPart p
-box_part_back text p e = mapped constant_part (read_word text) p e (λ s i j.
+sort_as_back : (b : Bool) (text : List ℕ) (p : BoxPart) → sort_as b text ≡ Some p → (box_part_by text b ≡ box_part_text p) × FitBoxPart p
+sort_as_back b text p e = mapped (box_part b) (read_word text) p e (λ s i j.
     let a = word_laws.back text s i in
-    subst (λ p. (text ≡ box_part_text p) × FitBoxPart p) j (a.0, (a.1, refl)))
+    subst (λ p. (box_part_by text b ≡ box_part_text p) × FitBoxPart p) j (ap (λ z. box_part_by z b) a.0, a.1))
 
-box_part_laws : Laws is_word_byte read_box_part box_part_text FitBoxPart
+predicate_back : (text : List ℕ) (q : List ℕ × List ℕ) (p : BoxPart) (t : Bool) → text ≡ q.0 ++ (62 ∷ q.1) → bytes_eq q.1 (codes "Bool") ≡ t → cond t (sort_as true q.0) None ≡ Some p → (text ≡ box_part_text p) × FitBoxPart p
+predicate_back text q p true c i e =
+    let a = sort_as_back true q.0 p e in
+    (c ∙ ap (λ z. q.0 ++ (62 ∷ z)) ((bytes_eq-Decides q.1 (codes "Bool")).0 i) ∙ a.0, a.1)
+predicate_back text q p false c i e = absurd (none-some p e)
+
+box_part_back_by : (text : List ℕ) (o : Option (List ℕ × List ℕ)) (p : BoxPart) → cut_at 62 text ≡ o → box_part_of text o ≡ Some p → (text ≡ box_part_text p) × FitBoxPart p
+box_part_back_by text (Some q) p c e = predicate_back text q p (bytes_eq q.1 (codes "Bool")) (cut_some 62 text q.0 q.1 c) refl e
+box_part_back_by text None p c e = sort_as_back false text p e
+
+box_part_passes : (s : List ℕ) (b : Bool) → IsWord s → passes is_op_byte (box_part_by s b) ≡ true
+box_part_passes s false f = passes_more is_word_byte is_op_byte word_in_op s (word_passes s f)
+box_part_passes s true f = passes_append is_op_byte s (62 ∷ codes "Bool") (passes_more is_word_byte is_op_byte word_in_op s (word_passes s f)) refl
+
+box_part_laws : Laws is_op_byte read_box_part box_part_text FitBoxPart
 box_part_laws = record {
   again = box_part_again;
-  back = box_part_back;
-  bytes = λ p f. subst (λ z. passes is_word_byte z ≡ true) (sym (same_part_text p.sort p.predicate f.1)) (word_passes p.sort f.0);
+  back = λ text p e. box_part_back_by text (cut_at 62 text) p refl e;
+  bytes = λ p f. box_part_passes p.sort p.predicate f;
 }
 
 -- numbers of arguments
@@ -220,6 +238,25 @@ argument_laws = record {
   bytes = λ k f. passes_more is_ascii_digit is_word_byte digit_in_word (decimal k) (digits_pass (decimal k) (digits_decimal own k f.1));
 }
 
+-- operators as clauses list them
+
+operator_back_by : (b : ℕ) (bs : List ℕ) (k : ℕ) (t : Bool) → (b == 35) ≡ t → cond t (read_number bs) None ≡ Some k → (b ∷ bs ≡ operator_text k) × IsSmall k
+operator_back_by b bs k true i e =
+    let a = number_read bs k e in
+    (cc (eqb-true b 35 i, a.0), a.1)
+operator_back_by b bs k false i e = absurd (none-some k e)
+
+operator_back : (text : List ℕ) (k : ℕ) → read_operator text ≡ Some k → (text ≡ operator_text k) × IsSmall k
+operator_back [] k e = absurd (none-some k e)
+operator_back (b ∷ bs) k e = operator_back_by b bs k (b == 35) refl e
+
+operator_laws : Laws is_op_byte read_operator operator_text IsSmall
+operator_laws = record {
+  again = number_again;
+  back = operator_back;
+  bytes = λ k s. passes_append is_op_byte (35 ∷ []) (decimal k) refl (number_laws.bytes k s);
+}
+
 ref_not_dash_by : (b : Bool) (n : ℕ) → read_ref_by b n (45 ∷ []) ≡ None
 ref_not_dash_by false n = refl
 ref_not_dash_by true n = refl
@@ -241,8 +278,11 @@ number_part_laws h label e = part_laws number_laws is_part_byte op_in_part h lab
 ref_part_laws : (h : Here) (label : List ℕ) → passes is_word_byte label ≡ true → IsSmall h.line → Laws is_part_byte (ref_part h label) (named_ref h label) IsSmall
 ref_part_laws h label e l = part_laws (ref_laws h l) is_part_byte op_in_part h label (label_lacks label e) (label_in_part label e) refl
 
-refs_part_laws : (h : Here) → IsSmall h.line → Laws is_part_byte (refs_part h) (refs_text h (codes "boxes")) (Each IsSmall)
-refs_part_laws h l = part_laws (list_laws (ref_laws h l) is_part_byte op_in_part 44 refl refl refl refl (ref_not_dash_by h.relative h.line)) is_part_byte same_part h (codes "boxes") (label_lacks (codes "boxes") refl) refl refl
+refs_part_laws : (h : Here) (label : List ℕ) → passes is_word_byte label ≡ true → IsSmall h.line → Laws is_part_byte (refs_part h label) (refs_text h label) (Each IsSmall)
+refs_part_laws h label e l = part_laws (list_laws (ref_laws h l) is_part_byte op_in_part 44 refl refl refl refl (ref_not_dash_by h.relative h.line)) is_part_byte same_part h label (label_lacks label e) (label_in_part label e) refl
+
+operators_part_laws : (h : Here) → Laws is_part_byte (operators_part h) (operators_text h) (Each IsSmall)
+operators_part_laws h = part_laws (list_laws operator_laws is_part_byte op_in_part 44 refl refl refl refl refl) is_part_byte same_part h (codes "ops") (label_lacks (codes "ops") refl) refl refl
 
 place_part_laws : (h : Here) → Laws is_part_byte (place_part h) (place_text h) (Each IsArgument)
 place_part_laws h = part_laws (list_laws argument_laws is_part_byte word_in_part 46 refl refl refl refl refl) is_part_byte same_part h (codes "at") (label_lacks (codes "at") refl) refl refl
@@ -266,7 +306,7 @@ variables_part_laws : (h : Here) → Laws is_part_byte (variables_part h) (varia
 variables_part_laws h = part_laws (list_laws variable_laws is_part_byte atom_in_part 59 refl refl refl refl refl) is_part_byte same_part h (codes "by") (label_lacks (codes "by") refl) refl refl
 
 sorts_part_laws : (h : Here) → Laws is_part_byte (sorts_part h) (sorts_text h) (Each FitBoxPart)
-sorts_part_laws h = part_laws (list_laws box_part_laws is_part_byte word_in_part 44 refl refl refl refl refl) is_part_byte same_part h (codes "sorts") (label_lacks (codes "sorts") refl) refl refl
+sorts_part_laws h = part_laws (list_laws box_part_laws is_part_byte op_in_part 44 refl refl refl refl refl) is_part_byte same_part h (codes "sorts") (label_lacks (codes "sorts") refl) refl refl
 
 hyps_part_laws : (h : Here) → IsSmall h.line → Laws is_part_byte (hyps_part h) (hyps_text h) (Each FitEquation)
 hyps_part_laws h l = part_laws (list_laws (equation_laws h l) is_part_byte term_in_part 59 refl refl refl refl (equation_not_dash h)) is_part_byte same_part h (codes "hyps") (label_lacks (codes "hyps") refl) refl refl
@@ -305,11 +345,17 @@ rule_again h rule.Done l f = refl
 rule_again h (rule.Fresh b vs) l f = two_again (λ b vs. rule.Fresh b vs) (ref_part h (codes "box") (named_ref h (codes "box") b)) (variables_part h (variables_text h vs)) b vs ((ref_part_laws h (codes "box") refl l).again b f.0) ((variables_part_laws h).again vs f.1)
 rule_again h (rule.Cases b c) l f = two_again (λ b c. rule.Cases b c) (ref_part h (codes "true") (named_ref h (codes "true") b)) (ref_part h (codes "false") (named_ref h (codes "false") c)) b c ((ref_part_laws h (codes "true") refl l).again b f.0) ((ref_part_laws h (codes "false") refl l).again c f.1)
 rule_again h (rule.Induct m x e bs) l f =
-    four_again (λ m x e bs. rule.Induct m x e bs) (ref_part h (codes "line") (named_ref h (codes "line") m)) (variable_part h (named h (codes "var") (variable_text x))) (goal_part h (goal_text h e)) (refs_part h (refs_text h (codes "boxes") bs)) m x e bs
-    ((ref_part_laws h (codes "line") refl l).again m f.0) ((variable_part_laws h).again x f.1.0) ((goal_part_laws h l).again e f.1.1.0) ((refs_part_laws h l).again bs f.1.1.1)
-rule_again h (rule.Observe m e ls) l f = absurd f
-rule_again h (rule.Generated b s fs) l f = absurd f
-rule_again h (rule.Partitioned b s fs) l f = absurd f
+    four_again (λ m x e bs. rule.Induct m x e bs) (ref_part h (codes "line") (named_ref h (codes "line") m)) (variable_part h (named h (codes "var") (variable_text x))) (goal_part h (goal_text h e)) (refs_part h (codes "boxes") (refs_text h (codes "boxes") bs)) m x e bs
+    ((ref_part_laws h (codes "line") refl l).again m f.0) ((variable_part_laws h).again x f.1.0) ((goal_part_laws h l).again e f.1.1.0) ((refs_part_laws h (codes "boxes") refl l).again bs f.1.1.1)
+rule_again h (rule.Observe m e ls) l f =
+    three_again (λ m e ls. rule.Observe m e ls) (ref_part h (codes "line") (named_ref h (codes "line") m)) (goal_part h (goal_text h e)) (refs_part h (codes "lines") (refs_text h (codes "lines") ls)) m e ls
+    ((ref_part_laws h (codes "line") refl l).again m f.0) ((goal_part_laws h l).again e f.1.0) ((refs_part_laws h (codes "lines") refl l).again ls f.1.1)
+rule_again h (rule.Generated b s fs) l f =
+    three_again (λ b s fs. rule.Generated b s fs) (ref_part h (codes "box") (named_ref h (codes "box") b)) (sort_part h (named h (codes "sort") s)) (operators_part h (operators_text h fs)) b s fs
+    ((ref_part_laws h (codes "box") refl l).again b f.0) ((sort_part_laws h).again s f.1.0) ((operators_part_laws h).again fs f.1.1)
+rule_again h (rule.Partitioned b s fs) l f =
+    three_again (λ b s fs. rule.Partitioned b s fs) (ref_part h (codes "box") (named_ref h (codes "box") b)) (sort_part h (named h (codes "sort") s)) (operators_part h (operators_text h fs)) b s fs
+    ((ref_part_laws h (codes "box") refl l).again b f.0) ((sort_part_laws h).again s f.1.0) ((operators_part_laws h).again fs f.1.1)
 
 -- ---- rules: what is read is spelled so
 
@@ -346,6 +392,9 @@ three_of_some (q ∷ qs) p e = mapped (behind q) (two_of qs) p e (λ x i j. ap (
 four_of_some : (ps : List (List ℕ)) (p : List ℕ × (List ℕ × (List ℕ × List ℕ))) → four_of ps ≡ Some p → ps ≡ p.0 ∷ p.1.0 ∷ p.1.1.0 ∷ p.1.1.1 ∷ []
 four_of_some [] p e = absurd (none-some p e)
 four_of_some (q ∷ qs) p e = mapped (behind q) (three_of qs) p e (λ x i j. ap (λ z. q ∷ z) (three_of_some qs x i) ∙ ap (λ o. o.0 ∷ o.1.0 ∷ o.1.1.0 ∷ o.1.1.1 ∷ []) j)
+
+three_fields : (w : List ℕ) {x y z a b c : List ℕ} → x ≡ a → y ≡ b → z ≡ c → w ∷ x ∷ y ∷ z ∷ [] ≡ w ∷ a ∷ b ∷ c ∷ []
+three_fields w e f g = λ i. w ∷ e i ∷ f i ∷ g i ∷ []
 
 axiom_back : (h : Here) (p : List ℕ) (r : Line) → axiom_of h p ≡ Some r → Spelled h (codes "axiom" ∷ p ∷ []) r
 axiom_back h p r e = mapped (λ k. rule.Axiom k) (number_part h (codes "statement") p) r e (λ k i j.
@@ -399,11 +448,11 @@ cases_back h p r l e = two_some (λ b c. rule.Cases b c) (ref_part h (codes "tru
     subst (Spelled h (codes "cases" ∷ p.0 ∷ p.1 ∷ [])) k (ap (λ z. codes "cases" ∷ z ∷ p.1 ∷ []) a.0 ∙ ap (λ z. codes "cases" ∷ named_ref h (codes "true") b ∷ z ∷ []) d.0, (a.1, d.1)))
 
 induct_back : (h : Here) (p : List ℕ × (List ℕ × (List ℕ × List ℕ))) (r : Line) → IsSmall h.line → induct_of h p ≡ Some r → Spelled h (codes "induct" ∷ p.0 ∷ p.1.0 ∷ p.1.1.0 ∷ p.1.1.1 ∷ []) r
-induct_back h p r l e = four_some (λ m x g bs. rule.Induct m x g bs) (ref_part h (codes "line") p.0) (variable_part h p.1.0) (goal_part h p.1.1.0) (refs_part h p.1.1.1) r e (λ m x g bs i j o u v.
+induct_back h p r l e = four_some (λ m x g bs. rule.Induct m x g bs) (ref_part h (codes "line") p.0) (variable_part h p.1.0) (goal_part h p.1.1.0) (refs_part h (codes "boxes") p.1.1.1) r e (λ m x g bs i j o u v.
     let a = (ref_part_laws h (codes "line") refl l).back p.0 m i in
     let b = (variable_part_laws h).back p.1.0 x j in
     let c = (goal_part_laws h l).back p.1.1.0 g o in
-    let d = (refs_part_laws h l).back p.1.1.1 bs u in
+    let d = (refs_part_laws h (codes "boxes") refl l).back p.1.1.1 bs u in
     subst (Spelled h (codes "induct" ∷ p.0 ∷ p.1.0 ∷ p.1.1.0 ∷ p.1.1.1 ∷ [])) v (
       ap (λ z. codes "induct" ∷ z ∷ p.1.0 ∷ p.1.1.0 ∷ p.1.1.1 ∷ []) a.0
           ∙ ap (λ z. codes "induct" ∷ named_ref h (codes "line") m ∷ z ∷ p.1.1.0 ∷ p.1.1.1 ∷ []) b.0
@@ -411,6 +460,27 @@ induct_back h p r l e = four_some (λ m x g bs. rule.Induct m x g bs) (ref_part 
           ∙ ap (λ z. codes "induct" ∷ named_ref h (codes "line") m ∷ named h (codes "var") (variable_text x) ∷ goal_text h g ∷ z ∷ []) d.0,
       (a.1, (b.1, (c.1, d.1))),
     ))
+
+observe_back : (h : Here) (p : List ℕ × (List ℕ × List ℕ)) (r : Line) → IsSmall h.line → observe_of h p ≡ Some r → Spelled h (codes "observe" ∷ p.0 ∷ p.1.0 ∷ p.1.1 ∷ []) r
+observe_back h p r l e = three_some (λ m g ls. rule.Observe m g ls) (ref_part h (codes "line") p.0) (goal_part h p.1.0) (refs_part h (codes "lines") p.1.1) r e (λ m g ls i j o u.
+    let a = (ref_part_laws h (codes "line") refl l).back p.0 m i in
+    let b = (goal_part_laws h l).back p.1.0 g j in
+    let c = (refs_part_laws h (codes "lines") refl l).back p.1.1 ls o in
+    subst (Spelled h (codes "observe" ∷ p.0 ∷ p.1.0 ∷ p.1.1 ∷ [])) u (three_fields (codes "observe") a.0 b.0 c.0, (a.1, (b.1, c.1))))
+
+generated_back : (h : Here) (p : List ℕ × (List ℕ × List ℕ)) (r : Line) → IsSmall h.line → generated_of h p ≡ Some r → Spelled h (codes "generated" ∷ p.0 ∷ p.1.0 ∷ p.1.1 ∷ []) r
+generated_back h p r l e = three_some (λ b s fs. rule.Generated b s fs) (ref_part h (codes "box") p.0) (sort_part h p.1.0) (operators_part h p.1.1) r e (λ b s fs i j o u.
+    let a = (ref_part_laws h (codes "box") refl l).back p.0 b i in
+    let c = (sort_part_laws h).back p.1.0 s j in
+    let d = (operators_part_laws h).back p.1.1 fs o in
+    subst (Spelled h (codes "generated" ∷ p.0 ∷ p.1.0 ∷ p.1.1 ∷ [])) u (three_fields (codes "generated") a.0 c.0 d.0, (a.1, (c.1, d.1))))
+
+partitioned_back : (h : Here) (p : List ℕ × (List ℕ × List ℕ)) (r : Line) → IsSmall h.line → partitioned_of h p ≡ Some r → Spelled h (codes "partitioned" ∷ p.0 ∷ p.1.0 ∷ p.1.1 ∷ []) r
+partitioned_back h p r l e = three_some (λ b s fs. rule.Partitioned b s fs) (ref_part h (codes "box") p.0) (sort_part h p.1.0) (operators_part h p.1.1) r e (λ b s fs i j o u.
+    let a = (ref_part_laws h (codes "box") refl l).back p.0 b i in
+    let c = (sort_part_laws h).back p.1.0 s j in
+    let d = (operators_part_laws h).back p.1.1 fs o in
+    subst (Spelled h (codes "partitioned" ∷ p.0 ∷ p.1.0 ∷ p.1.1 ∷ [])) u (three_fields (codes "partitioned") a.0 c.0 d.0, (a.1, (c.1, d.1))))
 
 row_one_back : (h : Here) (p : List ℕ) (r : Line) → row_of h p ≡ Some r → Spelled h (codes "row" ∷ p ∷ []) r
 row_one_back h p r e = mapped (λ k. rule.Row k None) (number_part h (codes "number") p) r e (λ k i j.
@@ -481,7 +551,8 @@ word_back text k e =
     word_row text word.Refl _ k _ refl (λ e. word_row text word.Sym _ k _ refl (λ e. word_row text word.Inst _ k _ refl (λ e.
     word_row text word.Repl _ k _ refl (λ e. word_row text word.Equal _ k _ refl (λ e. word_row text word.BoxLine _ k _ refl (λ e.
     word_row text word.Done _ k _ refl (λ e. word_row text word.Fresh _ k _ refl (λ e. word_row text word.Cases _ k _ refl (λ e.
-    word_row text word.Induct None k _ refl (λ e. absurd (none-some k e)) e) e) e) e) e) e) e) e) e) e) e) e) e
+    word_row text word.Induct _ k _ refl (λ e. word_row text word.Observe _ k _ refl (λ e. word_row text word.Generated _ k _ refl (λ e.
+    word_row text word.Partitioned None k _ refl (λ e. absurd (none-some k e)) e) e) e) e) e) e) e) e) e) e) e) e) e) e) e) e
 
 by_word_back : (h : Here) (ps : List (List ℕ)) (r : Line) (k : RuleWord) → IsSmall h.line → read_by_word h ps k ≡ Some r → Spelled h (word_text k ∷ ps) r
 by_word_back h ps r word.Axiom l e = one_back h (codes "axiom") (axiom_of h) ps r (λ p. axiom_back h p r) e
@@ -497,6 +568,9 @@ by_word_back h ps r word.Done l e = done_back h ps r e
 by_word_back h ps r word.Fresh l e = two_back h (codes "fresh") (fresh_of h) ps r (λ p. fresh_back h p r l) e
 by_word_back h ps r word.Cases l e = two_back h (codes "cases") (cases_of h) ps r (λ p. cases_back h p r l) e
 by_word_back h ps r word.Induct l e = four_back h (codes "induct") (induct_of h) ps r (λ p. induct_back h p r l) e
+by_word_back h ps r word.Observe l e = three_back h (codes "observe") (observe_of h) ps r (λ p. observe_back h p r l) e
+by_word_back h ps r word.Generated l e = three_back h (codes "generated") (generated_of h) ps r (λ p. generated_back h p r l) e
+by_word_back h ps r word.Partitioned l e = three_back h (codes "partitioned") (partitioned_of h) ps r (λ p. partitioned_back h p r l) e
 
 pub rule_back : (h : Here) (fs : List (List ℕ)) (r : Line) → IsSmall h.line → read_rule h fs ≡ Some r → Spelled h fs r
 rule_back h [] r l e = absurd (none-some r e)
@@ -527,10 +601,10 @@ rule_passes h (rule.BoxLine ss es) l f = (refl, box_passes h.relative (sorts_tex
 rule_passes h rule.Done l f = (refl, tt)
 rule_passes h (rule.Fresh b vs) l f = (refl, ((ref_part_laws h (codes "box") refl l).bytes b f.0, ((variables_part_laws h).bytes vs f.1, tt)))
 rule_passes h (rule.Cases b c) l f = (refl, ((ref_part_laws h (codes "true") refl l).bytes b f.0, ((ref_part_laws h (codes "false") refl l).bytes c f.1, tt)))
-rule_passes h (rule.Induct m x e bs) l f = (refl, ((ref_part_laws h (codes "line") refl l).bytes m f.0, ((variable_part_laws h).bytes x f.1.0, ((goal_part_laws h l).bytes e f.1.1.0, ((refs_part_laws h l).bytes bs f.1.1.1, tt)))))
-rule_passes h (rule.Observe m e ls) l f = absurd f
-rule_passes h (rule.Generated b s fs) l f = absurd f
-rule_passes h (rule.Partitioned b s fs) l f = absurd f
+rule_passes h (rule.Induct m x e bs) l f = (refl, ((ref_part_laws h (codes "line") refl l).bytes m f.0, ((variable_part_laws h).bytes x f.1.0, ((goal_part_laws h l).bytes e f.1.1.0, ((refs_part_laws h (codes "boxes") refl l).bytes bs f.1.1.1, tt)))))
+rule_passes h (rule.Observe m e ls) l f = (refl, ((ref_part_laws h (codes "line") refl l).bytes m f.0, ((goal_part_laws h l).bytes e f.1.0, ((refs_part_laws h (codes "lines") refl l).bytes ls f.1.1, tt))))
+rule_passes h (rule.Generated b s fs) l f = (refl, ((ref_part_laws h (codes "box") refl l).bytes b f.0, ((sort_part_laws h).bytes s f.1.0, ((operators_part_laws h).bytes fs f.1.1, tt))))
+rule_passes h (rule.Partitioned b s fs) l f = (refl, ((ref_part_laws h (codes "box") refl l).bytes b f.0, ((sort_part_laws h).bytes s f.1.0, ((operators_part_laws h).bytes fs f.1.1, tt))))
 
 -- ---- lines
 

@@ -98,17 +98,30 @@ box_part_by s true = s ++ (62 ∷ codes "Bool")
 abbrev pub box_part_text : BoxPart → List ℕ
 box_part_text p = box_part_by p.sort p.predicate
 
--- predicates aren't read
+-- a part of a box that has a text
 abbrev pub FitBoxPart : BoxPart → Type 0
-FitBoxPart p = IsWord p.sort × (p.predicate ≡ false)
+FitBoxPart p = IsWord p.sort
 
--- a constant of a sort
-abbrev pub constant_part : List ℕ → BoxPart
-constant_part s = record { sort = s; predicate = false }
+-- a predicate on a sort, or a constant of it
+abbrev pub box_part : Bool → List ℕ → BoxPart
+box_part b s = record { sort = s; predicate = b }
+
+-- the predicate or the constant whose sort a text is
+abbrev pub sort_as : Bool → List ℕ → Option BoxPart
+sort_as b text = option_map (box_part b) (read_word text)
+
+-- the predicate on a sort, whose answer is a truth value
+abbrev pub predicate_of : List ℕ × List ℕ → Option BoxPart
+predicate_of p = if bytes_eq p.1 (codes "Bool") then sort_as true p.0 else None
+
+-- a predicate has a sign between its sort and what it answers, and a constant has none
+abbrev pub box_part_of : List ℕ → Option (List ℕ × List ℕ) → Option BoxPart
+box_part_of text (Some p) = predicate_of p
+box_part_of text None = sort_as false text
 
 -- the part of a box that a text is
 abbrev pub read_box_part : List ℕ → Option BoxPart
-read_box_part text = option_map constant_part (read_word text)
+read_box_part text = box_part_of text (cut_at 62 text)
 
 -- ---- numbers in lists
 
@@ -128,6 +141,11 @@ read_argument text = option_and_then positive (read_number text)
 abbrev pub operator_text : ℕ → List ℕ
 operator_text k = 35 ∷ decimal k
 
+-- the operator that a text is, as clauses list it
+abbrev pub read_operator : List ℕ → Option ℕ
+read_operator [] = None
+read_operator (b ∷ bs) = if b == 35 then read_number bs else None
+
 -- ---- parts of a line: each has its name in front, where parts have names
 
 abbrev pub number_part : Here → List ℕ → List ℕ → Option ℕ
@@ -136,8 +154,11 @@ number_part h label text = part h label read_number text
 abbrev pub ref_part : Here → List ℕ → List ℕ → Option ℕ
 ref_part h label text = part h label (read_ref h) text
 
-abbrev pub refs_part : Here → List ℕ → Option (List ℕ)
-refs_part h text = part h (codes "boxes") (read_listed (read_ref h) 44) text
+abbrev pub refs_part : Here → List ℕ → List ℕ → Option (List ℕ)
+refs_part h label text = part h label (read_listed (read_ref h) 44) text
+
+abbrev pub operators_part : Here → List ℕ → Option (List ℕ)
+operators_part h text = part h (codes "ops") (read_listed read_operator 44) text
 
 abbrev pub place_part : Here → List ℕ → Option (List ℕ)
 place_part h text = part h (codes "at") (read_listed read_argument 46) text
@@ -232,7 +253,7 @@ rule_fields h (rule.Generated b s fs) =
 rule_fields h (rule.Partitioned b s fs) =
     codes "partitioned" ∷ named_ref h (codes "box") b ∷ named h (codes "sort") s ∷ operators_text h fs ∷ []
 
--- lines that are read: words where there should be, numbers below 2 ^ 64, and one of thirteen rules
+-- lines that have a text: words where there should be, and numbers below 2 ^ 64
 abbrev pub FitLine : Line → Type 0
 FitLine (rule.Axiom k) = IsSmall k
 FitLine (rule.Hyp b k) = IsSmall b × IsSmall k
@@ -248,9 +269,9 @@ FitLine rule.Done = Unit {0}
 FitLine (rule.Fresh b vs) = IsSmall b × Each FitVariable vs
 FitLine (rule.Cases b c) = IsSmall b × IsSmall c
 FitLine (rule.Induct m x e bs) = IsSmall m × (FitVariable x × (FitEquation e × Each IsSmall bs))
-FitLine (rule.Observe m e ls) = ⊥
-FitLine (rule.Generated b s fs) = ⊥
-FitLine (rule.Partitioned b s fs) = ⊥
+FitLine (rule.Observe m e ls) = IsSmall m × (FitEquation e × Each IsSmall ls)
+FitLine (rule.Generated b s fs) = IsSmall b × (IsWord s × Each IsSmall fs)
+FitLine (rule.Partitioned b s fs) = IsSmall b × (IsWord s × Each IsSmall fs)
 
 -- ---- how many parts there are
 
@@ -339,7 +360,22 @@ cases_of h p = two (λ b c. rule.Cases b c) (ref_part h (codes "true") p.0) (ref
 abbrev pub induct_of : Here → List ℕ × (List ℕ × (List ℕ × List ℕ)) → Option Line
 induct_of h p =
     four (λ m x e bs. rule.Induct m x e bs) (ref_part h (codes "line") p.0) (variable_part h p.1.0)
-    (goal_part h p.1.1.0) (refs_part h p.1.1.1)
+    (goal_part h p.1.1.0) (refs_part h (codes "boxes") p.1.1.1)
+
+abbrev pub observe_of : Here → List ℕ × (List ℕ × List ℕ) → Option Line
+observe_of h p =
+    three (λ m e ls. rule.Observe m e ls) (ref_part h (codes "line") p.0) (goal_part h p.1.0)
+    (refs_part h (codes "lines") p.1.1)
+
+abbrev pub generated_of : Here → List ℕ × (List ℕ × List ℕ) → Option Line
+generated_of h p =
+    three (λ b s fs. rule.Generated b s fs) (ref_part h (codes "box") p.0) (sort_part h p.1.0)
+    (operators_part h p.1.1)
+
+abbrev pub partitioned_of : Here → List ℕ × (List ℕ × List ℕ) → Option Line
+partitioned_of h p =
+    three (λ b s fs. rule.Partitioned b s fs) (ref_part h (codes "box") p.0) (sort_part h p.1.0)
+    (operators_part h p.1.1)
 
 -- the end of a box has no parts
 abbrev pub read_done : List (List ℕ) → Option Line
@@ -361,8 +397,11 @@ read_by_word h ps word.Done = read_done ps
 read_by_word h ps word.Fresh = option_and_then (fresh_of h) (two_of ps)
 read_by_word h ps word.Cases = option_and_then (cases_of h) (two_of ps)
 read_by_word h ps word.Induct = option_and_then (induct_of h) (four_of ps)
+read_by_word h ps word.Observe = option_and_then (observe_of h) (three_of ps)
+read_by_word h ps word.Generated = option_and_then (generated_of h) (three_of ps)
+read_by_word h ps word.Partitioned = option_and_then (partitioned_of h) (three_of ps)
 
--- the words of the rules that are read
+-- the words of the rules
 abbrev pub word_text : RuleWord → List ℕ
 word_text word.Axiom = codes "axiom"
 word_text word.Hyp = codes "hyp"
@@ -377,6 +416,9 @@ word_text word.Done = codes "done"
 word_text word.Fresh = codes "fresh"
 word_text word.Cases = codes "cases"
 word_text word.Induct = codes "induct"
+word_text word.Observe = codes "observe"
+word_text word.Generated = codes "generated"
+word_text word.Partitioned = codes "partitioned"
 
 -- the rule that a word names
 abbrev pub read_rule_word : List ℕ → Option RuleWord
@@ -394,6 +436,9 @@ read_rule_word w =
     else if bytes_eq w (codes "fresh") then Some word.Fresh
     else if bytes_eq w (codes "cases") then Some word.Cases
     else if bytes_eq w (codes "induct") then Some word.Induct
+    else if bytes_eq w (codes "observe") then Some word.Observe
+    else if bytes_eq w (codes "generated") then Some word.Generated
+    else if bytes_eq w (codes "partitioned") then Some word.Partitioned
     else None
 
 -- a word and its parts

@@ -1,4 +1,4 @@
-/// The words of the rules that are read.
+/// The words of the rules.
 #[derive(Clone, Copy, Debug, PartialEq, Eq)]
 pub enum RuleWord {
     Axiom,
@@ -14,4 +14,7 @@ pub enum RuleWord {
     Fresh,
     Cases,
     Induct,
+    Observe,
+    Generated,
+    Partitioned,
 }

@@ -2,7 +2,6 @@
 //! for each what the checker says, with a byte 0 behind each: a table to compare with another checker's.
 #![tactic(auto)]
 
-mod later;
 mod table;
 mod term;
 mod theory;

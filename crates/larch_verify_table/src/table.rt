@@ -1,7 +1,6 @@
-use crate::later::{parts_of, read_all};
 use crate::theory::{read_operators, read_statements};
 use larch_base::{Bytes, Memory, Sequence};
-use larch_certificate_reader::FormRefusal;
+use larch_certificate_reader::{FormRefusal, read_either};
 use larch_term::{Operators, Statement, Theory};
 use larch_verify::{Verdict, verify};
 use std::alloc::Global;
@@ -25,6 +24,14 @@ fn put_answer(alloc: Global, text: &[u8], answer: &mut Bytes) -> Result<(), Memo
         return answer.append(b"no problem");
     };
     put_verdict(alloc, operators, statements, certificate, answer)
+}
+
+fn parts_of(alloc: Global, text: &[u8], between: u8) -> Result<Vec<&[u8]>, Memory> {
+    let mut parts = Vec::new(alloc);
+    for part in text.split(|byte| *byte == between) {
+        parts.push(part)?;
+    }
+    Ok(parts)
 }
 
 // The last statement is the one that is to be shown.
@@ -55,8 +62,8 @@ fn put_checked(
     certificate: &[u8],
     answer: &mut Bytes,
 ) -> Result<(), Memory> {
-    match read_all(alloc, certificate) {
-        Ok(lines) => match verify(alloc, theory, statement, lines.as_slice())? {
+    match read_either(alloc, certificate) {
+        Ok(read) => match verify(alloc, theory, statement, read.lines.as_slice())? {
             Verdict::Accepted => answer.append(b"accepted"),
             Verdict::Refused(line) => put_number(alloc, b"refused ", line, answer),
         },

@@ -1,8 +1,7 @@
-use crate::later::read_all;
 use crate::term::{operators_by, read_equation};
 use larch_base::{Memory, Name, Sequence};
 use larch_certificate::Line;
-use larch_certificate_reader::FormRefusal;
+use larch_certificate_reader::{FormRefusal, read_either};
 use larch_term::{Operator, Operators, Statement};
 use std::alloc::Global;
 
@@ -46,8 +45,8 @@ pub fn read_statements(
     operators: &Operators,
     text: &[u8],
 ) -> Result<Option<Vec<Statement>>, Memory> {
-    let lines = match read_all(alloc, text) {
-        Ok(lines) => lines,
+    let lines = match read_either(alloc, text) {
+        Ok(read) => read.lines,
         Err(FormRefusal::Form(_)) => return Ok(None),
         Err(FormRefusal::Memory) => return Err(Memory),
     };
