@@ -1,0 +1,19 @@
+//! Terms whose subterms are shared: each different node is kept once, under a number.
+#![tactic(auto)]
+
+mod interning;
+mod keeping;
+mod key;
+pub mod laws;
+mod reading;
+mod refusal;
+mod shared;
+mod store;
+mod table;
+
+pub use refusal::StoreRefusal;
+pub use shared::{Shared, SharedList, SharedNode};
+pub use store::Store;
+
+#[cfg(test)]
+mod tests;
