@@ -1,0 +1,3 @@
+pub mod Cost
+pub mod Level
+pub mod Stacked
