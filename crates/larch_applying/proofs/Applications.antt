@@ -1,0 +1,80 @@
+-- One application.
+use Rattle.std.specs.Prelude.{◌≡◌, ℕ, Bool, true, false, List, [], map, Option, Some, None, refl}
+use Rattle.std.proofs.Common.{ap, sym, subst, ◌∙◌}
+use Rattle.std.proofs.lemmas.Option.{option_and_then_some}
+use Rattle.larch_term.specs.Substitution.{substituted}
+use Rattle.larch_term.specs.Tree.{Tree}
+use Rattle.larch_term.specs.declared.substitution.Entry.{Entry}
+use Rattle.larch_lines.specs.Matching.{all_different}
+use Rattle.larch_normal_forms.specs.Matching.{matched}
+use Rattle.larch_normal_forms.proofs.Matches.{match_is_right}
+use Rattle.larch_redexes.specs.Exchanged.{turned}
+use Rattle.larch_redexes.specs.Rule.{left_of, right_of, reason_of}
+use Rattle.larch_redexes.specs.declared.rule.Reason.{Reason}
+use Rattle.larch_redexes.specs.Search.{IsBy}
+use Rattle.larch_redexes.specs.declared.rule.Rule.{Rule}
+use Rattle.larch_derive.specs.Predicates.{Known, Stands, HasEquation, Extends}
+use Rattle.larch_derive.specs.declared.builder.Builder.{Builder}
+use Rattle.larch_derive.proofs.Growth.{known_stands}
+use Rattle.larch_derive_lines.specs.Rules.{variable_in, AreKnownEntries}
+use Rattle.larch_applying.specs.Applying.{IsTried}
+use Rattle.larch_applying.specs.Holding.{Says, RuleHolds}
+use Rattle.larch_applying.proofs.Entries.{known_entries, entries_stay, different}
+
+left_by : (rule : Rule) (exchanged : Bool) (t : Tree) (es : List Entry) → IsBy rule exchanged t es → (P : Type 0)
+    → ((x : Tree) → IsTried rule exchanged x → matched x t [] ≡ Some es → P) → P
+left_by rule false t es h P go = go (left_of rule) refl h
+left_by rule true t es h P go =
+    option_and_then_some (λ l. matched l t []) (turned (left_of rule)) es h (λ l p q. go l p q)
+
+-- what is shown of the left side as it is tried is shown where it is the term under a substitution
+pub by_tried : (a : Builder) (rule : Rule) (exchanged : Bool) (t : Tree) (es : List Entry) (Q : Type 0) → Known a t
+    → RuleHolds a rule → IsBy rule exchanged t es
+    → ((x : Tree) → Stands a → RuleHolds a rule → IsTried rule exchanged x → Q) → Q
+by_tried a rule exchanged t es Q k r h go =
+    left_by rule exchanged t es h Q (λ x p m. go x (known_stands a t k) r p)
+
+pub applied_says : (a b c : Builder) (rule : Rule) (exchanged : Bool) (t : Tree) (es : List Entry) (m n : ℕ) → Known a t
+    → RuleHolds a rule → IsBy rule exchanged t es → Extends a b
+    → ((x : Tree) → Stands a → RuleHolds a rule → IsTried rule exchanged x → HasEquation b m x (right_of rule))
+    → ((l r : Tree) → HasEquation b m l r → AreKnownEntries b es → all_different (map variable_in es) ≡ true
+    → HasEquation c n (substituted es l) (substituted es r))
+    → HasEquation c n t (substituted es (right_of rule))
+applied_says a b c rule exchanged t es m n k r h x says inst =
+    left_by rule exchanged t es h (HasEquation c n t (substituted es (right_of rule)))
+    (λ y p q. subst (λ u. HasEquation c n u (substituted es (right_of rule))) (match_is_right y t es q)
+    (inst y (right_of rule) (says y (known_stands a t k) r p) (entries_stay a b es x (known_entries a y t es k q))
+    (different y t es q)))
+
+pub applied_extends : (a b c : Builder) (rule : Rule) (exchanged : Bool) (t : Tree) (es : List Entry) (m : ℕ) → Known a t
+    → RuleHolds a rule → IsBy rule exchanged t es → Extends a b
+    → ((x : Tree) → Stands a → RuleHolds a rule → IsTried rule exchanged x → HasEquation b m x (right_of rule))
+    → ((l r : Tree) → HasEquation b m l r → AreKnownEntries b es → all_different (map variable_in es) ≡ true
+    → Extends b c)
+    → Extends b c
+applied_extends a b c rule exchanged t es m k r h x says inst =
+    left_by rule exchanged t es h (Extends b c)
+    (λ y p q. inst y (right_of rule) (says y (known_stands a t k) r p)
+    (entries_stay a b es x (known_entries a y t es k q)) (different y t es q))
+
+-- the rule as it is tried, by whether it is exchanged
+pub tried_plain : (b : Builder) (rule : Rule) (exchanged : Bool) (x : Tree) (n : ℕ) → exchanged ≡ false
+    → IsTried rule exchanged x → HasEquation b n (left_of rule) (right_of rule) → HasEquation b n x (right_of rule)
+tried_plain b rule false x n e p h = subst (λ u. HasEquation b n u (right_of rule)) (sym p) h
+tried_plain b rule true x n e p h = cc
+
+pub tried_turned : (rule : Rule) (exchanged : Bool) (x : Tree) → exchanged ≡ true → IsTried rule exchanged x
+    → turned (left_of rule) ≡ Some x
+tried_turned rule false x e p = cc
+tried_turned rule true x e p = p
+
+-- what a reason says of a rule, where it is the rule's
+pub says_by : (b : Builder) (rule : Rule) (w : Reason) → w ≡ reason_of rule → RuleHolds b rule
+    → Says b w (left_of rule) (right_of rule)
+says_by b rule w e h = subst (λ v. Says b v (left_of rule) (right_of rule)) (sym e) h
+
+pub left_same : (b : Builder) (n : ℕ) (l k r : Tree) → l ≡ k → HasEquation b n k r → HasEquation b n l r
+left_same b n l k r e h = subst (λ u. HasEquation b n u r) (sym e) h
+
+pub right_same : (b : Builder) (n : ℕ) (l r k : Tree) → r ≡ k → HasEquation b n l k → HasEquation b n l r
+right_same b n l r k e h = subst (λ u. HasEquation b n l u) (sym e) h

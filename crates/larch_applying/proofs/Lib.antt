@@ -1,0 +1,3 @@
+pub mod Entries
+pub mod Exchange
+pub mod Applications

@@ -1,0 +1,19 @@
+-- What one application gives.
+use Rattle.std.specs.Prelude.{◌≡◌, Bool, true, false, Some}
+use Rattle.larch_term.specs.Tree.{Tree}
+use Rattle.larch_normal_forms.specs.Work.{is_large}
+use Rattle.larch_redexes.specs.Exchanged.{turned}
+use Rattle.larch_redexes.specs.Rule.{left_of}
+use Rattle.larch_redexes.specs.declared.rule.Rule.{Rule}
+use Rattle.larch_applying.specs.declared.refusal.ApplyRefusal.{ApplyRefusal}
+use Rattle.larch_applying.specs.declared.refusal.ApplyRefusal.TheVariants.{TooLarge, Memory}
+
+-- a rule makes a term; it may be refused as too large where it is so, and out of memory always
+abbrev pub MayRefuse : Tree → ApplyRefusal → Type 0
+MayRefuse u TooLarge = is_large u ≡ true
+MayRefuse u Memory = Unit {0}
+
+-- the left side of a rule as it is tried: as it stands, or exchanged
+abbrev pub IsTried : Rule → Bool → Tree → Type 0
+IsTried r false x = x ≡ left_of r
+IsTried r true x = turned (left_of r) ≡ Some x

@@ -1,0 +1,122 @@
+ghost use Rattle.std.specs.Prelude.{◌≡◌, ◌++◌, ◌∷◌, [], false, Some, IfOk, OnOk};
+ghost use Rattle.std.specs.List.{list_any};
+ghost use Rattle.larch_applying.specs.Exchanging.{IsExchange, pair_at};
+ghost use Rattle.larch_calculus.specs.Formula.{equality};
+ghost use Rattle.larch_derive.specs.Predicates.{HasEquation, Extends, Stands};
+ghost use Rattle.larch_derive_lines.specs.Rules.{AreKnownEntries};
+ghost use Rattle.larch_redexes.specs.Exchanged.{turned};
+ghost use Rattle.larch_term.specs.Substitution.{is_entry_of};
+ghost use Rattle.larch_term.specs.Tree.{Tree, app, forest_of};
+
+use larch_base::{Memory, Name};
+use larch_derive::Builder;
+use larch_derive_lines::{inst_line, row_line, trans_line};
+use larch_redexes::sort_at;
+use larch_term::{Node, Operator, Sort, Substitution, Term, copy};
+use std::alloc::Global;
+
+// The row that says that an equality may be exchanged.
+const EXCHANGING_ROW: u64 = 34;
+
+// How an equality is exchanged: its sort, and what its sides take the places of.
+#[derive(Drop)]
+pub(crate) struct Exchange {
+    pub(crate) sort: Sort,
+    pub(crate) by: Substitution,
+}
+
+/// A line that says what another one says, with the sides of the equality on the left exchanged. A refused line may
+/// leave lines behind, none of them bad.
+#[tactic(auto, using(larch_derive::proofs::Growth::extends_same))]
+pub fn exchanged_line(
+    alloc: Global,
+    builder: &mut Builder,
+    line: u64,
+    left: &Term,
+) -> Result<u64, Memory>
+    ensures says { IfOk result (λ n. (x r : Tree) → turned left.now ≡ Some x → HasEquation builder.old line left.now r
+        → HasEquation builder.new n x r) }
+    ensures extends { (x r : Tree) → turned left.now ≡ Some x → HasEquation builder.old line left.now r
+        → Extends builder.old builder.new }
+{
+    let exchange = exchange_of(alloc, left)?;
+    let exchanged = exchange_line(alloc, builder, exchange)?;
+    let number = trans_line(alloc, builder, exchanged, line)?;
+    Ok(number)
+}
+
+// The line that says that an equality is the exchanged one.
+#[tactic(auto, using(larch_derive::proofs::Growth::extends_same))]
+pub(crate) fn exchange_line(
+    alloc: Global,
+    builder: &mut Builder,
+    exchange: Exchange,
+) -> Result<u64, Memory>
+    ensures says { IfOk result (λ n. (s t : Tree) → Stands builder.old → AreKnownEntries builder.old exchange.by
+        → exchange.by ≡ pair_at exchange.sort s t
+        → HasEquation builder.new n (equality exchange.sort s t) (equality exchange.sort t s)) }
+    ensures extends { (s t : Tree) → Stands builder.old → AreKnownEntries builder.old exchange.by
+        → exchange.by ≡ pair_at exchange.sort s t → Extends builder.old builder.new }
+{
+    let Exchange { sort, by } = exchange;
+    let row = row_line(builder, EXCHANGING_ROW, Some(sort))?;
+    let number = inst_line(alloc, builder, row, &by)?;
+    Ok(number)
+}
+
+// How a term of two arguments is exchanged.
+fn exchange_of(alloc: Global, term: &Term) -> Result<Exchange, Memory>
+    ensures { IfOk result (λ exchange. IsExchange term.now exchange.sort exchange.by) }
+{
+    let Node::App(operator, arguments) = term.node() else {
+        return Err(Memory);
+    };
+    let exchange = exchange_at(alloc, operator, arguments.as_slice())?;
+    Ok(exchange)
+}
+
+// Where it hasn't two, no one asks.
+#[tactic(auto, using(crate::proofs::Exchange::exchange_is))]
+fn exchange_at(alloc: Global, operator: &Operator, arguments: &[Term]) -> Result<Exchange, Memory>
+    ensures { IfOk result (λ exchange. IsExchange (app operator.now (forest_of arguments.now)) exchange.sort exchange.by) }
+{
+    let [left, further @ ..] = arguments else {
+        return Err(Memory);
+    };
+    let [right, others @ ..] = further else {
+        return Err(Memory);
+    };
+    if let [_, ..] = others {
+        return Err(Memory);
+    }
+    let sort = sort_at(alloc, operator)?;
+    let by = pair_at(alloc, &sort, right, left)?;
+    Ok(Exchange { sort, by })
+}
+
+fn pair_at(alloc: Global, sort: &Sort, left: &Term, right: &Term) -> Result<Substitution, Memory>
+    ensures { IfOk result (λ by. by ≡ pair_at sort.now left.now right.now) }
+{
+    let mut by = Substitution::new(alloc);
+    bind(alloc, &mut by, b"a", sort, left)?;
+    bind(alloc, &mut by, b"b", sort, right)?;
+    Ok(by)
+}
+
+// Binds a variable that isn't bound.
+fn bind(
+    alloc: Global,
+    by: &mut Substitution,
+    name: &[u8],
+    sort: &Sort,
+    term: &Term,
+) -> Result<(), Memory>
+    requires { list_any (is_entry_of name.now sort.now) by.old ≡ false }
+    ensures { OnOk result (by.new ≡ by.old ++ record { name = name.now; sort = sort.now; term = term.now } ∷ []) }
+{
+    let name = Name::new(alloc, name)?;
+    let sort = sort.copy()?;
+    let term = copy(alloc, term)?;
+    by.push(name, sort, term)?;
+    Ok(())
+}

@@ -1,0 +1,13 @@
+//! One application of a rule, with its line: what the rule makes of a term, and a line that says that both are equal.
+#![tactic(auto)]
+
+mod applying;
+mod exchanging;
+mod refusal;
+
+pub use applying::{Applied, apply_match, reason_line};
+pub use exchanging::exchanged_line;
+pub use refusal::ApplyRefusal;
+
+#[cfg(test)]
+mod tests;

@@ -1,0 +1,100 @@
+-- Rules that are tried one behind the other.
+use Rattle.std.specs.Prelude.{◌≡◌, ◌&&◌, ℕ, Bool, true, false, cond, List, [], ◌∷◌, ◌++◌, Option, Some, None, option_map, option_and_then, refl}
+use Rattle.std.proofs.Common.{ap, sym, subst, ◌∙◌}
+use Rattle.std.specs.List.{flat_map}
+use Rattle.larch_term.specs.Tree.{Tree, Forest, var, app, none, more}
+use Rattle.larch_term.specs.Operator.{PlainOperator}
+use Rattle.larch_term.specs.BuiltIn.{is_built_in_as}
+use Rattle.larch_term.specs.Substitution.{substituted}
+use Rattle.larch_term.specs.declared.built_in.BuiltIn.TheVariants.{Equal}
+use Rattle.larch_term.specs.declared.substitution.Entry.{Entry}
+use Rattle.larch_normal_forms.specs.Matching.{matched}
+use Rattle.larch_normal_forms.specs.Rewriting.{tried, exchanged, rewritten, rewritten_by, rewritten_once, rows_for}
+use Rattle.larch_normal_forms.specs.Sides.{Sides}
+use Rattle.larch_redexes.specs.Exchanged.{turned}
+use Rattle.larch_redexes.specs.Rule.{sides_of_rule, all_sides}
+use Rattle.larch_redexes.specs.declared.rule.Rule.{Rule}
+
+-- the first that some rules make of a term, or else what further ones make
+abbrev pub or_further : Option Tree → Option Tree → Option Tree
+or_further None o = o
+or_further (Some u) o = Some u
+
+one_more : (o : Option Tree) (x y z : Option Tree) → z ≡ or_further x y
+    → (elim o [ None ↦ z | Some u ↦ Some u ]) ≡ or_further (elim o [ None ↦ x | Some u ↦ Some u ]) y
+one_more None x y z e = e
+one_more (Some u) x y z e = refl
+
+pub rewritten_further : (xs ys : List Sides) (t : Tree) → rewritten (xs ++ ys) t ≡ or_further (rewritten xs t) (rewritten ys t)
+rewritten_further [] ys t = refl
+rewritten_further (x ∷ xs) ys t =
+    one_more (rewritten_by x t) (rewritten xs t) (rewritten ys t) (rewritten (xs ++ ys) t) (rewritten_further xs ys t)
+
+-- where a rule doesn't apply the further ones decide
+pub here_none : (r : Rule) (rs : List Rule) (t : Tree) → rewritten (tried (sides_of_rule r)) t ≡ None
+    → rewritten (flat_map tried (all_sides (r ∷ rs))) t ≡ rewritten (flat_map tried (all_sides rs)) t
+here_none r rs t h =
+    rewritten_further (tried (sides_of_rule r)) (flat_map tried (all_sides rs)) t
+    ∙ ap (λ o. or_further o (rewritten (flat_map tried (all_sides rs)) t)) h
+
+pub here_some : (r : Rule) (rs : List Rule) (t u : Tree) → rewritten (tried (sides_of_rule r)) t ≡ Some u
+    → rewritten (flat_map tried (all_sides (r ∷ rs))) t ≡ Some u
+here_some r rs t u h =
+    rewritten_further (tried (sides_of_rule r)) (flat_map tried (all_sides rs)) t
+    ∙ ap (λ o. or_further o (rewritten (flat_map tried (all_sides rs)) t)) h
+
+-- a rule as it is tried, by what its left side matches
+abbrev pub by_left : Rule → Tree → Option (List Entry) → Option (List Entry) → Option Tree
+by_left r t None o = option_map (λ es. substituted es r.right) o
+by_left r t (Some es) o = Some (substituted es r.right)
+
+then_turned : (r : Rule) (f : PlainOperator) (s v t : Tree) (b : Bool)
+    → rewritten (cond b (record { left = app f (more v (more s none)); right = r.right } ∷ []) []) t
+    ≡ option_map (λ es. substituted es r.right)
+    (option_and_then (λ l. matched l t []) (cond b (Some (app f (more v (more s none)))) None))
+then_turned r f s v t true = only (matched (app f (more v (more s none))) t [])
+  where
+    only : (o : Option (List Entry)) → (elim (option_map (λ es. substituted es r.right) o) [ None ↦ None | Some u ↦ Some u ])
+        ≡ option_map (λ es. substituted es r.right) o
+    only None = refl
+    only (Some es) = refl
+then_turned r f s v t false = refl
+
+turned_tried : (r : Rule) (l t : Tree)
+    → rewritten (exchanged (record { left = l; right = r.right })) t
+    ≡ option_map (λ es. substituted es r.right) (option_and_then (λ x. matched x t []) (turned l))
+turned_tried r (var n s) t = refl
+turned_tried r (app f none) t = refl
+turned_tried r (app f (more s none)) t = refl
+turned_tried r (app f (more s (more v none))) t = then_turned r f s v t (is_built_in_as f Equal)
+turned_tried r (app f (more s (more v (more w ws)))) t = refl
+
+by_match : (r : Rule) (t : Tree) (o p : Option (List Entry)) (z : Option Tree)
+    → z ≡ option_map (λ es. substituted es r.right) p
+    → (elim (option_map (λ es. substituted es r.right) o) [ None ↦ z | Some u ↦ Some u ]) ≡ by_left r t o p
+by_match r t None p z e = e
+by_match r t (Some es) p z e = refl
+
+pub tried_by : (r : Rule) (t : Tree)
+    → rewritten (tried (sides_of_rule r)) t
+    ≡ by_left r t (matched r.left t []) (option_and_then (λ l. matched l t []) (turned r.left))
+tried_by r t =
+    by_match r t (matched r.left t []) (option_and_then (λ l. matched l t []) (turned r.left))
+    (rewritten (exchanged (sides_of_rule r)) t) (turned_tried r r.left t)
+
+-- ---- rows before rules
+
+pub once_first : (rows rs : List Rule) (t u : Tree) → flat_map tried (all_sides rows) ≡ rows_for t
+    → rewritten (flat_map tried (all_sides rows)) t ≡ Some u → rewritten_once (all_sides rs) t ≡ Some u
+once_first rows rs t u e h =
+    ap (λ xs. rewritten (xs ++ flat_map tried (all_sides rs)) t) (sym e)
+    ∙ (rewritten_further (flat_map tried (all_sides rows)) (flat_map tried (all_sides rs)) t
+    ∙ ap (λ o. or_further o (rewritten (flat_map tried (all_sides rs)) t)) h)
+
+pub once_further : (rows rs : List Rule) (t : Tree) (o : Option Tree) → flat_map tried (all_sides rows) ≡ rows_for t
+    → rewritten (flat_map tried (all_sides rows)) t ≡ None → rewritten (flat_map tried (all_sides rs)) t ≡ o
+    → rewritten_once (all_sides rs) t ≡ o
+once_further rows rs t o e h k =
+    ap (λ xs. rewritten (xs ++ flat_map tried (all_sides rs)) t) (sym e)
+    ∙ (rewritten_further (flat_map tried (all_sides rows)) (flat_map tried (all_sides rs)) t
+    ∙ (ap (λ p. or_further p (rewritten (flat_map tried (all_sides rs)) t)) h ∙ k))

@@ -1,0 +1,16 @@
+use Rattle.std.proofs.Common.{◌≡◌, ◌*◌, ◌+◌, drop, sum_by}
+use Rattle.larch_term.specs.Tree.{forest_of, nodes}
+use Rattle.larch_normal_forms.specs.Matching.{matched_all}
+use Rattle.larch_redexes.proofs.patterns.+matches.Given as goal
+
+abbrev pub decreases-matches : goal.decreases-matches
+decreases-matches l = 2 * nodes l.pattern.now
+
+abbrev pub decreases-match_all : goal.decreases-match_all
+decreases-match_all l = 2 * sum_by nodes l.patterns.now + 1
+
+-- the arguments so far match
+abbrev pub invariant-match_all-loop-i : goal.invariant-match_all-loop-i
+invariant-match_all-loop-i l =
+    matched_all (forest_of (drop l.i l.patterns)) (forest_of (drop l.i l.terms)) l.bound.items
+    ≡ matched_all (forest_of l.patterns) (forest_of l.terms) l.initial.bound.items

@@ -1,0 +1,38 @@
+-- What a search for a rule that applies finds.
+use Rattle.std.specs.Prelude.{◌≡◌, Bool, true, false, List, [], ◌++◌, Contains, Option, Some, None, option_and_then}
+use Rattle.std.specs.List.{flat_map}
+use Rattle.larch_term.specs.Tree.{Tree}
+use Rattle.larch_term.specs.Substitution.{substituted}
+use Rattle.larch_term.specs.declared.substitution.Entry.{Entry}
+use Rattle.larch_normal_forms.specs.Matching.{matched}
+use Rattle.larch_normal_forms.specs.Rewriting.{tried, rewritten, rewritten_once}
+use Rattle.larch_redexes.specs.Exchanged.{turned}
+use Rattle.larch_redexes.specs.Rule.{sides_of_rule, all_sides}
+use Rattle.larch_redexes.specs.declared.rule.Rule.{Rule}
+use Rattle.larch_redexes.specs.declared.search.Match.{Match}
+
+-- the left side of a rule, as it stands or exchanged, is a term under a substitution
+abbrev pub IsBy : Rule → Bool → Tree → List Entry → Type 0
+IsBy r false t es = matched r.left t [] ≡ Some es
+IsBy r true t es = option_and_then (λ l. matched l t []) (turned r.left) ≡ Some es
+
+-- what a rule makes of a term, and by which substitution
+abbrev pub IsMatch : Rule → Tree → Option Match → Type 0
+IsMatch r t None = rewritten (tried (sides_of_rule r)) t ≡ None
+IsMatch r t (Some m) =
+    (m.rule.now ≡ r) × IsBy r m.exchanged t m.by
+    × (rewritten (tried (sides_of_rule r)) t ≡ Some (substituted m.by r.right))
+
+-- the first of some rules that applies to a term, and by which substitution
+abbrev pub IsFirst : List Rule → Tree → Option Match → Type 0
+IsFirst rs t None = rewritten (flat_map tried (all_sides rs)) t ≡ None
+IsFirst rs t (Some m) =
+    Contains rs m.rule.now × IsBy m.rule.now m.exchanged t m.by
+    × (rewritten (flat_map tried (all_sides rs)) t ≡ Some (substituted m.by m.rule.now.right))
+
+-- the first of the rows for a term, or else of some rules, that applies to it, and by which substitution
+abbrev pub IsRedex : List Rule → List Rule → Tree → Option Match → Type 0
+IsRedex rows rs t None = rewritten_once (all_sides rs) t ≡ None
+IsRedex rows rs t (Some m) =
+    Contains (rows ++ rs) m.rule.now × IsBy m.rule.now m.exchanged t m.by
+    × (rewritten_once (all_sides rs) t ≡ Some (substituted m.by m.rule.now.right))

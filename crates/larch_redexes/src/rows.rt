@@ -1,0 +1,120 @@
+ghost use Rattle.std.specs.Prelude.{◌≡◌, ◌∷◌, [], if◌then◌else◌, Some, None, IfOk, All, option_map};
+ghost use Rattle.std.specs.List.{flat_map};
+ghost use Rattle.larch_normal_forms.specs.Rewriting.{rewriting_rows, rows_for, tried};
+ghost use Rattle.larch_normal_forms.specs.Sides.{sides_of};
+ghost use Rattle.larch_redexes.specs.Rule.{all_sides, sides_of_rule, IsRule, IsSaidByRow};
+ghost use Rattle.larch_redexes.specs.declared.rule.Reason.TheVariants.{Row as IsRow};
+ghost use Rattle.larch_tables.specs.Row.{numbered};
+ghost use Rattle.larch_tables.specs.Statement.{offered};
+ghost use Rattle.larch_tables.specs.Tables.{built_in_rows, sort_for};
+ghost use Rattle.larch_term.specs.declared.statement.Statement.TheVariants.{Equation};
+
+use crate::rule::{Reason, Rule, sort_at};
+use larch_base::{Memory, Sequence};
+use larch_tables::{Row, RowRefusal, built_in, row_statement};
+use larch_term::{Node, Sort, Statement, Term, bool_sort, is_built_in};
+use std::alloc::Global;
+
+/// Rules in the order in which they are tried.
+pub type RuleList = Sequence<Rule>;
+
+// How many of the built-in rows rewrite.
+const REWRITING_ROWS: u32 = 33;
+
+/// The rows that are tried at the root of a term: those at the sort of its operator, where that is built in.
+#[tactic(auto, using(crate::proofs::RowSteps::rows_of_built_in, crate::proofs::RowSteps::rows_of_other))]
+pub fn rows_for(alloc: Global, term: &Term) -> Result<RuleList, Memory>
+    ensures sides { IfOk result (λ rows. flat_map tried (all_sides rows) ≡ rows_for term.now) }
+    ensures reasons { IfOk result (λ rows. All IsSaidByRow rows) }
+    ensures rules { IfOk result (λ rows. All IsRule rows) }
+{
+    let Node::App(operator, _) = term.node() else {
+        return Ok(Sequence::new(alloc));
+    };
+    if !is_built_in(operator) {
+        return Ok(Sequence::new(alloc));
+    }
+    let sort = sort_at(alloc, operator)?;
+    let rows = rows_at(alloc, &sort)?;
+    Ok(rows)
+}
+
+/// The built-in rows that rewrite, at a sort, as rules. It takes time by the size of the rows.
+#[tactic(auto, using(crate::proofs::RowSteps::rows_pushed))]
+pub fn rows_at(alloc: Global, sort: &Sort) -> Result<RuleList, Memory>
+    ensures sides { IfOk result (λ rows. all_sides rows ≡ rewriting_rows sort.now) }
+    ensures reasons { IfOk result (λ rows. All IsSaidByRow rows) }
+    ensures rules { IfOk result (λ rows. All IsRule rows) }
+{
+    let mut rows = Sequence::new(alloc);
+    for place in 0..REWRITING_ROWS {
+        let row = row_at(alloc, place + 1, sort)?;
+        rows.push(row)?;
+    }
+    Ok(rows)
+}
+
+// The row with a number, which is there, as a rule at a sort.
+#[tactic(auto, using(crate::proofs::RowSteps::row_given, crate::proofs::RowSteps::row_said))]
+fn row_at(alloc: Global, number: u32, sort: &Sort) -> Result<Rule, Memory>
+    ensures sides { IfOk result (λ rule.
+        option_map (λ row. sides_of row.given) (numbered (built_in_rows sort.now) number) ≡ Some (sides_of_rule rule ∷ [])) }
+    ensures reason { IfOk result IsSaidByRow }
+    ensures rule { IfOk result IsRule }
+{
+    let Some(row) = built_in().row(number) else {
+        return Err(Memory);
+    };
+    let at = sort_for(alloc, &row, sort)?;
+    let statement = equation(alloc, number, &at)?;
+    let reason = reason_for(&row, number, sort)?;
+    let rule = rule_of(alloc, statement, reason)?;
+    Ok(rule)
+}
+
+// The sort at which a row is read.
+fn sort_for(alloc: Global, row: &Row, sort: &Sort) -> Result<Sort, Memory>
+    ensures { IfOk result (λ at. at ≡ sort_for sort.now row.now) }
+{
+    if row.sorted {
+        let sort = sort.copy()?;
+        return Ok(sort);
+    }
+    let truth = bool_sort(alloc)?;
+    Ok(truth)
+}
+
+// The equation of a row at a sort where it is offered.
+fn equation(alloc: Global, number: u32, sort: &Sort) -> Result<Statement, Memory>
+    ensures { IfOk result (λ statement. offered number sort.now ≡ Some statement) }
+{
+    match row_statement(alloc, number, sort) {
+        Ok(statement) => Ok(statement),
+        Err(RowRefusal::NoRow) => Err(Memory),
+        Err(RowRefusal::Memory) => Err(Memory),
+    }
+}
+
+// A row as a reason, at its sort if it has one.
+fn reason_for(row: &Row, number: u32, sort: &Sort) -> Result<Reason, Memory>
+    ensures { IfOk result (λ reason. reason ≡ IsRow number (if row.now.sorted then Some sort.now else None)) }
+{
+    if row.sorted {
+        let sort = sort.copy()?;
+        return Ok(Reason::Row(u64::from(number), Some(sort)));
+    }
+    Ok(Reason::Row(u64::from(number), None))
+}
+
+// The rule of an equation.
+fn rule_of(alloc: Global, statement: Statement, reason: Reason) -> Result<Rule, Memory>
+    ensures { IfOk result (λ rule. (statement ≡ Equation rule.left rule.right) × (rule.reason ≡ reason) × IsRule rule) }
+{
+    match statement {
+        Statement::Equation(left, right) => {
+            let rule = Rule::new(alloc, left, right, reason)?;
+            Ok(rule)
+        }
+        _ => Err(Memory),
+    }
+}
