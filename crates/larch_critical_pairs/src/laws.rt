@@ -1,5 +1,7 @@
 //! What holds of the definitions, for crates above to cite. No function here does anything.
 ghost use Rattle.std.specs.Prelude.{◌≡◌, Bool, List, All, Ok};
+ghost use Rattle.larch_term.specs.Operator.{PlainOperator};
+ghost use Rattle.larch_term.specs.Sorts.{IsOver};
 ghost use Rattle.larch_critical_pairs.specs.Overlap.{AreSorted, IsApplication, Overlaps};
 ghost use Rattle.larch_critical_pairs.specs.Pairs.{critical_pairs};
 ghost use Rattle.larch_critical_pairs.specs.declared.pair.Pair.{Pair};
@@ -17,4 +19,11 @@ pub fn pairs_come_from_one_term()
 pub fn pairs_keep_sorts()
     ensures { (r q : Rule) (b : Bool) (ps : List Pair) → AreSorted r.left r.right → AreSorted q.left q.right
         → IsApplication q.left → critical_pairs r q b ≡ Ok ps → All (λ p. AreSorted p.left p.right) ps }
+{}
+
+/// Critical pairs of rules over operators are over them.
+pub fn pairs_keep_operators()
+    ensures { (fs : List PlainOperator) (r q : Rule) (b : Bool) (ps : List Pair) → IsOver fs r.left × IsOver fs r.right
+        → IsOver fs q.left × IsOver fs q.right → critical_pairs r q b ≡ Ok ps
+        → All (λ p. IsOver fs p.left × IsOver fs p.right) ps }
 {}

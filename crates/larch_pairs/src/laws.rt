@@ -1,7 +1,7 @@
 //! What holds of the definitions, for crates above to cite. No function here does anything.
-ghost use Rattle.std.specs.Prelude.{◌≡◌, ◌≤◌, ℕ, List, [], length, AllPairs, Ok, Some, None, false};
+ghost use Rattle.std.specs.Prelude.{◌≡◌, ◌≤◌, ℕ, List, [], length, All, AllPairs, Ok, Some, None, false};
 ghost use Rattle.larch_term.specs.Operator.{PlainOperator};
-ghost use Rattle.larch_term.specs.Sorts.{sort_of, WellSorted};
+ghost use Rattle.larch_term.specs.Sorts.{sort_of, IsOver, WellSorted};
 ghost use Rattle.larch_term.specs.Substitution.{is_entry_of, substituted, Fits};
 ghost use Rattle.larch_term.specs.Tree.{Tree, Forest, app};
 ghost use Rattle.larch_term.specs.declared.substitution.Entry.{Entry};
@@ -45,4 +45,10 @@ pub fn unifiers_keep_sorts()
         → unify t u ≡ Ok (Some r) → Fits r }
     ensures applications { (f g : PlainOperator) (ts us : Forest) (r : List Entry) → WellSorted (app f ts)
         → WellSorted (app g us) → unify (app f ts) (app g us) ≡ Ok (Some r) → Fits r }
+{}
+
+/// A unifier of terms over operators is over them.
+pub fn unifiers_keep_operators()
+    ensures { (fs : List PlainOperator) (t u : Tree) (r : List Entry) → IsOver fs t → IsOver fs u
+        → unify t u ≡ Ok (Some r) → All (λ e. IsOver fs e.term) r }
 {}
