@@ -3,9 +3,11 @@
 computes.
 
     tools/replay_examples.py rows EVALUATOR        the kept examples: specs and contracts of crates/larch_replay
-    tools/replay_examples.py random EVALUATOR SEED COUNT [--small]
+    tools/replay_examples.py random EVALUATOR SEED COUNT [--small | --wide]
                                                    random blocks as lemmas, crates/larch_replay/proofs/Random.antt;
-                                                   with --small under rewriting limits from 1 to 8
+                                                   with --small under rewriting limits from 1 to 8, so that many
+                                                   are refused with LIMIT, with --wide over traits whose terms grow,
+                                                   so that many are refused with SIZE
 
 EVALUATOR is FOLDER:PACKAGE, a Python package that is no part of this repository: its modules base, syntax, script, prove
 and session read traits and scripts and say what each block comes to. `rows` is run where a worked example changes; what it writes is kept, and the gate
@@ -188,7 +190,7 @@ class Writer:
         if k == 'prove':
             return Call('Prove', self.equation(kind[1]))
         if k == 'cases':
-            return Call('ByCases', self.equation(kind[1]))
+            return Call('ByCases', self.raw(kind[1].left))
         if k == 'induction':
             return Call('ByInduction', codes(kind[1]))
         if k == 'instantiate':
@@ -400,6 +402,8 @@ ROWS = [
      'resume by induction on t\n[] basis'),
     ('a_mark_is_owed', 'While a mark waits, no other command is taken.', TABLES, [], 'imply.1', 'set box-checking on',
      'resume by induction on t\nqed'),
+    ('a_waiting_mark_comes_first', 'A mark that waits comes before the end of the proof.', TABLES, [], 'imply.1',
+     'set box-checking on', 'resume by induction on t\nset rewriting-limit 10'),
     ('a_proved_formula_is_a_fact', 'What a command proves is a fact of the level below.', SUMS, [], 'imply.1', '',
      'prove s(0) + x == s(x)\nresume by induction on x\ninstantiate x by 0 in D1'),
     ('constants_of_all_subgoals_differ', 'The constants of a subgoal are new beside those of the one before.', SHAPES, [],
@@ -438,7 +442,8 @@ ghost use Rattle.larch_term.specs.BuiltIn.{built_in, bool_sort};
 ghost use Rattle.larch_term.specs.declared.built_in.BuiltIn.TheVariants.{And, Or, Not, Equal, Iff, Implies, If, False};
 ghost use Rattle.larch_calculus.specs.Formula.{constant, applied, joined};
 ghost use Rattle.larch_replay.specs.Commands.{said, no_spelling, spelling, SetLimit, BoxChecking, Prove, ByCases, ByImplication, ByContradiction, ByInduction, ByPartition, Instantiate, CriticalPairs, Normalize, Qed, Mark};
-ghost use Rattle.larch_replay.specs.Facts.{Axiom, Hypothesis, Derived, whole_name};
+ghost use Rattle.larch_base.specs.declared.fact_name.FactLetter.TheVariants.{Axiom, Derived, Hypothesis};
+ghost use Rattle.larch_replay.specs.Facts.{whole_name};
 ghost use Rattle.larch_replay.specs.Replays.{replay, Proved, Suspended, Refused, AtOpening, AtCommand};
 ghost use Rattle.larch_replay.specs.Worked as worked;
 '''
@@ -655,6 +660,25 @@ GROWING = """Growing: trait
       f(s(s(s(x))), y) == f(s(s(x)), p(y, y));
       (f(s(x), p(x, y)) = p(y, x)) => (f(x, x) = x)
 """
+WIDE = """Wide: trait
+  introduces
+    c, e: -> N
+    m: N, N, N, N, N, N, N, N, N, N -> N
+    p: N -> Bool
+    d, g, h: N -> N
+  asserts
+    \\forall x: N
+      d(x) == m(x, x, x, x, x, x, x, x, x, x);
+      g(x) == d(d(x));
+      h(x) == g(g(x));
+      p(e)
+  implies
+    \\forall x, y: N
+      d(x) == y;
+      g(x) = y => p(x);
+      p(d(x)) /\\ (p(e) \\/ p(y));
+      p(x) => (p(y) <=> p(d(y)))
+"""
 RANDOM = [MIX, SUMS, SETS, TABLES, STEPS, TRUTHS, THREE, ORDERS, TREES, GROUPS, SWITCHES, GROWING]
 MORE_WORDS = ['x1', 'x2', 'v1', 'v2', 'xc', 'xc1', 'yc', 'ac', 'bc', 'lc', 'rc', 'ec', 'sc', 'tc', 'ac1', 'gen']
 
@@ -662,8 +686,8 @@ MORE_WORDS = ['x1', 'x2', 'v1', 'v2', 'xc', 'xc1', 'yc', 'ac', 'bc', 'lc', 'rc',
 class Random:
     """Random commands about one trait."""
 
-    def __init__(self, r, duties):
-        self.r = r
+    def __init__(self, r, duties, depth):
+        self.r, self.depth = r, depth
         self.operators = list(duties[0].theory.operators)
         self.sorts = sorted({'Bool'} | {o.range for o in self.operators} | {d for o in self.operators for d in o.domain})
         self.variables = sorted({v for d in duties for v in variables(d.statement)})
@@ -709,14 +733,14 @@ class Random:
         if k < .12:
             return f'resume by induction on {self.name()}'
         if k < .22:
-            return f'resume by cases {self.term("Bool", 2)}'
+            return f'resume by cases {self.term("Bool", self.depth)}'
         if k < .40:
             return 'resume by ' + r.choice(['contradiction', '=>', '/' + chr(92), 'partition'])
         if k < .50:
             sort = r.choice(self.sorts)
-            return r.choice([f'prove {self.term("Bool", 2)}', f'prove {self.term(sort, 2)} == {self.term(sort, 2)}'])
+            return r.choice([f'prove {self.term("Bool", self.depth)}', f'prove {self.term(sort, self.depth)} == {self.term(sort, self.depth)}'])
         if k < .66:
-            pairs = [f'{self.name()} by {self.term(r.choice(self.sorts), 1)}' for _ in range(r.choice([1, 1, 2]))]
+            pairs = [f'{self.name()} by {self.term(r.choice(self.sorts), self.depth - 1)}' for _ in range(r.choice([1, 1, 2]))]
             return f'instantiate {", ".join(pairs)} in {self.fact()}'
         if k < .75:
             return f'critical-pairs {self.fact()} with {self.fact()}'
@@ -767,18 +791,23 @@ def reference(o):
     return re.sub(r'\s*__\s*', '', o.name) if '__' in o.name else o.name
 
 
-def random_blocks(larch, seed, count, small):
+# which traits are taken, how often a block that LIMIT or SIZE refuses is kept, and how deep terms are
+MODES = {'': (RANDOM, .5, 2), '--small': (RANDOM, .9, 2), '--wide': ([WIDE, WIDE, WIDE, GROWING], .9, 3)}
+
+
+def random_blocks(larch, seed, count, mode):
+    traits, kept, depth = MODES[mode]
     r, counts, out = random.Random(seed), collections.Counter(), []
     writers = {}
     while counts['blocks'] < count:
-        trait = r.choice(RANDOM)
+        trait = r.choice(traits)
         name = title(trait)
-        limit = r.randint(1, 8) if small else 1000
+        limit = r.randint(1, 8) if mode == '--small' else 1000
         script = ''.join(r.choice(['set rewriting-limit 200\n', 'set rewriting-limit 20\n', 'set box-checking on\n'])
                          for _ in range(r.choice([0, 0, 0, 1, 2])))
         preamble = larch.script.read_script(script, False).preamble
         (empty,) = [t for t in larch.evaluate({f'{name}.lsl': trait, f'{name}.lp': script}, limit) if t.name == name]
-        source = Random(r, empty.duties)
+        source = Random(r, empty.duties, depth)
         lines, labels = script, []
         for d in r.sample(list(empty.duties), min(4, len(empty.duties))):
             if d.outcome[0] == 'proved':
@@ -789,7 +818,7 @@ def random_blocks(larch, seed, count, small):
                     c = source.command()
                     commands = larch.script.read_script('duty imply.1\n' + '\n'.join(block + [c]) + '\n', False).blocks[0].commands
                     o = larch.prove.replay(d.theory, d.statement, d.lemmas, preamble, commands, limit)
-                    if o[0] != 'refused' or r.random() < (.5 if o[2] in ('LIMIT', 'SIZE') else .04):
+                    if o[0] != 'refused' or r.random() < (kept if o[2] in ('LIMIT', 'SIZE') else .04):
                         break
                 block.append(c)
                 if o[0] != 'suspended':
@@ -826,7 +855,8 @@ use Rattle.larch_base.specs.declared.code.Code.TheVariants as refusal
 use Rattle.larch_base.specs.declared.way.Way.TheVariants.{LeftToRight, RightToLeft, Multiset}
 use Rattle.larch_replay.specs.Commands.{said, said_of, no_spelling, spelling, Declare, SetLimit, BoxChecking, Height, SetStatus, Prove, ByCases, ByImplication, ByConjunction, ByContradiction, ByInduction, ByPartition, Instantiate, CriticalPairs, Normalize, Qed, Mark, Bad}
 use Rattle.larch_replay.specs.Computing.{replaying}
-use Rattle.larch_replay.specs.Facts.{Axiom, Lemma, Hypothesis, Derived, whole_name}
+use Rattle.larch_base.specs.declared.fact_name.FactLetter.TheVariants.{Axiom, Derived, Hypothesis, Lemma}
+use Rattle.larch_replay.specs.Facts.{whole_name}
 use Rattle.larch_replay.specs.Replays.{replay, Proved, Suspended, Refused, InPreamble, AtOpening, AtCommand}
 
 '''
@@ -840,7 +870,7 @@ def write(path, text):
 if __name__ == '__main__':
     if sys.argv[1:2] == ['rows'] and len(sys.argv) == 3:
         rows(Larch(sys.argv[2]))
-    elif sys.argv[1:2] == ['random'] and len(sys.argv) in (5, 6):
-        random_blocks(Larch(sys.argv[2]), int(sys.argv[3]), int(sys.argv[4]), sys.argv[5:] == ['--small'])
+    elif sys.argv[1:2] == ['random'] and len(sys.argv) in (5, 6) and ''.join(sys.argv[5:]) in MODES:
+        random_blocks(Larch(sys.argv[2]), int(sys.argv[3]), int(sys.argv[4]), ''.join(sys.argv[5:]))
     else:
         sys.exit(__doc__)

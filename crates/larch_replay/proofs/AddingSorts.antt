@@ -4,6 +4,7 @@ use Rattle.std.specs.List.{flat_map}
 use Rattle.std.proofs.Common.{inl, inr, ap, ap₂, sym, subst, ◌∙◌}
 use Rattle.std.proofs.lemmas.List.Elements.{All-weaker, All-push}
 use Rattle.std.proofs.lemmas.Slice.Eq.{bytes_eq-Decides}
+use Rattle.larch_base.specs.declared.fact_name.FactName.{FactName}
 use Rattle.larch_base.proofs.Lists.{all_from}
 use Rattle.larch_base.proofs.Members.{contains_here, contains_later, contains_cases, contains_none, contained_in_map, contained_in_filter}
 use Rattle.larch_term.specs.Operator.{PlainOperator}
@@ -27,7 +28,7 @@ use Rattle.larch_normal_forms.specs.Sides.{Sides, sides_of, sides_under, flipped
 use Rattle.larch_normal_forms.specs.Work.{Work, Made, OverLimit, OverSize, then_work, within_size}
 use Rattle.larch_normal_forms.proofs.Matches.{IsBound, AreBound, matched_fits, match_over, terms_inherited, AllTermsOver}
 use Rattle.larch_normal_forms.proofs.SortsKept.{normal_keeps}
-use Rattle.larch_replay.specs.Facts.{Fact, FactName, Facts, Adding, Treatment, Drop, Contradict, Replace, Keep, serving, is_value, turned, sort_within, matched_sides, consequences_by, first_consequences, deduced, equated, oriented, replaced_or_kept, treated, treatment, with_rule, contradicted, is_too_much, normal_sides, add_by, add, most_taken}
+use Rattle.larch_replay.specs.Facts.{Fact, Facts, Adding, Treatment, Drop, Contradict, Replace, Keep, serving, is_value, turned, sort_within, matched_sides, consequences_by, first_consequences, deduced, equated, oriented, replaced_or_kept, treated, treatment, with_rule, contradicted, is_too_much, normal_sides, add_by, add, most_taken}
 
 -- facts whose rules are well sorted over operators
 abbrev AreFactsOver : List PlainOperator → List Fact → Type 0
@@ -97,7 +98,7 @@ rows_over fs s =
       ),
     )
 
-sides_under_over : (fs : List PlainOperator) (es : List Entry) (d : Sides) → AreBound (IsTermOver fs) es
+pub sides_under_over : (fs : List PlainOperator) (es : List Entry) (d : Sides) → AreBound (IsTermOver fs) es
     → AreSidesOver fs d → AreSidesOver fs (sides_under es d)
 sides_under_over fs es d h k =
     let fits = All-weaker (IsBound (IsTermOver fs)) (λ e. WellSorted e.term × (sort_of e.term ≡ e.sort))
@@ -259,7 +260,7 @@ serving_over fs how facts h =
         → AreSidesOver fs fact.sides
     at_contained rules fact k c = subst (λ f. AreSidesOver fs f.sides) c.2 (k c.0 fact c.1)
 
-made_term : {A : Type 0} {p q : A} {n m : ℕ} → Made p n ≡ Made q m → p ≡ q
+pub made_term : {A : Type 0} {p q : A} {n m : ℕ} → Made p n ≡ Made q m → p ≡ q
 made_term e = cc
 
 normal_sides_over : (fs : List PlainOperator) (rules : List Sides) (e d : Sides) (n m : ℕ) → All (AreSidesOver fs) rules
@@ -289,7 +290,7 @@ with_rule_over fs name part rule facts h k =
     All-push (λ fact. AreSidesOver fs fact.sides) facts.rules (record { name = record name { part = part }; sides = rule })
     h k
 
-within_made : {A : Type 0} (large : Bool) (w : Work A) (p : A) (r : ℕ) → within_size large w ≡ Made p r → w ≡ Made p r
+pub within_made : {A : Type 0} (large : Bool) (w : Work A) (p : A) (r : ℕ) → within_size large w ≡ Made p r → w ≡ Made p r
 within_made true w p r h = cc
 within_made false w p r h = h
 

@@ -3,4 +3,9 @@ pub mod Blocks
 pub mod Positions
 pub mod Redone
 pub mod AddingSorts
+pub mod Applications
+pub mod LevelSorts
+pub mod NewConstants
+pub mod StepSorts
+pub mod OpeningSorts
 pub mod PlanSorts

@@ -46,7 +46,7 @@ ok_same q = cc
 
 -- ---- new constants
 
-new_are_constants : (taken : List (List ℕ)) (vs : List Variable) → AreConstants (new_constants taken vs)
+pub new_are_constants : (taken : List (List ℕ)) (vs : List Variable) → AreConstants (new_constants taken vs)
 new_are_constants taken [] = All-nil (λ f. f.domain ≡ [])
 new_are_constants taken (v ∷ vs) =
     let n = free_name taken _ in
@@ -509,7 +509,7 @@ shown_over fs gs s w cs t k o p e h a v q =
     )
 
 -- the formula of an equation is a formula
-formula_over : (gs : List PlainOperator) (l r : Tree) → IsTermOver gs l → IsTermOver gs r → sort_of l ≡ sort_of r
+pub formula_over : (gs : List PlainOperator) (l r : Tree) → IsTermOver gs l → IsTermOver gs r → sort_of l ≡ sort_of r
     → IsFormulaOver gs (formula l r)
 formula_over gs l r w v e =
     by_tests (is_truth r) (is_truth l) (bytes_eq (sort_of l) bool_sort) (is_truth_Decides r).0 (is_truth_Decides l).0

@@ -17,7 +17,9 @@ use Rattle.larch_term.specs.declared.statement.Statement.{Statement}
 use Rattle.larch_term.proofs.Decided.{operator_Decides, statement_Decides}
 use Rattle.larch_base.proofs.Lists.{pairs_tail, pairs_head}
 use Rattle.larch_base.proofs.Members.{contains_here, contains_later, contains_cases, contains_none}
-use Rattle.larch_replay.specs.Facts.{FactLetter, Axiom, Lemma, Hypothesis, Derived, FactName}
+use Rattle.larch_base.specs.declared.fact_name.FactLetter.{FactLetter}
+use Rattle.larch_base.specs.declared.fact_name.FactLetter.TheVariants.{Axiom, Derived, Hypothesis, Lemma}
+use Rattle.larch_base.specs.declared.fact_name.FactName.{FactName}
 use Rattle.larch_replay.specs.Commands.{Command, Spelling, Spellings, said, said_of, no_spelling, spelling, SpelledEquation, SpelledSignature, Reference, Instance}
 use Rattle.larch_replay.specs.Commands.{Declare, SetLimit, BoxChecking, Height, SetStatus, Prove, ByCases, ByImplication, ByConjunction, ByContradiction, ByInduction, ByPartition, Instantiate, CriticalPairs, Normalize, Qed, Mark, Bad}
 use Rattle.larch_replay.specs.Levels.{EarlierDuty}
@@ -93,7 +95,7 @@ command_self (BoxChecking on) = mark_self on
 command_self (Height f g) = both (reference_self f) (reference_self g)
 command_self (SetStatus w f) = both (way_self w) (reference_self f)
 command_self (Prove e) = equation_self e
-command_self (ByCases e) = equation_self e
+command_self (ByCases t) = spelling_self t
 command_self ByImplication = refl
 command_self ByConjunction = refl
 command_self ByContradiction = refl

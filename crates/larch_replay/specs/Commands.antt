@@ -1,12 +1,12 @@
 -- Commands of a block, without lines and positions.
-use Rattle.std.specs.Prelude.{ℕ, Bool, List, Option, option_map}
+use Rattle.std.specs.Prelude.{ℕ, Bool, List, Option, None, option_map}
 use Rattle.larch_base.specs.declared.code.Code.{Code}
+use Rattle.larch_base.specs.declared.fact_name.FactName.{FactName}
 use Rattle.larch_base.specs.declared.position.Pos.{Pos}
 use Rattle.larch_base.specs.declared.way.Way.{Way}
 use Rattle.larch_raw.specs.RawTree.{RawTree, RawForest, apply, qualified, no_more, one_more}
 use Rattle.larch_raw.specs.declared.equation.RawEquation.{RawEquation}
 use Rattle.larch_raw.specs.declared.equation.RawRight.{RawRight}
-use Rattle.larch_replay.specs.Facts.{FactName}
 
 mutual
   -- a term as it is written: a canonical name with its arguments, or a term with the sort that it is said to have
@@ -23,6 +23,10 @@ mutual
 pub record SpelledEquation : Type 0 where
   pub left : Spelling
   pub right : Option Spelling
+
+-- a written formula
+abbrev pub spelled_formula : Spelling → SpelledEquation
+spelled_formula t = record { left = t; right = None }
 
 -- the position that is given to all tokens of a command: none of its refusals tells one
 abbrev pub nowhere : Pos
@@ -69,7 +73,7 @@ pub data Command : Type 0 where
   Height : Reference → Reference → Command
   SetStatus : Way → Reference → Command
   Prove : SpelledEquation → Command
-  ByCases : SpelledEquation → Command
+  ByCases : Spelling → Command
   ByImplication : Command
   ByConjunction : Command
   ByContradiction : Command

@@ -1,6 +1,8 @@
 -- The facts of a level, and how an equation is added to them.
 use Rattle.std.specs.Prelude.{ℕ, zero, suc, ◌+◌, ◌*◌, ◌&&◌, ◌||◌, nat_lt, Bool, true, false, not, if◌then◌else◌, List, [], ◌∷◌, ◌++◌, map, length, filter, bytes_eq, Option, Some, None, option_map, option_and_then}
 use Rattle.std.specs.List.{flat_map}
+use Rattle.larch_base.specs.declared.fact_name.FactLetter.{FactLetter}
+use Rattle.larch_base.specs.declared.fact_name.FactName.{FactName}
 use Rattle.larch_base.specs.declared.limits.TheConstants.{MAX_FACTS, MAX_TERM_NODES}
 use Rattle.larch_term.specs.Tree.{Tree, var, app}
 use Rattle.larch_term.specs.BuiltIn.{bool_sort}
@@ -18,19 +20,6 @@ use Rattle.larch_normal_forms.specs.Sides.{Sides, sides_of, sides_under, flipped
 use Rattle.larch_normal_forms.specs.Matching.{matched}
 use Rattle.larch_normal_forms.specs.Rewriting.{sort_at}
 use Rattle.larch_normal_forms.specs.NormalForm.{normal}
-
--- what a fact comes from: a statement of the theory, a lemma, a hypothesis, or what a command adds
-pub data FactLetter : Type 0 where
-  Axiom : FactLetter
-  Lemma : FactLetter
-  Hypothesis : FactLetter
-  Derived : FactLetter
-
--- the name of a fact: what it comes from, its number among those, and its part
-pub record FactName : Type 0 where
-  pub letter : FactLetter
-  pub number : ℕ
-  pub part : ℕ
 
 -- a fact: a rule with its name
 pub record Fact : Type 0 where

@@ -3,6 +3,8 @@ use Rattle.std.specs.Prelude.{ℕ, ◌+◌, ◌||◌, Bool, true, false, if◌th
 use Rattle.std.specs.List.{flat_map}
 use Rattle.larch_base.specs.declared.code.Code.{Code}
 use Rattle.larch_base.specs.declared.code.Code.TheVariants.{Limit, Size}
+use Rattle.larch_base.specs.declared.fact_name.FactLetter.TheVariants.{Derived, Hypothesis}
+use Rattle.larch_base.specs.declared.fact_name.FactName.{FactName}
 use Rattle.larch_term.specs.Operator.{PlainOperator}
 use Rattle.larch_term.specs.Tree.{Tree}
 use Rattle.larch_term.specs.Equality.{same_tree}
@@ -16,7 +18,7 @@ use Rattle.larch_order.specs.declared.precedence.Ranked.{Ranked}
 use Rattle.larch_normal_forms.specs.Work.{Work, Made, OverLimit, OverSize}
 use Rattle.larch_normal_forms.specs.Sides.{Sides}
 use Rattle.larch_normal_forms.specs.NormalForm.{normal}
-use Rattle.larch_replay.specs.Facts.{Facts, Fact, FactName, Hypothesis, Derived, add, rules_of, whole_name}
+use Rattle.larch_replay.specs.Facts.{Facts, Fact, add, rules_of, whole_name}
 use Rattle.larch_replay.specs.Plans.{Subgoal, Plan, holds}
 
 -- what a level's goal is: the duty's, a subgoal of the method below, or a formula that a command proves
@@ -132,9 +134,8 @@ level_for purpose parent goal = record { purpose = purpose; facts = parent.facts
 -- a subgoal is opened on a parent: its hypotheses are added in order, and then its goal is normalised
 abbrev pub opened : Level → List Level → Subgoal → Next
 opened parent below s p =
-    after (all_supposed s.hypotheses
-    (with_mark false (record p { current = level_for OfSubgoal parent s.goal; below = parent ∷ below })))
-    normal_goal
+    let q = with_mark false (record p { current = level_for OfSubgoal parent s.goal; below = parent ∷ below }) in
+    after (all_supposed s.hypotheses q) normal_goal
 
 -- the subgoals of a parent are opened in turn until one isn't proved at once; behind the last the parent is done
 abbrev pub opened_from : Next → Level → List Level → List Subgoal → Next

@@ -8,5 +8,6 @@ pub mod Replays
 pub mod Scripts
 pub mod Reports
 pub mod Redo
+pub mod WellSorted
 pub mod Computing
 pub mod Worked

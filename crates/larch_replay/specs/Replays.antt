@@ -3,6 +3,8 @@ use Rattle.std.specs.Prelude.{ℕ, suc, ◌+◌, min, ◌||◌, nat_lt, Bool, tr
 use Rattle.std.specs.List.{flat_map}
 use Rattle.larch_base.specs.declared.code.Code.{Code}
 use Rattle.larch_base.specs.declared.code.Code.TheVariants as refusal
+use Rattle.larch_base.specs.declared.fact_name.FactLetter.{FactLetter}
+use Rattle.larch_base.specs.declared.fact_name.FactLetter.TheVariants.{Axiom, Lemma}
 use Rattle.larch_base.specs.declared.limits.TheConstants.{MAX_COMMANDS}
 use Rattle.larch_term.specs.Operator.{PlainOperator, plain}
 use Rattle.larch_term.specs.Tree.{Tree, var}
@@ -18,7 +20,7 @@ use Rattle.larch_calculus.specs.Observation.{observations}
 use Rattle.larch_items.specs.Steps.{after}
 use Rattle.larch_order.specs.Precedence.{precedence_of}
 use Rattle.larch_normal_forms.specs.Sides.{Sides, sides_of}
-use Rattle.larch_replay.specs.Facts.{FactLetter, Axiom, Lemma, whole_name, no_facts, max_fact_number}
+use Rattle.larch_replay.specs.Facts.{whole_name, no_facts, max_fact_number}
 use Rattle.larch_replay.specs.NewNames.{free_name, constant_named}
 use Rattle.larch_replay.specs.Plans.{holds}
 use Rattle.larch_replay.specs.Commands.{Command, Declare, SetLimit, BoxChecking, Height, SetStatus, Qed, Mark, Bad}

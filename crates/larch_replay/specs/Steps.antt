@@ -3,6 +3,9 @@ use Rattle.std.specs.Prelude.{ℕ, ◌==◌, ◌&&◌, Bool, true, false, not, i
 use Rattle.std.specs.List.{list_any, list_all}
 use Rattle.larch_base.specs.declared.code.Code.{Code}
 use Rattle.larch_base.specs.declared.code.Code.TheVariants as refusal
+use Rattle.larch_base.specs.declared.fact_name.FactLetter.{FactLetter}
+use Rattle.larch_base.specs.declared.fact_name.FactLetter.TheVariants.{Axiom, Derived, Hypothesis, Lemma}
+use Rattle.larch_base.specs.declared.fact_name.FactName.{FactName}
 use Rattle.larch_base.specs.declared.fault.Fault.{Fault}
 use Rattle.larch_base.specs.declared.way.Way.{Way}
 use Rattle.larch_term.specs.Operator.{PlainOperator, plain, name_bytes}
@@ -25,9 +28,9 @@ use Rattle.larch_critical_pairs.specs.Pairs.{critical_pairs}
 use Rattle.larch_pairs.specs.Unify.{Oversize}
 use Rattle.larch_critical_pairs.specs.declared.pair.Pair.{Pair}
 use Rattle.larch_critical_pairs.specs.declared.pair.Rule.{Rule}
-use Rattle.larch_replay.specs.Facts.{Fact, FactName, FactLetter, Axiom, Lemma, Hypothesis, Derived}
-use Rattle.larch_replay.specs.Plans.{Method, plan, with_found, Cases, Implication, Conjunction, Contradiction, Induction, Partition}
-use Rattle.larch_replay.specs.Commands.{Command, SpelledEquation, Spelling, SpelledSignature, Reference, Instance, placed_equation}
+use Rattle.larch_replay.specs.Facts.{Fact}
+use Rattle.larch_replay.specs.Plans.{Method, Setting, plan, with_found, Cases, Implication, Conjunction, Contradiction, Induction, Partition}
+use Rattle.larch_replay.specs.Commands.{Command, SpelledEquation, Spelling, SpelledSignature, Reference, Instance, placed_equation, spelled_formula}
 use Rattle.larch_replay.specs.Commands.{Declare, SetLimit, BoxChecking, Height, SetStatus, Prove, ByCases, ByImplication, ByConjunction, ByContradiction, ByInduction, ByPartition, Instantiate, CriticalPairs, Normalize, Qed, Mark, Bad}
 use Rattle.larch_replay.specs.Levels.{Proof, Next, OfProof, level_for, with_facts, derived, derived_by, normal_goal, settled, begun, unless, is_settled}
 
@@ -53,7 +56,7 @@ read p e = after (read_or (read_equation (own_operators p) p.scope (placed_equat
 -- what a term of a command reads as, at a sort
 abbrev pub read_lone : Proof → List ℕ → Spelling → Result Tree Code
 read_lone p s t =
-    read_or (read_term (own_operators p) p.scope (Some s) (placed_equation (record { left = t; right = None })))
+    read_or (read_term (own_operators p) p.scope (Some s) (placed_equation (spelled_formula t)))
 
 -- whether an operator has this signature
 abbrev pub has_signature : Option SpelledSignature → PlainOperator → Bool
@@ -119,10 +122,14 @@ clauses p = statement_zero ∷ (p.theory.statements ++ map (λ lemma. lemma.stat
 abbrev pub taken_names : Proof → List (List ℕ)
 taken_names p = map (λ f. name_bytes f.name) (own_operators p) ++ map (λ v. v.0) p.scope
 
+-- what a method looks at in a proof, beside the goal
+abbrev pub setting_of : Proof → Setting
+setting_of p = record { clauses = clauses p; taken = taken_names p }
+
 -- a method is carried out on the current goal
 abbrev pub resumed : Method → Next
 resumed method p =
-    after (plan (record { clauses = clauses p; taken = taken_names p }) p.current.goal method) (λ made. begun made p)
+    after (plan (setting_of p) p.current.goal method) (λ made. begun made p)
 
 -- a level for a formula that is to be proved
 abbrev pub level_opened : Tree → Next
@@ -224,7 +231,7 @@ carried_out (BoxChecking on) p = Ok (checked on p)
 carried_out (Height upper lower) p = heightened upper lower p
 carried_out (SetStatus way r) p = with_way way r p
 carried_out (Prove e) p = after (read p e) (λ sides. level_opened (formula sides.left sides.right) p)
-carried_out (ByCases e) p = after (read p e) (λ sides. resumed (Cases sides.left) p)
+carried_out (ByCases t) p = after (read p (spelled_formula t)) (λ sides. resumed (Cases sides.left) p)
 carried_out ByImplication p = resumed Implication p
 carried_out ByConjunction p = resumed Conjunction p
 carried_out ByContradiction p = resumed Contradiction p

@@ -8,7 +8,8 @@ ghost use Rattle.larch_term.specs.BuiltIn.{built_in, bool_sort};
 ghost use Rattle.larch_term.specs.declared.built_in.BuiltIn.TheVariants.{And, Or, Not, Equal, Iff, Implies, If, False};
 ghost use Rattle.larch_calculus.specs.Formula.{constant, applied, joined};
 ghost use Rattle.larch_replay.specs.Commands.{said, no_spelling, spelling, SetLimit, BoxChecking, Prove, ByCases, ByImplication, ByContradiction, ByInduction, ByPartition, Instantiate, CriticalPairs, Normalize, Qed, Mark};
-ghost use Rattle.larch_replay.specs.Facts.{Axiom, Hypothesis, Derived, whole_name};
+ghost use Rattle.larch_base.specs.declared.fact_name.FactLetter.TheVariants.{Axiom, Derived, Hypothesis};
+ghost use Rattle.larch_replay.specs.Facts.{whole_name};
 ghost use Rattle.larch_replay.specs.Replays.{replay, Proved, Suspended, Refused, AtOpening, AtCommand};
 ghost use Rattle.larch_replay.specs.Worked as worked;
 
@@ -24,7 +25,7 @@ pub fn cases_close_it()
         worked.truths_imply_1
         1000
         []
-        (ByCases (record { left = said (codes "b") no_spelling; right = None }) ∷ Qed ∷ [])
+        (ByCases (said (codes "b") no_spelling) ∷ Qed ∷ [])
         ≡ Proved }
 {}
 
@@ -131,12 +132,9 @@ pub fn observers_show_the_same()
         []
         (ByPartition ∷
         ByCases
-        (record {
-          left = said
-              (codes "__ = __")
-              (spelling (said (codes "ac") no_spelling) (spelling (said (codes "e") no_spelling) no_spelling));
-          right = None;
-        }) ∷
+        (said
+        (codes "__ = __")
+        (spelling (said (codes "ac") no_spelling) (spelling (said (codes "e") no_spelling) no_spelling))) ∷
         Qed ∷
         [])
         ≡ Proved }
@@ -189,6 +187,16 @@ pub fn marks_unchecked()
 /// While a mark waits, no other command is taken.
 pub fn a_mark_is_owed()
     ensures { replay worked.tables_imply_1 1000 (BoxChecking true ∷ []) (ByInduction (codes "t") ∷ Qed ∷ [])
+        ≡ Refused (record { place = AtCommand 2; code = refusal.Mark }) }
+{}
+
+/// A mark that waits comes before the end of the proof.
+pub fn a_waiting_mark_comes_first()
+    ensures { replay
+        worked.tables_imply_1
+        1000
+        (BoxChecking true ∷ [])
+        (ByInduction (codes "t") ∷ SetLimit 10 ∷ [])
         ≡ Refused (record { place = AtCommand 2; code = refusal.Mark }) }
 {}
 

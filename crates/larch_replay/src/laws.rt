@@ -1,23 +1,26 @@
 //! What holds of all replays, for crates above to cite. No function here does anything.
-ghost use Rattle.std.specs.Prelude.{◌≡◌, ◌<◌, ◌≤◌, ◌+◌, ◌++◌, ℕ, false, List, Option, length, sum_by, bytes_eq, All, Ok};
+ghost use Rattle.std.specs.Prelude.{◌≡◌, ◌≢◌, ◌<◌, ◌≤◌, ◌+◌, ◌++◌, ℕ, false, List, Option, length, sum_by, bytes_eq, All, Contains, Ok};
 ghost use Rattle.std.specs.List.{list_any, AllPairs};
 ghost use Rattle.larch_raw.specs.declared.equation.RawEquation.{RawEquation};
-ghost use Rattle.larch_term.specs.Operator.{PlainOperator};
+ghost use Rattle.larch_term.specs.Operator.{PlainOperator, name_bytes};
 ghost use Rattle.larch_term.specs.Statement.{IsStatementOver};
 ghost use Rattle.larch_term.specs.Tree.{Tree};
+ghost use Rattle.larch_calculus.specs.Theories.{AreConstants, AreNew};
 ghost use Rattle.larch_items.specs.Steps.{after};
 ghost use Rattle.larch_sorts.specs.Read.{read_equation, read_term};
 ghost use Rattle.larch_sorts.specs.Scope.{Variables};
+ghost use Rattle.larch_critical_pairs.specs.Overlap.{IsApplication};
 ghost use Rattle.larch_normal_forms.specs.Sides.{AreSidesOver, Sides};
 ghost use Rattle.larch_normal_forms.specs.Work.{Made};
 ghost use Rattle.larch_replay.specs.Facts.{Adding, Facts, add};
 ghost use Rattle.larch_replay.specs.Commands.{Command, placed_equation, unplaced_equation};
-ghost use Rattle.larch_replay.specs.Levels.{Proof};
+ghost use Rattle.larch_replay.specs.Levels.{Proof, all_constants};
 ghost use Rattle.larch_replay.specs.NewNames.{free_name};
 ghost use Rattle.larch_replay.specs.Plans.{IsFormulaOver, IsMethodOver, IsPlanOver, Method, Plan, Setting, plan};
 ghost use Rattle.larch_replay.specs.Redo.{Replayed, is_of_one, redo};
-ghost use Rattle.larch_replay.specs.Replays.{all_stepped};
+ghost use Rattle.larch_replay.specs.Replays.{Duty, all_stepped, begun_with, step};
 ghost use Rattle.larch_replay.specs.Steps.{read_or};
+ghost use Rattle.larch_replay.specs.WellSorted.{GoesOn, IsWellSortedDuty, IsWellSortedProof};
 
 /// A block may be replayed in two parts: kept states stand on this.
 pub fn blocks_go_in_parts()
@@ -52,11 +55,15 @@ pub fn redoing_is_bounded()
     ensures { (before now : List Replayed) → redo before now ≤ sum_by (λ r. 1 + length r.block) now }
 {}
 
-/// Where facts and an equation are well sorted over operators, so are the facts behind its adding.
+/// Where facts and an equation are well sorted over operators, so are the facts behind its adding. Where no fact rewrites
+/// a variable, none does behind it.
 pub fn adding_keeps_sorts()
-    ensures { (fs : List PlainOperator) (how : Adding) (e : Sides) (facts : Facts) (b : ℕ) (made : Facts) (r : ℕ)
+    ensures sorts { (fs : List PlainOperator) (how : Adding) (e : Sides) (facts : Facts) (b : ℕ) (made : Facts) (r : ℕ)
         → All (λ fact. AreSidesOver fs fact.sides) facts.rules → AreSidesOver fs e → add how e facts b ≡ Made made r
         → All (λ fact. AreSidesOver fs fact.sides) made.rules }
+    ensures applications { (how : Adding) (e : Sides) (facts : Facts) (b : ℕ) (made : Facts) (r : ℕ)
+        → All (λ fact. IsApplication fact.sides.left) facts.rules → add how e facts b ≡ Made made r
+        → All (λ fact. IsApplication fact.sides.left) made.rules }
 {}
 
 /// Where the clauses, a goal and what a method is carried out with are well sorted over operators, each subgoal of its
@@ -65,4 +72,38 @@ pub fn plans_keep_sorts()
     ensures { (fs : List PlainOperator) (setting : Setting) (goal : Tree) (method : Method) (made : Plan)
         → All (IsStatementOver fs) setting.clauses → IsFormulaOver fs goal → IsMethodOver fs method
         → plan setting goal method ≡ Ok made → IsPlanOver fs made }
+{}
+
+/// What a plan makes are constants. Their names are none of those that are taken, and differ.
+pub fn plans_make_new_constants()
+    ensures constants { (setting : Setting) (goal : Tree) (method : Method) (made : Plan)
+        → plan setting goal method ≡ Ok made → AreConstants (all_constants made) }
+    ensures free { (setting : Setting) (goal : Tree) (method : Method) (made : Plan)
+        → plan setting goal method ≡ Ok made
+        → All (λ c. (n : List ℕ) → Contains setting.taken n → name_bytes c.name ≢ n) (all_constants made) }
+    ensures different { (setting : Setting) (goal : Tree) (method : Method) (made : Plan)
+        → plan setting goal method ≡ Ok made → AllPairs (λ c d. c.name ≢ d.name) (all_constants made) }
+{}
+
+/// The constants of a block have new names, from the opening on and behind each command that isn't refused: no operator
+/// of the theory and no built-in one has the name of one of them, and their names differ.
+pub fn constants_are_new()
+    ensures opened { (duty : Duty) (limit : ℕ) (preamble : List Command) (p : Proof) → IsWellSortedDuty duty
+        → begun_with duty limit preamble ≡ Ok p → AreNew p.theory p.constants }
+    ensures stepped { (c : Command) (p q : Proof) → IsWellSortedProof p → AreNew p.theory p.constants → step c p ≡ Ok q
+        → AreNew q.theory q.constants }
+    ensures replayed { (block : List Command) (p q : Proof) → IsWellSortedProof p → AreNew p.theory p.constants
+        → all_stepped block p ≡ Ok q → AreNew q.theory q.constants }
+{}
+
+/// All levels of a proof stay well sorted, from the opening on and behind each command that isn't refused: goals, facts
+/// and the subgoals that are still to be opened are so over the theory's operators and the constants of the block. The
+/// theory and the lemmas stay, and so do the constants.
+pub fn proofs_stay_well_sorted()
+    ensures opened { (duty : Duty) (limit : ℕ) (preamble : List Command) (p : Proof) → IsWellSortedDuty duty
+        → begun_with duty limit preamble ≡ Ok p → IsWellSortedProof p }
+    ensures stepped { (c : Command) (p q : Proof) → IsWellSortedProof p → step c p ≡ Ok q
+        → IsWellSortedProof q × GoesOn p q }
+    ensures replayed { (block : List Command) (p q : Proof) → IsWellSortedProof p → all_stepped block p ≡ Ok q
+        → IsWellSortedProof q × GoesOn p q }
 {}
