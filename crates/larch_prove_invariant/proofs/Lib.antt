@@ -1,0 +1,6 @@
+pub mod Apart
+pub mod Boxes
+pub mod Held
+pub mod Knowing
+pub mod Own
+pub mod Proofs
