@@ -6,9 +6,9 @@ use Rattle.larch_fronts.specs.declared.mark.Mark.TheVariants.{Outside}
 use Rattle.larch_grammar.specs.declared.terminal.Terminal.{Terminal}
 use Rattle.larch_grammar.specs.declared.terminal.Terminal.TheVariants.{Word, Arrow, Colon, Comma, Marker, Open, Trait, By, Of}
 use Rattle.larch_grammar.specs.declared.machine.Before.TheVariants as before
-use Rattle.larch_grammar.specs.declared.machine.Signing.TheVariants.{Declaration, Reference, Replacement}
+use Rattle.larch_grammar.specs.declared.machine.Signing.TheVariants.{Declaration, Reference, Replacement, LoneForm}
 use Rattle.larch_grammar.specs.declared.machine.State.{State}
-use Rattle.larch_grammar.specs.declared.machine.State.TheVariants.{Start, AfterName, AfterFormals, NeedTrait, AfterHead, ShortWord, NeedConstants, NeedConstant, AfterConstant, NeedFields, NeedName, AfterNames, NeedFurtherName, NeedNamesSort, AfterField, NeedRef, AfterRefName, AfterRef, AfterRename, InPart, NeedForm, AfterSymbolForm, AfterDotForm, AfterMarker, AfterMarkerSymbol, NeedMarks, AfterMark, NeedMark, AfterForm, NeedSig, AfterSort, NeedSort, NeedRange, AfterReference, InItems, FirstWord, AfterSemicolon, WordBehind, ClauseWord, NeedBy, NeedVariable, AfterVariable, NeedFurtherVariable, NeedVariableSort, AfterGroup, NeedEquation, NeedTerm, NeedOperand, NeedPrefixed, NeedPost, NeedField, NeedSortOf, AfterWord, NeedFirst, AfterSymbol, Have}
+use Rattle.larch_grammar.specs.declared.machine.State.TheVariants.{Start, AfterName, AfterFormals, NeedTrait, AfterHead, ShortWord, NeedConstants, NeedConstant, AfterConstant, NeedFields, NeedName, AfterNames, NeedFurtherName, NeedNamesSort, AfterField, NeedRef, AfterRefName, AfterRef, AfterRename, InPart, NeedForm, AfterSymbolForm, AfterDotForm, AfterMarker, AfterMarkerSymbol, NeedMarks, AfterMark, NeedMark, AfterForm, NeedSig, AfterSort, NeedSort, NeedRange, AfterReference, AfterLone, InItems, FirstWord, AfterSemicolon, WordBehind, ClauseWord, NeedBy, NeedVariable, AfterVariable, NeedFurtherVariable, NeedVariableSort, AfterGroup, NeedEquation, NeedTerm, NeedOperand, NeedPrefixed, NeedPost, NeedField, NeedSortOf, AfterWord, NeedFirst, AfterSymbol, Have}
 use Rattle.larch_grammar.specs.declared.machine.Whole.{Whole}
 use Rattle.larch_grammar.specs.Composition.{HasFormals, a_ref, fields_of_sort, formals, no_formal}
 use Rattle.larch_grammar.specs.Forms.{Marked, a_word, another_marker, another_word, group, no_word, signature, no_sort, sorts}
@@ -67,6 +67,7 @@ step_back s (NeedSort n ws) (Word w) = λ i z f. (f.0, f.1, f.2, f.3, another_wo
 step_back s (NeedRange (Declaration r fs) ws) (Word w) = λ i z f. (i, w, a_word, f)
 step_back s (NeedRange (Reference c rs g) ws) (Word w) = λ i z f. (i, w, a_word, f)
 step_back s (NeedRange (Replacement n g h) ws) (Word w) = λ i z f. (i, w, a_word, f)
+step_back s (NeedRange (LoneForm g) ws) (Word w) = λ i z f. (i, w, a_word, f)
 step_back s (AfterReference c rs) t = reference_back s c rs t
 step_back s (InItems r) t = item_back s r t
 step_back s (FirstWord r w) t = first_back s r w t

@@ -16,7 +16,7 @@ use Rattle.larch_grammar.specs.declared.machine.FieldsKind.{FieldsKind}
 use Rattle.larch_grammar.specs.declared.machine.FieldsKind.TheVariants as fields_kind
 use Rattle.larch_grammar.specs.declared.machine.FormBracket.{FormBracket}
 use Rattle.larch_grammar.specs.declared.machine.Naming.{Naming}
-use Rattle.larch_grammar.specs.declared.machine.Naming.TheVariants.{Declared, Referred, Formal, Actual, Renaming, Renamed}
+use Rattle.larch_grammar.specs.declared.machine.Naming.TheVariants.{Declared, Referred, Formal, Actual, Renaming, Renamed, Lone}
 use Rattle.larch_grammar.specs.declared.machine.OpenFields.{OpenFields}
 use Rattle.larch_grammar.specs.declared.machine.OpenRef.{OpenRef}
 use Rattle.larch_grammar.specs.declared.machine.State.TheVariants.{NeedConstants, NeedConstant, NeedFields, NeedName, AfterSymbolForm, AfterMarker, AfterMarkerSymbol, NeedMarks, AfterMark}
@@ -70,6 +70,8 @@ form_read_back s (Renaming n) f _ = tt
 form_read_back s (Renamed n f) g (Colon p) = λ i z h. λ j form. (h.0, _, by_signature form h.2, h.3)
 form_read_back s (Renamed n f) g t =
     passed s (after_rename (with_actual n (actual.Replace f g None)) t) t (FitsActual s true (with_actual n (actual.Replace f g None))) (FitsForm s (Renamed n f) g) (λ m i z h. λ j form. ((t, m) ∷ i, _, by_form form, h)) (rename_back s (with_actual n (actual.Replace f g None)) t)
+form_read_back s Lone f (Colon p) = λ i z h. λ j form. (h.0, _, by_signature form h.2, h.3.0, h.3.1)
+form_read_back s Lone f _ = tt
 
 -- a symbol that begins a form is read
 pub symbol_form_back : (s : Bool) (n : Naming) (x : RawWord) (t : Terminal) → Back s (after_symbol_form n x t) t (Fits s (AfterSymbolForm n x))

@@ -20,12 +20,13 @@ use Rattle.larch_grammar.specs.declared.terminal.Terminal.{Terminal}
 use Rattle.larch_grammar.specs.declared.terminal.Terminal.TheVariants.{Colon, Comma, Marker, CloseBracket}
 use Rattle.larch_grammar.specs.declared.machine.Clause.{Clause}
 use Rattle.larch_grammar.specs.declared.machine.Naming.{Naming}
-use Rattle.larch_grammar.specs.declared.machine.Naming.TheVariants.{Declared, Referred, Formal, Actual, Renaming, Renamed}
+use Rattle.larch_grammar.specs.declared.machine.Naming.TheVariants.{Declared, Referred, Formal, Actual, Renaming, Renamed, Lone}
 use Rattle.larch_grammar.specs.declared.machine.Signing.{Signing}
-use Rattle.larch_grammar.specs.declared.machine.Signing.TheVariants.{Declaration, Reference}
+use Rattle.larch_grammar.specs.declared.machine.Signing.TheVariants.{Declaration, Reference, LoneForm}
 use Rattle.larch_grammar.specs.declared.machine.State.{State}
 use Rattle.larch_grammar.specs.declared.machine.State.TheVariants.{InPart, NeedForm, AfterSymbolForm, AfterMarkerSymbol, NeedMarks, AfterMark, AfterForm, NeedSig, AfterSort, AfterReference, NeedVariable, AfterVariable, AfterGroup}
 use Rattle.larch_grammar.specs.declared.machine.Whole.{Whole}
+use Rattle.larch_grammar.specs.declared.machine.Whole.TheVariants as whole
 
 -- the machine reads these tokens from this state, and they end in this whole
 abbrev pub AcceptsFrom : Bool → State → List Marked → Whole → Type 0
@@ -44,6 +45,7 @@ no_marker_behind (Formal name fs) f p = refl
 no_marker_behind (Actual n) f p = refl
 no_marker_behind (Renaming n) f p = refl
 no_marker_behind (Renamed n f) g p = refl
+no_marker_behind Lone f p = refl
 
 -- a symbol alone is a form where no `__` follows
 symbol_alone : (s : Bool) (o : List Marked) (n : Naming) (x : RawWord) (z : Whole) → AcceptsFrom s (AfterForm n (mixfix (infix_name x.name) 2 x.pos)) o z → AcceptsFrom s (AfterSymbolForm n x) o z
@@ -125,6 +127,11 @@ oprefs_read (another_reference {rs = rs} q more) s c z r = (_, refl, opref_reads
 -- the references of a clause
 pub references_read : {i j o : List Marked} {q : RawOpRef} {rs : List RawOpRef} → IsOpRef i j q → AreOpRefs (q ∷ []) j o rs → (s : Bool) (c : Clause) (z : Whole) → AcceptsFrom s (AfterReference c rs) o z → AcceptsFrom s (NeedForm (Referred c [])) i z
 references_read q more s c z r = opref_reads q s c [] z (oprefs_read more s c z r)
+
+-- a reference by itself
+pub reference_reads : {i : List Marked} {q : RawOpRef} → IsOpRef i [] q → (s : Bool) → AcceptsFrom s (NeedForm Lone) i (whole.Reference q)
+reference_reads (by_form {f = f} form) s = form_reads form s Lone (whole.Reference (record { form = f; sig = None })) refl
+reference_reads (by_signature {f = f} {s = sig} form more) s = form_reads form s Lone (whole.Reference (record { form = f; sig = Some sig })) (_, refl, sig_reads more s (LoneForm f) (whole.Reference (record { form = f; sig = Some sig })) refl)
 
 names_read : {ws us : List RawWord} {i o : List Marked} → AreWords ws i o us → (s : Bool) (raw : RawTrait) (vs : List RawVar) (z : Whole) → AcceptsFrom s (AfterVariable raw vs us) o z → AcceptsFrom s (AfterVariable raw vs ws) i z
 names_read no_word s raw vs z r = r

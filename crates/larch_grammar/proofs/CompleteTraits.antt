@@ -15,7 +15,7 @@ use Rattle.larch_raw.specs.declared.equation.RawTrait.{RawTrait}
 use Rattle.larch_raw.specs.declared.equation.RawVar.{RawVar}
 use Rattle.larch_raw.specs.RawTree.{RawTree}
 use Rattle.larch_grammar.specs.Composition.{assumes, includes}
-use Rattle.larch_grammar.specs.Forms.{Marked, a_word}
+use Rattle.larch_grammar.specs.Forms.{Marked, IsOpRef, a_word}
 use Rattle.larch_grammar.specs.Machine.{Taking, at_head, begin_part, end_equation, final, hand_equation, outside, step_at, with_clause, word_frames, open_item}
 use Rattle.larch_grammar.specs.Terms.{IsEquation, formula, two_sides, first_position, formula_of, equation_of}
 use Rattle.larch_grammar.specs.Traits.{with_equations, with_item, clause_mark, generates, partitions, MayEnd, no_end, an_end, IsClause, clause, AreEquations, no_equation, ended, another_equation, AreItems, no_item, a_clause, for_all, without_variables, AreAssertions, no_assertion, asserted, AreDecls, no_declaration, another_declaration, AreParts, assertions, introduced, IsBody, parts, a_shorthand, references, IsMarkedTrait, trait_of_body, seen}
@@ -25,14 +25,14 @@ use Rattle.larch_grammar.specs.declared.machine.Before.{Before}
 use Rattle.larch_grammar.specs.declared.machine.Before.TheVariants.{Anything, Equations, Semicolon as semicolon}
 use Rattle.larch_grammar.specs.declared.machine.Clause.{Clause}
 use Rattle.larch_grammar.specs.declared.machine.Frame.TheVariants.{InLeft, InRight}
-use Rattle.larch_grammar.specs.declared.machine.Naming.TheVariants.{Declared}
+use Rattle.larch_grammar.specs.declared.machine.Naming.TheVariants.{Declared, Lone}
 use Rattle.larch_grammar.specs.declared.machine.State.{State}
 use Rattle.larch_grammar.specs.declared.machine.State.TheVariants.{Start, AfterHead, InPart, NeedForm, AfterReference, InItems, FirstWord, AfterSemicolon, WordBehind, ClauseWord, NeedVariable, AfterGroup, NeedEquation, NeedTerm, AfterWord, Have}
 use Rattle.larch_grammar.specs.declared.machine.Waiting.{Waiting}
 use Rattle.larch_grammar.specs.declared.machine.Waiting.TheVariants.{Alone, Item}
 use Rattle.larch_grammar.specs.declared.machine.Whole.{Whole}
 use Rattle.larch_grammar.specs.declared.machine.Whole.TheVariants as whole
-use Rattle.larch_grammar.proofs.CompleteForms.{AcceptsBy, AcceptsFrom, decl_reads, group_reads, groups_read, references_read}
+use Rattle.larch_grammar.proofs.CompleteForms.{AcceptsBy, AcceptsFrom, decl_reads, group_reads, groups_read, reference_reads, references_read}
 use Rattle.larch_grammar.proofs.CompleteHeads.{head_formals_read, ref_reads, refs_end, refs_read, short_reads}
 use Rattle.larch_grammar.proofs.CompleteTerms.{TermEnds, cond_reads}
 
@@ -278,3 +278,6 @@ complete_trait s ms raw t = tokens_read s ms Start (whole.Trait raw) (trait_read
 
 pub complete_equation : (s : Bool) (ms : List (Token × Mark)) (raw : RawEquation) → IsEquation s (map seen ms) [] raw → Accepts (step_at s) final (NeedEquation Alone) ms (whole.Equation raw)
 complete_equation s ms raw e = tokens_read s ms (NeedEquation Alone) (whole.Equation raw) (equation_reads s e)
+
+pub complete_reference : (s : Bool) (ms : List (Token × Mark)) (raw : RawOpRef) → IsOpRef (map seen ms) [] raw → Accepts (step_at s) final (NeedForm Lone) ms (whole.Reference raw)
+complete_reference s ms raw q = tokens_read s ms (NeedForm Lone) (whole.Reference raw) (reference_reads q s)

@@ -27,13 +27,13 @@ use Rattle.larch_grammar.specs.declared.machine.Frame.{Frame}
 use Rattle.larch_grammar.specs.declared.machine.Frame.TheVariants.{InFields, InStrays, Prefixed, InPostfixes, InInfixes, InEqualities, InConnectives, InParentheses, InList, InIf, InThen, InElse, InLeft, InRight}
 use Rattle.larch_grammar.specs.declared.machine.Listing.TheVariants.{Call, Bracketed}
 use Rattle.larch_grammar.specs.declared.machine.Naming.{Naming}
-use Rattle.larch_grammar.specs.declared.machine.Naming.TheVariants.{Declared, Referred, Formal, Actual, Renaming, Renamed}
+use Rattle.larch_grammar.specs.declared.machine.Naming.TheVariants.{Declared, Referred, Formal, Actual, Renaming, Renamed, Lone}
 use Rattle.larch_grammar.specs.declared.machine.OpenFields.{OpenFields}
 use Rattle.larch_grammar.specs.declared.machine.OpenRef.{OpenRef}
 use Rattle.larch_grammar.specs.declared.machine.Signing.{Signing}
-use Rattle.larch_grammar.specs.declared.machine.Signing.TheVariants.{Declaration, Reference, Replacement}
+use Rattle.larch_grammar.specs.declared.machine.Signing.TheVariants.{Declaration, Reference, Replacement, LoneForm}
 use Rattle.larch_grammar.specs.declared.machine.State.{State}
-use Rattle.larch_grammar.specs.declared.machine.State.TheVariants.{Start, AfterName, AfterFormals, NeedTrait, AfterHead, ShortWord, NeedConstants, NeedConstant, AfterConstant, NeedFields, NeedName, AfterNames, NeedFurtherName, NeedNamesSort, AfterField, NeedRef, AfterRefName, AfterRef, AfterRename, InPart, NeedForm, AfterSymbolForm, AfterDotForm, AfterMarker, AfterMarkerSymbol, NeedMarks, AfterMark, NeedMark, AfterForm, NeedSig, AfterSort, NeedSort, NeedRange, AfterReference, InItems, FirstWord, AfterSemicolon, WordBehind, ClauseWord, NeedBy, NeedVariable, AfterVariable, NeedFurtherVariable, NeedVariableSort, AfterGroup, NeedEquation, NeedTerm, NeedOperand, NeedPrefixed, NeedPost, NeedField, NeedSortOf, AfterWord, NeedFirst, AfterSymbol, Have}
+use Rattle.larch_grammar.specs.declared.machine.State.TheVariants.{Start, AfterName, AfterFormals, NeedTrait, AfterHead, ShortWord, NeedConstants, NeedConstant, AfterConstant, NeedFields, NeedName, AfterNames, NeedFurtherName, NeedNamesSort, AfterField, NeedRef, AfterRefName, AfterRef, AfterRename, InPart, NeedForm, AfterSymbolForm, AfterDotForm, AfterMarker, AfterMarkerSymbol, NeedMarks, AfterMark, NeedMark, AfterForm, NeedSig, AfterSort, NeedSort, NeedRange, AfterReference, AfterLone, InItems, FirstWord, AfterSemicolon, WordBehind, ClauseWord, NeedBy, NeedVariable, AfterVariable, NeedFurtherVariable, NeedVariableSort, AfterGroup, NeedEquation, NeedTerm, NeedOperand, NeedPrefixed, NeedPost, NeedField, NeedSortOf, AfterWord, NeedFirst, AfterSymbol, Have}
 use Rattle.larch_grammar.specs.declared.machine.Waiting.{Waiting}
 use Rattle.larch_grammar.specs.declared.machine.Waiting.TheVariants.{Alone, Item}
 use Rattle.larch_grammar.specs.declared.machine.Whole.{Whole}
@@ -74,6 +74,7 @@ form_fits s (Formal name fs) f z e = absurd (none_some e)
 form_fits s (Actual n) f z e = absurd (none_some e)
 form_fits s (Renaming n) f z e = absurd (none_some e)
 form_fits s (Renamed n f) g z e = absurd (none_some e)
+form_fits s Lone f z e = λ h form. ([], _, by_form form, refl, some_equal e)
 
 -- the tokens may end behind an equation
 behind_fits : (s : Bool) (e : RawEquation) (w : Waiting) (z : Whole) → end_equation e w ≡ Some z → FitsBehind s e w [] z
@@ -115,6 +116,7 @@ final_fits s (AfterSymbolForm n x) z e = ([], _, bare_symbol, form_fits s n _ z 
 final_fits s (AfterMarkerSymbol n p x) z e = ([], _, postfix_form, form_fits s n _ z e)
 final_fits s (AfterForm n f) z e = form_fits s n f z e
 final_fits s (AfterReference c rs) z e = references_end s c rs z e
+final_fits s (AfterLone r) z e = (refl, some_equal e)
 final_fits s (InItems r) z e = items_end s before.Anything r z e
 final_fits s (FirstWord r w) z e = item_of_equation s r ((Word w, Head) ∷ []) z (equation_of_post s w (Item (open_item r [] [])) [] z (word_fits s w (word_frames w (Item (open_item r [] []))) z e))
 final_fits s (AfterSemicolon j) z e = ended_by_item s j.raw j.variables j.equations [] z (items_end s before.Semicolon (with_equations j.raw j.variables j.equations) z e)
@@ -230,6 +232,7 @@ range_some : (s : Bool) (n : Signing) (ws : List RawWord) → Completes s (NeedR
 range_some s (Declaration r fs) ws = onward s (NeedRange (Declaration r fs) ws) word (ended_in s (InPart _) _ refl)
 range_some s (Reference c rs f) ws = onward s (NeedRange (Reference c rs f) ws) word (ended_in s (AfterReference c _) _ refl)
 range_some s (Replacement n f g) ws = onward s (NeedRange (Replacement n f g) ws) word (rename_some s _)
+range_some s (LoneForm f) ws = onward s (NeedRange (LoneForm f) ws) word (ended_in s (AfterLone _) _ refl)
 
 sorts_some : (s : Bool) (n : Signing) (ws : List RawWord) → Completes s (AfterSort n ws)
 sorts_some s n ws = onward s (AfterSort n ws) arrow (range_some s n ws)
@@ -244,6 +247,7 @@ form_some s (Formal name fs) f = onward s (AfterForm (Formal name fs) f) close (
 form_some s (Actual n) f = onward s (AfterForm (Actual n) f) close (ref_some s _ n.assumed)
 form_some s (Renaming n) f = onward s (AfterForm (Renaming n) f) for_token (onward s (NeedForm (Renamed n f)) word (old_some s n f _))
 form_some s (Renamed n f) g = old_some s n f g
+form_some s Lone f = ended_in s (AfterForm Lone f) _ refl
 
 naming_some : (s : Bool) (n : Naming) → Completes s (NeedForm n)
 naming_some s n = onward s (NeedForm n) word (form_some s n _)
@@ -356,6 +360,7 @@ some_fit s (AfterSort n ws) = sorts_some s n ws
 some_fit s (NeedSort n ws) = onward s (NeedSort n ws) word (sorts_some s n _)
 some_fit s (NeedRange n ws) = range_some s n ws
 some_fit s (AfterReference c rs) = ended_in s (AfterReference c rs) _ refl
+some_fit s (AfterLone r) = ended_in s (AfterLone r) _ refl
 some_fit s (InItems r) = ended_in s (InItems r) _ refl
 some_fit s (FirstWord r w) = ended_in s (FirstWord r w) _ refl
 some_fit s (AfterSemicolon j) = ended_in s (AfterSemicolon (open_item j.raw j.variables j.equations)) _ refl

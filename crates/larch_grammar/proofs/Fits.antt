@@ -32,13 +32,13 @@ use Rattle.larch_grammar.specs.declared.machine.Frame.TheVariants.{InFields, InS
 use Rattle.larch_grammar.specs.declared.machine.Listing.{Listing}
 use Rattle.larch_grammar.specs.declared.machine.Listing.TheVariants.{Call, Bracketed}
 use Rattle.larch_grammar.specs.declared.machine.Naming.{Naming}
-use Rattle.larch_grammar.specs.declared.machine.Naming.TheVariants.{Declared, Referred, Formal, Actual, Renaming, Renamed}
+use Rattle.larch_grammar.specs.declared.machine.Naming.TheVariants.{Declared, Referred, Formal, Actual, Renaming, Renamed, Lone}
 use Rattle.larch_grammar.specs.declared.machine.OpenFields.{OpenFields}
 use Rattle.larch_grammar.specs.declared.machine.OpenRef.{OpenRef}
 use Rattle.larch_grammar.specs.declared.machine.Signing.{Signing}
-use Rattle.larch_grammar.specs.declared.machine.Signing.TheVariants.{Declaration, Reference, Replacement}
+use Rattle.larch_grammar.specs.declared.machine.Signing.TheVariants.{Declaration, Reference, Replacement, LoneForm}
 use Rattle.larch_grammar.specs.declared.machine.State.{State}
-use Rattle.larch_grammar.specs.declared.machine.State.TheVariants.{Start, AfterName, AfterFormals, NeedTrait, AfterHead, ShortWord, NeedConstants, NeedConstant, AfterConstant, NeedFields, NeedName, AfterNames, NeedFurtherName, NeedNamesSort, AfterField, NeedRef, AfterRefName, AfterRef, AfterRename, InPart, NeedForm, AfterSymbolForm, AfterDotForm, AfterMarker, AfterMarkerSymbol, NeedMarks, AfterMark, NeedMark, AfterForm, NeedSig, AfterSort, NeedSort, NeedRange, AfterReference, InItems, FirstWord, AfterSemicolon, WordBehind, ClauseWord, NeedBy, NeedVariable, AfterVariable, NeedFurtherVariable, NeedVariableSort, AfterGroup, NeedEquation, NeedTerm, NeedOperand, NeedPrefixed, NeedPost, NeedField, NeedSortOf, AfterWord, NeedFirst, AfterSymbol, Have}
+use Rattle.larch_grammar.specs.declared.machine.State.TheVariants.{Start, AfterName, AfterFormals, NeedTrait, AfterHead, ShortWord, NeedConstants, NeedConstant, AfterConstant, NeedFields, NeedName, AfterNames, NeedFurtherName, NeedNamesSort, AfterField, NeedRef, AfterRefName, AfterRef, AfterRename, InPart, NeedForm, AfterSymbolForm, AfterDotForm, AfterMarker, AfterMarkerSymbol, NeedMarks, AfterMark, NeedMark, AfterForm, NeedSig, AfterSort, NeedSort, NeedRange, AfterReference, AfterLone, InItems, FirstWord, AfterSemicolon, WordBehind, ClauseWord, NeedBy, NeedVariable, AfterVariable, NeedFurtherVariable, NeedVariableSort, AfterGroup, NeedEquation, NeedTerm, NeedOperand, NeedPrefixed, NeedPost, NeedField, NeedSortOf, AfterWord, NeedFirst, AfterSymbol, Have}
 use Rattle.larch_grammar.specs.declared.machine.Waiting.{Waiting}
 use Rattle.larch_grammar.specs.declared.machine.Waiting.TheVariants.{Alone, Item}
 use Rattle.larch_grammar.specs.declared.machine.Whole.{Whole}
@@ -147,6 +147,7 @@ abbrev pub FitsSigned : Bool → Signing → RawSig → List Marked → Whole �
 FitsSigned s (Declaration r fs) sig i z = FitsDecls s (with_declaration r (record { forms = fs; sig = sig })) i z
 FitsSigned s (Reference c rs f) sig i z = FitsReferences s c (rs ++ record { form = f; sig = Some sig } ∷ []) i z
 FitsSigned s (Replacement n f g) sig i z = FitsActual s true (with_actual n (actual.Replace f g (Some sig))) i z
+FitsSigned s (LoneForm f) sig i z = (i ≡ []) × (whole.Reference (record { form = f; sig = Some sig }) ≡ z)
 
 -- what may follow where a signature is needed
 abbrev pub FitsSig : Bool → Signing → List Marked → Whole → Type 0
@@ -168,6 +169,7 @@ FitsForm s (Formal w fs) f i z = (j : List Marked) × (gs : List RawForm) × Are
 FitsForm s (Actual n) f i z = (h : List Marked) → IsForm h i f → FitsActuals s false n h z
 FitsForm s (Renaming n) f i z = (h : List Marked) → IsForm h i f → FitsActuals s true n h z
 FitsForm s (Renamed n f) g i z = (h : List Marked) → IsForm h i g → (j : List Marked) × (r : RawOpRef) × IsOpRef h j r × FitsActual s true (with_actual n (replacement f r)) j z
+FitsForm s Lone f i z = (h : List Marked) → IsForm h i f → (j : List Marked) × (r : RawOpRef) × IsOpRef h j r × (j ≡ []) × (whole.Reference r ≡ z)
 
 -- what may follow where a form is needed
 abbrev pub FitsNaming : Bool → Naming → List Marked → Whole → Type 0
@@ -259,6 +261,7 @@ Fits s (AfterSort n ws) i z = FitsSorts s n ws i z
 Fits s (NeedSort n ws) i z = FitsSorts s n ws ((Comma, Outside) ∷ i) z
 Fits s (NeedRange n ws) i z = FitsRange s n ws i z
 Fits s (AfterReference c rs) i z = FitsReferences s c rs i z
+Fits s (AfterLone r) i z = (i ≡ []) × (whole.Reference r ≡ z)
 Fits s (InItems r) i z = FitsItems s before.Anything r i z
 Fits s (FirstWord r w) i z = FitsItems s before.Anything r ((Word w, Head) ∷ i) z
 Fits s (AfterSemicolon j) i z = FitsEquations s j.raw j.variables j.equations ((Semicolon, Outside) ∷ i) z
@@ -289,3 +292,7 @@ over_trait s i z f = f
 -- what fits where an equation by itself is needed is an equation
 pub over_equation : (s : Bool) (i : List Marked) (z : Whole) → Fits s (NeedEquation Alone) i z → (raw : RawEquation) × IsEquation s i [] raw × (whole.Equation raw ≡ z)
 over_equation s i z f = (f.1, subst (λ o. IsEquation s i o f.1) f.3.0 f.2, f.3.1)
+
+-- what fits where a reference by itself is needed is a reference
+pub over_reference : (s : Bool) (i : List Marked) (z : Whole) → Fits s (NeedForm Lone) i z → (raw : RawOpRef) × IsOpRef i [] raw × (whole.Reference raw ≡ z)
+over_reference s i z f = let r = f.3 i f.2 in (r.1, subst (λ o. IsOpRef i o r.1) r.3 r.2, r.4)

@@ -30,14 +30,14 @@ use Rattle.larch_grammar.specs.declared.machine.Link.{Link}
 use Rattle.larch_grammar.specs.declared.machine.Listing.{Listing}
 use Rattle.larch_grammar.specs.declared.machine.Listing.TheVariants.{Call, Bracketed}
 use Rattle.larch_grammar.specs.declared.machine.Naming.{Naming}
-use Rattle.larch_grammar.specs.declared.machine.Naming.TheVariants.{Declared, Referred, Formal, Actual, Renaming, Renamed}
+use Rattle.larch_grammar.specs.declared.machine.Naming.TheVariants.{Declared, Referred, Formal, Actual, Renaming, Renamed, Lone}
 use Rattle.larch_grammar.specs.declared.machine.OpenFields.{OpenFields}
 use Rattle.larch_grammar.specs.declared.machine.OpenItem.{OpenItem}
 use Rattle.larch_grammar.specs.declared.machine.OpenRef.{OpenRef}
 use Rattle.larch_grammar.specs.declared.machine.Signing.{Signing}
-use Rattle.larch_grammar.specs.declared.machine.Signing.TheVariants.{Declaration, Reference, Replacement}
+use Rattle.larch_grammar.specs.declared.machine.Signing.TheVariants.{Declaration, Reference, Replacement, LoneForm}
 use Rattle.larch_grammar.specs.declared.machine.State.{State}
-use Rattle.larch_grammar.specs.declared.machine.State.TheVariants.{Start, AfterName, AfterFormals, NeedTrait, AfterHead, ShortWord, NeedConstants, NeedConstant, AfterConstant, NeedFields, NeedName, AfterNames, NeedFurtherName, NeedNamesSort, AfterField, NeedRef, AfterRefName, AfterRef, AfterRename, InPart, NeedForm, AfterSymbolForm, AfterDotForm, AfterMarker, AfterMarkerSymbol, NeedMarks, AfterMark, NeedMark, AfterForm, NeedSig, AfterSort, NeedSort, NeedRange, AfterReference, InItems, FirstWord, AfterSemicolon, WordBehind, ClauseWord, NeedBy, NeedVariable, AfterVariable, NeedFurtherVariable, NeedVariableSort, AfterGroup, NeedEquation, NeedTerm, NeedOperand, NeedPrefixed, NeedPost, NeedField, NeedSortOf, AfterWord, NeedFirst, AfterSymbol, Have}
+use Rattle.larch_grammar.specs.declared.machine.State.TheVariants.{Start, AfterName, AfterFormals, NeedTrait, AfterHead, ShortWord, NeedConstants, NeedConstant, AfterConstant, NeedFields, NeedName, AfterNames, NeedFurtherName, NeedNamesSort, AfterField, NeedRef, AfterRefName, AfterRef, AfterRename, InPart, NeedForm, AfterSymbolForm, AfterDotForm, AfterMarker, AfterMarkerSymbol, NeedMarks, AfterMark, NeedMark, AfterForm, NeedSig, AfterSort, NeedSort, NeedRange, AfterReference, AfterLone, InItems, FirstWord, AfterSemicolon, WordBehind, ClauseWord, NeedBy, NeedVariable, AfterVariable, NeedFurtherVariable, NeedVariableSort, AfterGroup, NeedEquation, NeedTerm, NeedOperand, NeedPrefixed, NeedPost, NeedField, NeedSortOf, AfterWord, NeedFirst, AfterSymbol, Have}
 use Rattle.larch_grammar.specs.declared.machine.Waiting.{Waiting}
 use Rattle.larch_grammar.specs.declared.machine.Waiting.TheVariants.{Alone, Item}
 use Rattle.larch_grammar.specs.declared.machine.Whole.{Whole}
@@ -273,12 +273,15 @@ after_form (Renaming o) f For = outside (NeedForm (Renamed o f))
 after_form (Renaming o) f _ = None
 after_form (Renamed o f) g (Colon p) = outside (NeedSig (Replacement o f g))
 after_form (Renamed o f) g t = after_rename (with_actual o (actual.Replace f g None)) t
+after_form Lone f (Colon p) = outside (NeedSig (LoneForm f))
+after_form Lone f _ = None
 
 -- a signature is read: what waits for it takes it
 abbrev pub hand_sig : Signing → RawSig → State
 hand_sig (Declaration raw fs) sig = InPart (with_declaration raw (record { forms = fs; sig = sig }))
 hand_sig (Reference c rs f) sig = AfterReference c (rs ++ record { form = f; sig = Some sig } ∷ [])
 hand_sig (Replacement o f g) sig = AfterRename (with_actual o (actual.Replace f g (Some sig)))
+hand_sig (LoneForm f) sig = AfterLone (record { form = f; sig = Some sig })
 
 -- a symbol that begins a form is read
 abbrev pub after_symbol_form : Naming → RawWord → Terminal → Taking
@@ -453,6 +456,7 @@ step s _ _ = None
 -- the whole, where the tokens may end behind a form
 abbrev pub end_form : Naming → RawForm → Option Whole
 end_form (Referred c rs) f = Some (whole.Trait (with_clause c (with_reference rs f)))
+end_form Lone f = Some (whole.Reference (record { form = f; sig = None }))
 end_form _ f = None
 
 -- the whole, where the tokens may end in this state
@@ -467,6 +471,7 @@ final (AfterSymbolForm n x) = end_form n (mixfix (infix_name x.name) 2 x.pos)
 final (AfterMarkerSymbol n p x) = end_form n (mixfix (postfix_name x.name) 1 p)
 final (AfterForm n f) = end_form n f
 final (AfterReference c rs) = Some (whole.Trait (with_clause c rs))
+final (AfterLone r) = Some (whole.Reference r)
 final (InItems raw) = Some (whole.Trait raw)
 final (FirstWord raw w) = finish (call_tree w []) (word_frames w (Item (open_item raw [] [])))
 final (AfterSemicolon j) = Some (whole.Trait (with_equations j.raw j.variables j.equations))
@@ -489,3 +494,8 @@ as_trait _ = None
 abbrev pub as_equation : Option Whole → Option RawEquation
 as_equation (Some (whole.Equation raw)) = Some raw
 as_equation _ = None
+
+-- the whole as a reference
+abbrev pub as_reference : Option Whole → Option RawOpRef
+as_reference (Some (whole.Reference reference)) = Some reference
+as_reference _ = None

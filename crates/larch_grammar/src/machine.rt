@@ -6,8 +6,8 @@ use crate::stack::Stack;
 use crate::terminal::Bracket;
 use larch_base::Pos;
 use larch_raw::{
-    ClauseKind, RawActuals, RawEquation, RawEquations, RawFields, RawForm, RawForms, RawOpRefs,
-    RawSig, RawTerm, RawTerms, RawVars, RawWord, RawWords,
+    ClauseKind, RawActuals, RawEquation, RawEquations, RawFields, RawForm, RawForms, RawOpRef,
+    RawOpRefs, RawSig, RawTerm, RawTerms, RawVars, RawWord, RawWords,
 };
 
 /// What tokens are read as.
@@ -17,6 +17,8 @@ pub enum Whole {
     Trait(Draft),
     /// An equation by itself.
     Equation(RawEquation),
+    /// A reference to operators by itself.
+    Reference(RawOpRef),
 }
 
 /// The shorthands that have fields.
@@ -70,6 +72,8 @@ pub enum Naming {
     Renaming(OpenRef),
     /// A replacement, of which this is the new name.
     Renamed(OpenRef, RawForm),
+    /// A reference to operators by itself.
+    Lone,
 }
 
 /// A bracket that is open in a form: what waits for the form, whether a `__` stands in front, which bracket it is, and
@@ -91,6 +95,8 @@ pub enum Signing {
     Reference(Clause, RawOpRefs, RawForm),
     /// A replacement, with its new name and its old one.
     Replacement(OpenRef, RawForm, RawForm),
+    /// A reference to operators by itself, whose form it is.
+    LoneForm(RawForm),
 }
 
 /// An item of equations that is open: the trait before it, its variables, and its equations so far.
@@ -241,6 +247,8 @@ pub enum State {
     NeedRange(Signing, RawWords),
     /// A reference with its signature, the last of these.
     AfterReference(Clause, RawOpRefs),
+    /// A reference by itself with its signature: nothing follows.
+    AfterLone(RawOpRef),
     /// `asserts`, or a clause of its part: an item, a part, or the end.
     InItems(Draft),
     /// A word that begins an item of either kind.

@@ -9,7 +9,7 @@ use Rattle.larch_grammar.specs.declared.machine.Frame.{Frame}
 use Rattle.larch_grammar.specs.declared.machine.Frame.TheVariants.{InFields, InStrays, Prefixed, InPostfixes, InInfixes, InEqualities, InConnectives, InParentheses, InList, InIf, InThen, InElse, InLeft, InRight}
 use Rattle.larch_grammar.specs.declared.machine.Listing.TheVariants.{Call, Bracketed}
 use Rattle.larch_grammar.specs.declared.machine.Naming.{Naming}
-use Rattle.larch_grammar.specs.declared.machine.Naming.TheVariants.{Declared, Referred, Formal, Actual, Renaming, Renamed}
+use Rattle.larch_grammar.specs.declared.machine.Naming.TheVariants.{Declared, Referred, Formal, Actual, Renaming, Renamed, Lone}
 use Rattle.larch_grammar.specs.declared.machine.State.{State}
 use Rattle.larch_grammar.specs.declared.machine.State.TheVariants.{AfterSymbolForm, AfterMarkerSymbol, NeedMarks, AfterMark, AfterForm, AfterWord, NeedFirst, AfterSymbol, Have}
 use Rattle.larch_grammar.specs.declared.machine.Waiting.TheVariants.{Alone, Item}
@@ -48,6 +48,7 @@ form_nothing (Formal name fs) f = refl
 form_nothing (Actual n) f = refl
 form_nothing (Renaming n) f = refl
 form_nothing (Renamed n f) g = refl
+form_nothing Lone f = refl
 
 marks_nothing : (n : Naming) (behind : Bool) (b : Bracket) (m : ℕ) (p : Pos) → end_marks n behind b m p Other ≡ None
 marks_nothing n behind Square m p = refl

@@ -2,16 +2,15 @@
 use Rattle.std.proofs.Common.{◌≡◌, ◌+◌, ℕ, suc, true, Option, Some, None, IfSome, Result, Ok, Err, List, ◌∷◌, ◌∙◌, refl, sym, ap, arith}
 use Rattle.larch_base.specs.declared.fault.Fault.{Fault}
 use Rattle.larch_base.specs.declared.position.Pos.{Pos}
-use Rattle.larch_grammar.specs.Answers.{term_from, trait_from}
-use Rattle.larch_grammar.specs.Machine.{Taking, as_equation, final, step_at}
+use Rattle.larch_grammar.specs.Answers.{position_of_token, trait_from}
+use Rattle.larch_grammar.specs.Machine.{Taking, final, step_at}
 use Rattle.larch_grammar.specs.declared.machine.State.{State}
 use Rattle.larch_grammar.specs.declared.machine.Whole.{Whole}
 use Rattle.larch_lexer.specs.declared.token.Token.{Token}
-use Rattle.larch_fronts.specs.Answer.{at_front, at_mark, at_step, front_at, front_on, go_on}
+use Rattle.larch_fronts.specs.Answer.{at_front, at_mark, at_step, front, front_at, front_on, go_on}
 use Rattle.larch_fronts.specs.Mark.{admitted}
 use Rattle.larch_fronts.specs.declared.mark.Flaw.{Flaw}
 use Rattle.larch_fronts.specs.declared.mark.Flaw.TheVariants as flaw
-use Rattle.larch_raw.specs.declared.equation.RawEquation.{RawEquation}
 use Rattle.larch_raw.specs.declared.equation.RawTrait.{RawTrait}
 use Rattle.larch_heads.specs.Outcome.{outcome}
 use Rattle.larch_syntax.specs.Read.{counted, fault_at, leads_to, taken_at, with_fault}
@@ -66,44 +65,48 @@ trait_counted end heads state refusal token rest ts answer e l h =
     told_on (told refusal) (λ fault. taken_at heads state token ≡ Err fault) (λ fault. answer ≡ Err fault)
     (λ fault q. sym h ∙ ap (λ x. with_fault (trait_from end heads state x)) l ∙ trait_step end heads state token rest (Err fault) q) e
 
--- how an equation at a front goes on behind a token, so many being before it
-abbrev front_behind : Pos → ℕ → Result Taken Fault → (ℕ → State → Result (RawEquation × ℕ) Fault) → Result (RawEquation × ℕ) Fault
-front_behind pos taken (Ok (On more after)) further = further more after
-front_behind pos taken (Ok (Stops whole)) further = with_fault (at_front pos taken (as_equation whole))
-front_behind pos taken (Err fault) further = Err fault
+-- the tree at the longest front of these tokens from a state on, which is a part of the whole that ends there
+abbrev pub front_by : {T : Type 0} → (Option Whole → Option T) → Pos → ℕ → ℕ → State → List Token → Result (T × ℕ) (Flaw × Pos)
+front_by part end heads taken state tokens = front (step_at true) (λ n. part (final n)) position_of_token end heads taken state tokens
 
-front_marked : (pos : Pos) (taken : ℕ) (after : State) (r : Result ℕ Flaw) (further : ℕ → State → Result (RawEquation × ℕ) (Flaw × Pos))
-    → with_fault (front_on (at_mark pos after r) further) ≡ front_behind pos taken (leads_to after (fault_at pos r)) (λ m a. with_fault (further m a))
-front_marked pos taken after (Ok more) further = refl
-front_marked pos taken after (Err f) further = refl
+-- how a tree at a front goes on behind a token, so many being before it
+abbrev front_behind : {T : Type 0} → (Option Whole → Option T) → Pos → ℕ → Result Taken Fault → (ℕ → State → Result (T × ℕ) Fault) → Result (T × ℕ) Fault
+front_behind part pos taken (Ok (On more after)) further = further more after
+front_behind part pos taken (Ok (Stops whole)) further = with_fault (at_front pos taken (part whole))
+front_behind part pos taken (Err fault) further = Err fault
 
-front_taken : (pos : Pos) (heads taken : ℕ) (whole : Option Whole) (s : Taking) (further : ℕ → State → Result (RawEquation × ℕ) (Flaw × Pos))
-    → with_fault (front_at pos heads taken (as_equation whole) s further) ≡ front_behind pos taken (counted pos heads (outcome s whole)) (λ m a. with_fault (further m a))
-front_taken pos heads taken whole None further = refl
-front_taken pos heads taken whole (Some step) further = front_marked pos taken step.1 (admitted heads step.0) further
+front_marked : {T : Type 0} (part : Option Whole → Option T) (pos : Pos) (taken : ℕ) (after : State) (r : Result ℕ Flaw) (further : ℕ → State → Result (T × ℕ) (Flaw × Pos))
+    → with_fault (front_on (at_mark pos after r) further) ≡ front_behind part pos taken (leads_to after (fault_at pos r)) (λ m a. with_fault (further m a))
+front_marked part pos taken after (Ok more) further = refl
+front_marked part pos taken after (Err f) further = refl
 
-front_step : (end : Pos) (heads taken : ℕ) (state : State) (token : Token) (rest : List Token) (t : Result Taken Fault) → taken_at heads state token ≡ t
-    → with_fault (term_from end heads taken state (token ∷ rest)) ≡ front_behind token.pos taken t (λ m a. with_fault (term_from end m (suc taken) a rest))
-front_step end heads taken state token rest t e =
-    front_taken token.pos heads taken (final state) (step_at true state token) (λ m a. term_from end m (suc taken) a rest)
-    ∙ ap (λ x. front_behind token.pos taken x (λ m a. with_fault (term_from end m (suc taken) a rest))) e
+front_taken : {T : Type 0} (part : Option Whole → Option T) (pos : Pos) (heads taken : ℕ) (whole : Option Whole) (s : Taking) (further : ℕ → State → Result (T × ℕ) (Flaw × Pos))
+    → with_fault (front_at pos heads taken (part whole) s further) ≡ front_behind part pos taken (counted pos heads (outcome s whole)) (λ m a. with_fault (further m a))
+front_taken part pos heads taken whole None further = refl
+front_taken part pos heads taken whole (Some step) further = front_marked part pos taken step.1 (admitted heads step.0) further
 
--- an equation goes on behind a token that is taken
-pub front_goes_on : (end : Pos) (heads more taken : ℕ) (state after : State) (token : Token) (rest ts : List Token) (answer : Result (RawEquation × ℕ) Fault) → taken_at heads state token ≡ Ok (On more after)
-    → ts ≡ token ∷ rest → with_fault (term_from end heads taken state ts) ≡ answer → with_fault (term_from end more (taken + 1) after rest) ≡ answer
-front_goes_on end heads more taken state after token rest ts answer e l h =
+front_step : {T : Type 0} (part : Option Whole → Option T) (end : Pos) (heads taken : ℕ) (state : State) (token : Token) (rest : List Token) (t : Result Taken Fault) → taken_at heads state token ≡ t
+    → with_fault (front_by part end heads taken state (token ∷ rest)) ≡ front_behind part token.pos taken t (λ m a. with_fault (front_by part end m (suc taken) a rest))
+front_step part end heads taken state token rest t e =
+    front_taken part token.pos heads taken (final state) (step_at true state token) (λ m a. front_by part end m (suc taken) a rest)
+    ∙ ap (λ x. front_behind part token.pos taken x (λ m a. with_fault (front_by part end m (suc taken) a rest))) e
+
+-- it goes on behind a token that is taken
+pub front_goes_on : {T : Type 0} (part : Option Whole → Option T) (end : Pos) (heads more taken : ℕ) (state after : State) (token : Token) (rest ts : List Token) (answer : Result (T × ℕ) Fault) → taken_at heads state token ≡ Ok (On more after)
+    → ts ≡ token ∷ rest → with_fault (front_by part end heads taken state ts) ≡ answer → with_fault (front_by part end more (taken + 1) after rest) ≡ answer
+front_goes_on part end heads more taken state after token rest ts answer e l h =
     let next : taken + 1 ≡ suc taken = omega arith in
-    ap (λ n. with_fault (term_from end more n after rest)) next ∙ sym (front_step end heads taken state token rest (Ok (On more after)) e) ∙ ap (λ x. with_fault (term_from end heads taken state x)) (sym l) ∙ h
+    ap (λ n. with_fault (front_by part end more n after rest)) next ∙ sym (front_step part end heads taken state token rest (Ok (On more after)) e) ∙ ap (λ x. with_fault (front_by part end heads taken state x)) (sym l) ∙ h
 
 -- it ends before a token that no step takes, or is refused there
-pub front_stops : (end : Pos) (heads taken : ℕ) (state : State) (whole : Option Whole) (token : Token) (rest ts : List Token) (answer : Result (RawEquation × ℕ) Fault) → taken_at heads state token ≡ Ok (Stops whole)
-    → ts ≡ token ∷ rest → with_fault (term_from end heads taken state ts) ≡ answer → with_fault (at_front token.pos taken (as_equation whole)) ≡ answer
-front_stops end heads taken state whole token rest ts answer e l h =
-    sym (front_step end heads taken state token rest (Ok (Stops whole)) e) ∙ ap (λ x. with_fault (term_from end heads taken state x)) (sym l) ∙ h
+pub front_stops : {T : Type 0} (part : Option Whole → Option T) (end : Pos) (heads taken : ℕ) (state : State) (whole : Option Whole) (token : Token) (rest ts : List Token) (answer : Result (T × ℕ) Fault) → taken_at heads state token ≡ Ok (Stops whole)
+    → ts ≡ token ∷ rest → with_fault (front_by part end heads taken state ts) ≡ answer → with_fault (at_front token.pos taken (part whole)) ≡ answer
+front_stops part end heads taken state whole token rest ts answer e l h =
+    sym (front_step part end heads taken state token rest (Ok (Stops whole)) e) ∙ ap (λ x. with_fault (front_by part end heads taken state x)) (sym l) ∙ h
 
 -- it is refused by what is counted at a token
-pub front_counted : (end : Pos) (heads taken : ℕ) (state : State) (refusal : SyntaxRefusal) (token : Token) (rest ts : List Token) (answer : Result (RawEquation × ℕ) Fault) → IfSome (told refusal) (λ fault. taken_at heads state token ≡ Err fault)
-    → ts ≡ token ∷ rest → with_fault (term_from end heads taken state ts) ≡ answer → IfSome (told refusal) (λ fault. answer ≡ Err fault)
-front_counted end heads taken state refusal token rest ts answer e l h =
+pub front_counted : {T : Type 0} (part : Option Whole → Option T) (end : Pos) (heads taken : ℕ) (state : State) (refusal : SyntaxRefusal) (token : Token) (rest ts : List Token) (answer : Result (T × ℕ) Fault) → IfSome (told refusal) (λ fault. taken_at heads state token ≡ Err fault)
+    → ts ≡ token ∷ rest → with_fault (front_by part end heads taken state ts) ≡ answer → IfSome (told refusal) (λ fault. answer ≡ Err fault)
+front_counted part end heads taken state refusal token rest ts answer e l h =
     told_on (told refusal) (λ fault. taken_at heads state token ≡ Err fault) (λ fault. answer ≡ Err fault)
-    (λ fault q. sym h ∙ ap (λ x. with_fault (term_from end heads taken state x)) l ∙ front_step end heads taken state token rest (Err fault) q) e
+    (λ fault q. sym h ∙ ap (λ x. with_fault (front_by part end heads taken state x)) l ∙ front_step part end heads taken state token rest (Err fault) q) e

@@ -6,11 +6,12 @@ use Rattle.larch_lexer.specs.TokenList.{TokenList}
 use Rattle.larch_fronts.specs.Claims.{Means}
 use Rattle.larch_fronts.specs.declared.mark.Flaw.{Flaw}
 use Rattle.larch_fronts.specs.declared.mark.Flaw.TheVariants as flaw
+use Rattle.larch_raw.specs.declared.declared.RawOpRef.{RawOpRef}
 use Rattle.larch_raw.specs.declared.equation.RawEquation.{RawEquation}
 use Rattle.larch_raw.specs.declared.equation.RawTrait.{RawTrait}
-use Rattle.larch_grammar.specs.Answers.{Traits, position_of_token, term_answer, trait_answer}
-use Rattle.larch_grammar.proofs.Law.{term_law, trait_law}
-use Rattle.larch_syntax.specs.Read.{MeansFrom, Says, from_there, term_of, trait_of, with_fault}
+use Rattle.larch_grammar.specs.Answers.{Traits, position_of_token, reference_answer, term_answer, trait_answer}
+use Rattle.larch_grammar.proofs.Law.{reference_law, term_law, trait_law}
+use Rattle.larch_syntax.specs.Read.{MeansFrom, MeansReference, Says, from_there, reference_of, term_of, trait_of, with_fault}
 use Rattle.larch_syntax.specs.Refusals.{code_of, fault_of, flaw_told, told}
 use Rattle.larch_syntax.specs.declared.refusal.SyntaxRefusal.{SyntaxRefusal}
 use Rattle.larch_syntax.specs.declared.refusal.SyntaxRefusal.TheVariants.{Syntax, Mixed, Deep, Large, Memory}
@@ -60,13 +61,13 @@ trait_said tokens (Ok raw) e = (trait_law tokens (Ok raw)).0 (ok_back (trait_ans
 trait_said tokens (Err refusal) e =
     said (trait_answer tokens) refusal (λ f. Means Traits position_of_token tokens.end tokens.tokens (Err f)) (λ f q. (trait_law tokens (Err f)).0 q) e
 
--- the number of the token behind an equation is that of its tokens
-there_back : (from : ℕ) (a : Result (RawEquation × ℕ) (Flaw × Pos)) (read : RawEquation × ℕ) → from_there from (with_fault a) ≡ Ok read
+-- the number of the token behind a tree is that of its tokens
+there_back : {T : Type 0} (from : ℕ) (a : Result (T × ℕ) (Flaw × Pos)) (read : T × ℕ) → from_there from (with_fault a) ≡ Ok read
     → (n : ℕ) × (a ≡ Ok (read.0, n)) × (read.1 ≡ from + n)
 there_back from (Ok x) read e = let q : (x.0, from + x.1) ≡ read = cc in (x.1, ap (λ y. Ok (y.0, x.1)) q, sym (ap (λ y. y.1) q))
 there_back from (Err f) read e = let n : ⊥ = cc in absurd n
 
-from_back : (from : ℕ) (a : Result (RawEquation × ℕ) (Flaw × Pos)) (f : Flaw × Pos) → from_there from (with_fault a) ≡ Err (fault_of f) → a ≡ Err f
+from_back : {T : Type 0} (from : ℕ) (a : Result (T × ℕ) (Flaw × Pos)) (f : Flaw × Pos) → from_there from (with_fault a) ≡ Err (fault_of f) → a ≡ Err f
 from_back from (Ok x) f e = let n : ⊥ = cc in absurd n
 from_back from (Err g) f e = let q : fault_of g ≡ fault_of f = cc in ap Err (one_found g f q)
 
@@ -86,3 +87,20 @@ front_said tokens from (Err (Mixed pos)) e = front_flaw tokens from (flaw.Mixed,
 front_said tokens from (Err (Deep pos)) e = front_flaw tokens from (flaw.Deep, pos) e
 front_said tokens from (Err (Large pos)) e = front_flaw tokens from (flaw.Large, pos) e
 front_said tokens from (Err Memory) e = tt
+
+reference_read : (tokens : TokenList) (from : ℕ) (read : RawOpRef × ℕ) → reference_of tokens from ≡ Ok read → MeansReference tokens from (Ok read)
+reference_read tokens from read e =
+    let b = there_back from (reference_answer tokens from) read e in
+    (b.0, (reference_law tokens from (Ok (read.0, b.0))).0 b.1, b.2)
+
+reference_flaw : (tokens : TokenList) (from : ℕ) (f : Flaw × Pos) → reference_of tokens from ≡ Err (fault_of f) → MeansReference tokens from (Err f)
+reference_flaw tokens from f e = (reference_law tokens from (Err f)).0 (from_back from (reference_answer tokens from) f e)
+
+pub reference_said : (tokens : TokenList) (from : ℕ) (r : Result (RawOpRef × ℕ) SyntaxRefusal) → Answers told r (reference_of tokens from)
+    → Says (MeansReference tokens from) r
+reference_said tokens from (Ok read) e = reference_read tokens from read e
+reference_said tokens from (Err (Syntax pos)) e = reference_flaw tokens from (flaw.Syntax, pos) e
+reference_said tokens from (Err (Mixed pos)) e = reference_flaw tokens from (flaw.Mixed, pos) e
+reference_said tokens from (Err (Deep pos)) e = reference_flaw tokens from (flaw.Deep, pos) e
+reference_said tokens from (Err (Large pos)) e = reference_flaw tokens from (flaw.Large, pos) e
+reference_said tokens from (Err Memory) e = tt

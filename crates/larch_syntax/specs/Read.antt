@@ -5,11 +5,12 @@ use Rattle.larch_base.specs.declared.position.Pos.{Pos}
 use Rattle.larch_fronts.specs.Claims.{MeansFront}
 use Rattle.larch_fronts.specs.Mark.{admitted}
 use Rattle.larch_fronts.specs.declared.mark.Flaw.{Flaw}
-use Rattle.larch_grammar.specs.Answers.{Equations, position_of_token, term_answer, trait_answer}
+use Rattle.larch_grammar.specs.Answers.{Equations, References, position_of_token, reference_answer, term_answer, trait_answer}
 use Rattle.larch_grammar.specs.Terminals.{terminal_of}
 use Rattle.larch_grammar.specs.declared.machine.State.{State}
 use Rattle.larch_lexer.specs.TokenList.{TokenList}
 use Rattle.larch_lexer.specs.declared.token.Token.{Token}
+use Rattle.larch_raw.specs.declared.declared.RawOpRef.{RawOpRef}
 use Rattle.larch_raw.specs.declared.equation.RawEquation.{RawEquation}
 use Rattle.larch_raw.specs.declared.equation.RawTrait.{RawTrait}
 use Rattle.larch_heads.specs.Outcome.{stepped}
@@ -34,8 +35,8 @@ fault_at pos (Err flaw) = Err (fault_of (flaw, pos))
 abbrev pub trait_of : TokenList → Result RawTrait Fault
 trait_of tokens = with_fault (trait_answer tokens)
 
--- an equation with its number of tokens, as the equation with the number of the token behind it
-abbrev pub from_there : ℕ → Result (RawEquation × ℕ) Fault → Result (RawEquation × ℕ) Fault
+-- a tree with its number of tokens, as the tree with the number of the token behind it
+abbrev pub from_there : {Tree : Type 0} → ℕ → Result (Tree × ℕ) Fault → Result (Tree × ℕ) Fault
 from_there from (Ok read) = Ok (read.0, from + read.1)
 from_there from (Err fault) = Err fault
 
@@ -43,6 +44,10 @@ from_there from (Err fault) = Err fault
 -- fault
 abbrev pub term_of : TokenList → ℕ → Result (RawEquation × ℕ) Fault
 term_of tokens from = from_there from (with_fault (term_answer tokens from))
+
+-- the same of a reference to operators
+abbrev pub reference_of : TokenList → ℕ → Result (RawOpRef × ℕ) Fault
+reference_of tokens from = from_there from (with_fault (reference_answer tokens from))
 
 -- what the grammar claims of an answer holds of what is answered; out of memory is free
 abbrev pub Says : {Value : Type 0} → (Result Value (Flaw × Pos) → Type 0) → Result Value SyntaxRefusal → Type 0
@@ -56,6 +61,13 @@ MeansFrom tokens from (Ok read) =
     (taken : ℕ) × MeansFront Equations position_of_token tokens.end (drop from tokens.tokens) (Ok (read.0, taken)) ×
     (read.1 ≡ from + taken)
 MeansFrom tokens from (Err found) = MeansFront Equations position_of_token tokens.end (drop from tokens.tokens) (Err found)
+
+-- the same of a reference to operators
+abbrev pub MeansReference : TokenList → ℕ → Result (RawOpRef × ℕ) (Flaw × Pos) → Type 0
+MeansReference tokens from (Ok read) =
+    (taken : ℕ) × MeansFront References position_of_token tokens.end (drop from tokens.tokens) (Ok (read.0, taken)) ×
+    (read.1 ≡ from + taken)
+MeansReference tokens from (Err found) = MeansFront References position_of_token tokens.end (drop from tokens.tokens) (Err found)
 
 -- a token that is taken leads to a state, with so many head tokens behind it, unless something is counted at it
 abbrev pub leads_to : State → Result ℕ Fault → Result Taken Fault

@@ -1,12 +1,12 @@
 ghost use Rattle.std.specs.Prelude.{◌≡◌, IfOk, None};
 ghost use Rattle.larch_grammar.specs.Machine.{end_marks, hand_sig};
-ghost use Rattle.larch_grammar.specs.declared.machine.Naming.TheVariants.{Declared, Referred};
+ghost use Rattle.larch_grammar.specs.declared.machine.Naming.TheVariants.{Declared, Lone, Referred};
 ghost use Rattle.larch_heads.specs.Outcome.{Settles, outcome, settled, stepped};
 
 use crate::items::begin_item;
 use larch_base::{Memory, Pos, Sequence};
 use larch_grammar::{
-    Bracket, Clause, Draft, FormBracket, Naming, Signing, State, Terminal, bracket_form,
+    Bracket, Clause, Draft, FormBracket, Naming, Signing, State, Terminal, Whole, bracket_form,
     field_form, infix_form, plain_form, postfix_form, prefix_form, with_actual, with_clause,
     with_declaration, with_reference, with_word,
 };
@@ -206,6 +206,17 @@ pub(crate) fn after_form(
         Naming::Actual(reference) => after_plain(reference, form, terminal),
         Naming::Renaming(reference) => Ok(after_renaming(reference, form, terminal)),
         Naming::Renamed(reference, renamed) => after_renamed(reference, renamed, form, terminal),
+        Naming::Lone => Ok(after_lone(form, terminal)),
+    }
+}
+
+// The form of a reference by itself is read.
+fn after_lone(form: RawForm, terminal: Terminal) -> Outcome
+    ensures { settled result ≡ stepped (State.AfterForm Lone form) terminal }
+{
+    match terminal {
+        Terminal::Colon(_pos) => outside(State::NeedSig(Signing::LoneForm(form))),
+        _ => Outcome::Stops(Some(Whole::Reference(RawOpRef { form, sig: None }))),
     }
 }
 
@@ -354,6 +365,10 @@ fn hand_sig(signing: Signing, sig: RawSig) -> Result<State, Memory>
             let actual = RawActual::Replace(renamed, form, Some(sig));
             let reference = with_actual(reference, actual)?;
             Ok(State::AfterRename(reference))
+        }
+        Signing::LoneForm(form) => {
+            let sig = Some(sig);
+            Ok(State::AfterLone(RawOpRef { form, sig }))
         }
     }
 }

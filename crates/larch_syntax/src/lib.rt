@@ -18,7 +18,7 @@ pub use larch_raw::{
     RawNode, RawOpRef, RawOpRefs, RawRight, RawSig, RawTerm, RawTerms, RawTrait, RawVar, RawVars,
     RawWord, RawWords,
 };
-pub use read::{read_term, read_trait};
+pub use read::{read_reference, read_term, read_trait};
 pub use refusal::SyntaxRefusal;
 
 #[cfg(test)]

@@ -3,19 +3,19 @@ ghost use Rattle.larch_base.specs.Answering.{Answers};
 ghost use Rattle.larch_fronts.specs.Answer.{at_front};
 ghost use Rattle.larch_fronts.specs.Claims.{Means};
 ghost use Rattle.larch_fronts.specs.Mark.{admitted};
-ghost use Rattle.larch_grammar.specs.Answers.{Traits, position_of_token, term_from};
-ghost use Rattle.larch_grammar.specs.Machine.{as_equation, as_trait};
-ghost use Rattle.larch_syntax.specs.Read.{MeansFrom, Says, fault_at, taken_at, term_of, trait_of, with_fault};
+ghost use Rattle.larch_grammar.specs.Answers.{Traits, position_of_token, reference_from, term_from};
+ghost use Rattle.larch_grammar.specs.Machine.{as_equation, as_reference, as_trait};
+ghost use Rattle.larch_syntax.specs.Read.{MeansFrom, MeansReference, Says, fault_at, reference_of, taken_at, term_of, trait_of, with_fault};
 ghost use Rattle.larch_syntax.specs.Refusals.{told};
 
 use crate::refusal::{SyntaxRefusal, refusal_of};
 use crate::step::{last, step};
 use larch_base::{Memory, Pos};
 use larch_fronts::{Mark, admit};
-use larch_grammar::{State, Waiting, Whole, terminal_of};
+use larch_grammar::{Naming, State, Waiting, Whole, terminal_of};
 use larch_heads::Outcome;
 use larch_lexer::{Token, Tokens};
-use larch_raw::{RawEquation, RawTrait};
+use larch_raw::{RawEquation, RawOpRef, RawTrait};
 use std::alloc::Global;
 
 /// The raw trait that these tokens are, all of them; or the first refusal. Of several that stand at one token the order
@@ -118,16 +118,12 @@ fn front(alloc: Global, tokens: &[Token], end: Pos) -> Result<(RawEquation, usiz
     front_at(as_equation(whole), tokens.len(), end)
 }
 
-// The equation with its number of tokens, or SYNTAX behind them.
-fn front_at(
-    equation: Option<RawEquation>,
-    taken: usize,
-    pos: Pos,
-) -> Result<(RawEquation, usize), SyntaxRefusal>
-    ensures { Answers told result (with_fault (at_front pos taken equation)) }
+// What is read with its number of tokens, or SYNTAX behind them.
+fn front_at<T: Drop>(tree: Option<T>, taken: usize, pos: Pos) -> Result<(T, usize), SyntaxRefusal>
+    ensures { Answers told result (with_fault (at_front pos taken tree)) }
 {
-    match equation {
-        Some(equation) => Ok((equation, taken)),
+    match tree {
+        Some(tree) => Ok((tree, taken)),
         None => Err(SyntaxRefusal::Syntax(pos)),
     }
 }
@@ -138,6 +134,72 @@ fn as_equation(whole: Option<Whole>) -> Option<RawEquation>
 {
     match whole {
         Some(Whole::Equation(equation)) => Some(equation),
+        _ => None,
+    }
+}
+
+/// The raw reference to operators at the front of the tokens from this one on, and the number of the token behind it,
+/// both counted from 0; or the refusal, which is SYNTAX. The reference ends where no reference goes on so: before `>` in
+/// `f : S -> T > g`, and before `+` in `__ ! + x`.
+pub fn read_reference(
+    alloc: Global,
+    tokens: &Tokens,
+    from: u32,
+) -> Result<(RawOpRef, u32), SyntaxRefusal>
+    requires { from ≤ length tokens.now.tokens }
+    ensures answer { Answers told result (reference_of tokens.now from) }
+
+    // The grammar says the same without a machine.
+    ensures grammar { Says (MeansReference tokens.now from) result }
+{
+    reference_by_steps(alloc, tokens, from)
+}
+
+// The same, by the machine.
+fn reference_by_steps(
+    alloc: Global,
+    tokens: &Tokens,
+    from: u32,
+) -> Result<(RawOpRef, u32), SyntaxRefusal>
+    requires { from ≤ length tokens.now.tokens }
+    ensures { Answers told result (reference_of tokens.now from) }
+{
+    let rest = &tokens.as_slice()[from as usize..];
+    let (reference, taken) = reference_front(alloc, rest, tokens.end())?;
+    let next = behind(from, taken)?;
+    Ok((reference, next))
+}
+
+// The reference at the front of these tokens and its number of tokens, where the text ends there.
+fn reference_front(
+    alloc: Global,
+    tokens: &[Token],
+    end: Pos,
+) -> Result<(RawOpRef, usize), SyntaxRefusal>
+    ensures { Answers told result (with_fault (reference_from end 0 0 (State.NeedForm Naming.Lone) tokens.now)) }
+{
+    let mut state = State::NeedForm(Naming::Lone);
+    let mut heads: u32 = 0;
+    for (taken, token) in tokens.iter().enumerate() {
+        match take(alloc, heads, state, token) {
+            Ok(Taken::On(more, after)) => {
+                heads = more;
+                state = after;
+            }
+            Ok(Taken::Stops(whole)) => return front_at(as_reference(whole), taken, token.pos),
+            Err(refusal) => return Err(refusal),
+        }
+    }
+    let whole = last(alloc, state)?;
+    front_at(as_reference(whole), tokens.len(), end)
+}
+
+// The whole as a reference by itself.
+fn as_reference(whole: Option<Whole>) -> Option<RawOpRef>
+    ensures { result ≡ as_reference whole }
+{
+    match whole {
+        Some(Whole::Reference(reference)) => Some(reference),
         _ => None,
     }
 }

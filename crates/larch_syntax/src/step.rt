@@ -108,6 +108,7 @@ fn begin_step(alloc: Global, state: State, terminal: Terminal) -> Result<Outcome
         State::NeedSort(signing, sorts) => need_sort(signing, sorts, terminal),
         State::NeedRange(signing, sorts) => need_range(signing, sorts, terminal),
         State::AfterReference(clause, refs) => after_reference(alloc, clause, refs, terminal),
+        State::AfterLone(reference) => Ok(Outcome::Stops(Some(Whole::Reference(reference)))),
         State::InItems(raw) => begin_item(alloc, raw, terminal),
         State::FirstWord(raw, word) => first_word(alloc, raw, word, terminal),
         State::AfterSemicolon(item) => after_semicolon(alloc, item, terminal),

@@ -105,6 +105,18 @@ const FRONTS: [(&str, u32); 7] = [
     ("x +", 2),
 ];
 
+// Texts, and the number of tokens of the reference at their front; none where it is refused.
+const REFERENCES: [(&str, u32); 8] = [
+    ("f > g", 1),
+    ("f : S , T -> S > g", 7),
+    ("- __ : -> N x", 5),
+    ("__ ! + x", 2),
+    (". w . w", 2),
+    ("[ __ , __ ] ;", 5),
+    ("f : S > g", 0),
+    ("( f )", 0),
+];
+
 // The code and the column of a refusal.
 fn told(refusal: SyntaxRefusal) -> (&'static str, u32) {
     match refusal {
@@ -152,6 +164,24 @@ fn behind(alloc: Global, text: &[u8]) -> Option<u32> {
 fn reads_the_longest_front(rt: HostRuntime) {
     for (text, tokens) in FRONTS {
         let answer = behind(rt.alloc(), text.as_bytes());
+        assert!(rt; answer == Some(tokens), "{text}: {answer:?}");
+    }
+}
+
+// The number of tokens of the reference at the front of a text; none where it is refused.
+fn behind_reference(alloc: Global, text: &[u8]) -> Option<u32> {
+    let tokens = tokens_of(alloc, text)?;
+    match read_reference(alloc, &tokens, 0) {
+        Ok((_reference, tokens)) => Some(tokens),
+        Err(SyntaxRefusal::Syntax(_pos)) => Some(0),
+        Err(_other) => None,
+    }
+}
+
+#[test]
+fn reads_the_reference_at_the_front(rt: HostRuntime) {
+    for (text, tokens) in REFERENCES {
+        let answer = behind_reference(rt.alloc(), text.as_bytes());
         assert!(rt; answer == Some(tokens), "{text}: {answer:?}");
     }
 }

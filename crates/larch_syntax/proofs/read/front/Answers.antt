@@ -3,6 +3,7 @@ use Rattle.std.proofs.lemmas.List.{drop_more}
 use Rattle.larch_base.specs.Answering.{Answers}
 use Rattle.larch_fronts.specs.Answer.{at_front}
 use Rattle.larch_grammar.specs.Answers.{term_from}
+use Rattle.larch_grammar.specs.Machine.{as_equation}
 use Rattle.larch_grammar.specs.declared.machine.State.TheVariants.{NeedEquation}
 use Rattle.larch_grammar.specs.declared.machine.Waiting.TheVariants.{Alone}
 use Rattle.larch_syntax.specs.Read.{with_fault}
@@ -18,7 +19,7 @@ returns-in-Ok-Stops c =
     drop_more c.args.tokens.now c.loop-taken.taken c.index-tokens-taken.result within ∙ ap (λ t. t ∷ drop (c.loop-taken.taken + 1) c.args.tokens.now) here in
     subst (Answers told c.front_at.result)
     (ap (λ e. with_fault (at_front c.index-tokens-taken.result.pos c.loop-taken.taken e)) c.as_equation.ensures
-    ∙ front_stops c.args.end c.loop-taken.heads c.loop-taken.taken c.loop-taken.state c.in-Ok-Stops.whole c.index-tokens-taken.result (drop (c.loop-taken.taken + 1) c.args.tokens.now) (drop c.loop-taken.taken c.args.tokens.now)
+    ∙ front_stops as_equation c.args.end c.loop-taken.heads c.loop-taken.taken c.loop-taken.state c.in-Ok-Stops.whole c.index-tokens-taken.result (drop (c.loop-taken.taken + 1) c.args.tokens.now) (drop c.loop-taken.taken c.args.tokens.now)
     (with_fault (term_from c.args.end 0 0 (NeedEquation Alone) c.args.tokens.now)) (c.in-Ok-Stops.ensures ∙ ap Ok c.in-Ok-Stops.field-0-is) left c.loop-taken.invariant)
     c.front_at.ensures
 
@@ -28,7 +29,7 @@ returns-in-Err c =
     let here : get_or c.args.tokens.now c.loop-taken.taken c.index-tokens-taken.result ≡ c.index-tokens-taken.result = search rules in
     let left : drop c.loop-taken.taken c.args.tokens.now ≡ c.index-tokens-taken.result ∷ drop (c.loop-taken.taken + 1) c.args.tokens.now =
     drop_more c.args.tokens.now c.loop-taken.taken c.index-tokens-taken.result within ∙ ap (λ t. t ∷ drop (c.loop-taken.taken + 1) c.args.tokens.now) here in
-    front_counted c.args.end c.loop-taken.heads c.loop-taken.taken c.loop-taken.state c.in-Err.refusal c.index-tokens-taken.result (drop (c.loop-taken.taken + 1) c.args.tokens.now) (drop c.loop-taken.taken c.args.tokens.now)
+    front_counted as_equation c.args.end c.loop-taken.heads c.loop-taken.taken c.loop-taken.state c.in-Err.refusal c.index-tokens-taken.result (drop (c.loop-taken.taken + 1) c.args.tokens.now) (drop c.loop-taken.taken c.args.tokens.now)
     (with_fault (term_from c.args.end 0 0 (NeedEquation Alone) c.args.tokens.now)) c.in-Err.ensures left c.loop-taken.invariant
 
 pub loop-taken-preserved : goal.loop-taken-preserved
@@ -37,5 +38,5 @@ loop-taken-preserved c =
     let here : get_or c.args.tokens.now c.loop-taken.taken c.index-tokens-taken.result ≡ c.index-tokens-taken.result = search rules in
     let left : drop c.loop-taken.taken c.args.tokens.now ≡ c.index-tokens-taken.result ∷ drop (c.loop-taken.taken + 1) c.args.tokens.now =
     drop_more c.args.tokens.now c.loop-taken.taken c.index-tokens-taken.result within ∙ ap (λ t. t ∷ drop (c.loop-taken.taken + 1) c.args.tokens.now) here in
-    front_goes_on c.args.end c.loop-taken.heads c.in-Ok-On.more c.loop-taken.taken c.loop-taken.state c.in-Ok-On.after c.index-tokens-taken.result (drop (c.loop-taken.taken + 1) c.args.tokens.now) (drop c.loop-taken.taken c.args.tokens.now)
+    front_goes_on as_equation c.args.end c.loop-taken.heads c.in-Ok-On.more c.loop-taken.taken c.loop-taken.state c.in-Ok-On.after c.index-tokens-taken.result (drop (c.loop-taken.taken + 1) c.args.tokens.now) (drop c.loop-taken.taken c.args.tokens.now)
     (with_fault (term_from c.args.end 0 0 (NeedEquation Alone) c.args.tokens.now)) (c.in-Ok-On.ensures ∙ ap Ok c.in-Ok-On.field-0-is) left c.loop-taken.invariant
