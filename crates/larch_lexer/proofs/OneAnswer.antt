@@ -7,7 +7,7 @@ use Rattle.larch_base.specs.Position.{start_of_text, advance, position_behind}
 use Rattle.larch_base.specs.declared.position.Pos.{Pos}
 use Rattle.larch_lexer.specs.TokenTable.{is_blank, Longest, BeginsNoToken, EndsLine, LexAnswer, with_tokens, Lexes, at_end, skips_blank, skips_comment, takes_token, no_token}
 use Rattle.larch_lexer.specs.Pieces.{passing, stands_in, piece_at}
-use Rattle.larch_lexer.specs.Lexing.{led_by, lexed, lexed_within}
+use Rattle.larch_lexer.specs.Lexing.{led_by, lexed, lexed_line, lexed_within, start_of_line}
 use Rattle.larch_lexer.specs.declared.piece.Piece.{Piece}
 use Rattle.larch_lexer.specs.declared.piece.Piece.TheVariants.{Skipped, Kept, Nothing}
 use Rattle.larch_lexer.specs.declared.piece.Stretch.TheVariants.{Comment}
@@ -121,3 +121,11 @@ lexed_lexes text = lexes_computed start_of_text text
 pub lexed_once : (text : List ℕ) (answer : LexAnswer) → Lexes start_of_text text answer → lexed text ≡ answer
 unfolding lexed
 lexed_once text answer lexes = lexes_once start_of_text text answer lexes
+
+pub line_lexes : (number : ℕ) (line : List ℕ) → Lexes (start_of_line number) line (lexed_line number line)
+unfolding lexed_line
+line_lexes number line = lexes_computed (start_of_line number) line
+
+pub line_once : (number : ℕ) (line : List ℕ) (answer : LexAnswer) → Lexes (start_of_line number) line answer → lexed_line number line ≡ answer
+unfolding lexed_line
+line_once number line answer lexes = lexes_once (start_of_line number) line answer lexes

@@ -2,7 +2,7 @@
 use Rattle.std.proofs.Common.{ℕ, ◌≡◌, ◌+◌, ◌≤◌, ◌<◌, ◌==◌, ◌⊎◌, List, [], ◌∷◌, ◌++◌, refl, sym, subst, arith, inl, inr, All, IfOk, Ok, Err}
 use Rattle.std.proofs.lemmas.Bool.{cond_both}
 use Rattle.std.proofs.lemmas.List.Elements.{All-nil, All-cons, All-weaker}
-use Rattle.larch_base.specs.Position.{start_of_text, advance, position_behind}
+use Rattle.larch_base.specs.Position.{advance, position_behind}
 use Rattle.larch_base.specs.declared.position.Pos.{Pos}
 use Rattle.larch_lexer.specs.Order.{Precedes, Rising}
 use Rattle.larch_lexer.specs.TokenList.{TokenList}
@@ -72,9 +72,9 @@ in_order position text answer (skips_comment words rest all ends more) = from_ea
 in_order position text answer (takes_token {answer = later} kind front behind longest more) = one_more kind front position (position_behind position front) later (behind_later kind position front behind longest) (in_order (position_behind position front) behind later more)
 in_order position text answer (no_token _ byte rest e percent none) = tt
 
-pub positions_rise : (text : List ℕ) (all : TokenList) → Lexes start_of_text text (Ok all) → Rising all.tokens
+pub positions_rise : (start : Pos) (text : List ℕ) (all : TokenList) → Lexes start text (Ok all) → Rising all.tokens
 unfolding InOrder
-positions_rise text all lexes = (in_order start_of_text text (Ok all) lexes).1
+positions_rise start text all lexes = (in_order start text (Ok all) lexes).1
 
 -- the answer has the end of the text
 EndsAt : Pos → LexAnswer → Type 0
@@ -95,6 +95,6 @@ ends position text answer (takes_token {answer = later} kind front behind longes
     (subst (λ last. EndsAt last later) (sym (behind_both position front behind)) (ends (position_behind position front) behind later more))
 ends position text answer (no_token _ byte rest e percent none) = tt
 
-pub end_is_behind : (text : List ℕ) (all : TokenList) → Lexes start_of_text text (Ok all) → all.end ≡ position_behind start_of_text text
+pub end_is_behind : (start : Pos) (text : List ℕ) (all : TokenList) → Lexes start text (Ok all) → all.end ≡ position_behind start text
 unfolding EndsAt
-end_is_behind text all lexes = ends start_of_text text (Ok all) lexes
+end_is_behind start text all lexes = ends start text (Ok all) lexes

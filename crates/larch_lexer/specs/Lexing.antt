@@ -1,5 +1,5 @@
 -- The tokens of a text, computed from the front on.
-use Rattle.std.specs.Prelude.{ℕ, zero, suc, ◌+◌, List, [], ◌∷◌, take, Ok, Err}
+use Rattle.std.specs.Prelude.{ℕ, zero, suc, ◌+◌, ◌==◌, if◌then◌else◌, List, [], ◌∷◌, take, Ok, Err}
 use Rattle.larch_base.specs.Position.{start_of_text, advance}
 use Rattle.larch_base.specs.declared.position.Pos.{Pos}
 use Rattle.larch_lexer.specs.Pieces.{piece_at}
@@ -30,3 +30,16 @@ lexed_within (suc inside) position (byte ∷ rest) = lexed_within inside (advanc
 -- the tokens of a text and the position of its end, or the position of the first byte that begins no token
 unfoldable pub lexed : List ℕ → LexAnswer
 lexed text = lexed_within 0 start_of_text text
+
+-- where the line of a number begins
+abbrev pub start_of_line : ℕ → Pos
+start_of_line number = record { line = number; column = 1 }
+
+-- the same of a line by itself, which is the line of a number
+unfoldable pub lexed_line : ℕ → List ℕ → LexAnswer
+lexed_line number line = lexed_within 0 (start_of_line number) line
+
+-- how many bytes end a line
+abbrev pub line_ends : List ℕ → ℕ
+line_ends [] = 0
+line_ends (byte ∷ bytes) = if byte == 10 then line_ends bytes + 1 else line_ends bytes

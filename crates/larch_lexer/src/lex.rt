@@ -1,8 +1,8 @@
-ghost use Rattle.std.specs.Prelude.{◌≡◌, ◌≤◌, ◌+◌, ◌<◌, ◌^◌, length, ◌++◌, OnOk};
+ghost use Rattle.std.specs.Prelude.{◌≡◌, ◌≢◌, ◌≤◌, ◌+◌, ◌<◌, ◌^◌, length, ◌++◌, All, OnOk};
 ghost use Rattle.larch_base.specs.Position.{position_behind};
 ghost use Rattle.larch_base.specs.declared.limits.TheConstants.{MAX_FILE_BYTES};
 ghost use Rattle.larch_base.specs.Answering.{Answers};
-ghost use Rattle.larch_lexer.specs.Lexing.{lexed, tokens_of};
+ghost use Rattle.larch_lexer.specs.Lexing.{lexed, lexed_line, lexed_within, line_ends, tokens_of};
 ghost use Rattle.larch_lexer.specs.Refusals.{told};
 
 use crate::piece::{Piece, piece_at};
@@ -14,13 +14,37 @@ use std::alloc::Global;
 
 /// The tokens of a text, or the position of the first byte that begins none. The law `one_lexing` says that this is
 /// the one answer of the token table.
-#[tactic(auto, unfolding(crate::specs::Lexing::lexed))]
+#[tactic(auto, unfolding(crate::specs::Lexing::lexed), using(crate::proofs::Positions::line_ends_within))]
 pub fn lex_lsl(alloc: Global, text: &[u8]) -> Result<Tokens, LexRefusal>
     requires { length text.now ≤ MAX_FILE_BYTES }
     ensures { Answers told result (lexed text.now) }
 {
+    lex_from(alloc, Pos::start(), text)
+}
+
+/// The tokens of one line of a script, its newline left out, which is the line of this number; or the position of the
+/// first byte that begins none. The law `one_lexing` says that this is the one answer of the token table.
+#[tactic(auto, unfolding(crate::specs::Lexing::lexed_line), using(crate::proofs::Positions::no_line_ends))]
+pub fn lex_lp(alloc: Global, line: &[u8], number: u32) -> Result<Tokens, LexRefusal>
+    requires short { length line.now ≤ MAX_FILE_BYTES }
+    requires one_line { All (λ byte. byte ≢ 10) line.now }
+    ensures { Answers told result (lexed_line number line.now) }
+{
+    let start = Pos {
+        line: number,
+        column: 1,
+    };
+    lex_from(alloc, start, line)
+}
+
+/// The tokens of a text that begins at a position.
+fn lex_from(alloc: Global, start: Pos, text: &[u8]) -> Result<Tokens, LexRefusal>
+    requires line { start.line + line_ends text.now < 2 ^ 32 }
+    requires column { start.column + length text.now < 2 ^ 32 }
+    ensures { Answers told result (lexed_within 0 start text.now) }
+{
     let mut tokens = Sequence::new(alloc);
-    let mut pos = Pos::start();
+    let mut pos = start;
     let mut rest = text;
     while let [byte, others @ ..] = rest {
         let piece = piece_at(*byte, others);
@@ -54,7 +78,7 @@ fn push_token(
 
 /// The position behind these bytes, which begin at a position.
 fn pos_behind(pos: Pos, bytes: &[u8]) -> Pos
-    requires line { pos.line + length bytes.now < 2 ^ 32 }
+    requires line { pos.line + line_ends bytes.now < 2 ^ 32 }
     requires column { pos.column + length bytes.now < 2 ^ 32 }
     ensures { result ≡ position_behind pos bytes.now }
 {

@@ -1,4 +1,4 @@
-//! Tokens of trait files.
+//! Tokens of trait files and of lines of scripts.
 #![tactic(auto)]
 
 mod laws;
@@ -9,7 +9,7 @@ mod token;
 mod tokens;
 
 pub use laws::{one_lexing, tokens_in_order};
-pub use lex::lex_lsl;
+pub use lex::{lex_lp, lex_lsl};
 pub use refusal::LexRefusal;
 pub use token::{Kind, Token};
 pub use tokens::Tokens;
