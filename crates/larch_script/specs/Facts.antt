@@ -1,0 +1,49 @@
+-- Names of facts, as commands write them.
+use Rattle.std.specs.Prelude.{ℕ, ◌+◌, ◌==◌, List, [], ◌∷◌, Option, Some, None, option_map, option_and_then, if◌then◌else◌, codes}
+use Rattle.larch_base.specs.declared.fact_name.FactLetter.{FactLetter}
+use Rattle.larch_base.specs.declared.fact_name.FactLetter.TheVariants.{Axiom, Lemma, Hypothesis, Derived}
+use Rattle.larch_base.specs.declared.fact_name.FactName.{FactName}
+use Rattle.larch_lexer.specs.declared.token.Token.{Token}
+use Rattle.larch_script.specs.Numbers.{number_of}
+use Rattle.larch_script.specs.Texts.{ends, says, text_at}
+
+-- what a fact comes from, by its letter: A, L, H or D
+abbrev pub letter_of : ℕ → Option FactLetter
+letter_of byte =
+    if byte == 65 then Some Axiom
+    else if byte == 76 then Some Lemma
+    else if byte == 72 then Some Hypothesis
+    else if byte == 68 then Some Derived
+    else None
+
+-- the first part of a fact, by its letter and its number
+abbrev pub named : List ℕ → Option FactName
+named [] = None
+named (byte ∷ digits) =
+    option_and_then
+    (λ letter. option_map (λ number. record { letter = letter; number = number; part = 1 }) (number_of digits))
+    (letter_of byte)
+
+-- another part of a fact
+abbrev pub part_of : FactName → ℕ → FactName
+part_of fact part = record { letter = fact.letter; number = fact.number; part = part }
+
+-- a fact by the text at a place: its part with this number, where a dot and a number follow, or else its first part;
+-- with the place behind it
+abbrev pub with_part : List Token → ℕ → FactName → Option (FactName × ℕ)
+with_part tokens place fact =
+    if says tokens (place + 1) (codes ".")
+    then option_map (λ part. (part_of fact part, place + 3)) (number_of (text_at tokens (place + 2)))
+    else Some (fact, place + 1)
+
+-- the fact that is named at a place, with the place behind it
+abbrev pub fact_at : List Token → ℕ → Option (FactName × ℕ)
+fact_at tokens place = option_and_then (with_part tokens place) (named (text_at tokens place))
+
+-- the fact with which the line ends
+abbrev pub at_end : List Token → FactName × ℕ → Option FactName
+at_end tokens found = if ends tokens found.1 then Some found.0 else None
+
+-- the fact that is all that stands from a place on
+abbrev pub whole_fact_at : List Token → ℕ → Option FactName
+whole_fact_at tokens place = option_and_then (at_end tokens) (fact_at tokens place)

@@ -1,0 +1,9 @@
+pub mod Commands
+pub mod Drafts
+pub mod Facts
+pub mod Instances
+pub mod Lines
+pub mod Numbers
+pub mod Scripts
+pub mod Terms
+pub mod Texts

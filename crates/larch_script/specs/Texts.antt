@@ -1,0 +1,35 @@
+-- The tokens of a line by their texts. Places are counted from 0.
+use Rattle.std.specs.Prelude.{ℕ, ◌+◌, ◌==◌, ◌&&◌, Bool, List, [], length, Option, Some, None, option_and_then, slice_get, codes}
+use Rattle.std.specs.Option.{option_map_or}
+use Rattle.std.specs.Str.{bytes_eq}
+use Rattle.larch_grammar.specs.Terminals.{terminal_of}
+use Rattle.larch_grammar.specs.declared.terminal.Terminal.{Terminal}
+use Rattle.larch_grammar.specs.declared.terminal.Terminal.TheVariants.{Word}
+use Rattle.larch_lexer.specs.declared.token.Token.{Token}
+use Rattle.larch_raw.specs.declared.declared.RawWord.{RawWord}
+
+-- the text of the token at a place; nothing behind the last
+abbrev pub text_at : List Token → ℕ → List ℕ
+text_at tokens place = option_map_or (λ token. token.text) (slice_get tokens place) []
+
+-- the token at a place has that text
+abbrev pub says : List Token → ℕ → List ℕ → Bool
+says tokens place text = bytes_eq (text_at tokens place) text
+
+-- two words with a dash between them stand from a place on
+abbrev pub says_dashed : List Token → ℕ → List ℕ → List ℕ → Bool
+says_dashed tokens place first second =
+    says tokens place first && (says tokens (place + 1) (codes "-") && says tokens (place + 2) second)
+
+-- so many tokens are all
+abbrev pub ends : List Token → ℕ → Bool
+ends tokens place = length tokens == place
+
+-- a word that isn't reserved
+abbrev pub plain : Terminal → Option RawWord
+plain (Word w) = Some w
+plain _ = None
+
+-- the word at a place, unless it is reserved
+abbrev pub word_at : List Token → ℕ → Option RawWord
+word_at tokens place = option_and_then (λ token. plain (terminal_of token)) (slice_get tokens place)

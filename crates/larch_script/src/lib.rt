@@ -1,0 +1,18 @@
+//! The reader of scripts: from a text to its commands and blocks.
+#![tactic(auto)]
+
+mod commands;
+mod draft;
+mod facts;
+mod instances;
+mod line;
+mod numbers;
+mod read;
+mod register;
+mod terms;
+mod tokens;
+
+pub use read::read_script;
+
+#[cfg(test)]
+mod tests;
