@@ -4,7 +4,7 @@
 ghost use Rattle.std.specs.Prelude.{◌≡◌, ◌<◌};
 
 use larch_base::{Memory, Steps};
-use larch_io::{CleanFolder, StandardInput, StandardOutput};
+use larch_io::{StandardInput, StandardOutput, WorkingFolder};
 use larch_main::{Status, run};
 use std::alloc::Global;
 use std::env;
@@ -33,14 +33,14 @@ fn words(rt: &HostRuntime, alloc: Global) -> Result<Vec<String>, Memory> {
     }
 }
 
-// Runs the words' command over the standard streams, its steps being counted in a ledger of their own.
+// Runs the words' command over the working folder and the standard streams, its steps being counted in a ledger of their own.
 fn start<L: Ledger>(rt: &HostRuntime, blank: Blank, words: &[String]) -> Status
     requires name { blank.name ≡ L.name }
     requires parts { blank.parts ≡ L.parts }
     requires some { 0 < L.parts }
 {
     let alloc = rt.alloc();
-    let mut folder = CleanFolder::new(alloc);
+    let mut folder = WorkingFolder::new(rt);
     let mut source = StandardInput::new(rt);
     let mut sink = StandardOutput::new(rt);
     let mut steps: Steps<L> = Steps::start(blank, rt);

@@ -1,19 +1,21 @@
 -- How a session goes on and ends.
-use Rattle.std.proofs.Common.{◌≡◌, ℕ, ◌⊎◌, inl, inr, Bool, true, false, List, [], ◌∷◌, ◌++◌, length, Option, Some, None, Ok, refl, sym, subst, ◌∙◌, append_assoc, append-nil}
+use Rattle.std.proofs.Common.{◌≡◌, ℕ, ◌⊎◌, inl, inr, Bool, true, false, List, [], ◌++◌, length, Option, Some, None, Ok, refl, sym, subst, ◌∙◌, append_assoc, append-nil}
 use Rattle.std.specs.Io.KnownBytes.{Appends, Consumes, IsAtEnd}
 use Rattle.std.proofs.KnownBytes.{Consumes-nil, Consumes-trans, Appends-nil, Appends-trans}
 use Rattle.larch_io.specs.Faults.{Rose}
+use Rattle.larch_io.specs.Folder.{FileMap}
 use Rattle.larch_io.specs.Put.{PutsFront}
-use Rattle.larch_io.specs.Reader.{Taken, Reads}
+use Rattle.larch_io.specs.Reader.{Reads}
 use Rattle.larch_main.specs.declared.progress.Move.TheVariants.{Goes, Stops}
 use Rattle.larch_main.specs.declared.progress.Progress.{Progress}
 use Rattle.larch_main.specs.declared.status.Status.{Status}
 use Rattle.larch_main.specs.declared.status.Status.TheVariants.{Good, Remains, Words, ReadFault, WriteFault, Memory, Malformed, Size, NoFile}
+use Rattle.larch_words.specs.declared.call.Call.TheVariants as call_
+use Rattle.larch_main.specs.Gather.{IsFolder}
 use Rattle.larch_main.specs.Laws.{IsEnd}
-use Rattle.larch_main.specs.declared.call.Call.TheVariants as call_
-use Rattle.larch_main.specs.Progress.{state_of, Machine, at_line, MayFollow, Makes, Wants, Moves}
+use Rattle.larch_main.specs.Progress.{state_of, Machine, at_line, MayFollow, Wants, Moves}
 use Rattle.larch_main.specs.Program.{IsInput, Answers, WritesFront, BreaksOff, TakesWhole, Writes, TakesInput, Counts, source_failed, sink_failed}
-use Rattle.larch_main.specs.Session.{State, start, Reply, Spells, Step, goes, stops, step, Ending, with_status, waiting, Session, goes_on, ends, breaks_off}
+use Rattle.larch_main.specs.Session.{State, start, with_status, waiting, Session, goes_on, ends, breaks_off}
 use Rattle.larch_main.specs.SoFar.{SoFar}
 use Rattle.larch_main.specs.Say.{Says}
 use Rattle.larch_main.proofs.Steps.{may_follow_both}
@@ -29,6 +31,15 @@ input_is None leaves given c = tt
 input_is (Some xs) None given c = absurd c
 input_is (Some xs) (Some ys) given c = c
 
+-- what a folder tells that it has, or nothing
+abbrev pub known_files : Option FileMap → FileMap
+known_files None = []
+known_files (Some files) = files
+
+pub folder_is : (told : Option FileMap) → IsFolder told (known_files told)
+folder_is None = tt
+folder_is (Some files) = refl
+
 end_is : (leaves : Option (List ℕ)) → IsAtEnd leaves → known_rest leaves ≡ []
 end_is None e = refl
 end_is (Some bytes) e = e
@@ -37,16 +48,16 @@ abbrev pub machine : Progress → Machine
 machine progress = at_line (state_of progress)
 
 -- what is claimed of the statuses with which a session ends by itself
-writes_end : (left leaves held holds : Option (List ℕ)) (status : Status) → IsEnd status → Answers call_.Session left leaves held holds status → Writes call_.Session left leaves held holds status
-writes_end left leaves held holds Good is a = a
-writes_end left leaves held holds Remains is a = a
-writes_end left leaves held holds Malformed is a = a
-writes_end left leaves held holds Size is a = a
-writes_end left leaves held holds Words is a = absurd is
-writes_end left leaves held holds ReadFault is a = absurd is
-writes_end left leaves held holds WriteFault is a = absurd is
-writes_end left leaves held holds Memory is a = absurd is
-writes_end left leaves held holds NoFile is a = absurd is
+writes_end : (told : Option FileMap) (left leaves held holds : Option (List ℕ)) (status : Status) → IsEnd status → Answers call_.Session told left leaves held holds status → Writes call_.Session told left leaves held holds status
+writes_end told left leaves held holds Good is a = a
+writes_end told left leaves held holds Remains is a = a
+writes_end told left leaves held holds Malformed is a = a
+writes_end told left leaves held holds Size is a = a
+writes_end told left leaves held holds Words is a = absurd is
+writes_end told left leaves held holds ReadFault is a = absurd is
+writes_end told left leaves held holds WriteFault is a = absurd is
+writes_end told left leaves held holds Memory is a = absurd is
+writes_end told left leaves held holds NoFile is a = absurd is
 
 takes_end : (left leaves held holds : Option (List ℕ)) (status : Status) → IsEnd status → TakesWhole left leaves held holds status → TakesInput left leaves held holds status
 takes_end left leaves held holds Good is t = t
@@ -140,9 +151,11 @@ module _ (left held : Option (List ℕ)) where
   whole_follows : (p q : Progress) (leaves after holds : Option (List ℕ)) (given : List ℕ) → SoFar p left leaves held holds → Reads p.reader q.reader leaves after given → MayFollow q.reader.ended true (known_rest after)
   whole_follows p q leaves after holds given s r = λ e. (refl, end_is after (over_after p q leaves after holds given s r e))
 
-  pub so_far_answers : (p q : Progress) (leaves after holds kept : Option (List ℕ)) (text : List ℕ) (status : Status) → SoFar p left leaves held holds
-      → StopsWith p q leaves after text status → Appends holds kept text → Answers call_.Session left after held kept status
-  so_far_answers p q leaves after holds kept text status s m put = record {
+  pub so_far_answers : (told : Option FileMap) (p q : Progress) (leaves after holds kept : Option (List ℕ)) (text : List ℕ) (status : Status) → SoFar p left leaves held holds
+      → StopsWith p q leaves after text status → Appends holds kept text → Answers call_.Session told left after held kept status
+  so_far_answers told p q leaves after holds kept text status s m put = record {
+    folder = known_files told;
+    is_folder = folder_is told;
     input = (s.given ++ m.2.given) ++ known_rest after;
     output = s.written ++ text;
     is_input = input_is left after (s.given ++ m.2.given) (Consumes-trans left leaves after s.given m.2.given s.gave m.2.reads.gave);
@@ -181,10 +194,12 @@ module _ (left held : Option (List ℕ)) where
   }
 
   -- a front of what a session writes: what it wrote, and a front of the next text
-  pub so_far_front : (p : Progress) (leaves holds kept : Option (List ℕ)) (front : List ℕ) (s : SoFar p left leaves held holds)
+  pub so_far_front : (told : Option FileMap) (p : Progress) (leaves holds kept : Option (List ℕ)) (front : List ℕ) (s : SoFar p left leaves held holds)
       → (input output : List ℕ) (status : Status) (last : State) → IsInput left input → Session true start input ((s.written ++ front) ++ output) (with_status status) last → Appends holds kept front
-      → (after : Option (List ℕ)) → WritesFront call_.Session left after held kept
-  so_far_front p leaves holds kept front s input output status last is session put after = record {
+      → (after : Option (List ℕ)) → WritesFront call_.Session told left after held kept
+  so_far_front told p leaves holds kept front s input output status last is session put after = record {
+    folder = known_files told;
+    is_folder = folder_is told;
     input = input;
     front = s.written ++ front;
     rest = output;
@@ -195,58 +210,58 @@ module _ (left held : Option (List ℕ)) where
   }
 
   -- a front of the reply of a step that goes on
-  so_far_reply_front : (p q : Progress) (leaves after holds kept : Option (List ℕ)) (front rest : List ℕ) → SoFar p left leaves held holds
-      → GoesOn p q leaves after (front ++ rest) → Appends holds kept front → WritesFront call_.Session left after held kept
-  so_far_reply_front p q leaves after holds kept front rest s (reply, says, m) put =
+  so_far_reply_front : (told : Option FileMap) (p q : Progress) (leaves after holds kept : Option (List ℕ)) (front rest : List ℕ) → SoFar p left leaves held holds
+      → GoesOn p q leaves after (front ++ rest) → Appends holds kept front → WritesFront call_.Session told left after held kept
+  so_far_reply_front told p q leaves after holds kept front rest s (reply, says, m) put =
       let input = known_rest after in
       let end = session_ends (state_of q) (q.reader.kept ++ input) in
       let follows = whole_follows p q leaves after holds m.given s m.reads in
       let session = s.next true (m.given ++ input) ((front ++ rest) ++ end.0) (with_status end.1) end.2 (may_follow_both m.given true input m.reads follows) (goes_on reply (front ++ rest) (m.step_is true input follows) says end.4) in
       let text : s.written ++ ((front ++ rest) ++ end.0) ≡ (s.written ++ front) ++ (rest ++ end.0) = simp append_assoc in
-      so_far_front p leaves holds kept front s ((s.given ++ m.given) ++ input) (rest ++ end.0) end.1 end.2
+      so_far_front told p leaves holds kept front s ((s.given ++ m.given) ++ input) (rest ++ end.0) end.1 end.2
       (input_is left after (s.given ++ m.given) (Consumes-trans left leaves after s.given m.given s.gave m.reads.gave))
       (subst (λ bytes. Session true start bytes ((s.written ++ front) ++ (rest ++ end.0)) (with_status end.1) end.2) (sym (append_assoc s.given m.given input))
       (subst (λ text. Session true start (s.given ++ (m.given ++ input)) text (with_status end.1) end.2) text session))
       put after
 
   -- a front of the last text
-  so_far_text_front : (p q : Progress) (leaves after holds kept : Option (List ℕ)) (front rest : List ℕ) (status : Status) → SoFar p left leaves held holds
-      → StopsWith p q leaves after (front ++ rest) status → Appends holds kept front → WritesFront call_.Session left after held kept
-  so_far_text_front p q leaves after holds kept front rest status s m put =
+  so_far_text_front : (told : Option FileMap) (p q : Progress) (leaves after holds kept : Option (List ℕ)) (front rest : List ℕ) (status : Status) → SoFar p left leaves held holds
+      → StopsWith p q leaves after (front ++ rest) status → Appends holds kept front → WritesFront call_.Session told left after held kept
+  so_far_text_front told p q leaves after holds kept front rest status s m put =
       let input = known_rest after in
-      so_far_front p leaves holds kept front s ((s.given ++ m.2.given) ++ input) rest status (state_of q)
+      so_far_front told p leaves holds kept front s ((s.given ++ m.2.given) ++ input) rest status (state_of q)
       (input_is left after (s.given ++ m.2.given) (Consumes-trans left leaves after s.given m.2.given s.gave m.2.reads.gave))
       (subst (λ text. Session true start ((s.given ++ m.2.given) ++ input) text (with_status status) (state_of q)) (sym (append_assoc s.written front rest))
       (stopped p q leaves after holds (front ++ rest) status s m true input (whole_follows p q leaves after holds m.2.given s m.2.reads)))
       put after
 
   -- nothing more was written, whatever became of the source
-  pub so_far_nothing : (p : Progress) (leaves holds : Option (List ℕ)) → SoFar p left leaves held holds → (after : Option (List ℕ)) → WritesFront call_.Session left after held holds
-  so_far_nothing p leaves holds s after =
+  pub so_far_nothing : (told : Option FileMap) (p : Progress) (leaves holds : Option (List ℕ)) → SoFar p left leaves held holds → (after : Option (List ℕ)) → WritesFront call_.Session told left after held holds
+  so_far_nothing told p leaves holds s after =
       let input = known_rest leaves in
       let end = session_ends (state_of p) (p.reader.kept ++ input) in
       let session = s.next true input end.0 (with_status end.1) end.2 (λ e. (refl, end_is leaves (s.over e))) end.4 in
-      so_far_front p leaves holds holds [] s (s.given ++ input) end.0 end.1 end.2 (input_is left leaves s.given s.gave)
+      so_far_front told p leaves holds holds [] s (s.given ++ input) end.0 end.1 end.2 (input_is left leaves s.given s.gave)
       (subst (λ text. Session true start (s.given ++ input) (text ++ end.0) (with_status end.1) end.2) (sym (append-nil s.written)) session)
       (Appends-nil holds) after
 
   -- a front of the reply of a step that goes on, by what the sink ensures
-  pub so_far_reply_cut : (p q : Progress) (leaves after holds kept : Option (List ℕ)) (written : List ℕ) → SoFar p left leaves held holds
-      → GoesOn p q leaves after written → PutsFront holds kept written → WritesFront call_.Session left after held kept
-  so_far_reply_cut p q leaves after holds kept written s m put =
-      so_far_reply_front p q leaves after holds kept put.0 put.1 s (subst (GoesOn p q leaves after) put.2 m) put.4
+  pub so_far_reply_cut : (told : Option FileMap) (p q : Progress) (leaves after holds kept : Option (List ℕ)) (written : List ℕ) → SoFar p left leaves held holds
+      → GoesOn p q leaves after written → PutsFront holds kept written → WritesFront call_.Session told left after held kept
+  so_far_reply_cut told p q leaves after holds kept written s m put =
+      so_far_reply_front told p q leaves after holds kept put.0 put.1 s (subst (GoesOn p q leaves after) put.2 m) put.4
 
-  so_far_text_cut : (p q : Progress) (leaves after holds kept : Option (List ℕ)) (text : List ℕ) (status : Status) → SoFar p left leaves held holds
-      → StopsWith p q leaves after text status → PutsFront holds kept text → WritesFront call_.Session left after held kept
-  so_far_text_cut p q leaves after holds kept text status s m put =
-      so_far_text_front p q leaves after holds kept put.0 put.1 status s (subst (λ said. StopsWith p q leaves after said status) put.2 m) put.4
+  so_far_text_cut : (told : Option FileMap) (p q : Progress) (leaves after holds kept : Option (List ℕ)) (text : List ℕ) (status : Status) → SoFar p left leaves held holds
+      → StopsWith p q leaves after text status → PutsFront holds kept text → WritesFront call_.Session told left after held kept
+  so_far_text_cut told p q leaves after holds kept text status s m put =
+      so_far_text_front told p q leaves after holds kept put.0 put.1 status s (subst (λ said. StopsWith p q leaves after said status) put.2 m) put.4
 
   -- nothing was written before the first step
-  pub nothing_yet : WritesFront call_.Session left left held held
-  nothing_yet =
+  pub nothing_yet : (told : Option FileMap) → WritesFront call_.Session told left left held held
+  nothing_yet told =
       let input = known_rest left in
       let end = session_ends start input in
-      record { input = input; front = []; rest = end.0; status = end.1; is_input = input_is left left [] (Consumes-nil left); defined = (end.2, end.4); written = Appends-nil held }
+      record { folder = known_files told; is_folder = folder_is told; input = input; front = []; rest = end.0; status = end.1; is_input = input_is left left [] (Consumes-nil left); defined = (end.2, end.4); written = Appends-nil held }
 
   -- a session stops with one of its statuses
   end_of : (p q : Progress) (leaves after holds : Option (List ℕ)) (text : List ℕ) (status : Status) → SoFar p left leaves held holds
@@ -257,14 +272,14 @@ module _ (left held : Option (List ℕ)) where
       subst (Shape true (length input)) (m.step_is true rest (whole_follows p q leaves after holds m.given s m.reads)) (step_shape true (state_of p) input)
 
   -- the last text was to be written
-  pub said_output : (p q : Progress) (leaves after holds kept : Option (List ℕ)) (before now : ℕ) (text : List ℕ) (status result : Status) → SoFar p left leaves held holds
-      → StopsWith p q leaves after text status → Says holds kept before now text status result → Writes call_.Session left after held kept result
-  said_output p q leaves after holds kept before now text status result s m said = elim said [
-    | inl whole ↦ subst (Writes call_.Session left after held kept) (sym whole.0)
-        (writes_end left after held kept status (end_of p q leaves after holds text status s m) (so_far_answers p q leaves after holds kept text status s m whole.1))
+  pub said_output : (told : Option FileMap) (p q : Progress) (leaves after holds kept : Option (List ℕ)) (before now : ℕ) (text : List ℕ) (status result : Status) → SoFar p left leaves held holds
+      → StopsWith p q leaves after text status → Says holds kept before now text status result → Writes call_.Session told left after held kept result
+  said_output told p q leaves after holds kept before now text status result s m said = elim said [
+    | inl whole ↦ subst (Writes call_.Session told left after held kept) (sym whole.0)
+        (writes_end told left after held kept status (end_of p q leaves after holds text status s m) (so_far_answers told p q leaves after holds kept text status s m whole.1))
     | inr front ↦ elim front [
-      | inl failed ↦ subst (Writes call_.Session left after held kept) (sym failed.0) (so_far_text_cut p q leaves after holds kept text status s m failed.1)
-      | inr lacking ↦ subst (Writes call_.Session left after held kept) (sym lacking.0) (so_far_text_cut p q leaves after holds kept text status s m lacking.1)
+      | inl failed ↦ subst (Writes call_.Session told left after held kept) (sym failed.0) (so_far_text_cut told p q leaves after holds kept text status s m failed.1)
+      | inr lacking ↦ subst (Writes call_.Session told left after held kept) (sym lacking.0) (so_far_text_cut told p q leaves after holds kept text status s m lacking.1)
     ]
   ]
 

@@ -1,9 +1,13 @@
 pub mod Digits
 pub mod Endings
 pub mod Found
+pub mod Gathers
+pub mod Looking
+pub mod NameTexts
 pub mod Once
 pub mod OneLine
 pub mod ReportLines
 pub mod Shapes
 pub mod Steps
-pub mod Usage
+pub mod Tables
+pub mod Whole

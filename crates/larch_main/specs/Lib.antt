@@ -1,7 +1,9 @@
-pub mod Call
+pub mod Check
 pub mod Command
+pub mod Gather
 pub mod Laws
 pub mod Lines
+pub mod Look
 pub mod Progress
 pub mod Report
 pub mod Program

@@ -1,43 +1,54 @@
--- What a call of the program does, by what its words ask for, its input and its status.
-use Rattle.std.specs.Prelude.{◌≡◌, ◌⊎◌, Bool, true, false, ℕ, List, ◌++◌, Option, IfSome, MatchBool, codes}
+-- What a call of the program does, by what its words ask for, its folder, its input and its status.
+use Rattle.std.specs.Prelude.{◌≡◌, ◌⊎◌, Bool, true, false, ℕ, List, [], ◌++◌, Option, IfSome, MatchBool, codes}
 use Rattle.std.specs.Io.KnownBytes.{Appends, Consumes, IsAtEnd}
 use Rattle.larch_io.specs.Faults.{Rose}
-use Rattle.larch_main.specs.declared.call.Call.{Call}
-use Rattle.larch_main.specs.declared.call.Call.TheVariants as call_
+use Rattle.larch_io.specs.Folder.{FileMap}
+use Rattle.larch_words.specs.declared.call.Call.{Call}
+use Rattle.larch_words.specs.declared.call.Call.TheVariants as call_
 use Rattle.larch_main.specs.declared.status.Status.{Status}
 use Rattle.larch_main.specs.declared.status.Status.TheVariants.{Good, Remains, Words, ReadFault, WriteFault, Memory, Malformed, Size, NoFile}
+use Rattle.larch_main.specs.Check.{check_text, check_status}
+use Rattle.larch_main.specs.Gather.{IsFolder, gathered}
 use Rattle.larch_main.specs.Session.{State, start, with_status, waiting, Session}
 
 abbrev pub usage_text : List ℕ
 usage_text = codes "usage: larch COMMAND [WORD..] [--limit N] [--seed N] [--size N]\n"
 
--- for this call, on this input, the program writes `output` and ends with `status`
-abbrev pub Output : Call → List ℕ → List ℕ → Status → Type 0
-Output call_.Session input output status = (last : State) × Session true start input output (with_status status) last
-Output call_.Nothing input output status = (output ≡ usage_text) × (status ≡ Words)
+-- for this call, on this folder and this input, the program writes `output` and ends with `status`
+abbrev pub Output : Call → FileMap → List ℕ → List ℕ → Status → Type 0
+Output call_.Session folder input output status =
+    (last : State) × Session true start input output (with_status status) last
+Output (call_.Check names) folder input output status =
+    (output ≡ check_text (gathered folder [] names)) × (status ≡ check_status (gathered folder [] names))
+Output call_.Nothing folder input output status = (output ≡ usage_text) × (status ≡ Words)
 
 -- all that a source has left, where it tells
 abbrev pub IsInput : Option (List ℕ) → List ℕ → Type 0
 IsInput left input = IfSome left (λ bytes. bytes ≡ input)
 
--- The source had `left` before the call and has `leaves` after it, the sink held `held` and holds `holds`.
-module _ (call : Call) (left leaves held holds : Option (List ℕ)) where
+-- The folder tells these files; the source had `left` before the call and has `leaves` after it, the sink held `held`
+-- and holds `holds`.
+module _ (call : Call) (told : Option FileMap) (left leaves held holds : Option (List ℕ)) where
   -- a defined output was written, whole
   pub record Answers (status : Status) : Type 0 where
+    pub folder : FileMap
     pub input : List ℕ
     pub output : List ℕ
+    pub is_folder : IsFolder told folder
     pub is_input : IsInput left input
-    pub defined : Output call input output status
+    pub defined : Output call folder input output status
     pub written : Appends held holds output
 
   -- a front of a defined output was written
   pub record WritesFront : Type 0 where
+    pub folder : FileMap
     pub input : List ℕ
     pub front : List ℕ
     pub rest : List ℕ
     pub status : Status
+    pub is_folder : IsFolder told folder
     pub is_input : IsInput left input
-    pub defined : Output call input (front ++ rest) status
+    pub defined : Output call folder input (front ++ rest) status
     pub written : Appends held holds front
 
 -- the replies to the whole commands in the bytes that the source gave were written: the session waits for more
@@ -49,22 +60,24 @@ pub record BreaksOff (left leaves held holds : Option (List ℕ)) : Type 0 where
   pub replies : Session false start given output waiting last
   pub written : Appends held holds output
 
--- what was written where the source failed: only a session reads it
+-- what was written before a fault of what is read: a session's replies; nothing of a check
 abbrev pub WritesBefore : Call → Option (List ℕ) → Option (List ℕ) → Option (List ℕ) → Option (List ℕ) → Type 0
 WritesBefore call_.Session left leaves held holds = BreaksOff left leaves held holds
+WritesBefore (call_.Check names) left leaves held holds = Appends held holds []
 WritesBefore call_.Nothing left leaves held holds = ⊥
 
 -- what was written, by the status
-abbrev pub Writes : Call → Option (List ℕ) → Option (List ℕ) → Option (List ℕ) → Option (List ℕ) → Status → Type 0
-Writes call left leaves held holds ReadFault = WritesBefore call left leaves held holds
-Writes call left leaves held holds WriteFault = WritesFront call left leaves held holds
-Writes call left leaves held holds Memory = WritesFront call left leaves held holds
-Writes call left leaves held holds Good = Answers call left leaves held holds Good
-Writes call left leaves held holds Remains = Answers call left leaves held holds Remains
-Writes call left leaves held holds Words = Answers call left leaves held holds Words
-Writes call left leaves held holds Malformed = Answers call left leaves held holds Malformed
-Writes call left leaves held holds Size = Answers call left leaves held holds Size
-Writes call left leaves held holds NoFile = Answers call left leaves held holds NoFile
+module _ (call : Call) (told : Option FileMap) (left leaves held holds : Option (List ℕ)) where
+  abbrev pub Writes : Status → Type 0
+  Writes ReadFault = WritesBefore call left leaves held holds
+  Writes WriteFault = WritesFront call told left leaves held holds
+  Writes Memory = WritesFront call told left leaves held holds
+  Writes Good = Answers call told left leaves held holds Good
+  Writes Remains = Answers call told left leaves held holds Remains
+  Writes Words = Answers call told left leaves held holds Words
+  Writes Malformed = Answers call told left leaves held holds Malformed
+  Writes Size = Answers call told left leaves held holds Size
+  Writes NoFile = Answers call told left leaves held holds NoFile
 
 -- The bytes that the source gave are the whole input, or end the session whatever follows them; and what the session
 -- answers to them was written.
@@ -77,16 +90,27 @@ pub record TakesWhole (left leaves held holds : Option (List ℕ)) (status : Sta
       ⊎ Session false start given output (with_status status) last
   pub written : Appends held holds output
 
--- which statuses say that the input was taken to its end or through `quit`
+-- which statuses of a session say that the input was taken to its end or through `quit`
 abbrev pub TakesInput : Option (List ℕ) → Option (List ℕ) → Option (List ℕ) → Option (List ℕ) → Status → Type 0
 TakesInput left leaves held holds Good = TakesWhole left leaves held holds Good
 TakesInput left leaves held holds Remains = TakesWhole left leaves held holds Remains
 TakesInput left leaves held holds _ = Unit {0}
 
+-- what a call says of its input: only a session has one
+abbrev pub CallTakes : Call → Option (List ℕ) → Option (List ℕ) → Option (List ℕ) → Option (List ℕ) → Status → Type 0
+CallTakes call_.Session left leaves held holds status = TakesInput left leaves held holds status
+CallTakes (call_.Check names) left leaves held holds status = Unit {0}
+CallTakes call_.Nothing left leaves held holds status = Unit {0}
+
 -- a status says that the source failed: only a session reads it
 abbrev pub source_failed : Call → Status → Bool
 source_failed call_.Session ReadFault = true
 source_failed _ _ = false
+
+-- a status says that the folder failed: only a check reads it
+abbrev pub folder_failed : Call → Status → Bool
+folder_failed (call_.Check names) ReadFault = true
+folder_failed _ _ = false
 
 -- a status says that the sink failed
 abbrev pub sink_failed : Status → Bool
@@ -97,12 +121,14 @@ sink_failed _ = false
 abbrev pub Counts : Bool → ℕ → ℕ → Type 0
 Counts failed before now = MatchBool failed (Rose before now) (now ≡ before)
 
--- a call whose words mean no session leaves the source as it was
+-- a call that is no session leaves the source as it was
 abbrev pub KeepsSource : {A : Type 0} → Call → A → A → Type 0
 KeepsSource call_.Session before now = Unit {0}
+KeepsSource (call_.Check names) before now = now ≡ before
 KeepsSource call_.Nothing before now = now ≡ before
 
--- neither a session nor words without meaning look at the folder: its count and its files stay
+-- a call that names no files doesn't look at the folder: its count and its files stay
 abbrev pub KeepsFolder : {A : Type 0} → Call → A → A → Type 0
 KeepsFolder call_.Session before now = now ≡ before
+KeepsFolder (call_.Check names) before now = Unit {0}
 KeepsFolder call_.Nothing before now = now ≡ before

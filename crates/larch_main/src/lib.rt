@@ -1,8 +1,9 @@
 //! The program's one call: words and streams in, a report and a status out.
 #![tactic(auto)]
 
-mod call;
+mod check;
 mod command;
+mod gather;
 mod laws;
 mod program;
 mod progress;
@@ -11,7 +12,6 @@ mod say;
 mod session;
 mod status;
 
-pub use call::Call;
 pub use laws::{every_session_ends, one_ending, one_output};
 pub use program::run;
 pub use report::ReportLine;

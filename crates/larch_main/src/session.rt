@@ -1,6 +1,8 @@
+ghost use Rattle.std.specs.Prelude.{Option};
+ghost use Rattle.larch_io.specs.Folder.{FileMap};
+ghost use Rattle.larch_words.specs.declared.call.Call.TheVariants.{Session as call_session};
 ghost use Rattle.larch_main.specs.Program.{Writes, TakesInput, Counts, source_failed, sink_failed};
 
-use crate::call::Call;
 use crate::progress::{Halt, Move, Progress, advance};
 use crate::say::say;
 use crate::status::Status;
@@ -9,10 +11,11 @@ use std::alloc::Global;
 
 /// Runs a session to its end, and answers how it ended.
 pub fn session<S: Source, K: Sink>(alloc: Global, source: &mut S, sink: &mut K) -> Status
-    ensures output { Writes Call.Session
+    // The folder, of which nothing is read, may tell anything.
+    ensures output { (told : Option FileMap) → Writes call_session told
         (S.left source.old) (S.left source.new) (K.held sink.old) (K.held sink.new) result }
     ensures input { TakesInput (S.left source.old) (S.left source.new) (K.held sink.old) (K.held sink.new) result }
-    ensures source_faults { Counts (source_failed Call.Session result) (S.faults source.old) (S.faults source.new) }
+    ensures source_faults { Counts (source_failed call_session result) (S.faults source.old) (S.faults source.new) }
     ensures sink_faults { Counts (sink_failed result) (K.faults sink.old) (K.faults sink.new) }
 {
     let mut progress = match Progress::new(alloc) {

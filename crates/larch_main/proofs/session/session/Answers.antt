@@ -4,16 +4,16 @@ use Rattle.larch_main.proofs.Endings.{so_far_on, so_far_breaks, so_far_reply_cut
 use Rattle.larch_main.proofs.session.session.Goals as goal
 
 pub returns-in-Err-clause-output : goal.returns-in-Err-clause-output
-returns-in-Err-clause-output g c = nothing_yet _ _
+returns-in-Err-clause-output g c = λ told. nothing_yet _ _ told
 
 pub returns-in-Err-Failed-clause-output : goal.returns-in-Err-Failed-clause-output
-returns-in-Err-Failed-clause-output g c =
-    so_far_reply_cut _ _ c.loop-reply.progress c.advance.new.progress _ _ _ _ c.in-Ok-Goes.reply c.loop-reply.invariant.so_far
+returns-in-Err-Failed-clause-output g c = λ told.
+    so_far_reply_cut _ _ told c.loop-reply.progress c.advance.new.progress _ _ _ _ c.in-Ok-Goes.reply c.loop-reply.invariant.so_far
     (rw c.in-Ok-Goes.field-0-is at c.in-Ok-Goes.ensures.moves) (rw c.bytes.ensures at c.in-Err-Failed.ensures.front)
 
 pub returns-in-Err-Memory-put_all-clause-output : goal.returns-in-Err-Memory-put_all-clause-output
-returns-in-Err-Memory-put_all-clause-output g c =
-    so_far_reply_cut _ _ c.loop-reply.progress c.advance.new.progress _ _ _ _ c.in-Ok-Goes.reply c.loop-reply.invariant.so_far
+returns-in-Err-Memory-put_all-clause-output g c = λ told.
+    so_far_reply_cut _ _ told c.loop-reply.progress c.advance.new.progress _ _ _ _ c.in-Ok-Goes.reply c.loop-reply.invariant.so_far
     (rw c.in-Ok-Goes.field-0-is at c.in-Ok-Goes.ensures.moves) (rw c.bytes.ensures at c.in-Err-Memory-put_all.ensures.front)
 
 pub loop-reply-preserved : goal.loop-reply-preserved
@@ -26,8 +26,8 @@ loop-reply-preserved g c = record {
 }
 
 pub returns-in-Ok-Stops-clause-output : goal.returns-in-Ok-Stops-clause-output
-returns-in-Ok-Stops-clause-output g c =
-    said_output _ _ c.loop-reply.progress c.advance.new.progress _ _ _ _ _ _ c.in-Ok-Stops.text c.in-Ok-Stops.status c.say.result c.loop-reply.invariant.so_far
+returns-in-Ok-Stops-clause-output g c = λ told.
+    said_output _ _ told c.loop-reply.progress c.advance.new.progress _ _ _ _ _ _ c.in-Ok-Stops.text c.in-Ok-Stops.status c.say.result c.loop-reply.invariant.so_far
     (rw c.in-Ok-Stops.field-0-is at c.in-Ok-Stops.ensures.moves) (rw c.bytes-in-Ok-Stops.ensures at c.say.ensures)
 
 pub returns-in-Ok-Stops-clause-input : goal.returns-in-Ok-Stops-clause-input
@@ -48,8 +48,8 @@ returns-in-Ok-Stops-clause-sink_faults g c =
     (rw c.in-Ok-Stops.field-0-is at c.in-Ok-Stops.ensures.moves) (rw c.bytes-in-Ok-Stops.ensures at c.say.ensures)
 
 pub returns-in-Err-ReadFault-clause-output : goal.returns-in-Err-ReadFault-clause-output
-returns-in-Err-ReadFault-clause-output g c =
+returns-in-Err-ReadFault-clause-output g c = λ told.
     so_far_breaks _ _ c.loop-reply.progress c.advance.new.progress _ _ _ c.loop-reply.invariant.so_far (rw c.in-Err-ReadFault.field-0-is at c.in-Err-ReadFault.ensures.moves)
 
 pub returns-in-Err-Memory-clause-output : goal.returns-in-Err-Memory-clause-output
-returns-in-Err-Memory-clause-output g c = so_far_nothing _ _ c.loop-reply.progress _ _ c.loop-reply.invariant.so_far _
+returns-in-Err-Memory-clause-output g c = λ told. so_far_nothing _ _ told c.loop-reply.progress _ _ c.loop-reply.invariant.so_far _

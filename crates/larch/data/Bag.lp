@@ -1,0 +1,1 @@
+duty imply.1

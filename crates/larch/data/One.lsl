@@ -1,0 +1,3 @@
+One: trait
+  introduces
+    c: -> S

@@ -1,0 +1,11 @@
+use Rattle.std.proofs.Common.{◌≡◌, drop}
+use Rattle.larch_main.specs.Look.{Gathers}
+use Rattle.larch_main.proofs.gather.gather.Given as goal
+
+-- the files of the names so far
+abbrev pub invariant-loop-name : goal.invariant-loop-name
+invariant-loop-name g l = record {
+  gathers : Gathers (g.F.Folder.files l.initial.folder) l.names (drop l.name-index l.names) l.files;
+  same : g.F.Folder.files l.folder ≡ g.F.Folder.files l.initial.folder;
+  fine : g.F.Folder.faults l.folder ≡ g.F.Folder.faults l.initial.folder;
+}

@@ -1,0 +1,31 @@
+-- The files that words name, taken from a folder.
+use Rattle.std.specs.Prelude.{◌≡◌, ◌||◌, ℕ, nat_lt, if◌then◌else◌, List, [], ◌∷◌, length, Option, Some, None, IfSome}
+use Rattle.larch_base.specs.declared.limits.TheConstants.{MAX_FILE_BYTES}
+use Rattle.larch_io.specs.Folder.{FileMap, file_of}
+use Rattle.larch_traits.specs.Files.{Table, put_file}
+use Rattle.larch_main.specs.Session.{put_is_refused}
+use Rattle.larch_main.specs.declared.gather.Gathered.{Gathered}
+use Rattle.larch_main.specs.declared.gather.Gathered.TheVariants.{Whole, Absent, TooLarge}
+
+-- all that a folder has, where it tells
+abbrev pub IsFolder : Option FileMap → FileMap → Type 0
+IsFolder told folder = IfSome told (λ files. files ≡ folder)
+
+-- one file more, by what a folder has under its name: it may be absent, too long, or one too many
+abbrev pub putting : Table → List ℕ → Option (List ℕ) → Gathered
+putting files name None = Absent name
+putting files name (Some bytes) =
+    if nat_lt MAX_FILE_BYTES (length bytes) || put_is_refused files name then TooLarge
+    else Whole (put_file files name bytes)
+
+-- the first thing that is wrong ends it
+abbrev pub and_then : Gathered → (Table → Gathered) → Gathered
+and_then (Whole files) more = more files
+and_then (Absent name) more = Absent name
+and_then TooLarge more = TooLarge
+
+-- the files of these names are put in, one after the other
+abbrev pub gathered : FileMap → Table → List (List ℕ) → Gathered
+gathered folder files [] = Whole files
+gathered folder files (name ∷ names) =
+    and_then (putting files name (file_of folder name)) (λ more. gathered folder more names)

@@ -1,0 +1,59 @@
+-- What the code has gathered so far, and what one look at a folder adds.
+use Rattle.std.specs.Prelude.{◌≡◌, ◌⊎◌, true, false, ℕ, nat_lt, List, [], length, Option, Some, IfSome, Result, Ok, Err}
+use Rattle.std.specs.Cmp.Lexicographic.{slice_cmp}
+use Rattle.std.specs.List.Sorted.{IsStrictlySortedBy}
+use Rattle.std.specs.Ordering.{nat_cmp}
+use Rattle.larch_base.specs.declared.limits.TheConstants.{MAX_FILE_BYTES}
+use Rattle.larch_io.specs.Folder.{FileMap, file_of}
+use Rattle.larch_io.specs.declared.refusal.FolderRefusal.{FolderRefusal}
+use Rattle.larch_io.specs.declared.refusal.FolderRefusal.TheVariants.{Failed, NotThere, TooLong, Memory}
+use Rattle.larch_traits.specs.Files.{Table, has_file, names_of, text_of}
+use Rattle.larch_main.specs.Check.{check_text, check_status}
+use Rattle.larch_main.specs.Gather.{IsFolder, putting, gathered}
+use Rattle.larch_main.specs.declared.gather.Gathered.{Gathered}
+use Rattle.larch_main.specs.declared.gather.Gathered.TheVariants.{Whole, Absent, TooLarge}
+use Rattle.larch_main.specs.declared.status.Status.{Status}
+
+-- this is what a folder has under a name, where it tells
+abbrev pub IsSeen : Option FileMap → List ℕ → Option (List ℕ) → Type 0
+IsSeen told name seen = IfSome told (λ folder. file_of folder name ≡ seen)
+
+-- of a name that isn't there yet, the folder shows what comes to this
+pub record Shows (told : Option FileMap) (files : Table) (name : List ℕ) (found : Gathered) : Type 0 where
+  pub new : has_file files name ≡ false
+  pub seen : Option (List ℕ)
+  pub is_seen : IsSeen told name seen
+  pub comes_to : putting files name seen ≡ found
+
+-- What a look at one name did: it was there already, or is put in; or it is absent, or a limit is passed. A fault of
+-- the folder and want of memory tell nothing.
+abbrev pub Looks : Option FileMap → Table → Table → List ℕ → Result (Unit {0}) FolderRefusal → Type 0
+Looks told old new name (Ok _) = ((has_file old name ≡ true) × (new ≡ old)) ⊎ Shows told old name (Whole new)
+Looks told old new name (Err Failed) = Unit {0}
+Looks told old new name (Err NotThere) = Shows told old name (Absent name)
+Looks told old new name (Err TooLong) = Shows told old name TooLarge
+Looks told old new name (Err Memory) = Unit {0}
+
+-- what these files are of a folder
+abbrev pub AreOf : Option FileMap → Table → Type 0
+AreOf told files = (name bytes : List ℕ) → text_of files name ≡ Some bytes → IsSeen told name (Some bytes)
+
+-- These files were gathered of the first names, and these names are left: on every folder that has the files, what
+-- comes of all names is what comes of the rest.
+pub record Gathers (told : Option FileMap) (names rest : List (List ℕ)) (files : Table) : Type 0 where
+  pub sorted : IsStrictlySortedBy (slice_cmp nat_cmp) (names_of files)
+  pub short : (name bytes : List ℕ) → text_of files name ≡ Some bytes → nat_lt MAX_FILE_BYTES (length bytes) ≡ false
+  pub are_of : AreOf told files
+  pub onward : (folder : FileMap) → AreOf (Some folder) files
+      → gathered folder [] names ≡ gathered folder files rest
+
+-- some folder, the told one where it is told, comes to this by these names
+pub record ComesTo (told : Option FileMap) (names : List (List ℕ)) (found : Gathered) : Type 0 where
+  pub folder : FileMap
+  pub is_folder : IsFolder told folder
+  pub is_found : gathered folder [] names ≡ found
+
+-- this text and this status are the answer to the files of these names
+abbrev pub AnswersBy : Option FileMap → List (List ℕ) → List ℕ → Status → Type 0
+AnswersBy told names text status =
+    (found : Gathered) × ComesTo told names found × (text ≡ check_text found) × (status ≡ check_status found)
