@@ -10,12 +10,9 @@ terms, equations of bare connectives, and the same with bytes and words taken ou
 zeros, signs and blanks put in, or cut short. The seed is printed first. A text on which the two differ is written to a
 file that the output names. Ends with 'N passed, N failed', and status 1 where one failed.
 """
-import argparse
-import random
-import shlex
-import subprocess
 import sys
-import tempfile
+
+import comparing
 
 WORDS = ["x", "y", "S", "N", "x'", "f_1", "0", "12", "if", "Bool", "trait"]
 BUILT_IN = ["true", "false", "if", "~", "/\\", "\\/", "=>", "<=>", "=", "~="]
@@ -126,37 +123,19 @@ def mutated(pick, text):
     return text.replace("\0", "")
 
 
-def run(command, stdin):
-    done = subprocess.run(shlex.split(command), input=stdin, stdout=subprocess.PIPE, check=False)
-    return done.stdout.split(b"\0")[:-1]
-
-
 def main():
-    words = argparse.ArgumentParser(description=__doc__.splitlines()[0])
-    words.add_argument("program")
-    words.add_argument("other")
-    words.add_argument("--count", type=int, default=20000)
-    words.add_argument("--seed", type=int, default=None)
-    said = words.parse_args()
-    seed = random.randrange(2 ** 32) if said.seed is None else said.seed
-    print(f"seed {seed}", flush=True)
-    pick = random.Random(seed)
+    said = comparing.words_of(__doc__, 20000, "program", "other").parse_args()
+    pick = comparing.choices(said.seed)
     texts = ["", "certificate 1\n", "certificate 1", "certificate 2\n"]
     texts += [mutated(pick, certificate(pick)) for _ in range(said.count - len(texts))]
-    stdin = b"\0".join(text.encode() for text in texts)
-    left, right = run(said.program, stdin), run(said.other, stdin)
-    failed, whole = abs(len(left) - len(right)), 0
+    given = [text.encode() for text in texts]
+    left, right = comparing.answers(said.program, given), comparing.answers(said.other, given)
+    differences = comparing.Differences(".cert", abs(len(left) - len(right)))
     for text, ours, theirs in zip(texts, left, right):
-        whole += ours.startswith(b"certificate")
-        if ours != theirs:
-            failed += 1
-            if failed <= 5:
-                with tempfile.NamedTemporaryFile("w", suffix=".cert", delete=False) as out:
-                    out.write(text)
-                print(f"{out.name}: {ours!r} and {theirs!r}"[:300])
+        differences.look(text, ours, theirs)
+    whole = sum(answer.startswith(b"certificate") for answer in left)
     print(f"{whole} certificates and {len(left) - whole} refusals")
-    print(f"{len(texts) - failed} passed, {failed} failed")
-    sys.exit(1 if failed else 0)
+    sys.exit(differences.end(len(texts)))
 
 
 if __name__ == "__main__":

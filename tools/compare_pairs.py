@@ -12,14 +12,11 @@ themselves too, in one or the other order, whose variables vanish, are new on th
 compared byte for byte, and it is said how often each kind of answer came. The seed is printed first. What the two answer
 differently is written to a file that the output names. Ends with 'N passed, N failed', and status 1 where one failed.
 """
-import argparse
 import collections
-import importlib
-import pathlib
-import random
 import subprocess
 import sys
-import tempfile
+
+import comparing
 
 SORTS = ["S", "T"]
 # name, range, domain
@@ -241,11 +238,10 @@ class Reference:
     """The other reading."""
 
     def __init__(self, folder):
-        sys.path.insert(0, str(folder))
-        self.nodes = importlib.import_module("larchref.nodes")
-        self.pairs = importlib.import_module("larchref.pairs")
-        self.operator = importlib.import_module("larchref.base").Operator
-        self.event = importlib.import_module("larchref.norm").Event
+        self.nodes = comparing.module_of(folder, "nodes")
+        self.pairs = comparing.module_of(folder, "pairs")
+        self.operator = comparing.module_of(folder, "base").Operator
+        self.event = comparing.module_of(folder, "norm").Event
 
     def node(self, term, known):
         if id(term) not in known:
@@ -347,38 +343,23 @@ def kind_of(answer, found):
 
 
 def main():
-    words = argparse.ArgumentParser(description=__doc__.splitlines()[0])
-    words.add_argument("program")
-    words.add_argument("reference", type=pathlib.Path)
-    words.add_argument("--count", type=int, default=20000)
-    words.add_argument("--seed", type=int, default=None)
-    said = words.parse_args()
-    if not (said.reference / "larchref" / "pairs.py").exists():
-        print(f"compare_pairs: there is no larchref in {said.reference}, so nothing is compared")
-        sys.exit(2)
-    seed = random.randrange(2 ** 32) if said.seed is None else said.seed
-    print(f"seed {seed}", flush=True)
+    said = comparing.words_of(__doc__, 20000, "program", "reference").parse_args()
     reference = Reference(said.reference)
-    cases = list(made(random.Random(seed), said.count))
+    cases = list(made(comparing.choices(said.seed), said.count))
     stdin = "".join(line + "\n" for _, lines, _ in cases for line in lines).encode("latin-1")
     done = subprocess.run([said.program], input=stdin, stdout=subprocess.PIPE, check=False)
     ours = list(answers(done.stdout))
-    failed, counted, places = abs(len(cases) - len(ours)), collections.Counter(), collections.Counter()
+    differences = comparing.Differences(".pair", abs(len(cases) - len(ours)))
+    counted, places = collections.Counter(), collections.Counter()
     for (kind, lines, parts), answer in zip(cases, ours):
         other = reference.unified(*parts[:2]) if len(parts) == 3 else reference.paired(*parts)
         counted[kind, kind_of(other, places)] += 1
-        if answer != other:
-            failed += 1
-            if failed <= 5:
-                with tempfile.NamedTemporaryFile("w", suffix=".pair", delete=False) as out:
-                    out.write("".join(line + "\n" for line in lines))
-                print(f"{out.name}: {kind}: {answer[:200]!r} and {other[:200]!r}")
+        differences.look("".join(line + "\n" for line in lines), answer, other)
     for (kind, answer), number in sorted(counted.items()):
         print(f"{kind}: {answer}: {number}")
     for place, number in sorted(places.items()):
         print(f"{place}: {number}")
-    print(f"{len(cases) - failed} passed, {failed} failed")
-    sys.exit(1 if failed else 0)
+    sys.exit(differences.end(len(cases)))
 
 
 if __name__ == "__main__":

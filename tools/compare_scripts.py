@@ -11,15 +11,10 @@ same with words or bytes taken out, put in, doubled or changed. With --short no 
 size. The seed is printed first, then how often each kind of line came up. A script on which the two differ is written
 to a file that the output names. Ends with 'N passed, N failed', and status 1 where one failed.
 """
-import argparse
 import collections
-import importlib
-import pathlib
-import random
-import shlex
-import subprocess
 import sys
-import tempfile
+
+import comparing
 
 WORDS = ["x", "y", "s", "N", "x'", "f_1", "0", "12", "in", "on", "with", "by", "set", "qed", "if", "of", "trait", "prove", "A1",
          "multiset", "implies", "a__b"]
@@ -268,39 +263,20 @@ def kinds_of(answer):
 
 
 def main():
-    reader = argparse.ArgumentParser(description=__doc__, formatter_class=argparse.RawDescriptionHelpFormatter)
-    reader.add_argument("program")
-    reader.add_argument("reference", type=pathlib.Path)
-    reader.add_argument("--count", type=int, default=2000)
-    reader.add_argument("--seed", type=int, default=random.randrange(10 ** 6))
-    reader.add_argument("--short", action="store_true")
-    said = reader.parse_args()
-    if not (said.reference / "larchref" / "script.py").exists():
-        print(f"compare_scripts: there is no larchref in {said.reference}, so nothing is compared")
-        return 1
-    print(f"seed {said.seed}")
-    sys.path.insert(0, str(said.reference))
-    sys.dont_write_bytecode = True
-    sys.setrecursionlimit(100000)
-    read_script = importlib.import_module("larchref.script").read_script
-    writer, printer = Writer(random.Random(said.seed), 0 if said.short else 0.002), Printer()
+    words = comparing.words_of(__doc__, 2000, "program", "reference")
+    words.add_argument("--short", action="store_true")
+    said = words.parse_args()
+    read_script = comparing.module_of(said.reference, "script").read_script
+    writer, printer = Writer(comparing.choices(said.seed), 0 if said.short else 0.002), Printer()
     scripts = [writer.script(i % 2 == 1).replace("\0", "") for i in range(said.count)]
-    done = subprocess.run(shlex.split(said.program), input="\0".join(scripts).encode("latin-1"), capture_output=True)
-    answers = done.stdout.decode("latin-1").split("\0")
-    counted, failed = collections.Counter(), 0
-    for script, answer in zip(scripts, answers + [None] * len(scripts)):
+    answers = [answer.decode("latin-1") for answer in comparing.answers(said.program, [s.encode("latin-1") for s in scripts])]
+    counted, differences = collections.Counter(), comparing.Differences(".txt", abs(len(answers) - len(scripts)))
+    for script, answer in zip(scripts, answers):
         wanted = printer.script(read_script(script, False))
         counted.update(kinds_of(wanted))
-        if answer != wanted:
-            failed += 1
-            with tempfile.NamedTemporaryFile("w", suffix=".txt", delete=False, encoding="latin-1") as file:
-                file.write(f"{script}\n--- wanted\n{wanted}\n--- answered\n{answer}\n")
-            print(f"different: {file.name}")
-            if failed == 20:
-                break
+        differences.look(script, answer, wanted)
     print(", ".join(f"{kind} {count}" for kind, count in sorted(counted.items())))
-    print(f"{said.count - failed} passed, {failed} failed")
-    return 1 if failed else 0
+    return differences.end(said.count)
 
 
 if __name__ == "__main__":

@@ -11,14 +11,12 @@ numbers, symbols and signs changed. The seed is printed first, and at the end ho
 stood in accepted certificates. A problem on which the two differ is written to a file that the output names. Ends with
 'N passed, N failed', and status 1 where one failed.
 """
-import argparse
 import collections
 import random
 import re
-import shlex
-import subprocess
 import sys
-import tempfile
+
+import comparing
 
 BOOL = 'Bool'
 TRUE, FALSE = ('true', ()), ('false', ())
@@ -482,42 +480,26 @@ def problem(pick, theory):
     return '\1'.join([theory.text(), shown, text])
 
 
-def run(command, stdin):
-    done = subprocess.run(shlex.split(command), input=stdin, stdout=subprocess.PIPE, check=False)
-    return [text.decode() for text in done.stdout.split(b'\0')[:-1]]
-
-
 def main():
-    words = argparse.ArgumentParser(description=__doc__.splitlines()[0])
-    words.add_argument('program')
-    words.add_argument('other')
-    words.add_argument('--count', type=int, default=5000)
+    words = comparing.words_of(__doc__, 5000, 'program', 'other')
     words.add_argument('--theories', type=int, default=24)
-    words.add_argument('--seed', type=int, default=None)
     said = words.parse_args()
-    seed = random.randrange(2 ** 32) if said.seed is None else said.seed
-    print(f'seed {seed}', flush=True)
-    pick = random.Random(seed)
+    pick = comparing.choices(said.seed)
     theories = [Theory(pick) for _ in range(said.theories)]
     problems = [problem(pick, pick.choice(theories)) for _ in range(said.count)]
-    stdin = '\0'.join(problems).encode()
-    left, right = run(said.program, stdin), run(said.other, stdin)
-    failed, verdicts, rules = abs(len(left) - len(right)), collections.Counter(), collections.Counter()
+    given = [text.encode() for text in problems]
+    left, right = comparing.answers(said.program, given), comparing.answers(said.other, given)
+    differences = comparing.Differences('.problem', abs(len(left) - len(right)))
+    verdicts, rules = collections.Counter(), collections.Counter()
     for text, ours, theirs in zip(problems, left, right):
-        verdicts[ours.split(' ')[0]] += 1
-        if ours == 'accepted':
+        verdicts[ours.decode().split(' ')[0]] += 1
+        if ours == b'accepted':
             header, *lines = text.split('\1')[2].splitlines()
             rules.update(line.split(' ')[header == 'certificate 1'] for line in lines)
-        if ours != theirs:
-            failed += 1
-            if failed <= 5:
-                with tempfile.NamedTemporaryFile('w', suffix='.problem', delete=False) as out:
-                    out.write(text)
-                print(f'{out.name}: {ours!r} and {theirs!r}'[:300])
+        differences.look(text, ours, theirs)
     print(', '.join(f'{word} {count}' for word, count in sorted(verdicts.items())))
     print(', '.join(f'{rule} {count}' for rule, count in sorted(rules.items())))
-    print(f'{len(problems) - failed} passed, {failed} failed')
-    sys.exit(1 if failed or not problems else 0)
+    sys.exit(differences.end(len(problems)))
 
 
 if __name__ == '__main__':
