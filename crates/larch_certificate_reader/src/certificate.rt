@@ -48,6 +48,7 @@ pub fn read_certificate(alloc: Global, text: &[u8]) -> Result<Certificate, FormR
     ensures text { IfOk result (λ c. IsTextOf text.now false c) }
     ensures outside { IfErr result (λ refusal. IfForm refusal (λ n. IsFirstOutside false text.now n)) }
     ensures none { IfErr result (λ refusal. IfForm refusal (λ n. (c : List Line) → IsTextOf text.now false c → ⊥)) }
+    ensures refused { IfErr result (λ refusal. IfForm refusal (λ n. read_certificate false text.now ≡ Err n)) }
 {
     match read_version(alloc, false, text) {
         Ok(Versioned { second: _, lines }) => Ok(lines),
