@@ -78,7 +78,8 @@ fn exchange_of(alloc: Global, term: &Term) -> Result<Exchange, Memory>
 // Where it hasn't two, no one asks.
 #[tactic(auto, using(crate::proofs::Exchange::exchange_is))]
 fn exchange_at(alloc: Global, operator: &Operator, arguments: &[Term]) -> Result<Exchange, Memory>
-    ensures { IfOk result (λ exchange. IsExchange (app operator.now (forest_of arguments.now)) exchange.sort exchange.by) }
+    ensures { IfOk result (λ exchange. IsExchange
+        (app operator.now (forest_of arguments.now)) exchange.sort exchange.by) }
 {
     let [left, further @ ..] = arguments else {
         return Err(Memory);

@@ -1,7 +1,12 @@
 -- The texts of codes.
 use Rattle.std.specs.Prelude.{ℕ, List, codes}
 use Rattle.larch_base.specs.declared.code.Code.{Code}
-use Rattle.larch_base.specs.declared.code.Code.TheVariants.{Lex, Syntax, Mixed, Deep, Size, TraitName, UnknownTrait, Cycle, BadReference, Rename, FieldTwice, Arity, BuiltIn, UnknownSort, VariableTwice, Generator, Partition, NoReading, Ambiguous, ImpliedOperator, Converted, Exempt, Command, Mark, Done, Variable, Operator, Shape, Generated, Partitioned, Fact, Open, Limit, UnknownDuty, DutyTwice}
+use Rattle.larch_base.specs.declared.code.Code.TheVariants.{Lex, Syntax, Mixed, Deep, Size, TraitName, UnknownTrait}
+use Rattle.larch_base.specs.declared.code.Code.TheVariants.{Cycle, BadReference, Rename, FieldTwice, Arity, BuiltIn}
+use Rattle.larch_base.specs.declared.code.Code.TheVariants.{UnknownSort, VariableTwice, Generator, Partition}
+use Rattle.larch_base.specs.declared.code.Code.TheVariants.{NoReading, Ambiguous, ImpliedOperator, Converted, Exempt}
+use Rattle.larch_base.specs.declared.code.Code.TheVariants.{Command, Mark, Done, Variable, Operator, Shape, Generated}
+use Rattle.larch_base.specs.declared.code.Code.TheVariants.{Partitioned, Fact, Open, Limit, UnknownDuty, DutyTwice}
 
 -- a code as reports write it
 abbrev pub code_text : Code → List ℕ

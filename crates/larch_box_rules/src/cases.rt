@@ -25,7 +25,8 @@ pub fn cases_line(
 ) -> Result<Option<Equated>, Memory>
     requires { IsPast theory.now pool.old past.now }
     ensures within { IfOk result (λ o. IfSome o (IsEquated pool.new)) }
-    ensures says { IfOk result (λ o. option_map (equated_in pool.new) o ≡ cases_says (history_of pool.old past.now) first second) }
+    ensures says { IfOk result (λ o. option_map (equated_in pool.new) o
+        ≡ cases_says (history_of pool.old past.now) first second) }
     ensures grows { OnOk result (Grows pool.old pool.new) }
 {
     let Some((one, shown)) = past.closed_box(first) else {
@@ -52,7 +53,9 @@ fn cases_result(
     requires other { IsBox pool.old other.now }
     requires other_shown { IsStated pool.old other_shown.now }
     ensures within { IfOk result (λ o. IfSome o (IsEquated pool.new)) }
-    ensures says { IfOk result (λ o. option_map (equated_in pool.new) o ≡ cases_of (box_in pool.old one.now, stated_in pool.old shown.now) (box_in pool.old other.now, stated_in pool.old other_shown.now)) }
+    ensures says { IfOk result (λ o. option_map (equated_in pool.new) o
+        ≡ cases_of (box_in pool.old one.now, stated_in pool.old shown.now)
+        (box_in pool.old other.now, stated_in pool.old other_shown.now)) }
     ensures grows { OnOk result (Grows pool.old pool.new) }
 {
     let Some(formula) = only_left(one.hypotheses.as_slice()) else {
@@ -76,7 +79,8 @@ fn cases_result(
 
 // The left side of the only equation. It takes no memory.
 fn only_left(equations: &[Equated]) -> Option<u32>
-    ensures left { (p : Pooled) → option_map (tree_in p.trees) result ≡ only_left_side (map (equated_in p) equations.now) }
+    ensures left { (p : Pooled) → option_map (tree_in p.trees) result
+        ≡ only_left_side (map (equated_in p) equations.now) }
     ensures within { (p : Pooled) → All (IsEquated p) equations.now → IfSome result (λ n. n < length p.trees) }
 {
     if equations.len() != 1 {
@@ -96,7 +100,8 @@ fn are_cases(
     requires one { IsBox pool.old one.now }
     requires other { IsBox pool.old other.now }
     requires formula { formula < length pool.old.trees }
-    ensures cases { IfOk result (λ b. b ≡ are_cases (box_in pool.old one.now) (box_in pool.old other.now) (tree_in pool.old.trees formula)) }
+    ensures cases { IfOk result (λ b. b ≡ are_cases (box_in pool.old one.now) (box_in pool.old other.now)
+        (tree_in pool.old.trees formula)) }
     ensures grows { OnOk result (Grows pool.old pool.new) }
 {
     let truth = truth_in(alloc, pool)?;
@@ -109,7 +114,8 @@ fn supposes(pool: &Pool, known: &KnownBox, formula: u32, value: u32) -> bool
     requires known { IsBox pool.now known.now }
     requires formula { formula < length pool.now.trees }
     requires value { value < length pool.now.trees }
-    ensures { result ≡ supposes (box_in pool.now known.now) (tree_in pool.now.trees formula) (tree_in pool.now.trees value) }
+    ensures { result ≡ supposes (box_in pool.now known.now) (tree_in pool.now.trees formula)
+        (tree_in pool.now.trees value) }
 {
     let sides = Equated {
         left: formula,

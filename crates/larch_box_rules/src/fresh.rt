@@ -30,7 +30,8 @@ pub fn fresh_line(
 ) -> Result<Option<Equated>, Memory>
     requires { IsPast theory.now pool.old past.now }
     ensures within { IfOk result (λ o. IfSome o (IsEquated pool.new)) }
-    ensures says { IfOk result (λ o. option_map (equated_in pool.new) o ≡ fresh_says (history_of pool.old past.now) of_box variables.now) }
+    ensures says { IfOk result (λ o. option_map (equated_in pool.new) o
+        ≡ fresh_says (history_of pool.old past.now) of_box variables.now) }
     ensures grows { OnOk result (Grows pool.old pool.new) }
 {
     let Some((known, stated)) = past.closed_box(of_box) else {
@@ -51,7 +52,8 @@ fn fresh_result(
     requires known { IsBox pool.old known.now }
     requires stated { IsStated pool.old stated.now }
     ensures within { IfOk result (λ o. IfSome o (IsEquated pool.new)) }
-    ensures says { IfOk result (λ o. option_map (equated_in pool.new) o ≡ freed_result (box_in pool.old known.now) (stated_in pool.old stated.now) (map variable_of variables.now)) }
+    ensures says { IfOk result (λ o. option_map (equated_in pool.new) o
+        ≡ freed_result (box_in pool.old known.now) (stated_in pool.old stated.now) (map variable_of variables.now)) }
     ensures grows { OnOk result (Grows pool.old pool.new) }
 {
     if !known.hypotheses.as_slice().is_empty() {
@@ -90,7 +92,9 @@ fn freed_sides(
 ) -> Result<Equated, Memory>
     requires { IsEquated pool.old sides }
     ensures within { IfOk result (λ e. IsEquated pool.new e) }
-    ensures says { IfOk result (λ e. (ps : List BoxPart) → length ps ≡ length variables.now → Some (equated_in pool.new e) ≡ freed_equation (operators_from of_box 1 ps) (map variable_of variables.now) (equated_in pool.old sides)) }
+    ensures says { IfOk result (λ e. (ps : List BoxPart) → length ps ≡ length variables.now
+        → Some (equated_in pool.new e) ≡ freed_equation (operators_from of_box 1 ps) (map variable_of variables.now)
+        (equated_in pool.old sides)) }
     ensures grows { OnOk result (Grows pool.old pool.new) }
 {
     let images = variable_numbers(alloc, pool, variables)?;
@@ -109,7 +113,8 @@ fn freed_side(
 ) -> Result<u32, Memory>
     requires side { side < length pool.old.trees }
     requires images { All (λ n. n < length pool.old.trees) images.now }
-    ensures tree { IfOk result (λ n. HasTree pool.new n (freed_by pool.old.trees of_box 1 images.now (tree_in pool.old.trees side))) }
+    ensures tree { IfOk result (λ n. HasTree pool.new n
+        (freed_by pool.old.trees of_box 1 images.now (tree_in pool.old.trees side))) }
     ensures grows { OnOk result (Grows pool.old pool.new) }
 {
     let images = Vec::from_slice(alloc, images)?;
@@ -124,7 +129,8 @@ fn variable_numbers(
     variables: &[CodedVar],
 ) -> Result<Vec<u32>, Memory>
     ensures within { IfOk result (λ ns. All (λ n. n < length pool.new.trees) ns.items) }
-    ensures trees { IfOk result (λ ns. map (tree_in pool.new.trees) ns.items ≡ map term_of (map variable_of variables.now)) }
+    ensures trees { IfOk result (λ ns. map (tree_in pool.new.trees) ns.items
+        ≡ map term_of (map variable_of variables.now)) }
     ensures grows { OnOk result (Grows pool.old pool.new) }
 {
     let mut numbers = Vec::with_capacity(alloc, variables.len())?;

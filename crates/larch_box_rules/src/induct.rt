@@ -29,7 +29,9 @@ pub fn induct_line(
 ) -> Result<Option<Equated>, Memory>
     requires { IsPast theory.now pool.old past.now }
     ensures within { IfOk result (λ o. IfSome o (IsEquated pool.new)) }
-    ensures says { IfOk result (λ o. option_map (equated_in pool.new) o ≡ induct_says (find_symbol theory.now (history_of pool.old past.now)) (history_of pool.old past.now) clause variable.now equation.now boxes.now) }
+    ensures says { IfOk result (λ o. option_map (equated_in pool.new) o
+        ≡ induct_says (find_symbol theory.now (history_of pool.old past.now))
+        (history_of pool.old past.now) clause variable.now equation.now boxes.now) }
     ensures grows { OnOk result (Grows pool.old pool.new) }
 {
     let sides = decode_equation(alloc, pool, theory, past, equation)?;
@@ -54,7 +56,9 @@ fn inducted(
     requires past { IsPast theory.now pool.old past.now }
     requires sides { IsEquated pool.old sides }
     ensures within { IfOk result (λ o. IfSome o (IsEquated pool.new)) }
-    ensures says { IfOk result (λ o. option_map (equated_in pool.new) o ≡ option_and_then (inducted (history_of pool.old past.now) variable.now boxes.now (equated_in pool.old sides)) (find_line (history_of pool.old past.now) clause)) }
+    ensures says { IfOk result (λ o. option_map (equated_in pool.new) o
+        ≡ option_and_then (inducted (history_of pool.old past.now) variable.now boxes.now (equated_in pool.old sides))
+        (find_line (history_of pool.old past.now) clause)) }
     ensures grows { OnOk result (Grows pool.old pool.new) }
 {
     let Some(stated) = past.line(clause) else {
@@ -102,7 +106,8 @@ fn shows_all(
 ) -> Result<bool, Memory>
     requires past { IsPast theory.now pool.old past.now }
     requires sides { IsEquated pool.old sides }
-    ensures shows { IfOk result (λ b. b ≡ shows_cases (history_of pool.old past.now) variable.now (equated_in pool.old sides) generators.now boxes.now) }
+    ensures shows { IfOk result (λ b. b ≡ shows_cases (history_of pool.old past.now) variable.now
+        (equated_in pool.old sides) generators.now boxes.now) }
     ensures grows { OnOk result (Grows pool.old pool.new) }
 {
     if generators.len() != boxes.len() {
@@ -133,7 +138,8 @@ fn show_each(
     requires past { IsPast theory.now pool.old past.now }
     requires inductive { IsInductive pool.old variable.now inductive }
     requires lengths { length generators.now ≡ length boxes.now }
-    ensures shows { IfOk result (λ b. b ≡ shows_cases (history_of pool.old past.now) variable.now (equated_in pool.old inductive.sides) generators.now boxes.now) }
+    ensures shows { IfOk result (λ b. b ≡ shows_cases (history_of pool.old past.now) variable.now
+        (equated_in pool.old inductive.sides) generators.now boxes.now) }
     ensures grows { OnOk result (Grows pool.old pool.new) }
 {
     for i in 0..generators.len() {
@@ -161,7 +167,10 @@ fn box_shows(
 ) -> Result<bool, Memory>
     requires past { IsPast theory.now pool.old past.now }
     requires inductive { IsInductive pool.old variable.now inductive }
-    ensures shows { IfOk result (λ b. b ≡ option_map_or (shows_case variable.now (tree_in pool.old.trees inductive.sides.left) (tree_in pool.old.trees inductive.sides.right) generator.now) (find_closed (history_of pool.old past.now) of_box) false) }
+    ensures shows { IfOk result (λ b. b ≡ option_map_or
+        (shows_case variable.now (tree_in pool.old.trees inductive.sides.left)
+        (tree_in pool.old.trees inductive.sides.right) generator.now)
+        (find_closed (history_of pool.old past.now) of_box) false) }
     ensures grows { OnOk result (Grows pool.old pool.new) }
 {
     let Some((known, stated)) = past.closed_box(of_box) else {

@@ -63,7 +63,8 @@ pub fn same_equations(pool: &Pool, ones: &[Equated], others: &[Equated]) -> bool
 /// What the parts of a box make, in order, as terms without arguments.
 pub fn constants_in(alloc: Global, pool: &mut Pool, known: &KnownBox) -> Result<Numbers, Memory>
     ensures within { IfOk result (λ ns. All (λ n. n < length pool.new.trees) ns) }
-    ensures trees { IfOk result (λ ns. map (tree_in pool.new.trees) ns ≡ map constant (operators_from known.now.number 1 known.now.parts)) }
+    ensures trees { IfOk result (λ ns. map (tree_in pool.new.trees) ns
+        ≡ map constant (operators_from known.now.number 1 known.now.parts)) }
     ensures grows { OnOk result (Grows pool.old pool.new) }
 {
     let parts = known.parts.as_slice();

@@ -40,7 +40,9 @@ pub fn shows_case(
     requires inductive { IsInductive pool.old variable.now inductive }
     requires known { IsBox pool.old known.now }
     requires stated { IsStated pool.old stated.now }
-    ensures shows { IfOk result (λ b. b ≡ shows_case variable.now (tree_in pool.old.trees inductive.sides.left) (tree_in pool.old.trees inductive.sides.right) generator.now (box_in pool.old known.now, stated_in pool.old stated.now)) }
+    ensures shows { IfOk result (λ b. b ≡ shows_case variable.now (tree_in pool.old.trees inductive.sides.left)
+        (tree_in pool.old.trees inductive.sides.right) generator.now
+        (box_in pool.old known.now, stated_in pool.old stated.now)) }
     ensures grows { OnOk result (Grows pool.old pool.new) }
 {
     if !has_constants(known, generator.domain()) {
@@ -65,7 +67,8 @@ fn supposes_cases(
     requires inductive { IsInductive pool.old variable.now inductive }
     requires known { IsBox pool.old known.now }
     requires constants { All (λ p. p.predicate ≡ false) known.now.parts }
-    ensures supposes { IfOk result (λ b. b ≡ same_statements (map (equated_in pool.old) known.now.hypotheses) (hypotheses_from pool.old variable.now inductive known.now.number 1 known.now.parts)) }
+    ensures supposes { IfOk result (λ b. b ≡ same_statements (map (equated_in pool.old) known.now.hypotheses)
+        (hypotheses_from pool.old variable.now inductive known.now.number 1 known.now.parts)) }
     ensures grows { OnOk result (Grows pool.old pool.new) }
 {
     let parts = known.parts.as_slice();
@@ -101,7 +104,9 @@ fn has_result(
 ) -> Result<bool, Memory>
     requires inductive { IsInductive pool.old variable.now inductive }
     requires stated { IsStated pool.old stated.now }
-    ensures result { IfOk result (λ b. b ≡ same_statement (stated_in pool.old stated.now) (equation_with pool.old variable.now inductive (app generator.now (constant_terms (operators_from known.now.number 1 known.now.parts))))) }
+    ensures result { IfOk result (λ b. b ≡ same_statement (stated_in pool.old stated.now)
+        (equation_with pool.old variable.now inductive
+        (app generator.now (constant_terms (operators_from known.now.number 1 known.now.parts))))) }
     ensures grows { OnOk result (Grows pool.old pool.new) }
 {
     let Some(sides) = sides_of(stated) else {
@@ -119,7 +124,8 @@ fn made_of(
     generator: &Operator,
     known: &KnownBox,
 ) -> Result<u32, Memory>
-    ensures tree { IfOk result (λ n. HasTree pool.new n (app generator.now (constant_terms (operators_from known.now.number 1 known.now.parts)))) }
+    ensures tree { IfOk result (λ n. HasTree pool.new n
+        (app generator.now (constant_terms (operators_from known.now.number 1 known.now.parts)))) }
     ensures grows { OnOk result (Grows pool.old pool.new) }
 {
     let constants = constants_in(alloc, pool, known)?;
@@ -140,7 +146,8 @@ fn is_instance(
     requires inductive { IsInductive pool.old variable.now inductive }
     requires image { image < length pool.old.trees }
     requires sides { IsEquated pool.old sides }
-    ensures instance { IfOk result (λ b. b ≡ same_statement (equated_in pool.old sides) (equation_with pool.old variable.now inductive (tree_in pool.old.trees image))) }
+    ensures instance { IfOk result (λ b. b ≡ same_statement (equated_in pool.old sides)
+        (equation_with pool.old variable.now inductive (tree_in pool.old.trees image))) }
     ensures grows { OnOk result (Grows pool.old pool.new) }
 {
     let by = [Binding {

@@ -18,8 +18,10 @@ use Rattle.larch_calculus.specs.Formula.{falsity, constant, applied, equality}
 use Rattle.larch_term.specs.Truth.{truth}
 use Rattle.larch_calculus.specs.Identity.{IsIdentity}
 use Rattle.larch_calculus.specs.Theories.{with_statements, extended, IsIncluded, AreNew, AreConstants}
-use Rattle.larch_calculus.specs.Observation.{Observation, observations_of, observed, other_variables, observations, AreDifferent}
-use Rattle.larch_calculus.specs.Generation.{place_name, generation_hypotheses, constant_terms, equation_at, induction_hypotheses}
+use Rattle.larch_calculus.specs.Observation.{Observation, observations_of, observed, other_variables, observations}
+use Rattle.larch_calculus.specs.Observation.{AreDifferent}
+use Rattle.larch_calculus.specs.Generation.{place_name, generation_hypotheses, constant_terms, equation_at}
+use Rattle.larch_calculus.specs.Generation.{induction_hypotheses}
 use Rattle.larch_calculus.specs.Freed.{freed}
 
 -- the constants are new, and have the sorts of the generator's arguments

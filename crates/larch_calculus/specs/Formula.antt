@@ -5,7 +5,8 @@ use Rattle.larch_term.specs.Tree.{Tree, app, none, more}
 use Rattle.larch_term.specs.BuiltIn.{bool_sort, built_in}
 use Rattle.larch_term.specs.Sorts.{sort_of}
 use Rattle.larch_term.specs.Truth.{is_truth}
-use Rattle.larch_term.specs.declared.built_in.BuiltIn.TheVariants.{False, Not, And, Or, Implies, Iff, Equal, Unequal, If}
+use Rattle.larch_term.specs.declared.built_in.BuiltIn.TheVariants.{False, Not, And, Or, Implies, Iff, Equal, Unequal}
+use Rattle.larch_term.specs.declared.built_in.BuiltIn.TheVariants.{If}
 
 -- an operator without arguments
 abbrev pub constant : PlainOperator → Tree

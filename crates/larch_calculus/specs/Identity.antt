@@ -2,7 +2,8 @@
 use Rattle.std.specs.Prelude.{◌≡◌, ℕ, Bool, true, false, not, ◌&&◌, ◌||◌, if◌then◌else◌, List, refl}
 use Rattle.larch_term.specs.Tree.{Tree, var}
 use Rattle.larch_term.specs.BuiltIn.{bool_sort}
-use Rattle.larch_calculus.specs.Formula.{falsity, negation, conjunction, disjunction, implication, equivalence, equality, inequality, choice}
+use Rattle.larch_calculus.specs.Formula.{falsity, negation, conjunction, disjunction, implication, equivalence}
+use Rattle.larch_calculus.specs.Formula.{equality, inequality, choice}
 use Rattle.larch_term.specs.Truth.{truth}
 
 -- a term whose variables are of sort Bool and whose operators are the built-in ones over Bool

@@ -19,9 +19,12 @@ use Rattle.larch_term.specs.Truth.{truth}
 use Rattle.larch_calculus.specs.Identity.{IsIdentity}
 use Rattle.larch_calculus.specs.Theories.{with_statements, extended, IsIncluded, AreNew, AreConstants}
 use Rattle.larch_calculus.specs.Observation.{Observation, observations_of, observed, other_variables, observations}
-use Rattle.larch_calculus.specs.Generation.{place_name, generation_hypotheses, constant_terms, equation_at, induction_hypotheses}
+use Rattle.larch_calculus.specs.Generation.{place_name, generation_hypotheses, constant_terms, equation_at}
+use Rattle.larch_calculus.specs.Generation.{induction_hypotheses}
 use Rattle.larch_calculus.specs.Freed.{freed}
-use Rattle.larch_calculus.specs.Derivable.{Derivable, AreArguments, AreApart, axiom_, identity, reflexive, symmetric, replace, instance, equal, weaken, fresh, cases, induct, observe, generated, partitioned}
+use Rattle.larch_calculus.specs.Derivable.{Derivable, AreArguments, AreApart, axiom_, identity, reflexive, symmetric}
+use Rattle.larch_calculus.specs.Derivable.{replace, instance, equal, weaken, fresh, cases, induct, observe, generated}
+use Rattle.larch_calculus.specs.Derivable.{partitioned}
 
 -- a statement that is derivable and has a property
 abbrev pub Derived : (Theory → Statement → Type 0) → Theory → Statement → Type 0

@@ -5,7 +5,8 @@ use Rattle.larch_term.specs.Operator.{OperatorName, PlainOperator, plain, boxed}
 use Rattle.larch_term.specs.Statement.{IsWellSortedTheory}
 use Rattle.larch_term.specs.declared.statement.Statement.{Statement}
 use Rattle.larch_term.specs.declared.statement.Theory.{Theory}
-use Rattle.larch_renaming.specs.Renaming.{Renaming, unchanged, after, renamed_statement, FitsSignatures, KeepsBuiltIns, Carries, AreAlike}
+use Rattle.larch_renaming.specs.Renaming.{Renaming, unchanged, after, renamed_statement, FitsSignatures}
+use Rattle.larch_renaming.specs.Renaming.{KeepsBuiltIns, Carries, AreAlike}
 use Rattle.larch_calculus.specs.Derivable.{Derivable}
 
 -- no two sorts become one

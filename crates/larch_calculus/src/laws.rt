@@ -18,13 +18,16 @@ ghost use Rattle.larch_calculus.specs.Derivable.{Derivable, AreArguments};
 ghost use Rattle.larch_calculus.specs.Formula.{constant, applied, joined, falsity, implication, formula};
 ghost use Rattle.larch_term.specs.Truth.{truth};
 ghost use Rattle.larch_calculus.specs.Freed.{freed, constants_for};
-ghost use Rattle.larch_calculus.specs.Generation.{constant_terms, equation_at, generation_hypotheses, induction_hypotheses};
+ghost use Rattle.larch_calculus.specs.Generation.{constant_terms, equation_at, generation_hypotheses};
+ghost use Rattle.larch_calculus.specs.Generation.{induction_hypotheses};
 ghost use Rattle.larch_calculus.specs.Identity.{IsIdentity};
 ghost use Rattle.larch_calculus.specs.Letters.{two};
 ghost use Rattle.larch_calculus.specs.Observation.{observations};
-ghost use Rattle.larch_calculus.specs.Renaming.{IsFaithful, TakesBack, KeepsBuiltIn, RenamesBoxes, HasPlainNames, IsTranslation};
+ghost use Rattle.larch_calculus.specs.Renaming.{IsFaithful, TakesBack, KeepsBuiltIn, RenamesBoxes, HasPlainNames};
+ghost use Rattle.larch_calculus.specs.Renaming.{IsTranslation};
 ghost use Rattle.larch_renaming.specs.Renaming.{Renaming, by_name, renamed_statement, renamed_theory};
-ghost use Rattle.larch_calculus.specs.Theories.{IsTermOf, IsIncluded, IsPrefix, AreNew, AreConstants, with_statements, extended};
+ghost use Rattle.larch_calculus.specs.Theories.{IsTermOf, IsIncluded, IsPrefix, AreNew, AreConstants};
+ghost use Rattle.larch_calculus.specs.Theories.{with_statements, extended};
 
 /// An identity is well sorted, whatever the operators are.
 pub fn identity_is_well_sorted()

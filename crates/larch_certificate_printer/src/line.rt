@@ -236,7 +236,8 @@ fn write_observe(
     goal: &CodedEquation,
     lines: &Numbers,
 ) -> Result<(), Memory>
-    ensures { OnOk result (text.new ≡ text.old ++ join_with_byte 32 (rule_fields here (Observe line goal.now lines.now))) }
+    ensures { OnOk result (text.new ≡ text.old
+        ++ join_with_byte 32 (rule_fields here (Observe line goal.now lines.now))) }
 {
     text.append(b"observe ")?;
     write_ref_part(alloc, text, here, b"line", line)?;
@@ -263,7 +264,8 @@ fn write_clause(
     sort: &Sort,
     operators: &Numbers,
 ) -> Result<(), Memory>
-    ensures { OnOk result (text.new ≡ text.old ++ (word.now ++ (32 ∷ join_with_byte 32 (named_ref here (codes "box") closed
+    ensures { OnOk result (text.new ≡ text.old
+        ++ (word.now ++ (32 ∷ join_with_byte 32 (named_ref here (codes "box") closed
         ∷ named here (codes "sort") sort.now ∷ operators_text here operators.now ∷ [])))) }
 {
     text.append(word)?;

@@ -46,7 +46,8 @@ fn write_head<'a>(
     term: &'a Coded,
     waiting: &mut Stack<&'a [Coded]>,
 ) -> Result<Option<&'a Coded>, Memory>
-    ensures text { IfOk result (λ next. text.new ++ (next_text here next ++ pending here waiting.new) ≡ text.old ++ (term_text here term.now ++ pending here waiting.old)) }
+    ensures text { IfOk result (λ next. text.new ++ (next_text here next ++ pending here waiting.new) ≡ text.old
+        ++ (term_text here term.now ++ pending here waiting.old)) }
     ensures waits { IfOk result (λ next. next_waits next + waits waiting.new < 3 * coded_nodes term.now - 1 + waits waiting.old) }
 {
     match term.node() {
@@ -75,7 +76,8 @@ fn write_other<'a>(
     waiting: &mut Stack<&'a [Coded]>,
 ) -> Result<Option<&'a Coded>, Memory>
     requires { 0 < length waiting.old }
-    ensures text { IfOk result (λ next. text.new ++ (next_text here next ++ pending here waiting.new) ≡ text.old ++ pending here waiting.old) }
+    ensures text { IfOk result (λ next. text.new ++ (next_text here next ++ pending here waiting.new) ≡ text.old
+        ++ pending here waiting.old) }
     ensures waits { IfOk result (λ next. next_waits next + waits waiting.new < waits waiting.old) }
 {
     let Some(further) = waiting.pop() else {

@@ -1,5 +1,6 @@
 //! Reads certificates from standard input, with a byte 0 between any two, and prints each of them again in the first
-//! version, or `malformed at line N`, with a byte 0 behind each: a table to compare with another reader's and printer's.
+//! version, or `malformed at line N`, with a byte 0 behind each: a table to compare with another reader's and
+//! printer's.
 #![tactic(auto)]
 
 mod table;

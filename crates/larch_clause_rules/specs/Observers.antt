@@ -1,5 +1,6 @@
 -- Observations by numbers of a pool.
-use Rattle.std.specs.Prelude.{◌≡◌, ℕ, suc, ◌<◌, ◌&&◌, not, Bool, false, if◌then◌else◌, List, length, slice_get, map, Option, Some, None}
+use Rattle.std.specs.Prelude.{◌≡◌, ℕ, suc, ◌<◌, ◌&&◌, not, Bool, false, if◌then◌else◌, List, length, slice_get, map}
+use Rattle.std.specs.Prelude.{Option, Some, None}
 use Rattle.std.specs.List.{list_all}
 use Rattle.std.specs.Option.{option_map_or}
 use Rattle.larch_term.specs.Tree.{Tree}

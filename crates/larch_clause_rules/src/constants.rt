@@ -63,7 +63,8 @@ pub(crate) fn two_constants(
     sort: &Sort,
 ) -> Result<Equated, Memory>
     ensures within { IfOk result (λ e. IsEquated pool.new e) }
-    ensures says { IfOk result (λ e. equated_in pool.new e ≡ Equation (constant (box_constant of_box 1 sort.now)) (constant (box_constant of_box 2 sort.now))) }
+    ensures says { IfOk result (λ e. equated_in pool.new e
+        ≡ Equation (constant (box_constant of_box 1 sort.now)) (constant (box_constant of_box 2 sort.now))) }
     ensures grows { OnOk result (Grows pool.old pool.new) }
 {
     let left = constant_in(alloc, pool, of_box, 1, sort)?;

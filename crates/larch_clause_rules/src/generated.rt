@@ -32,7 +32,8 @@ pub fn generated_line(
 ) -> Result<Option<Stated>, Memory>
     requires { IsPast theory.now pool.old past.now }
     ensures within { IfOk result (λ o. IfSome o (IsStated pool.new)) }
-    ensures says { IfOk result (λ o. option_map (stated_in pool.new) o ≡ generated_says theory.now (history_of pool.old past.now) of_box sort.now operators.now) }
+    ensures says { IfOk result (λ o. option_map (stated_in pool.new) o
+        ≡ generated_says theory.now (history_of pool.old past.now) of_box sort.now operators.now) }
     ensures grows { OnOk result (Grows pool.old pool.new) }
 {
     let Some((known, stated)) = past.closed_box(of_box) else {
@@ -87,7 +88,8 @@ fn shows_generated(
     requires generators { All (IsKnown pool.old) generators.now }
     requires known { IsBox pool.old known.now }
     requires stated { IsStated pool.old stated.now }
-    ensures says { IfOk result (λ b. b ≡ shows_generated sort.now (operators_in generators.now) (box_in pool.old known.now) (stated_in pool.old stated.now)) }
+    ensures says { IfOk result (λ b. b ≡ shows_generated sort.now (operators_in generators.now)
+        (box_in pool.old known.now) (stated_in pool.old stated.now)) }
     ensures grows { OnOk result (Grows pool.old pool.new) }
 {
     if !is_predicate_on(sort, known.parts.as_slice()) {
@@ -120,7 +122,8 @@ fn holds_of_variable(
 ) -> Result<bool, Memory>
     requires predicate { predicate < length pool.old.operators }
     requires stated { IsStated pool.old stated.now }
-    ensures says { IfOk result (λ b. b ≡ holds_of_variable (operator_in pool.old.operators predicate) sort.now (stated_in pool.old stated.now)) }
+    ensures says { IfOk result (λ b. b ≡ holds_of_variable (operator_in pool.old.operators predicate) sort.now
+        (stated_in pool.old stated.now)) }
     ensures grows { OnOk result (Grows pool.old pool.new) }
 {
     let Some(sides) = sides_of(stated) else {
@@ -139,7 +142,8 @@ fn equation_holds(
 ) -> Result<bool, Memory>
     requires predicate { predicate < length pool.old.operators }
     requires sides { IsEquated pool.old sides }
-    ensures says { IfOk result (λ b. b ≡ holds_of_variable (operator_in pool.old.operators predicate) sort.now (equated_in pool.old sides)) }
+    ensures says { IfOk result (λ b. b ≡ holds_of_variable (operator_in pool.old.operators predicate) sort.now
+        (equated_in pool.old sides)) }
     ensures grows { OnOk result (Grows pool.old pool.new) }
 {
     let name = argument_name(alloc, pool, sides.left, 1)?;

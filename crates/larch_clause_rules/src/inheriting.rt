@@ -31,7 +31,8 @@ pub(crate) fn supposes_inheritance(
     requires hypotheses { All (IsEquated pool.old) hypotheses.now }
     requires predicate { predicate < length pool.old.operators }
     requires generators { All (IsKnown pool.old) generators.now }
-    ensures says { IfOk result (λ b. b ≡ same_statements (map (equated_in pool.old) hypotheses.now) (generation_hypotheses (operator_in pool.old.operators predicate) sort.now (operators_in generators.now))) }
+    ensures says { IfOk result (λ b. b ≡ same_statements (map (equated_in pool.old) hypotheses.now)
+        (generation_hypotheses (operator_in pool.old.operators predicate) sort.now (operators_in generators.now))) }
     ensures grows { OnOk result (Grows pool.old pool.new) }
 {
     if hypotheses.len() != generators.len() {
@@ -61,7 +62,8 @@ fn formula_in(
 ) -> Result<u32, Memory>
     requires predicate { predicate < length pool.old.operators }
     requires generator { IsKnown pool.old generator.now }
-    ensures tree { IfOk result (λ n. HasTree pool.new n (generation_formula (operator_in pool.old.operators predicate) sort.now generator.now.operator)) }
+    ensures tree { IfOk result (λ n. HasTree pool.new n
+        (generation_formula (operator_in pool.old.operators predicate) sort.now generator.now.operator)) }
     ensures grows { OnOk result (Grows pool.old pool.new) }
 {
     let variables = place_variables(alloc, pool, generator.operator.domain())?;
@@ -83,7 +85,9 @@ fn premise_in(
     requires predicate { predicate < length pool.old.operators }
     requires terms { All (λ n. n < length pool.old.trees) terms.now }
     ensures within { IfOk result (λ o. IfSome o (λ n. n < length pool.new.trees)) }
-    ensures says { IfOk result (λ o. option_map (tree_in pool.new.trees) o ≡ with_terms None (holding_of (operator_in pool.old.operators predicate) sort.now (map (tree_in pool.old.trees) terms.now))) }
+    ensures says { IfOk result (λ o. option_map (tree_in pool.new.trees) o
+        ≡ with_terms None (holding_of (operator_in pool.old.operators predicate) sort.now
+        (map (tree_in pool.old.trees) terms.now))) }
     ensures grows { OnOk result (Grows pool.old pool.new) }
 {
     let mut premise = None;
@@ -108,7 +112,9 @@ fn join_premise(
     requires premise { IfSome premise (λ n. n < length pool.old.trees) }
     requires predicate { predicate < length pool.old.operators }
     requires term { term < length pool.old.trees }
-    ensures tree { IfOk result (λ n. HasTree pool.new n (with_term (option_map (tree_in pool.old.trees) premise) (applied (operator_in pool.old.operators predicate) (tree_in pool.old.trees term)))) }
+    ensures tree { IfOk result (λ n. HasTree pool.new n
+        (with_term (option_map (tree_in pool.old.trees) premise)
+        (applied (operator_in pool.old.operators predicate) (tree_in pool.old.trees term)))) }
     ensures grows { OnOk result (Grows pool.old pool.new) }
 {
     let holds = apply_to(alloc, pool, predicate, term)?;
@@ -128,7 +134,8 @@ fn following_from(
 ) -> Result<u32, Memory>
     requires premise { IfSome premise (λ n. n < length pool.old.trees) }
     requires term { term < length pool.old.trees }
-    ensures tree { IfOk result (λ n. HasTree pool.new n (following (option_map (tree_in pool.old.trees) premise) (tree_in pool.old.trees term))) }
+    ensures tree { IfOk result (λ n. HasTree pool.new n
+        (following (option_map (tree_in pool.old.trees) premise) (tree_in pool.old.trees term))) }
     ensures grows { OnOk result (Grows pool.old pool.new) }
 {
     let Some(premise) = premise else {
@@ -142,7 +149,8 @@ fn following_from(
 fn join(alloc: Global, pool: &mut Pool, kind: BuiltIn, left: u32, right: u32) -> Result<u32, Memory>
     requires left { left < length pool.old.trees }
     requires right { right < length pool.old.trees }
-    ensures tree { IfOk result (λ n. HasTree pool.new n (joined (built_in kind bool_sort) (tree_in pool.old.trees left) (tree_in pool.old.trees right))) }
+    ensures tree { IfOk result (λ n. HasTree pool.new n
+        (joined (built_in kind bool_sort) (tree_in pool.old.trees left) (tree_in pool.old.trees right))) }
     ensures grows { OnOk result (Grows pool.old pool.new) }
 {
     let sort = bool_sort(alloc)?;
@@ -160,7 +168,8 @@ pub(crate) fn apply_to(
 ) -> Result<u32, Memory>
     requires operator { operator < length pool.old.operators }
     requires argument { argument < length pool.old.trees }
-    ensures tree { IfOk result (λ n. HasTree pool.new n (applied (operator_in pool.old.operators operator) (tree_in pool.old.trees argument))) }
+    ensures tree { IfOk result (λ n. HasTree pool.new n
+        (applied (operator_in pool.old.operators operator) (tree_in pool.old.trees argument))) }
     ensures grows { OnOk result (Grows pool.old pool.new) }
 {
     let mut arguments = Vec::with_capacity(alloc, 1)?;

@@ -30,7 +30,8 @@ pub(crate) fn own_operators(
 ) -> Result<Option<Vec<Known>>, Memory>
     requires { IsPast theory.now pool.now past.now }
     ensures known { IfOk result (λ o. IfSome o (λ ks. All (IsKnown pool.now) ks.items)) }
-    ensures says { IfOk result (λ o. option_map (λ ks. operators_in ks.items) o ≡ own_operators theory.now numbers.now) }
+    ensures says { IfOk result (λ o. option_map (λ ks. operators_in ks.items) o
+        ≡ own_operators theory.now numbers.now) }
 {
     let mut known = Vec::with_capacity(alloc, numbers.len())?;
     for number in numbers {

@@ -6,7 +6,8 @@ ghost use Rattle.larch_lines.specs.Context.{find_symbol};
 ghost use Rattle.larch_pool.specs.Pooled.{tree_in, Grows};
 ghost use Rattle.larch_pool.specs.Substitution.{AreVariables};
 ghost use Rattle.larch_past.specs.Past.{IsPast, IsHappened, IsIndexed, IsEquated, equated_in, stated_in, history_of};
-ghost use Rattle.larch_clause_rules.specs.Observers.{observation_of, IsObserver, variables_in, some_unbound, if_different};
+ghost use Rattle.larch_clause_rules.specs.Observers.{observation_of, IsObserver, variables_in, some_unbound};
+ghost use Rattle.larch_clause_rules.specs.Observers.{if_different};
 
 use crate::known::intern_operators;
 use crate::observed::same_observed;
@@ -36,7 +37,9 @@ pub fn observe_line(
 ) -> Result<Option<Equated>, Memory>
     requires { IsPast theory.now pool.old past.now }
     ensures within { IfOk result (λ o. IfSome o (IsEquated pool.new)) }
-    ensures says { IfOk result (λ o. option_map (equated_in pool.new) o ≡ observe_says (find_symbol theory.now (history_of pool.old past.now)) (history_of pool.old past.now) clause equation.now lines.now) }
+    ensures says { IfOk result (λ o. option_map (equated_in pool.new) o
+        ≡ observe_says (find_symbol theory.now (history_of pool.old past.now))
+        (history_of pool.old past.now) clause equation.now lines.now) }
     ensures grows { OnOk result (Grows pool.old pool.new) }
 {
     let sides = decode_equation(alloc, pool, theory, past, equation)?;
@@ -66,7 +69,9 @@ fn observed_equal(
     requires index { IsIndexed past.now.places.items (reverse past.now.events.items) }
     requires within { All (IsHappened pool.old) past.now.events.items }
     requires sides { IsEquated pool.old sides }
-    ensures says { IfOk result (λ b. observed_equal (history_of pool.old past.now) lines.now (equated_in pool.old sides) (stated_in pool.old clause.now) ≡ (if b then Some (equated_in pool.old sides) else None)) }
+    ensures says { IfOk result (λ b. observed_equal (history_of pool.old past.now) lines.now
+        (equated_in pool.old sides) (stated_in pool.old clause.now)
+        ≡ (if b then Some (equated_in pool.old sides) else None)) }
     ensures grows { OnOk result (Grows pool.old pool.new) }
 {
     match clause {
@@ -97,7 +102,8 @@ fn show_same(
     requires within { All (IsHappened pool.old) past.now.events.items }
     requires sides { IsEquated pool.old sides }
     requires observers { All (IsObserver pool.old) observers.now }
-    ensures says { IfOk result (λ b. b ≡ show_same (history_of pool.old past.now) (tree_in pool.old.trees sides.left) (tree_in pool.old.trees sides.right) (map observation_of observers.now) lines.now) }
+    ensures says { IfOk result (λ b. b ≡ show_same (history_of pool.old past.now) (tree_in pool.old.trees sides.left)
+        (tree_in pool.old.trees sides.right) (map observation_of observers.now) lines.now) }
     ensures grows { OnOk result (Grows pool.old pool.new) }
 {
     if observers.len() != lines.len() {
@@ -131,7 +137,10 @@ fn shows_same(
     requires observer { IsObserver pool.old observer.now }
     requires sides { IsEquated pool.old sides }
     ensures others { IfOk result (λ o. IfSome o (λ vs. AreVariables pool.new.trees vs.items)) }
-    ensures says { IfOk result (λ o. shows_same (tree_in pool.old.trees sides.left) (tree_in pool.old.trees sides.right) (observation_of observer.now) (equated_in pool.old said) ≡ some_unbound (tree_in pool.old.trees sides.left) (tree_in pool.old.trees sides.right) (option_map (λ vs. variables_in pool.new.trees vs.items) o)) }
+    ensures says { IfOk result (λ o. shows_same (tree_in pool.old.trees sides.left)
+        (tree_in pool.old.trees sides.right) (observation_of observer.now) (equated_in pool.old said)
+        ≡ some_unbound (tree_in pool.old.trees sides.left) (tree_in pool.old.trees sides.right)
+        (option_map (λ vs. variables_in pool.new.trees vs.items) o)) }
     ensures grows { OnOk result (Grows pool.old pool.new) }
 {
     let domain = observer.operator.domain();
@@ -154,7 +163,8 @@ fn different_others(
     requires variables { AreVariables pool.now.trees variables.items }
     requires index { index < length variables.items }
     ensures others { IfOk result (λ o. IfSome o (λ vs. AreVariables pool.now.trees vs.items)) }
-    ensures says { IfOk result (λ o. option_map (λ vs. variables_in pool.now.trees vs.items) o ≡ if_different (remove (variables_in pool.now.trees variables.items) index)) }
+    ensures says { IfOk result (λ o. option_map (λ vs. variables_in pool.now.trees vs.items) o
+        ≡ if_different (remove (variables_in pool.now.trees variables.items) index)) }
 {
     let mut others = variables;
     let _ = others.remove(index);

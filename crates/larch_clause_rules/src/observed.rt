@@ -29,7 +29,12 @@ pub(crate) fn same_observed(
     requires variables { All (λ n. n < length pool.old.trees) variables.now }
     requires index { observer.now.index < length variables.now }
     requires sides { IsEquated pool.old sides }
-    ensures says { IfOk result (λ b. (names : ℕ → List ℕ) → map (tree_in pool.old.trees) variables.now ≡ map variable_term (variables_named names 1 observer.now.operator.domain) → b ≡ same_statement (equated_in pool.old said) (Equation (observed names (observation_of observer.now) (tree_in pool.old.trees sides.left)) (observed names (observation_of observer.now) (tree_in pool.old.trees sides.right)))) }
+    ensures says { IfOk result (λ b. (names : ℕ → List ℕ)
+        → map (tree_in pool.old.trees) variables.now
+        ≡ map variable_term (variables_named names 1 observer.now.operator.domain)
+        → b ≡ same_statement (equated_in pool.old said)
+        (Equation (observed names (observation_of observer.now) (tree_in pool.old.trees sides.left))
+        (observed names (observation_of observer.now) (tree_in pool.old.trees sides.right)))) }
     ensures grows { OnOk result (Grows pool.old pool.new) }
 {
     let left = observed_in(alloc, pool, observer, variables, sides.left)?;
@@ -49,7 +54,9 @@ fn observed_in(
     requires variables { All (λ n. n < length pool.old.trees) variables.now }
     requires index { observer.now.index < length variables.now }
     requires term { term < length pool.old.trees }
-    ensures tree { IfOk result (λ n. HasTree pool.new n (app observer.now.operator (forest_of (map (tree_in pool.old.trees) (slice_set variables.now observer.now.index term))))) }
+    ensures tree { IfOk result (λ n. HasTree pool.new n
+        (app observer.now.operator (forest_of
+        (map (tree_in pool.old.trees) (slice_set variables.now observer.now.index term))))) }
     ensures grows { OnOk result (Grows pool.old pool.new) }
 {
     let mut arguments = Vec::from_slice(alloc, variables)?;

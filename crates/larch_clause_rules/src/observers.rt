@@ -23,7 +23,8 @@ pub(crate) fn observers_of(
     sort: &Sort,
     operators: &[Known],
 ) -> Result<Vec<Observer>, Memory>
-    ensures says { IfOk result (λ os. map observation_of os.items ≡ observations_of sort.now (operators_in operators.now)) }
+    ensures says { IfOk result (λ os. map observation_of os.items
+        ≡ observations_of sort.now (operators_in operators.now)) }
     ensures known { IfOk result (λ os. (p : Pooled) → All (IsKnown p) operators.now → All (IsObserver p) os.items) }
 {
     let mut observers = Vec::new(alloc);
@@ -35,8 +36,11 @@ pub(crate) fn observers_of(
 
 // Puts an operator with each place of the sort behind others.
 fn push_observers(sort: &Sort, known: &Known, observers: &mut Vec<Observer>) -> Result<(), Memory>
-    ensures says { OnOk result (map observation_of observers.new.items ≡ map observation_of observers.old.items ++ map (λ k. record { observer = known.now.operator; place = k }) (places_of_sort sort.now 1 known.now.operator.domain)) }
-    ensures known { OnOk result ((p : Pooled) → IsKnown p known.now → All (IsObserver p) observers.old.items → All (IsObserver p) observers.new.items) }
+    ensures says { OnOk result (map observation_of observers.new.items ≡ map observation_of observers.old.items
+        ++ map (λ k. record { observer = known.now.operator; place = k })
+        (places_of_sort sort.now 1 known.now.operator.domain)) }
+    ensures known { OnOk result ((p : Pooled) → IsKnown p known.now → All (IsObserver p) observers.old.items
+        → All (IsObserver p) observers.new.items) }
 {
     let domain = known.operator.domain();
     for index in 0..domain.len() {

@@ -38,7 +38,8 @@ pub fn partitioned_line(
 ) -> Result<Option<Stated>, Memory>
     requires { IsPast theory.now pool.old past.now }
     ensures within { IfOk result (λ o. IfSome o (IsStated pool.new)) }
-    ensures says { IfOk result (λ o. option_map (stated_in pool.new) o ≡ partitioned_says theory.now (history_of pool.old past.now) of_box sort.now operators.now) }
+    ensures says { IfOk result (λ o. option_map (stated_in pool.new) o
+        ≡ partitioned_says theory.now (history_of pool.old past.now) of_box sort.now operators.now) }
     ensures grows { OnOk result (Grows pool.old pool.new) }
 {
     let Some((known, stated)) = past.closed_box(of_box) else {
@@ -105,7 +106,8 @@ fn shows_partitioned(
     requires operators { All (IsKnown pool.old) operators.now }
     requires known { IsBox pool.old known.now }
     requires stated { IsStated pool.old stated.now }
-    ensures says { IfOk result (λ b. b ≡ shows_partitioned sort.now (operators_in operators.now) (box_in pool.old known.now) (stated_in pool.old stated.now)) }
+    ensures says { IfOk result (λ b. b ≡ shows_partitioned sort.now (operators_in operators.now)
+        (box_in pool.old known.now) (stated_in pool.old stated.now)) }
     ensures grows { OnOk result (Grows pool.old pool.new) }
 {
     if !has_two_constants(sort, known.parts.as_slice()) {
@@ -151,7 +153,9 @@ fn supposes_observations(
     requires hypotheses { All (IsEquated pool.old) hypotheses.now }
     requires operators { All (IsKnown pool.old) operators.now }
     requires sides { IsEquated pool.old sides }
-    ensures says { IfOk result (λ b. b ≡ same_statements (map (equated_in pool.old) hypotheses.now) (observations place_name sort.now (operators_in operators.now) (tree_in pool.old.trees sides.left) (tree_in pool.old.trees sides.right))) }
+    ensures says { IfOk result (λ b. b ≡ same_statements (map (equated_in pool.old) hypotheses.now)
+        (observations place_name sort.now (operators_in operators.now) (tree_in pool.old.trees sides.left)
+        (tree_in pool.old.trees sides.right))) }
     ensures grows { OnOk result (Grows pool.old pool.new) }
 {
     let observers = observers_of(alloc, sort, operators)?;
@@ -170,7 +174,9 @@ fn are_observed(
     requires hypotheses { All (IsEquated pool.old) hypotheses.now }
     requires observers { All (IsObserver pool.old) observers.now }
     requires sides { IsEquated pool.old sides }
-    ensures says { IfOk result (λ b. b ≡ same_statements (map (equated_in pool.old) hypotheses.now) (map (λ w. Equation (observed place_name w (tree_in pool.old.trees sides.left)) (observed place_name w (tree_in pool.old.trees sides.right))) (map observation_of observers.now))) }
+    ensures says { IfOk result (λ b. b ≡ same_statements (map (equated_in pool.old) hypotheses.now)
+        (map (λ w. Equation (observed place_name w (tree_in pool.old.trees sides.left))
+        (observed place_name w (tree_in pool.old.trees sides.right))) (map observation_of observers.now))) }
     ensures grows { OnOk result (Grows pool.old pool.new) }
 {
     if hypotheses.len() != observers.len() {
@@ -196,7 +202,9 @@ fn is_observed(
     requires said { IsEquated pool.old said }
     requires observer { IsObserver pool.old observer.now }
     requires sides { IsEquated pool.old sides }
-    ensures says { IfOk result (λ b. b ≡ same_statement (equated_in pool.old said) (Equation (observed place_name (observation_of observer.now) (tree_in pool.old.trees sides.left)) (observed place_name (observation_of observer.now) (tree_in pool.old.trees sides.right)))) }
+    ensures says { IfOk result (λ b. b ≡ same_statement (equated_in pool.old said)
+        (Equation (observed place_name (observation_of observer.now) (tree_in pool.old.trees sides.left))
+        (observed place_name (observation_of observer.now) (tree_in pool.old.trees sides.right)))) }
     ensures grows { OnOk result (Grows pool.old pool.new) }
 {
     let variables = place_variables(alloc, pool, observer.operator.domain())?;

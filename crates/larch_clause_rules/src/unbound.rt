@@ -19,7 +19,8 @@ pub(crate) fn are_unbound(
 ) -> Result<bool, Memory>
     requires variables { AreVariables pool.old.trees variables.now }
     requires sides { IsEquated pool.old sides }
-    ensures says { IfOk result (λ b. b ≡ unbound (tree_in pool.old.trees sides.left) (tree_in pool.old.trees sides.right) (variables_in pool.old.trees variables.now)) }
+    ensures says { IfOk result (λ b. b ≡ unbound (tree_in pool.old.trees sides.left)
+        (tree_in pool.old.trees sides.right) (variables_in pool.old.trees variables.now)) }
     ensures grows { OnOk result (Grows pool.old pool.new) }
 {
     let by = closing(alloc, pool, variables)?;
@@ -35,7 +36,8 @@ pub(crate) fn are_unbound(
 fn closing(alloc: Global, pool: &mut Pool, variables: &[u32]) -> Result<Vec<Binding>, Memory>
     requires { AreVariables pool.old.trees variables.now }
     ensures bindings { IfOk result (λ by. AreBindings pool.new.trees by.items) }
-    ensures entries { IfOk result (λ by. entries_of pool.new.trees by.items ≡ map closed (variables_in pool.old.trees variables.now)) }
+    ensures entries { IfOk result (λ by. entries_of pool.new.trees by.items
+        ≡ map closed (variables_in pool.old.trees variables.now)) }
     ensures grows { OnOk result (Grows pool.old pool.new) }
 {
     let image = truth_in(alloc, pool)?;

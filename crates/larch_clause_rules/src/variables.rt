@@ -54,7 +54,8 @@ pub(crate) fn argument_variables(
 ) -> Result<Vec<u32>, Memory>
     requires { term < length pool.old.trees }
     ensures within { IfOk result (λ vs. All (λ n. n < length pool.new.trees) vs.items) }
-    ensures trees { IfOk result (λ vs. map (tree_in pool.new.trees) vs.items ≡ map variable_term (variables_named (argument_name (tree_in pool.old.trees term)) 1 sorts.now)) }
+    ensures trees { IfOk result (λ vs. map (tree_in pool.new.trees) vs.items
+        ≡ map variable_term (variables_named (argument_name (tree_in pool.old.trees term)) 1 sorts.now)) }
     ensures grows { OnOk result (Grows pool.old pool.new) }
 {
     let mut variables = Vec::with_capacity(alloc, sorts.len())?;
@@ -74,7 +75,8 @@ pub(crate) fn place_variables(
     sorts: &[Sort],
 ) -> Result<Vec<u32>, Memory>
     ensures within { IfOk result (λ vs. All (λ n. n < length pool.new.trees) vs.items) }
-    ensures trees { IfOk result (λ vs. map (tree_in pool.new.trees) vs.items ≡ map variable_term (variables_named place_name 1 sorts.now)) }
+    ensures trees { IfOk result (λ vs. map (tree_in pool.new.trees) vs.items
+        ≡ map variable_term (variables_named place_name 1 sorts.now)) }
     ensures grows { OnOk result (Grows pool.old pool.new) }
 {
     let mut variables = Vec::with_capacity(alloc, sorts.len())?;

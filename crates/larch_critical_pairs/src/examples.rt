@@ -1,6 +1,7 @@
 //! Critical pairs worked out, as the definitions compute them. No function here does anything.
 ghost use Rattle.std.specs.Prelude.{◌≡◌, true, false, codes, [], ◌∷◌, Ok};
-ghost use Rattle.larch_critical_pairs.specs.Examples.{associative, f, for_f_of_g, for_g_of_f, g, named_in, product, to_constant, twice_f_is_g, v};
+ghost use Rattle.larch_critical_pairs.specs.Examples.{associative, f, for_f_of_g, for_g_of_f, g, named_in, product};
+ghost use Rattle.larch_critical_pairs.specs.Examples.{to_constant, twice_f_is_g, v};
 ghost use Rattle.larch_critical_pairs.specs.Pairs.{critical_pairs};
 
 /// f(f(x)) -> g(x) overlaps with itself below the root: f(f(f(x))) becomes f(g(x)) and g(f(x)).

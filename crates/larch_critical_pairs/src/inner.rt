@@ -43,7 +43,8 @@ fn add_argument_places(
     above: &Place,
     found: &mut Places,
 ) -> Result<(), Memory>
-    ensures { OnOk result (found.new ≡ found.old ++ map (λ p. above.now ++ p) (inner_places_from 0 (forest_of terms.now))) }
+    ensures { OnOk result (found.new ≡ found.old
+        ++ map (λ p. above.now ++ p) (inner_places_from 0 (forest_of terms.now))) }
 {
     for i in 0..terms.len() {
         let place = argument_place(alloc, above, i + 1)?;

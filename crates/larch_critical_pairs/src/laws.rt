@@ -14,8 +14,8 @@ pub fn pairs_come_from_one_term()
     ensures { (r q : Rule) (b : Bool) (ps : List Pair) → critical_pairs r q b ≡ Ok ps → All (Overlaps r q) ps }
 {}
 
-/// Where both sides of each rule are well sorted and of one sort, so are those of their pairs, if the second rule's left
-/// side is no variable: a variable of another sort would be bound to what stands at a place.
+/// Where both sides of each rule are well sorted and of one sort, so are those of their pairs, if the second rule's
+/// left side is no variable: a variable of another sort would be bound to what stands at a place.
 pub fn pairs_keep_sorts()
     ensures { (r q : Rule) (b : Bool) (ps : List Pair) → AreSorted r.left r.right → AreSorted q.left q.right
         → IsApplication q.left → critical_pairs r q b ≡ Ok ps → All (λ p. AreSorted p.left p.right) ps }

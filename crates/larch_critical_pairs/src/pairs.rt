@@ -1,7 +1,8 @@
 ghost use Rattle.std.specs.Prelude.{◌≡◌, ◌++◌, AllPairs, IfOk, [], ◌∷◌, false};
 ghost use Rattle.larch_base.specs.Answering.{Answers};
 ghost use Rattle.larch_term.specs.Substitution.{is_entry_of};
-ghost use Rattle.larch_critical_pairs.specs.Pairs.{apart, critical_pairs, marking, pair_at, pair_within, raw_pair, with_pairs_at};
+ghost use Rattle.larch_critical_pairs.specs.Pairs.{apart, critical_pairs, marking, pair_at, pair_within, raw_pair};
+ghost use Rattle.larch_critical_pairs.specs.Pairs.{with_pairs_at};
 ghost use Rattle.larch_pairs.specs.Refusals.{told};
 ghost use Rattle.larch_term.specs.Tree.{var};
 
@@ -18,9 +19,9 @@ use std::alloc::Global;
 /// The critical pairs of the second rule's left side in the first one's (Knuth and Bendix 1970), at the places of the
 /// first one at which no variable stands, each before those below it, from left to right. `one` tells that both are one
 /// rule: then the root is left out. Variables are named v1, v2, .. in the order in which each occurs first: in the left
-/// side, in the right side, and then in the terms of the two substitutions. `TooLarge` where at some place a unification
-/// answers that, or a side of the pair has more than 5,000 nodes. Its time grows with the places, and at each one at
-/// which the heads agree with that of a unification.
+/// side, in the right side, and then in the terms of the two substitutions. `TooLarge` where at some place a
+/// unification answers that, or a side of the pair has more than 5,000 nodes. Its time grows with the places, and at
+/// each one at which the heads agree with that of a unification.
 #[tactic(auto, using(crate::proofs::Pairing::pairs_of_one, crate::proofs::Pairing::pairs_of_two))]
 pub fn critical_pairs(
     alloc: Global,

@@ -1,4 +1,5 @@
-ghost use Rattle.std.specs.Prelude.{◌≡◌, ◌<◌, ℕ, List, [], ◌∷◌, ◌++◌, if◌then◌else◌, length, map, reverse, All, IfOk, IfSome, OnOk, None, Some, take, drop, ◌-◌};
+ghost use Rattle.std.specs.Prelude.{◌≡◌, ◌<◌, ℕ, List, [], ◌∷◌, ◌++◌, if◌then◌else◌, length, map, reverse, All, IfOk};
+ghost use Rattle.std.specs.Prelude.{IfSome, OnOk, None, Some, take, drop, ◌-◌};
 ghost use Rattle.std.specs.Option.{option_map};
 ghost use Rattle.larch_term.specs.Tree.{Tree, var};
 ghost use Rattle.larch_certificate.specs.Coded.{CodedTree};
@@ -27,7 +28,8 @@ pub fn decode(
 ) -> Result<Option<u32>, Memory>
     requires { IsPast theory.now pool.old past.now }
     ensures within { IfOk result (λ o. IfSome o (λ n. n < length pool.new.trees)) }
-    ensures says { IfOk result (λ o. option_map (tree_in pool.new.trees) o ≡ decode (find_symbol theory.now (history_of pool.old past.now)) term.now) }
+    ensures says { IfOk result (λ o. option_map (tree_in pool.new.trees) o
+        ≡ decode (find_symbol theory.now (history_of pool.old past.now)) term.now) }
     ensures grows { OnOk result (Grows pool.old pool.new) }
 {
     let mut order = in_order(alloc, term)?;
@@ -65,7 +67,8 @@ fn in_order<'a>(alloc: Global, term: &'a Coded) -> Result<Vec<&'a Coded>, Memory
 
 // Puts the arguments of a term behind others.
 fn push_arguments<'a>(term: &'a Coded, waiting: &mut Vec<&'a Coded>) -> Result<(), Memory>
-    ensures { OnOk result (postorders (map (λ c. c.now) waiting.new.items) ++ term.now ∷ [] ≡ postorders (map (λ c. c.now) waiting.old.items) ++ postorder term.now) }
+    ensures { OnOk result (postorders (map (λ c. c.now) waiting.new.items) ++ term.now ∷ []
+        ≡ postorders (map (λ c. c.now) waiting.old.items) ++ postorder term.now) }
 {
     match term.node() {
         CodedNode::Var(_, _) => Ok(()),
@@ -97,7 +100,11 @@ fn decode_next(
     requires past { IsPast theory.now pool.old past.now }
     requires values { All (λ n. n < length pool.old.trees) values.old.items }
     ensures within { OnOk result (All (λ n. n < length pool.new.trees) values.new.items) }
-    ensures values { IfOk result (λ b. (cs : List CodedTree) → values_after (find_symbol theory.now (history_of pool.old past.now)) (term.now ∷ cs) (map (tree_in pool.old.trees) values.old.items) ≡ (if b then values_after (find_symbol theory.now (history_of pool.old past.now)) cs (map (tree_in pool.new.trees) values.new.items) else None)) }
+    ensures values { IfOk result (λ b. (cs : List CodedTree)
+        → values_after (find_symbol theory.now (history_of pool.old past.now)) (term.now ∷ cs)
+        (map (tree_in pool.old.trees) values.old.items)
+        ≡ (if b then values_after (find_symbol theory.now (history_of pool.old past.now)) cs
+        (map (tree_in pool.new.trees) values.new.items) else None)) }
     ensures grows { OnOk result (Grows pool.old pool.new) }
 {
     match term.node() {
@@ -152,7 +159,9 @@ fn decode_application(
     requires past { IsPast theory.now pool.old past.now }
     requires arguments { All (λ n. n < length pool.old.trees) arguments }
     ensures within { IfOk result (λ o. IfSome o (λ n. n < length pool.new.trees)) }
-    ensures value { IfOk result (λ o. option_map (tree_in pool.new.trees) o ≡ value_of (find_symbol theory.now (history_of pool.old past.now)) symbol (map (tree_in pool.old.trees) arguments)) }
+    ensures value { IfOk result (λ o. option_map (tree_in pool.new.trees) o
+        ≡ value_of (find_symbol theory.now (history_of pool.old past.now)) symbol
+        (map (tree_in pool.old.trees) arguments)) }
     ensures grows { OnOk result (Grows pool.old pool.new) }
 {
     let found = find_operator(alloc, pool, theory, past, symbol, arguments.as_slice())?;
@@ -176,7 +185,8 @@ pub fn decode_equation(
 ) -> Result<Option<Equated>, Memory>
     requires { IsPast theory.now pool.old past.now }
     ensures within { IfOk result (λ o. IfSome o (IsEquated pool.new)) }
-    ensures says { IfOk result (λ o. option_map (equated_in pool.new) o ≡ decode_equation (find_symbol theory.now (history_of pool.old past.now)) equation.now) }
+    ensures says { IfOk result (λ o. option_map (equated_in pool.new) o
+        ≡ decode_equation (find_symbol theory.now (history_of pool.old past.now)) equation.now) }
     ensures grows { OnOk result (Grows pool.old pool.new) }
 {
     let left = decode(alloc, pool, theory, past, &equation.left)?;

@@ -28,7 +28,9 @@ pub fn find_operator(
 ) -> Result<Option<u32>, Memory>
     requires past { IsPast theory.now pool.old past.now }
     requires arguments { All (λ n. n < length pool.old.trees) arguments.now }
-    ensures operator { IfOk result (λ o. option_and_then (slice_get pool.new.operators) o ≡ find_symbol theory.now (history_of pool.old past.now) symbol (sorts_of (forest_of (map (tree_in pool.old.trees) arguments.now)))) }
+    ensures operator { IfOk result (λ o. option_and_then (slice_get pool.new.operators) o
+        ≡ find_symbol theory.now (history_of pool.old past.now) symbol
+        (sorts_of (forest_of (map (tree_in pool.old.trees) arguments.now)))) }
     ensures within { IfOk result (λ o. IfSome o (λ n. n < length pool.new.operators)) }
     ensures grows { OnOk result (Grows pool.old pool.new) }
     ensures trees { OnOk result (pool.new.trees ≡ pool.old.trees) }
@@ -74,7 +76,8 @@ fn box_operator(
     number: u64,
 ) -> Result<Option<u32>, Memory>
     requires { IsPast theory.now pool.old past.now }
-    ensures operator { IfOk result (λ o. option_and_then (slice_get pool.new.operators) o ≡ option_and_then (λ b. numbered (operators_of b) number) (find_open (history_of pool.old past.now) of_box)) }
+    ensures operator { IfOk result (λ o. option_and_then (slice_get pool.new.operators) o
+        ≡ option_and_then (λ b. numbered (operators_of b) number) (find_open (history_of pool.old past.now) of_box)) }
     ensures within { IfOk result (λ o. IfSome o (λ n. n < length pool.new.operators)) }
     ensures grows { OnOk result (Grows pool.old pool.new) }
     ensures trees { OnOk result (pool.new.trees ≡ pool.old.trees) }
@@ -136,7 +139,8 @@ fn built_in_operator(
     arguments: &[u32],
 ) -> Result<u32, Memory>
     requires { All (λ n. n < length pool.old.trees) arguments.now }
-    ensures operator { IfOk result (λ n. slice_get pool.new.operators n ≡ Some (built_in kind (last_sort (sorts_of (forest_of (map (tree_in pool.old.trees) arguments.now)))))) }
+    ensures operator { IfOk result (λ n. slice_get pool.new.operators n
+        ≡ Some (built_in kind (last_sort (sorts_of (forest_of (map (tree_in pool.old.trees) arguments.now)))))) }
     ensures grows { OnOk result (Grows pool.old pool.new) }
     ensures trees { OnOk result (pool.new.trees ≡ pool.old.trees) }
 {

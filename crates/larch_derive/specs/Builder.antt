@@ -8,7 +8,9 @@ use Rattle.larch_certificate.specs.Coded.{CodedTree}
 use Rattle.larch_certificate.specs.declared.line.BoxPart.{BoxPart}
 use Rattle.larch_certificate.specs.declared.line.CodedEquation.{CodedEquation}
 use Rattle.larch_certificate.specs.declared.line.Line.{Line}
-use Rattle.larch_certificate.specs.declared.line.Line.TheVariants.{Axiom, Hyp, Row, Refl, Sym, Inst, Repl, Equal, BoxLine, Done, Fresh, Cases, Induct, Observe, Generated, Partitioned}
+use Rattle.larch_certificate.specs.declared.line.Line.TheVariants.{Axiom, Hyp, Row, Refl, Sym, Inst, Repl, Equal}
+use Rattle.larch_certificate.specs.declared.line.Line.TheVariants.{BoxLine, Done, Fresh, Cases, Induct, Observe}
+use Rattle.larch_certificate.specs.declared.line.Line.TheVariants.{Generated, Partitioned}
 use Rattle.larch_derive.specs.declared.builder.Builder.{Builder}
 use Rattle.larch_derive.specs.declared.open_box.OpenBox.{OpenBox}
 use Rattle.larch_derive.specs.Coding.{IsCodeOf, AreCodesOfEquations}

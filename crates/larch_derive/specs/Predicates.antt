@@ -42,8 +42,8 @@ shapes_of (Said n s ∷ h) = shapes_of h
 shapes_of (Opened b ∷ h) = shapes_of h ++ (b.number, b.parts) ∷ []
 shapes_of (Closed b s ∷ h) = shapes_of h
 
--- the lines lead to the state, so none is bad, and the boxes are those that are open there; no operator of the theory has the name of a box's constant, and what
--- stands for constants of open boxes is neither the theory's nor built in
+-- the lines lead to the state, so none is bad, and the boxes are those that are open there; no operator of the theory
+-- has the name of a box's constant, and what stands for constants of open boxes is neither the theory's nor built in
 pub record StandIn (t : Theory) (bs : List OpenBox) (ls : List Line) (st : State) : Type 0 where
   pub runs : run t start ls ≡ Some st
   pub opened : shapes_of st.history ≡ map shape_of bs
@@ -70,7 +70,8 @@ Stands b = (st : State) × StandIn b.theory b.boxes b.lines st
 unfoldable pub Known : Builder → Tree → Type 0
 Known b a = (st : State) × KnownIn b.theory b.boxes b.lines st a
 
--- no line of the builder is bad, and the one with the number, which stands in an open box or in none, says the statement
+-- no line of the builder is bad, and the one with the number, which stands in an open box or in none, says the
+-- statement
 unfoldable pub HasStatement : Builder → ℕ → Statement → Type 0
 HasStatement b n s = (st : State) × SaysIn b.theory b.boxes b.lines st n s
 

@@ -32,7 +32,8 @@ pub fn saying_stays()
     ensures said { (a b : Builder) (n : ℕ) (s : Statement) → Grows a b → HasStatement a n s → HasStatement b n s }
     ensures known { (a b : Builder) (t : Tree) → Grows a b → Known a t → Known b t }
     ensures stands { (a b : Builder) → Grows a b → Stands a → Stands b }
-    ensures said_still { (a b : Builder) (n : ℕ) (s : Statement) → Extends a b → HasStatement a n s → HasStatement b n s }
+    ensures said_still { (a b : Builder) (n : ℕ) (s : Statement) → Extends a b → HasStatement a n s
+        → HasStatement b n s }
     ensures known_still { (a b : Builder) (t : Tree) → Extends a b → Known a t → Known b t }
 {}
 

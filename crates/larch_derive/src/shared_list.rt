@@ -22,9 +22,12 @@ impl<T> Model for SharedList<T> {
 
     ghost Value = { List T };
 
-    ghost view = { λ list. flat_map (λ chunk. map (λ item. item.value) chunk.items) (map (λ chunk. chunk.value) list.chunks.items) ++ map (λ item. item.value) list.last.items };
+    ghost view = { λ list. flat_map (λ chunk. map (λ item. item.value) chunk.items)
+        (map (λ chunk. chunk.value) list.chunks.items) ++ map (λ item. item.value) list.last.items };
 
-    ghost invariant = { λ list. list.count ≡ length (flat_map (λ chunk. map (λ item. item.value) chunk.items) (map (λ chunk. chunk.value) list.chunks.items) ++ map (λ item. item.value) list.last.items) };
+    ghost invariant = { λ list. list.count ≡ length
+        (flat_map (λ chunk. map (λ item. item.value) chunk.items) (map (λ chunk. chunk.value) list.chunks.items)
+        ++ map (λ item. item.value) list.last.items) };
 }
 
 impl<T: Drop> SharedList<T> {

@@ -24,7 +24,8 @@ use Rattle.larch_derive.specs.declared.builder.Builder.{Builder}
 use Rattle.larch_derive.specs.declared.open_box.OpenBox.{OpenBox}
 use Rattle.larch_derive.specs.Builder.{IsPushed, part_for}
 use Rattle.larch_derive.specs.OpenBox.{constant_of}
-use Rattle.larch_derive.specs.Predicates.{AreOthers, operators_at, written, written_statement, StandIn, HasStatement, Grows}
+use Rattle.larch_derive.specs.Predicates.{AreOthers, operators_at, written, written_statement, StandIn, HasStatement}
+use Rattle.larch_derive.specs.Predicates.{Grows}
 
 -- the box that lines open for this one
 abbrev pub box_of : OpenBox → List Statement → PlainBox
@@ -41,7 +42,8 @@ IsEquation (Generated s fs) = ⊥
 IsEquation (Partitioned s fs) = ⊥
 
 -- the statement may be supposed in the box: it is an equation that is well sorted there
-pub record MaySupposeIn (t : Theory) (bs : List OpenBox) (ls : List Line) (st : State) (x : OpenBox) (s : Statement) : Type 0 where
+pub record MaySupposeIn (t : Theory) (bs : List OpenBox) (ls : List Line) (st : State)
+    (x : OpenBox) (s : Statement) : Type 0 where
   pub stand : StandIn t bs ls st
   pub equation : IsEquation s
   pub over : IsStatementOver (operators_inside t st.history x) (written_statement (bs ++ x ∷ []) s)
@@ -54,7 +56,8 @@ abbrev pub IsPart : PlainOperator → Type 0
 IsPart f = (f.domain ≡ []) ⊎ ((s : List ℕ) × (f.domain ≡ s ∷ []) × (f.range ≡ bool_sort))
 
 -- the term can be written in the box once that is open; it may have the box's own constants and predicates
-pub record KnownInsideIn (t : Theory) (bs : List OpenBox) (ls : List Line) (st : State) (x : OpenBox) (a : Tree) : Type 0 where
+pub record KnownInsideIn (t : Theory) (bs : List OpenBox) (ls : List Line) (st : State)
+    (x : OpenBox) (a : Tree) : Type 0 where
   pub stand : StandIn t bs ls st
   pub over : IsTermOver (operators_inside t st.history x) (written (bs ++ x ∷ []) a)
 
@@ -66,7 +69,8 @@ abbrev pub AreKnownInside : Builder → OpenBox → List Entry → Type 0
 AreKnownInside b x es = All (λ e. KnownInside b x e.term × (sort_of e.term ≡ e.sort)) es
 
 -- the second list of lines has one line more, which opens the box
-pub record OpensIn (t : Theory) (bs : List OpenBox) (ls ks : List Line) (x : OpenBox) (hs : List Statement) : Type 0 where
+pub record OpensIn (t : Theory) (bs : List OpenBox) (ls ks : List Line) (x : OpenBox)
+    (hs : List Statement) : Type 0 where
   pub line : Line
   pub lines : ks ≡ ls ++ line ∷ []
   pub number : x.number ≡ suc (length ls)
@@ -89,7 +93,8 @@ unfoldable pub Opens : Builder → Builder → OpenBox → List Statement → Ty
 Opens a b x hs = OpensOn a b x hs
 
 -- the box is open, and these are its hypotheses
-pub record IsOpenIn (t : Theory) (bs : List OpenBox) (ls : List Line) (st : State) (x : OpenBox) (hs : List Statement) : Type 0 where
+pub record IsOpenIn (t : Theory) (bs : List OpenBox) (ls : List Line) (st : State) (x : OpenBox)
+    (hs : List Statement) : Type 0 where
   pub stand : StandIn t bs ls st
   pub found : find_open st.history x.number ≡ Some (box_of x (map (written_statement bs) hs))
   pub within : x.number ≤ st.count
@@ -99,7 +104,8 @@ unfoldable pub IsOpen : Builder → OpenBox → List Statement → Type 0
 IsOpen b x hs = (st : State) × IsOpenIn b.theory b.boxes b.lines st x hs
 
 -- the box is closed, directly where the builder stands, where its constants are new, and its result is the statement
-pub record ResultIn (t : Theory) (bs : List OpenBox) (ls : List Line) (st : State) (x : OpenBox) (hs : List Statement) (s : Statement) : Type 0 where
+pub record ResultIn (t : Theory) (bs : List OpenBox) (ls : List Line) (st : State) (x : OpenBox)
+    (hs : List Statement) (s : Statement) : Type 0 where
   pub stand : StandIn t bs ls st
   pub result : find_closed st.history x.number
       ≡ Some (box_of x (map (written_statement (bs ++ x ∷ [])) hs), written_statement (bs ++ x ∷ []) s)

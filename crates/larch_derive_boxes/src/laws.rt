@@ -17,9 +17,11 @@ ghost use Rattle.larch_derive.specs.Builder.{IsOpened, theory_in, boxes_in};
 ghost use Rattle.larch_derive.specs.Predicates.{AreOthers, Stands, Known, HasStatement, Grows};
 ghost use Rattle.larch_derive.specs.declared.builder.Builder.{Builder};
 ghost use Rattle.larch_derive.specs.declared.open_box.OpenBox.{OpenBox};
-ghost use Rattle.larch_derive_boxes.specs.Boxes.{IsEquation, IsPart, KnownInside, AreKnownInside, MaySuppose, Opens, IsOpen, HasResult, Closes};
+ghost use Rattle.larch_derive_boxes.specs.Boxes.{IsEquation, IsPart, KnownInside, AreKnownInside, MaySuppose, Opens};
+ghost use Rattle.larch_derive_boxes.specs.Boxes.{IsOpen, HasResult, Closes};
 
-/// A box line opens a box where its constants are neither the theory's nor built in, and its hypotheses may be supposed.
+/// A box line opens a box where its constants are neither the theory's nor built in, and its hypotheses may be
+/// supposed.
 pub fn opening()
     ensures opens { (a b : Builder) (n : ℕ) (cs : List PlainOperator) (hs : List Statement) → IsOpened a b cs hs n
         → Stands a → AreOthers (theory_in a) cs → All (MaySuppose a (record { number = n; constants = cs })) hs
@@ -97,6 +99,7 @@ pub fn closing()
 
 /// A constant of an open box is known.
 pub fn knowing()
-    ensures { (b : Builder) (x : OpenBox) (f : PlainOperator) → Stands b → Contains (boxes_in b) x → Contains x.constants f
+    ensures { (b : Builder) (x : OpenBox) (f : PlainOperator) → Stands b → Contains (boxes_in b) x
+        → Contains x.constants f
         → f.domain ≡ [] → Known b (app f none) }
 {}

@@ -6,7 +6,8 @@ use Rattle.larch_term.specs.Tree.{Tree, var, app}
 use Rattle.larch_term.specs.Truth.{truth}
 use Rattle.larch_term.specs.declared.statement.Statement.TheVariants.{Equation}
 use Rattle.larch_calculus.specs.Formula.{constant, applied}
-use Rattle.larch_calculus.specs.Generation.{place_name, constant_terms, equation_at, induction_hypotheses, generation_hypotheses}
+use Rattle.larch_calculus.specs.Generation.{place_name, constant_terms, equation_at, induction_hypotheses}
+use Rattle.larch_calculus.specs.Generation.{generation_hypotheses}
 use Rattle.larch_calculus.specs.Observation.{Observation, observed, other_variables, observations}
 use Rattle.larch_certificate.specs.declared.line.CodedVar.{CodedVar}
 use Rattle.larch_lines.specs.Matching.{are_apart}
@@ -60,7 +61,8 @@ pub record ShowsGenerated (b : Builder) (s : List ℕ) (fs : List PlainOperator)
   pub domain : predicate.domain ≡ s ∷ []
   pub range : predicate.range ≡ bool_sort
   pub outer : constant_of (boxes_in b) predicate ≡ None
-  pub shown : HasResult b box (generation_hypotheses predicate s fs) (Equation (applied predicate (var variable s)) truth)
+  pub shown : HasResult b box (generation_hypotheses predicate s fs)
+      (Equation (applied predicate (var variable s)) truth)
 
 -- the closed box with a number shows that operators partition a sort: it has two constants of the sort, it supposes
 -- that observers show the same of them, and its result is that they are equal

@@ -9,5 +9,6 @@ ghost use Rattle.larch_derive_lines.specs.Rules.{AreKnownEntries};
 
 /// A known term is known with known terms in the places of its variables.
 pub fn substituting()
-    ensures { (a : Builder) (es : List Entry) (t : Tree) → Known a t → AreKnownEntries a es → Known a (substituted es t) }
+    ensures { (a : Builder) (es : List Entry) (t : Tree) → Known a t → AreKnownEntries a es
+        → Known a (substituted es t) }
 {}

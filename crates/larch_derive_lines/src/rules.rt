@@ -46,7 +46,8 @@ pub fn sym_line(builder: &mut Builder, line: u64) -> Result<u64, Memory>
 /// left side of the further one stands. A refused line changes nothing.
 #[tactic(auto, using(larch_derive::proofs::Pushing::repl_says, larch_derive::proofs::Pushing::repl_extends))]
 pub fn repl_line(builder: &mut Builder, line: u64, place: Path, by: u64) -> Result<u64, Memory>
-    ensures says { IfOk result (λ n. (l r u v : Tree) → HasEquation builder.old line l r → HasEquation builder.old by u v
+    ensures says { IfOk result (λ n. (l r u v : Tree) → HasEquation builder.old line l r
+        → HasEquation builder.old by u v
         → at r place ≡ Some u → HasEquation builder.new n l (put r place v)) }
     ensures extends { OnOk result ((l r u v : Tree) → HasEquation builder.old line l r → HasEquation builder.old by u v
         → at r place ≡ Some u → Extends builder.old builder.new) }
@@ -79,7 +80,8 @@ pub fn inst_line(
     line: u64,
     by: &Substitution,
 ) -> Result<u64, Memory>
-    ensures says { IfOk result (λ n. (l r : Tree) → HasEquation builder.old line l r → AreKnownEntries builder.old by.now
+    ensures says { IfOk result (λ n. (l r : Tree) → HasEquation builder.old line l r
+        → AreKnownEntries builder.old by.now
         → all_different (map variable_in by.now) ≡ true
         → HasEquation builder.new n (substituted by.now l) (substituted by.now r)) }
     ensures extends { OnOk result ((l r : Tree) → HasEquation builder.old line l r → AreKnownEntries builder.old by.now

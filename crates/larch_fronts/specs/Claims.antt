@@ -27,11 +27,14 @@ module _ {Token Tree : Type 0} (L : Bool → List (Token × Mark) → Tree → T
 
   -- some text begins with these tokens and this one, and counts this one so
   abbrev pub Counted : Flaw → List Token → Token → Type 0
-  Counted flaw before token = (marked : List (Token × Mark)) × (mark : Mark) × (rest : List (Token × Mark)) × (tree : Tree) × L true (marked ++ (token, mark) ∷ rest) tree × (tokens_of marked ≡ before) × IsTrue (counts flaw (heads_of 0 marked) mark)
+  Counted flaw before token = (marked : List (Token × Mark)) × (mark : Mark) × (rest : List (Token × Mark))
+      × (tree : Tree) × L true (marked ++ (token, mark) ∷ rest) tree × (tokens_of marked ≡ before)
+      × IsTrue (counts flaw (heads_of 0 marked) mark)
 
   -- behind these tokens, nothing stands at this one
   abbrev pub Free : List Token → Token → Type 0
-  Free before token = (¬ Counted Mixed before token) × Begins (before ++ token ∷ []) × (¬ Counted Deep before token) × (¬ Counted Large before token)
+  Free before token = (¬ Counted Mixed before token) × Begins (before ++ token ∷ []) × (¬ Counted Deep before token)
+      × (¬ Counted Large before token)
 
   -- behind these tokens, nothing stands at these
   abbrev pub AllFree : List Token → List Token → Type 0
@@ -42,8 +45,10 @@ module _ {Token Tree : Type 0} (L : Bool → List (Token × Mark) → Tree → T
   abbrev pub StandsAt : Flaw → List Token → Token → Type 0
   StandsAt Mixed before token = Counted Mixed before token
   StandsAt Syntax before token = (¬ Counted Mixed before token) × Begins before × (¬ Begins (before ++ token ∷ []))
-  StandsAt Deep before token = (¬ Counted Mixed before token) × Begins (before ++ token ∷ []) × Counted Deep before token
-  StandsAt Large before token = (¬ Counted Mixed before token) × Begins (before ++ token ∷ []) × (¬ Counted Deep before token) × Counted Large before token
+  StandsAt Deep before token =
+      (¬ Counted Mixed before token) × Begins (before ++ token ∷ []) × Counted Deep before token
+  StandsAt Large before token = (¬ Counted Mixed before token) × Begins (before ++ token ∷ [])
+      × (¬ Counted Deep before token) × Counted Large before token
 
   -- behind these tokens, this stands at the end of the text
   abbrev pub StandsAtEnd : Flaw → List Token → Type 0
@@ -58,9 +63,11 @@ module _ {Token Tree : Type 0} (L : Bool → List (Token × Mark) → Tree → T
   Stands flaw before (token ∷ tokens) = StandsAt flaw before token
 
   -- the tree of these tokens, at which nothing stands; or the first flaw and its position
-  abbrev pub Means : {Position : Type 0} → (Token → Position) → Position → List Token → Result Tree (Flaw × Position) → Type 0
+  abbrev pub Means : {Position : Type 0} → (Token → Position) → Position → List Token → Result Tree (Flaw × Position)
+      → Type 0
   Means position end tokens (Ok tree) = AllFree [] tokens × Spells tokens tree
-  Means position end tokens (Err flaw) = (before rest : List Token) × (tokens ≡ before ++ rest) × AllFree [] before × Stands flaw.0 before rest × (flaw.1 ≡ position_or position end rest)
+  Means position end tokens (Err flaw) = (before rest : List Token) × (tokens ≡ before ++ rest) × AllFree [] before
+      × Stands flaw.0 before rest × (flaw.1 ≡ position_or position end rest)
 
   -- a text ends here for good: with the next token these tokens begin none, and MIXED doesn't stand there
   abbrev pub EndsBefore : List Token → List Token → Type 0
@@ -69,11 +76,15 @@ module _ {Token Tree : Type 0} (L : Bool → List (Token × Mark) → Tree → T
 
   -- behind these tokens, this stands at the first of those, where a text may end before it
   abbrev pub StandsBehind : Flaw → List Token → List Token → Type 0
-  StandsBehind Syntax before tokens = Begins before × EndsBefore before tokens × ((tree : Tree) → ¬ Spells before tree)
+  StandsBehind Syntax before tokens =
+      Begins before × EndsBefore before tokens × ((tree : Tree) → ¬ Spells before tree)
   StandsBehind flaw before tokens = Stands flaw before tokens
 
   -- the tree of the longest front of these tokens that begins a text, and its number of tokens: it is a text, nothing
   -- stands in it, and MIXED doesn't stand directly behind it; or the first flaw and its position
-  abbrev pub MeansFront : {Position : Type 0} → (Token → Position) → Position → List Token → Result (Tree × ℕ) (Flaw × Position) → Type 0
-  MeansFront position end tokens (Ok read) = (before rest : List Token) × (tokens ≡ before ++ rest) × AllFree [] before × Spells before read.0 × EndsBefore before rest × (read.1 ≡ length before)
-  MeansFront position end tokens (Err flaw) = (before rest : List Token) × (tokens ≡ before ++ rest) × AllFree [] before × StandsBehind flaw.0 before rest × (flaw.1 ≡ position_or position end rest)
+  abbrev pub MeansFront : {Position : Type 0} → (Token → Position) → Position → List Token
+      → Result (Tree × ℕ) (Flaw × Position) → Type 0
+  MeansFront position end tokens (Ok read) = (before rest : List Token) × (tokens ≡ before ++ rest)
+      × AllFree [] before × Spells before read.0 × EndsBefore before rest × (read.1 ≡ length before)
+  MeansFront position end tokens (Err flaw) = (before rest : List Token) × (tokens ≡ before ++ rest)
+      × AllFree [] before × StandsBehind flaw.0 before rest × (flaw.1 ≡ position_or position end rest)

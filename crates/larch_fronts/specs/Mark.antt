@@ -60,4 +60,5 @@ heads_of heads (m ∷ ms) = heads_of (heads_behind heads m.1) ms
 
 -- MIXED, then DEEP, then SIZE; else the number of head tokens behind the token
 abbrev pub admitted : ℕ → Mark → Result ℕ Flaw
-admitted heads mark = cond (is_mixed mark) (Err Mixed) (cond (is_deep mark) (Err Deep) (cond (is_large heads mark) (Err Large) (Ok (heads_behind heads mark))))
+admitted heads mark = cond (is_mixed mark) (Err Mixed)
+    (cond (is_deep mark) (Err Deep) (cond (is_large heads mark) (Err Large) (Ok (heads_behind heads mark))))

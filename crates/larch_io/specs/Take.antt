@@ -1,5 +1,6 @@
 -- Lines and pieces of a known length, as they are taken by a reader.
-use Rattle.std.specs.Prelude.{◌≡◌, ◌≢◌, ◌<◌, ◌≤◌, ◌+◌, ◌⊎◌, ℕ, Bool, true, List, [], ◌∷◌, ◌++◌, All, length, take, drop, Option}
+use Rattle.std.specs.Prelude.{◌≡◌, ◌≢◌, ◌<◌, ◌≤◌, ◌+◌, ◌⊎◌, ℕ, Bool, true, List, [], ◌∷◌, ◌++◌, All, length, take}
+use Rattle.std.specs.Prelude.{drop, Option}
 use Rattle.larch_base.specs.declared.limits.TheConstants.{MAX_LINE_BYTES}
 use Rattle.larch_io.specs.Reader.{Taken, Takes}
 use Rattle.larch_io.specs.declared.take.LineEnd.{LineEnd}

@@ -1,6 +1,8 @@
 ghost use Rattle.std.specs.Prelude.{◌≡◌};
-ghost use Rattle.larch_io.specs.declared.refusal.FolderRefusal.TheVariants.{Failed as folder_failed, Memory as folder_wants_memory};
-ghost use Rattle.larch_io.specs.declared.refusal.TakeRefusal.TheVariants.{Memory as take_wants_memory, ReadFault as read_failed};
+ghost use Rattle.larch_io.specs.declared.refusal.FolderRefusal.TheVariants.{Failed as folder_failed};
+ghost use Rattle.larch_io.specs.declared.refusal.FolderRefusal.TheVariants.{Memory as folder_wants_memory};
+ghost use Rattle.larch_io.specs.declared.refusal.TakeRefusal.TheVariants.{Memory as take_wants_memory};
+ghost use Rattle.larch_io.specs.declared.refusal.TakeRefusal.TheVariants.{ReadFault as read_failed};
 ghost use Rattle.larch_io.specs.declared.refusal.WriteRefusal.TheVariants.{Memory as write_wants_memory};
 
 use larch_base::Memory;

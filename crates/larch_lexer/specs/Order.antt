@@ -4,7 +4,8 @@ use Rattle.larch_base.specs.Position.{position_behind}
 use Rattle.larch_base.specs.declared.position.Pos.{Pos}
 use Rattle.larch_lexer.specs.declared.token.Token.{Token}
 
--- the token's text is a slice of the whole, which begins at a position, and the token's position is where the slice does
+-- the token's text is a slice of the whole, which begins at a position, and the token's position is where the slice
+-- does
 pub record IsSliceOf (start : Pos) (whole : List ℕ) (token : Token) : Type 0 where
   pub before : List ℕ
   pub behind : List ℕ

@@ -1,5 +1,6 @@
 -- What stands at the front of a text: the longest token, or what is passed over.
-use Rattle.std.specs.Prelude.{ℕ, ◌+◌, ◌==◌, ◌&&◌, ◌||◌, nat_lt, not, if◌then◌else◌, Bool, List, [], ◌∷◌, Option, Some, None}
+use Rattle.std.specs.Prelude.{ℕ, ◌+◌, ◌==◌, ◌&&◌, ◌||◌, nat_lt, not, if◌then◌else◌, Bool, List, [], ◌∷◌, Option, Some}
+use Rattle.std.specs.Prelude.{None}
 use Rattle.std.specs.Char.{is_ascii_alphabetic, is_ascii_alphanumeric}
 use Rattle.larch_base.specs.Word.{begins_alphanumeric}
 use Rattle.larch_lexer.specs.TokenTable.{is_blank, is_symbol, is_punctuation, begins_with, stands_in_run}

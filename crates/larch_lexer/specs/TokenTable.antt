@@ -1,5 +1,6 @@
 -- The table of tokens, and what the tokens of a text are by it.
-use Rattle.std.specs.Prelude.{◌≡◌, ℕ, ◌==◌, ◌&&◌, ◌||◌, not, Bool, true, false, IsTrue, List, [], ◌∷◌, ◌++◌, codes, Result, Ok, Err, All, ◌≢◌}
+use Rattle.std.specs.Prelude.{◌≡◌, ℕ, ◌==◌, ◌&&◌, ◌||◌, not, Bool, true, false, IsTrue, List, [], ◌∷◌, ◌++◌, codes}
+use Rattle.std.specs.Prelude.{Result, Ok, Err, All, ◌≢◌}
 use Rattle.std.specs.Char.{is_ascii_alphabetic}
 use Rattle.std.specs.List.{list_all, list_any}
 use Rattle.std.specs.Str.{bytes_eq}
@@ -100,6 +101,11 @@ pub data Lexes : Pos → List ℕ → LexAnswer → Type 0 where
       → Lexes position (37 ∷ (words ++ rest)) answer
   takes_token : {position : Pos} {answer : LexAnswer} (kind : Kind) (front behind : List ℕ)
       → Longest kind front behind → Lexes (position_behind position front) behind answer
-      → Lexes position (front ++ behind) (with_tokens (record { kind = kind; text = front; pos = position } ∷ []) answer)
+      → Lexes position (front ++ behind) (with_tokens (record {
+        kind =
+            kind;
+        text = front;
+        pos = position;
+      } ∷ []) answer)
   no_token : (position : Pos) (byte : ℕ) (rest : List ℕ)
       → is_blank byte ≡ false → byte ≢ 37 → BeginsNoToken (byte ∷ rest) → Lexes position (byte ∷ rest) (Err position)

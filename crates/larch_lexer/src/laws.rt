@@ -11,12 +11,16 @@ pub fn one_lexing()
     ensures computed { (text : List ℕ) → Lexes start_of_text text (lexed text) }
     ensures one { (text : List ℕ) (answer : LexAnswer) → Lexes start_of_text text answer → lexed text ≡ answer }
     ensures line { (number : ℕ) (line : List ℕ) → Lexes (start_of_line number) line (lexed_line number line) }
-    ensures one_of_line { (number : ℕ) (line : List ℕ) (answer : LexAnswer) → Lexes (start_of_line number) line answer → lexed_line number line ≡ answer }
+    ensures one_of_line { (number : ℕ) (line : List ℕ) (answer : LexAnswer) → Lexes (start_of_line number) line answer
+        → lexed_line number line ≡ answer }
 {}
 
 /// Tokens are slices of their text, wherever it begins, and stand in order.
 pub fn tokens_in_order()
-    ensures slices { (start : Position) (text : List ℕ) (all : TokenList) → Lexes start text (Ok all) → All (IsSliceOf start text) all.tokens }
-    ensures rising { (start : Position) (text : List ℕ) (all : TokenList) → Lexes start text (Ok all) → Rising all.tokens }
-    ensures end { (start : Position) (text : List ℕ) (all : TokenList) → Lexes start text (Ok all) → all.end ≡ position_behind start text }
+    ensures slices { (start : Position) (text : List ℕ) (all : TokenList) → Lexes start text (Ok all)
+        → All (IsSliceOf start text) all.tokens }
+    ensures rising { (start : Position) (text : List ℕ) (all : TokenList) → Lexes start text (Ok all)
+        → Rising all.tokens }
+    ensures end { (start : Position) (text : List ℕ) (all : TokenList) → Lexes start text (Ok all)
+        → all.end ≡ position_behind start text }
 {}

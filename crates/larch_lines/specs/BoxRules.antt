@@ -1,5 +1,6 @@
 -- What lines say by the results of closed boxes: variables for constants, cases and induction.
-use Rattle.std.specs.Prelude.{ℕ, if◌then◌else◌, ◌&&◌, Bool, true, false, List, [], ◌∷◌, map, bytes_eq, Option, Some, None, option_and_then}
+use Rattle.std.specs.Prelude.{ℕ, if◌then◌else◌, ◌&&◌, Bool, true, false, List, [], ◌∷◌, map, bytes_eq, Option, Some}
+use Rattle.std.specs.Prelude.{None, option_and_then}
 use Rattle.std.specs.Option.{option_map_or}
 use Rattle.larch_term.specs.Equality.{same_statement}
 use Rattle.larch_term.specs.Operator.{PlainOperator}

@@ -13,9 +13,12 @@ use Rattle.larch_certificate.specs.Coded.{CodedTree, coded_var}
 use Rattle.larch_certificate.specs.declared.line.BoxPart.{BoxPart}
 use Rattle.larch_certificate.specs.declared.line.CodedEquation.{CodedEquation}
 use Rattle.larch_certificate.specs.declared.line.Line.{Line}
-use Rattle.larch_certificate.specs.declared.line.Line.TheVariants.{Axiom, Hyp, Row, Refl, Sym, Inst, Repl, BoxLine, Done, Fresh, Cases, Induct, Observe, Generated, Partitioned}
+use Rattle.larch_certificate.specs.declared.line.Line.TheVariants.{Axiom, Hyp, Row, Refl, Sym, Inst, Repl, BoxLine}
+use Rattle.larch_certificate.specs.declared.line.Line.TheVariants.{Done, Fresh, Cases, Induct, Observe, Generated}
+use Rattle.larch_certificate.specs.declared.line.Line.TheVariants.{Partitioned}
 use Rattle.larch_certificate.specs.declared.symbol.Symbol.TheVariants.{Own, Constant, BuiltIn}
-use Rattle.larch_lines.specs.Example.{coded_constant, coded_applied, coded_joined, coded_equation, coded_nought, coded_x, number_part}
+use Rattle.larch_lines.specs.Example.{coded_constant, coded_applied, coded_joined, coded_equation, coded_nought}
+use Rattle.larch_lines.specs.Example.{coded_x, number_part}
 
 -- the formula that is true, and the one that is false
 abbrev pub coded_truth : CodedTree

@@ -6,13 +6,16 @@ use Rattle.larch_term.specs.declared.statement.Theory.{Theory}
 use Rattle.larch_certificate.specs.declared.line.BoxPart.{BoxPart}
 use Rattle.larch_certificate.specs.declared.line.CodedEquation.{CodedEquation}
 use Rattle.larch_certificate.specs.declared.line.Line.{Line}
-use Rattle.larch_certificate.specs.declared.line.Line.TheVariants.{Axiom, Hyp, Row, Refl, Sym, Inst, Repl, Equal, BoxLine, Done, Fresh, Cases, Induct, Observe, Generated, Partitioned}
+use Rattle.larch_certificate.specs.declared.line.Line.TheVariants.{Axiom, Hyp, Row, Refl, Sym, Inst, Repl, Equal}
+use Rattle.larch_certificate.specs.declared.line.Line.TheVariants.{BoxLine, Done, Fresh, Cases, Induct, Observe}
+use Rattle.larch_certificate.specs.declared.line.Line.TheVariants.{Generated, Partitioned}
 use Rattle.larch_lines.specs.BoxRules.{fresh_says, cases_says, induct_says}
 use Rattle.larch_lines.specs.ClauseRules.{observe_says, generated_says, partitioned_says}
 use Rattle.larch_lines.specs.Context.{find_symbol, innermost}
 use Rattle.larch_lines.specs.Decoding.{each, decode_equation}
 use Rattle.larch_lines.specs.Events.{Event, Said, Opened, Closed, State, start}
-use Rattle.larch_lines.specs.Rules.{axiom_says, hyp_says, row_says, refl_says, sym_says, inst_says, repl_says, equal_says}
+use Rattle.larch_lines.specs.Rules.{axiom_says, hyp_says, row_says, refl_says, sym_says, inst_says, repl_says}
+use Rattle.larch_lines.specs.Rules.{equal_says}
 
 -- what a line says where events have happened; nothing where it is bad, and box and done lines say nothing
 abbrev pub judge : Theory → List Event → Line → Option Statement

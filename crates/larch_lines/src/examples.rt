@@ -4,14 +4,18 @@ ghost use Rattle.larch_term.specs.BuiltIn.{bool_sort};
 ghost use Rattle.larch_term.specs.Statement.{statement_zero};
 ghost use Rattle.larch_term.specs.Tree.{var};
 ghost use Rattle.larch_term.specs.declared.statement.Statement.TheVariants as statement;
-ghost use Rattle.larch_calculus.specs.Example.{number_sort, nought, plus, x_number, numbers, numbers_generated, sum_from_nought};
+ghost use Rattle.larch_calculus.specs.Example.{number_sort, nought, plus, x_number, numbers, numbers_generated};
+ghost use Rattle.larch_calculus.specs.Example.{sum_from_nought};
 ghost use Rattle.larch_calculus.specs.Formula.{constant, joined, applied};
 ghost use Rattle.larch_certificate.specs.Coded.{coded_var};
 ghost use Rattle.larch_certificate.specs.declared.line.Line.TheVariants as line;
 ghost use Rattle.larch_certificate.specs.declared.symbol.Symbol.TheVariants.{Own, Constant};
 ghost use Rattle.larch_lines.specs.Acceptance.{verdict};
-ghost use Rattle.larch_lines.specs.Certificates.{coded_truth, sums_are_equal, by_cases_of, numbers_generated_by, predicate_part, set_sort, set_named, set_of, element_sort, sets, sets_partitioned, same_sets_by, same_sets_of, partition_with};
-ghost use Rattle.larch_lines.specs.Example.{coded_constant, coded_equation, coded_nought, coded_x, for_number, number_part, supposed, sum_with, induction_by, worked, with_line};
+ghost use Rattle.larch_lines.specs.Certificates.{coded_truth, sums_are_equal, by_cases_of, numbers_generated_by};
+ghost use Rattle.larch_lines.specs.Certificates.{predicate_part, set_sort, set_named, set_of, element_sort, sets};
+ghost use Rattle.larch_lines.specs.Certificates.{sets_partitioned, same_sets_by, same_sets_of, partition_with};
+ghost use Rattle.larch_lines.specs.Example.{coded_constant, coded_equation, coded_nought, coded_x, for_number};
+ghost use Rattle.larch_lines.specs.Example.{number_part, supposed, sum_with, induction_by, worked, with_line};
 ghost use Rattle.larch_lines.specs.Run.{first_bad};
 
 /// The worked certificate is accepted, and for no other statement; no line of it is bad.

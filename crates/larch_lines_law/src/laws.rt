@@ -22,8 +22,9 @@ pub fn accepted_is_derivable()
         → verdict t s lines ≡ None → Derivable t s }
 {}
 
-/// At each point of a run the theory of the context is well sorted; what a line that can be named says is derivable from
-/// it; and the result of a closed box that can be named is derivable with the box's operators and hypotheses added.
+/// At each point of a run the theory of the context is well sorted; what a line that can be named says is derivable
+/// from it; and the result of a closed box that can be named is derivable with the box's operators and hypotheses
+/// added.
 pub fn lines_are_derivable()
     ensures context { (t : Theory) (lines : List Line) (last : State) → IsWellSortedTheory t → HasPlainNames t
         → run t start lines ≡ Some last → IsWellSortedTheory (theory_of t last.history) }

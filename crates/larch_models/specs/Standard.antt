@@ -3,7 +3,8 @@ use Rattle.std.specs.Prelude.{ℕ, min, Bool, if◌then◌else◌, List, [], ◌
 use Rattle.larch_term.specs.Operator.{PlainOperator, plain}
 use Rattle.larch_term.specs.BuiltIn.{bool_sort, built_in}
 use Rattle.larch_term.specs.declared.built_in.BuiltIn.{BuiltIn}
-use Rattle.larch_term.specs.declared.built_in.BuiltIn.TheVariants.{True, False, Not, And, Or, Implies, Iff, Equal, Unequal, If}
+use Rattle.larch_term.specs.declared.built_in.BuiltIn.TheVariants.{True, False, Not, And, Or, Implies, Iff, Equal}
+use Rattle.larch_term.specs.declared.built_in.BuiltIn.TheVariants.{Unequal, If}
 use Rattle.larch_term.specs.OperatorKey.{same_name, same_operator}
 use Rattle.larch_models.specs.Interpretation.{Interpretation, meaning}
 

@@ -7,7 +7,9 @@ ghost use Rattle.larch_term.specs.declared.built_in.BuiltIn.TheVariants.{True, F
 ghost use Rattle.larch_term.specs.declared.statement.Statement.TheVariants.{Generated};
 ghost use Rattle.larch_calculus.specs.Example.{numbers, numbers_generated, sum_from_nought};
 ghost use Rattle.larch_models.specs.Computed.{holds, all_hold};
-ghost use Rattle.larch_models.specs.Examples.{modulo_two, wrong_modulo_two, up_to_two, two_steps_are_all, second_taken, sum_from_successor, generated_by_sums, partitioned_by_sums, implication_by_denial, choice_by_parts};
+ghost use Rattle.larch_models.specs.Examples.{modulo_two, wrong_modulo_two, up_to_two, two_steps_are_all};
+ghost use Rattle.larch_models.specs.Examples.{second_taken, sum_from_successor, generated_by_sums};
+ghost use Rattle.larch_models.specs.Examples.{partitioned_by_sums, implication_by_denial, choice_by_parts};
 ghost use Rattle.larch_models.specs.Standard.{standard};
 
 /// Numbers modulo 2: the statements of the example hold, and so do `0 + x == x` and `s(x) + y == s(x + y)`, which

@@ -2,7 +2,8 @@
 ghost use Rattle.std.specs.Prelude.{◌≡◌, ℕ, [], ◌∷◌};
 ghost use Rattle.larch_term.specs.declared.statement.Statement.TheVariants.{Equation};
 ghost use Rattle.larch_calculus.specs.Example.{numbers, x_number, y_number};
-ghost use Rattle.larch_models.specs.Examples.{one_number, no_truth, too_large, second_taken, generated_by_sums, partitioned_by_sums};
+ghost use Rattle.larch_models.specs.Examples.{one_number, no_truth, too_large, second_taken, generated_by_sums};
+ghost use Rattle.larch_models.specs.Examples.{partitioned_by_sums};
 ghost use Rattle.larch_models.specs.Interpretation.{IsInterpretation};
 ghost use Rattle.larch_models.specs.Models.{Holds, IsModel};
 

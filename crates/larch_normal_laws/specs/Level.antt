@@ -14,8 +14,8 @@ onward rules = λ u c. normal rules u c
 abbrev pub root_work : List Sides → Tree → ℕ → Work Tree
 root_work rules t b = at_root (onward rules) rules t b
 
--- the work on an operator's term where some arguments are normal and others aren't yet: those are normalised from left to
--- right, and then the root
+-- the work on an operator's term where some arguments are normal and others aren't yet: those are normalised from
+-- left to right, and then the root
 abbrev pub arguments_work : List Sides → PlainOperator → List Tree → List Tree → ℕ → Work Tree
 arguments_work rules f done [] b = root_work rules (app f (forest_of done)) b
 arguments_work rules f done (t ∷ ts) b =

@@ -15,8 +15,8 @@ pub record Waiting : Type 0 where
   pub done : List Tree
   pub further : List Tree
 
--- the innermost of what waits does so for the normal form of a term under a budget, each further one for that of the one
--- inside it, and the outermost is a term under a budget, whose normal form is sought
+-- the innermost of what waits does so for the normal form of a term under a budget, each further one for that of the
+-- one inside it, and the outermost is a term under a budget, whose normal form is sought
 abbrev pub Wait : List Sides → Tree → ℕ → List Waiting → Tree → ℕ → Type 0
 Wait rules whole budget [] t b = (t ≡ whole) × (b ≡ budget)
 Wait rules whole budget (w ∷ ws) t b =

@@ -32,8 +32,8 @@ pub fn arguments_go_on()
         → arguments_work rules f done [] b ≡ root_work rules (app f (forest_of done)) b }
 {}
 
-/// At the root, a term that is too large is an event; a term that no rule applies to is the form; else one is taken from
-/// the budget, and the work goes on with what the first rule makes.
+/// At the root, a term that is too large is an event; a term that no rule applies to is the form; else one is taken
+/// from the budget, and the work goes on with what the first rule makes.
 pub fn roots_go_on()
     ensures large { (rules : List Sides) (t : Tree) (b : ℕ) → is_large t ≡ true → root_work rules t b ≡ OverSize }
     ensures normal { (rules : List Sides) (t : Tree) (b : ℕ) → is_large t ≡ false → rewritten_once rules t ≡ None

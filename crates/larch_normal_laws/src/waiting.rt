@@ -7,8 +7,8 @@ ghost use Rattle.larch_normal_forms.specs.Work.{Made, OverLimit, OverSize};
 ghost use Rattle.larch_normal_laws.specs.Level.{arguments_work};
 ghost use Rattle.larch_normal_laws.specs.Stacked.{Waiting, Wait};
 
-/// An event in what is waited for is the event of the whole. A normal form is the next argument of what waited innermost,
-/// or the form of the whole where nothing waits.
+/// An event in what is waited for is the event of the whole. A normal form is the next argument of what waited
+/// innermost, or the form of the whole where nothing waits.
 pub fn waiting_ends()
     ensures limit { (rules : List Sides) (whole t : Tree) (budget b : ℕ) (ws : List Waiting)
         → Wait rules whole budget ws t b → normal rules t b ≡ OverLimit → normal rules whole budget ≡ OverLimit }

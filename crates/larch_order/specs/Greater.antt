@@ -1,5 +1,6 @@
 -- The recursive path ordering with status.
-use Rattle.std.specs.Prelude.{◌≡◌, ℕ, Bool, true, false, if◌then◌else◌, not, nat_lt, ◌&&◌, ◌||◌, IsTrue, List, [], ◌∷◌, Contains, sum_by}
+use Rattle.std.specs.Prelude.{◌≡◌, ℕ, Bool, true, false, if◌then◌else◌, not, nat_lt, ◌&&◌, ◌||◌, IsTrue, List, []}
+use Rattle.std.specs.Prelude.{◌∷◌, Contains, sum_by}
 use Rattle.std.specs.List.{list_any, list_all}
 use Rattle.std.specs.Cmp.Lexicographic.{pointwise}
 use Rattle.larch_term.specs.Operator.{PlainOperator}

@@ -1,5 +1,6 @@
 -- The precedence: the operators from low to high, each with its status.
-use Rattle.std.specs.Prelude.{◌≡◌, ℕ, ◌+◌, Bool, false, if◌then◌else◌, nat_lt, List, [], ◌∷◌, ◌++◌, map, get_or, set, Option, Some, None, is_some}
+use Rattle.std.specs.Prelude.{◌≡◌, ℕ, ◌+◌, Bool, false, if◌then◌else◌, nat_lt, List, [], ◌∷◌, ◌++◌, map, get_or, set}
+use Rattle.std.specs.Prelude.{Option, Some, None, is_some}
 use Rattle.std.specs.List.{list_any, position, insert, remove}
 use Rattle.std.specs.Map.{lookup}
 use Rattle.larch_term.specs.Operator.{PlainOperator}

@@ -2,7 +2,8 @@ ghost use Rattle.std.specs.Prelude.{◌≡◌, ◌↔◌, IsTrue, if◌then◌el
 ghost use Rattle.std.specs.List.{list_any, list_all};
 ghost use Rattle.larch_term.specs.Tree.{forest_of};
 ghost use Rattle.larch_term.specs.Equality.{same_tree};
-ghost use Rattle.larch_order.specs.Greater.{OneHead, Greater, greater, comparison, is_above, reaches, multiset_greater, some_reaches, some_beats, remains, count_of};
+ghost use Rattle.larch_order.specs.Greater.{OneHead, Greater, greater, comparison, is_above, reaches};
+ghost use Rattle.larch_order.specs.Greater.{multiset_greater, some_reaches, some_beats, remains, count_of};
 
 use crate::precedence::Precedence;
 use larch_base::Way;

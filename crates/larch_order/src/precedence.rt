@@ -1,7 +1,8 @@
 ghost use Rattle.std.specs.Prelude.{◌≡◌, ◌↔◌, ◌⊎◌, ◌≤◌, ◌<◌, false, IsTrue, IfOk, OnOk, OnErr, IsErrOf, length, get_or};
 ghost use Rattle.std.specs.List.{insert, remove};
 ghost use Rattle.larch_order.specs.declared.precedence.Ranked.{Ranked};
-ghost use Rattle.larch_order.specs.Precedence.{IsIndex, has, place_of, status_of, above, above_built_ins, with_constant, raised, with_status};
+ghost use Rattle.larch_order.specs.Precedence.{IsIndex, has, place_of, status_of, above, above_built_ins};
+ghost use Rattle.larch_order.specs.Precedence.{with_constant, raised, with_status};
 ghost use Rattle.larch_order.specs.declared.precedence.OrderRefusal.TheVariants.{Memory as wants_memory};
 
 use indexmap::IndexMap;

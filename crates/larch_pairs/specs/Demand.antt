@@ -30,8 +30,8 @@ or_next (Bind v t es) rest next = Bind v t (es ++ rest)
 or_next Clash rest next = Clash
 
 abbrev mutual
-  -- what an equation asks for: equal variables ask for nothing, a variable on the left, else one on the right, is bound,
-  -- and applications of one operator ask for what their arguments' equations do; anything else clashes
+  -- what an equation asks for: equal variables ask for nothing, a variable on the left, else one on the right, is
+  -- bound, and applications of one operator ask for what their arguments' equations do; anything else clashes
   pub demand : Tree → Tree → Demand
   demand (var n s) (var m r) =
       let v : Variable = record { name = n; sort = s } in

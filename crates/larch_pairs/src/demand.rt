@@ -150,7 +150,8 @@ pub(crate) fn occurs(term: &Term, name: &Name, sort: &Sort) -> bool
 #[cycle(occurs)]
 #[tactic(auto, using(larch_term::specs::Tree::nodes_all_is_sum))]
 fn occurs_in(terms: &[Term], name: &Name, sort: &Sort) -> bool
-    ensures { result ≡ list_any (same_variable (record { name = name.now; sort = sort.now })) (occurrences_in (forest_of terms.now)) }
+    ensures { result ≡ list_any (same_variable (record { name = name.now; sort = sort.now }))
+        (occurrences_in (forest_of terms.now)) }
 {
     for term in terms {
         if occurs(term, name, sort) {

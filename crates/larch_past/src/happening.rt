@@ -1,4 +1,5 @@
-ghost use Rattle.std.specs.Prelude.{◌≡◌, ◌∷◌, [], ◌+◌, IfOk, OnOk, ℕ, List, IsTrue, Some, None, length, map, All, if◌then◌else◌, slice_get};
+ghost use Rattle.std.specs.Prelude.{◌≡◌, ◌∷◌, [], ◌+◌, IfOk, OnOk, ℕ, List, IsTrue, Some, None, length, map, All};
+ghost use Rattle.std.specs.Prelude.{if◌then◌else◌, slice_get};
 ghost use Rattle.larch_term.specs.declared.statement.Theory.{Theory};
 ghost use Rattle.larch_lines.specs.Events.{Event, Said, Opened};
 ghost use Rattle.larch_lines.specs.Run.{done_closes};
@@ -16,7 +17,8 @@ use std::alloc::Global;
 impl Past {
     /// Nothing has happened yet. The numbers are those of a theory's operators in a pool. It takes no memory.
     pub fn new(alloc: Global, own: Vec<u32>) -> Past
-        ensures past { (t : Theory) (p : Pooled) → map (slice_get p.operators) own.items ≡ map Some t.operators → IsPast t p result }
+        ensures past { (t : Theory) (p : Pooled) → map (slice_get p.operators) own.items ≡ map Some t.operators
+            → IsPast t p result }
         ensures history { (p : Pooled) → history_of p result ≡ [] }
         ensures count { length result.places.items ≡ 0 }
     {
@@ -38,8 +40,11 @@ impl Past {
     /// A line said a statement.
     #[tactic(auto, using(crate::proofs::OneMore::said))]
     pub fn say(&mut self, stated: Stated) -> Result<(), Memory>
-        ensures past { OnOk result ((t : Theory) (p : Pooled) → IsPast t p self.old → IsStated p stated → IsPast t p self.new) }
-        ensures history { OnOk result ((p : Pooled) → history_of p self.new ≡ Said (length self.old.places.items + 1) (stated_in p stated) ∷ history_of p self.old) }
+        ensures past { OnOk result ((t : Theory) (p : Pooled) → IsPast t p self.old → IsStated p stated
+            → IsPast t p self.new) }
+        ensures history { OnOk result ((p : Pooled)
+            → history_of p self.new ≡ Said (length self.old.places.items + 1)
+            (stated_in p stated) ∷ history_of p self.old) }
         ensures count { OnOk result (length self.new.places.items ≡ length self.old.places.items + 1) }
     {
         let number = self.places.len() as u64 + 1;
@@ -51,7 +56,9 @@ impl Past {
     /// A line opens a box with these parts. What it supposes comes later.
     pub fn begin_box(&mut self, alloc: Global, parts: BoxParts) -> Result<(), Memory>
         ensures past { OnOk result ((t : Theory) (p : Pooled) → IsPast t p self.old → IsPast t p self.new) }
-        ensures history { OnOk result ((p : Pooled) → history_of p self.new ≡ Opened (record { number = length self.old.places.items + 1; parts = parts; hypotheses = [] }) ∷ history_of p self.old) }
+        ensures history { OnOk result ((p : Pooled)
+            → history_of p self.new ≡ Opened (record
+            { number = length self.old.places.items + 1; parts = parts; hypotheses = [] }) ∷ history_of p self.old) }
         ensures count { OnOk result (length self.new.places.items ≡ length self.old.places.items + 1) }
     {
         let number = self.places.len() as u64 + 1;
@@ -68,8 +75,12 @@ impl Past {
 
     /// What the box supposes that the line directly before opened.
     pub fn suppose(&mut self, hypotheses: EquatedList) -> Result<(), Memory>
-        ensures past { OnOk result ((t : Theory) (p : Pooled) → IsPast t p self.old → All (IsEquated p) hypotheses → IsPast t p self.new) }
-        ensures history { OnOk result ((p : Pooled) (n : ℕ) (parts : List BoxPart) (h : List Event) → history_of p self.old ≡ Opened (record { number = n; parts = parts; hypotheses = [] }) ∷ h → history_of p self.new ≡ Opened (record { number = n; parts = parts; hypotheses = map (equated_in p) hypotheses }) ∷ h) }
+        ensures past { OnOk result ((t : Theory) (p : Pooled) → IsPast t p self.old → All (IsEquated p) hypotheses
+            → IsPast t p self.new) }
+        ensures history { OnOk result ((p : Pooled) (n : ℕ) (parts : List BoxPart) (h : List Event)
+            → history_of p self.old ≡ Opened (record { number = n; parts = parts; hypotheses = [] }) ∷ h
+            → history_of p self.new ≡ Opened (record
+            { number = n; parts = parts; hypotheses = map (equated_in p) hypotheses }) ∷ h) }
         ensures count { OnOk result (length self.new.places.items ≡ length self.old.places.items) }
     {
         match self.events.pop() {
@@ -90,8 +101,10 @@ impl Past {
     /// A done line closes the innermost box with what the line directly before says in it. `false` where no box is open
     /// or that line says nothing.
     pub fn end_box(&mut self) -> Result<bool, Memory>
-        ensures past { IfOk result (λ b. IsTrue b → (t : Theory) (p : Pooled) → IsPast t p self.old → IsPast t p self.new) }
-        ensures history { IfOk result (λ b. (t : Theory) (p : Pooled) → IsPast t p self.old → done_closes (history_of p self.old) ≡ (if b then Some (history_of p self.new) else None)) }
+        ensures past { IfOk result (λ b. IsTrue b → (t : Theory) (p : Pooled) → IsPast t p self.old
+            → IsPast t p self.new) }
+        ensures history { IfOk result (λ b. (t : Theory) (p : Pooled) → IsPast t p self.old
+            → done_closes (history_of p self.old) ≡ (if b then Some (history_of p self.new) else None)) }
         ensures count { IfOk result (λ b. IsTrue b → length self.new.places.items ≡ length self.old.places.items + 1) }
     {
         let Some(Happened::Says(_, stated)) = self.events.pop() else {

@@ -8,5 +8,6 @@ ghost use Rattle.larch_past.specs.declared.past.Past.{Past};
 /// What is kept stays right while the pool grows, and says the same.
 pub fn past_stays()
     ensures stays { (t : Theory) (p q : Pooled) (past : Past) → IsPast t p past → Grows p q → IsPast t q past }
-    ensures same { (t : Theory) (p q : Pooled) (past : Past) → IsPast t p past → Grows p q → history_of q past ≡ history_of p past }
+    ensures same { (t : Theory) (p q : Pooled) (past : Past) → IsPast t p past → Grows p q
+        → history_of q past ≡ history_of p past }
 {}

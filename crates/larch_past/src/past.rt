@@ -3,7 +3,8 @@ ghost use Rattle.std.specs.Option.{option_map};
 ghost use Rattle.larch_lines.specs.Context.{find_line, find_open, find_closed};
 ghost use Rattle.larch_tables.specs.Row.{numbered};
 ghost use Rattle.larch_pool.specs.Pooled.{Pooled};
-ghost use Rattle.larch_past.specs.Past.{event_of, history_in, history_of, stated_in, box_in, IsHappened, IsStated, IsBox, IsIndexed, open_levels};
+ghost use Rattle.larch_past.specs.Past.{event_of, history_in, history_of, stated_in, box_in, IsHappened, IsStated};
+ghost use Rattle.larch_past.specs.Past.{IsBox, IsIndexed, open_levels};
 ghost use Rattle.larch_past.specs.Levels.{level};
 
 use crate::event::{Happened, KnownBox};
@@ -36,8 +37,10 @@ impl Past {
     /// What the line with a number said, if it stands in an open box or in none. It takes no memory.
     pub fn line(&self, number: u64) -> Option<&Stated>
         requires { IsIndexed self.now.places.items (reverse self.now.events.items) }
-        ensures line { (p : Pooled) → option_map (λ s. stated_in p s.now) result ≡ find_line (history_of p self.now) number }
-        ensures within { (p : Pooled) → All (IsHappened p) self.now.events.items → IfSome result (λ s. IsStated p s.now) }
+        ensures line { (p : Pooled) → option_map (λ s. stated_in p s.now) result
+            ≡ find_line (history_of p self.now) number }
+        ensures within { (p : Pooled) → All (IsHappened p) self.now.events.items
+            → IfSome result (λ s. IsStated p s.now) }
     {
         let Some(event) = self.event(number) else {
             return None;
@@ -52,7 +55,8 @@ impl Past {
     /// The open box with a number. It takes no memory.
     pub fn open_box(&self, number: u64) -> Option<&KnownBox>
         requires { IsIndexed self.now.places.items (reverse self.now.events.items) }
-        ensures known { (p : Pooled) → option_map (λ b. box_in p b.now) result ≡ find_open (history_of p self.now) number }
+        ensures known { (p : Pooled) → option_map (λ b. box_in p b.now) result
+            ≡ find_open (history_of p self.now) number }
         ensures within { (p : Pooled) → All (IsHappened p) self.now.events.items → IfSome result (λ b. IsBox p b.now) }
     {
         let Some(event) = self.event(number) else {
@@ -70,8 +74,10 @@ impl Past {
     pub fn closed_box(&self, number: u64) -> Option<(&KnownBox, &Stated)>
         requires index { IsIndexed self.now.places.items (reverse self.now.events.items) }
         requires levels { open_levels (reverse self.now.events.items) ≡ reverse self.now.levels.items }
-        ensures known { (p : Pooled) → option_map (λ c. (box_in p c.0.now, stated_in p c.1.now)) result ≡ find_closed (history_of p self.now) number }
-        ensures within { (p : Pooled) → All (IsHappened p) self.now.events.items → IfSome result (λ c. IsBox p c.0.now × IsStated p c.1.now) }
+        ensures known { (p : Pooled) → option_map (λ c. (box_in p c.0.now, stated_in p c.1.now)) result
+            ≡ find_closed (history_of p self.now) number }
+        ensures within { (p : Pooled) → All (IsHappened p) self.now.events.items
+            → IfSome result (λ c. IsBox p c.0.now × IsStated p c.1.now) }
     {
         let Some(place) = self.place(number) else {
             return None;

@@ -1,5 +1,6 @@
 -- Maps of terms that change some subterms and rebuild what is above them.
-use Rattle.std.specs.Prelude.{◌≡◌, ℕ, suc, ◌<◌, if◌then◌else◌, nat_eq, List, [], ◌∷◌, length, map, slice_get, Some, None, Option}
+use Rattle.std.specs.Prelude.{◌≡◌, ℕ, suc, ◌<◌, if◌then◌else◌, nat_eq, List, [], ◌∷◌, length, map, slice_get, Some}
+use Rattle.std.specs.Prelude.{None, Option}
 use Rattle.std.specs.HashMap.{get}
 use Rattle.larch_term.specs.Operator.{OperatorName, boxed}
 use Rattle.larch_term.specs.OperatorKey.{same_name}

@@ -1,8 +1,10 @@
-ghost use Rattle.std.specs.Prelude.{◌≡◌, ℕ, ◌<◌, List, nat_eq, length, map, take, All, IfOk, IfSome, OnOk, Some, slice_get};
+ghost use Rattle.std.specs.Prelude.{◌≡◌, ℕ, ◌<◌, List, nat_eq, length, map, take, All, IfOk, IfSome, OnOk, Some};
+ghost use Rattle.std.specs.Prelude.{slice_get};
 ghost use Rattle.std.specs.HashMap.{get};
 ghost use Rattle.larch_term.specs.Tree.{Tree, app, forest_of};
 ghost use Rattle.larch_pool.specs.Pooled.{name_of, operator_in, tree_in, Stands, Grows, HasTree};
-ghost use Rattle.larch_pool.specs.Exchanging.{image_by, image_in, constant_image, IsRule, IsExchange, Exchanged, IsWithin, Told};
+ghost use Rattle.larch_pool.specs.Exchanging.{image_by, image_in, constant_image, IsRule, IsExchange, Exchanged};
+ghost use Rattle.larch_pool.specs.Exchanging.{IsWithin, Told};
 
 use crate::node::Node;
 use crate::numbers::Numbers;
@@ -39,7 +41,9 @@ pub(crate) fn exchange(
 ) -> Result<u32, Memory>
     requires term { term < length pool.old.trees }
     requires rule { IsRule pool.old.trees rule.now }
-    ensures tree { IfOk result (λ n. (F : Tree → Tree) → IsExchange pool.old.trees (image_in pool.old.trees rule.now) F → HasTree pool.new n (F (tree_in pool.old.trees term))) }
+    ensures tree { IfOk result (λ n. (F : Tree → Tree)
+        → IsExchange pool.old.trees (image_in pool.old.trees rule.now) F
+        → HasTree pool.new n (F (tree_in pool.old.trees term))) }
     ensures grows { OnOk result (Grows pool.old pool.new) }
     ensures operators { OnOk result (pool.new.operators ≡ pool.old.operators) }
 {
@@ -74,8 +78,11 @@ fn exchange_step(
     ensures grows { OnOk result (Grows pool.old pool.new) }
     ensures operators { OnOk result (pool.new.operators ≡ pool.old.operators) }
     ensures done { OnOk result (IsWithin pool.new.trees (get nat_eq done.new)) }
-    ensures waiting { OnOk result ((b : ℕ) → number < b → All (λ q. q < b) waiting.old.items → All (λ q. q < b) waiting.new.items) }
-    ensures right { OnOk result ((us : List Tree) (F : Tree → Tree) → take (length us) pool.old.trees ≡ us → number < length us → IsExchange us (image_in us rule.now) F → Exchanged us pool.old.trees F (get nat_eq done.old) → Exchanged us pool.new.trees F (get nat_eq done.new)) }
+    ensures waiting { OnOk result ((b : ℕ) → number < b → All (λ q. q < b) waiting.old.items
+        → All (λ q. q < b) waiting.new.items) }
+    ensures right { OnOk result ((us : List Tree) (F : Tree → Tree) → take (length us) pool.old.trees ≡ us
+        → number < length us → IsExchange us (image_in us rule.now) F
+        → Exchanged us pool.old.trees F (get nat_eq done.old) → Exchanged us pool.new.trees F (get nat_eq done.new)) }
 {
     if done.contains_key(&number) {
         return Ok(());
@@ -149,7 +156,10 @@ fn rebuild(
     ensures grows { OnOk result (Grows pool.old pool.new) }
     ensures operators { OnOk result (pool.new.operators ≡ pool.old.operators) }
     ensures done { OnOk result (IsWithin pool.new.trees (get nat_eq done.new)) }
-    ensures right { OnOk result ((us : List Tree) (F : Tree → Tree) → F (tree_in us number) ≡ app (operator_in pool.old.operators operator) (forest_of (map (tree_in pool.old.trees) arguments)) → Exchanged us pool.old.trees F (get nat_eq done.old) → Exchanged us pool.new.trees F (get nat_eq done.new)) }
+    ensures right { OnOk result ((us : List Tree) (F : Tree → Tree)
+        → F (tree_in us number) ≡ app (operator_in pool.old.operators operator)
+        (forest_of (map (tree_in pool.old.trees) arguments)) → Exchanged us pool.old.trees F (get nat_eq done.old)
+        → Exchanged us pool.new.trees F (get nat_eq done.new)) }
 {
     let made = pool.apply(operator, arguments)?;
     done.insert(number, made)?;
@@ -165,7 +175,8 @@ fn make_ready(
     waiting: &mut Vec<u32>,
 ) -> Result<Ready, Memory>
     ensures told { IfOk result (λ r. Told node.now (get nat_eq done.now) r) }
-    ensures waiting { OnOk result ((o b : ℕ) → Stands o b node.now → number < b → All (λ q. q < b) waiting.old.items → All (λ q. q < b) waiting.new.items) }
+    ensures waiting { OnOk result ((o b : ℕ) → Stands o b node.now → number < b → All (λ q. q < b) waiting.old.items
+        → All (λ q. q < b) waiting.new.items) }
 {
     match node {
         Node::Var(_, _) => Ok(Ready::Variable),
@@ -205,7 +216,8 @@ fn push_missing(
     done: &HashMap<u32, u32>,
     waiting: &mut Vec<u32>,
 ) -> Result<(), Memory>
-    ensures { OnOk result ((b : ℕ) → All (λ q. q < b) numbers.now → All (λ q. q < b) waiting.old.items → All (λ q. q < b) waiting.new.items) }
+    ensures { OnOk result ((b : ℕ) → All (λ q. q < b) numbers.now → All (λ q. q < b) waiting.old.items
+        → All (λ q. q < b) waiting.new.items) }
 {
     for number in numbers {
         if !done.contains_key(number) {

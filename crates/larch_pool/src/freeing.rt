@@ -20,7 +20,8 @@ pub fn free_constants(
 ) -> Result<u32, Memory>
     requires term { term < length pool.old.trees }
     requires images { All (λ n. n < length pool.old.trees) images }
-    ensures tree { IfOk result (λ n. HasTree pool.new n (freed_by pool.old.trees of_box first images (tree_in pool.old.trees term))) }
+    ensures tree { IfOk result (λ n. HasTree pool.new n
+        (freed_by pool.old.trees of_box first images (tree_in pool.old.trees term))) }
     ensures grows { OnOk result (Grows pool.old pool.new) }
     ensures operators { OnOk result (pool.new.operators ≡ pool.old.operators) }
 {

@@ -51,7 +51,8 @@ fn apply_operator(
     arguments: Numbers,
 ) -> Result<u32, Memory>
     requires { All (λ n. n < length pool.old.trees) arguments }
-    ensures tree { IfOk result (λ n. HasTree pool.new n (app operator.now (forest_of (map (tree_in pool.old.trees) arguments)))) }
+    ensures tree { IfOk result (λ n. HasTree pool.new n
+        (app operator.now (forest_of (map (tree_in pool.old.trees) arguments)))) }
     ensures grows { OnOk result (Grows pool.old pool.new) }
 {
     let operator = intern_operator(alloc, pool, operator)?;

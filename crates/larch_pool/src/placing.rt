@@ -33,7 +33,8 @@ fn argument(pool: &Pool, node: u32, number: u64) -> Option<u32>
 
 // The member of a list with a number, counted from 1.
 fn numbered(numbers: &[u32], number: u64) -> Option<u32>
-    ensures some { IfSome result (λ c. (0 < number) × (number - 1 < length numbers.now) × (c ≡ slice_index numbers.now (number - 1))) }
+    ensures some { IfSome result (λ c. (0 < number) × (number - 1 < length numbers.now)
+        × (c ≡ slice_index numbers.now (number - 1))) }
     ensures none { IfNone result ((number ≡ 0) ⊎ (length numbers.now ≤ number - 1)) }
 {
     if number == 0 || number as usize > numbers.len() {
@@ -65,7 +66,8 @@ pub fn replace_at(
 ) -> Result<Option<u32>, Memory>
     requires term { term < length pool.old.trees }
     requires by { by < length pool.old.trees }
-    ensures some { IfOk result (λ o. IfSome o (λ n. HasTree pool.new n (put (tree_in pool.old.trees term) place.now (tree_in pool.old.trees by)))) }
+    ensures some { IfOk result (λ o. IfSome o
+        (λ n. HasTree pool.new n (put (tree_in pool.old.trees term) place.now (tree_in pool.old.trees by)))) }
     ensures none { IfOk result (λ o. IfNone o (at (tree_in pool.old.trees term) place.now ≡ None)) }
     ensures grows { OnOk result (Grows pool.old pool.new) }
     ensures operators { OnOk result (pool.new.operators ≡ pool.old.operators) }
@@ -87,7 +89,8 @@ fn frames_of(
 ) -> Result<Option<Vec<Frame>>, Memory>
     requires { term < length pool.now.trees }
     ensures frames { IfOk result (λ o. IfSome o (λ fs. AreFrames pool.now.trees fs.items)) }
-    ensures some { IfOk result (λ o. IfSome o (λ fs. (t : Tree) → plugged pool.now.trees fs.items t ≡ put (tree_in pool.now.trees term) place.now t)) }
+    ensures some { IfOk result (λ o. IfSome o (λ fs. (t : Tree)
+        → plugged pool.now.trees fs.items t ≡ put (tree_in pool.now.trees term) place.now t)) }
     ensures none { IfOk result (λ o. IfNone o (at (tree_in pool.now.trees term) place.now ≡ None)) }
 {
     let mut frames = Vec::with_capacity(alloc, place.len())?;
@@ -109,7 +112,8 @@ fn frames_of(
 fn plug(alloc: Global, pool: &mut Pool, frames: Vec<Frame>, by: u32) -> Result<u32, Memory>
     requires by { by < length pool.old.trees }
     requires frames { AreFrames pool.old.trees frames.items }
-    ensures tree { IfOk result (λ n. HasTree pool.new n (plugged pool.old.trees frames.items (tree_in pool.old.trees by))) }
+    ensures tree { IfOk result (λ n. HasTree pool.new n
+        (plugged pool.old.trees frames.items (tree_in pool.old.trees by))) }
     ensures grows { OnOk result (Grows pool.old pool.new) }
     ensures operators { OnOk result (pool.new.operators ≡ pool.old.operators) }
 {
@@ -129,7 +133,8 @@ fn plug(alloc: Global, pool: &mut Pool, frames: Vec<Frame>, by: u32) -> Result<u
 fn refit(alloc: Global, pool: &mut Pool, frame: Frame, argument: u32) -> Result<u32, Memory>
     requires node { frame.node < length pool.old.trees }
     requires argument { argument < length pool.old.trees }
-    ensures tree { IfOk result (λ n. HasTree pool.new n (with_argument (tree_in pool.old.trees frame.node) frame.argument (tree_in pool.old.trees argument))) }
+    ensures tree { IfOk result (λ n. HasTree pool.new n
+        (with_argument (tree_in pool.old.trees frame.node) frame.argument (tree_in pool.old.trees argument))) }
     ensures grows { OnOk result (Grows pool.old pool.new) }
     ensures operators { OnOk result (pool.new.operators ≡ pool.old.operators) }
 {

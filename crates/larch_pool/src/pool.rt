@@ -1,8 +1,10 @@
-ghost use Rattle.std.specs.Prelude.{◌≡◌, ◌↔◌, ℕ, ◌<◌, [], ◌++◌, ◌∷◌, length, map, All, IsTrue, IfOk, OnErr, slice_get, Some};
+ghost use Rattle.std.specs.Prelude.{◌≡◌, ◌↔◌, ℕ, ◌<◌, [], ◌++◌, ◌∷◌, length, map, All, IsTrue, IfOk, OnErr};
+ghost use Rattle.std.specs.Prelude.{slice_get, Some};
 ghost use Rattle.larch_term.specs.Tree.{var, app, forest_of};
 ghost use Rattle.larch_term.specs.Sorts.{WellSorted, AllWellSorted, sort_of, sorts_of};
 ghost use Rattle.larch_term.specs.Variable.{occurrences, occurrences_in};
-ghost use Rattle.larch_pool.specs.Pooled.{Pooled, Marked, name_of, operator_of, operator_in, tree_in, node_tree, Stands, Grows, HasTree, Kept};
+ghost use Rattle.larch_pool.specs.Pooled.{Pooled, Marked, name_of, operator_of, operator_in, tree_in, node_tree};
+ghost use Rattle.larch_pool.specs.Pooled.{Stands, Grows, HasTree, Kept};
 
 use crate::node::{Marks, Node};
 use crate::numbers::Numbers;
@@ -88,7 +90,8 @@ impl Pool {
 
     // The trees of a pool differ.
     pub fn are_apart(&self)
-        ensures { (i j : ℕ) → i < length self.now.trees → j < length self.now.trees → tree_in self.now.trees i ≡ tree_in self.now.trees j → i ≡ j }
+        ensures { (i j : ℕ) → i < length self.now.trees → j < length self.now.trees
+            → tree_in self.now.trees i ≡ tree_in self.now.trees j → i ≡ j }
     {
         let _ = self.symbols.len();
         let _ = self.nodes.len();
@@ -134,7 +137,8 @@ impl Pool {
     pub fn apply(&mut self, operator: u32, arguments: Numbers) -> Result<u32, Memory>
         requires operator { operator < length self.old.operators }
         requires arguments { All (λ c. c < length self.old.trees) arguments }
-        ensures tree { IfOk result (λ n. HasTree self.new n (app (operator_in self.old.operators operator) (forest_of (map (tree_in self.old.trees) arguments)))) }
+        ensures tree { IfOk result (λ n. HasTree self.new n
+            (app (operator_in self.old.operators operator) (forest_of (map (tree_in self.old.trees) arguments)))) }
         ensures grows { Grows self.old self.new }
         ensures operators { self.new.operators ≡ self.old.operators }
     {
@@ -150,7 +154,8 @@ impl Pool {
     fn fits(&self, operator: u32, arguments: &[u32]) -> bool
         requires operator { operator < length self.now.operators }
         requires arguments { All (λ c. c < length self.now.trees) arguments.now }
-        ensures { IsTrue result ↔ WellSorted (app (operator_in self.now.operators operator) (forest_of (map (tree_in self.now.trees) arguments.now))) }
+        ensures { IsTrue result ↔ WellSorted (app (operator_in self.now.operators operator)
+            (forest_of (map (tree_in self.now.trees) arguments.now))) }
     {
         self.takes(operator, arguments) && self.are_well_sorted(arguments)
     }
@@ -160,7 +165,8 @@ impl Pool {
     pub fn takes(&self, operator: u32, arguments: &[u32]) -> bool
         requires operator { operator < length self.now.operators }
         requires arguments { All (λ c. c < length self.now.trees) arguments.now }
-        ensures { IsTrue result ↔ (sorts_of (forest_of (map (tree_in self.now.trees) arguments.now)) ≡ (operator_in self.now.operators operator).domain) }
+        ensures { IsTrue result ↔ (sorts_of (forest_of (map (tree_in self.now.trees) arguments.now))
+            ≡ (operator_in self.now.operators operator).domain) }
     {
         let domain = self.domain(operator);
         if domain.len() != arguments.len() {

@@ -32,7 +32,8 @@ pub fn are_bindings(pool: &Pool, by: &[Binding]) -> bool
 }
 
 fn is_binding(pool: &Pool, binding: Binding) -> bool
-    ensures { IsTrue result → ((binding.variable < length pool.now.trees) × (binding.image < length pool.now.trees) × IsVar (tree_in pool.now.trees binding.variable)) }
+    ensures { IsTrue result → ((binding.variable < length pool.now.trees) × (binding.image < length pool.now.trees)
+        × IsVar (tree_in pool.now.trees binding.variable)) }
 {
     (binding.variable as usize) < pool.len()
         && (binding.image as usize) < pool.len()
@@ -55,7 +56,8 @@ pub fn is_variable(pool: &Pool, number: u32) -> bool
 pub fn substitute(alloc: Global, pool: &mut Pool, term: u32, by: &[Binding]) -> Result<u32, Memory>
     requires term { term < length pool.old.trees }
     requires by { AreBindings pool.old.trees by.now }
-    ensures tree { IfOk result (λ n. HasTree pool.new n (substituted (entries_of pool.old.trees by.now) (tree_in pool.old.trees term))) }
+    ensures tree { IfOk result (λ n. HasTree pool.new n
+        (substituted (entries_of pool.old.trees by.now) (tree_in pool.old.trees term))) }
     ensures grows { OnOk result (Grows pool.old pool.new) }
     ensures operators { OnOk result (pool.new.operators ≡ pool.old.operators) }
 {

@@ -20,7 +20,8 @@ pub fn apply_built_in(
     arguments: Numbers,
 ) -> Result<u32, Memory>
     requires { All (λ n. n < length pool.old.trees) arguments }
-    ensures tree { IfOk result (λ n. HasTree pool.new n (app (built_in kind sort.now) (forest_of (map (tree_in pool.old.trees) arguments)))) }
+    ensures tree { IfOk result (λ n. HasTree pool.new n
+        (app (built_in kind sort.now) (forest_of (map (tree_in pool.old.trees) arguments)))) }
     ensures grows { OnOk result (Grows pool.old pool.new) }
 {
     let operator = kind.operator(alloc, sort)?;
@@ -65,7 +66,9 @@ pub fn two_numbers(alloc: Global, first: u32, second: u32) -> Result<Numbers, Me
 pub fn equality_in(alloc: Global, pool: &mut Pool, left: u32, right: u32) -> Result<u32, Memory>
     requires left { left < length pool.old.trees }
     requires right { right < length pool.old.trees }
-    ensures tree { IfOk result (λ n. HasTree pool.new n (equality (sort_of (tree_in pool.old.trees left)) (tree_in pool.old.trees left) (tree_in pool.old.trees right))) }
+    ensures tree { IfOk result (λ n. HasTree pool.new n
+        (equality (sort_of (tree_in pool.old.trees left)) (tree_in pool.old.trees left)
+        (tree_in pool.old.trees right))) }
     ensures grows { OnOk result (Grows pool.old pool.new) }
 {
     let sort = pool.sort_of(left).copy()?;

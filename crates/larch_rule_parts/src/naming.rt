@@ -10,7 +10,8 @@ use larch_past::{Equated, Past, Stated};
 /// The sides of the equation that a line said.
 pub fn equation_of(past: &Past, line: u64) -> Option<Equated>
     requires { IsIndexed past.now.places.items (reverse past.now.events.items) }
-    ensures says { (p : Pooled) → option_map (equated_in p) result ≡ option_and_then equation_alone (find_line (history_of p past.now) line) }
+    ensures says { (p : Pooled) → option_map (equated_in p) result
+        ≡ option_and_then equation_alone (find_line (history_of p past.now) line) }
     ensures within { (p : Pooled) → All (IsHappened p) past.now.events.items → IfSome result (IsEquated p) }
 {
     let Some(stated) = past.line(line) else {

@@ -15,7 +15,8 @@ use std::alloc::Global;
 /// given by numbers.
 pub fn axiom_line(alloc: Global, axioms: &[Stated], number: u64) -> Result<Option<Stated>, Memory>
     ensures within { IfOk result (λ o. (p : Pooled) → All (IsStated p) axioms.now → IfSome o (IsStated p)) }
-    ensures says { IfOk result (λ o. (p : Pooled) → option_map (stated_in p) o ≡ slice_get (statement_zero ∷ map (stated_in p) axioms.now) number) }
+    ensures says { IfOk result (λ o. (p : Pooled)
+        → option_map (stated_in p) o ≡ slice_get (statement_zero ∷ map (stated_in p) axioms.now) number) }
 {
     if number == 0 {
         let stated = truth_values(alloc)?;

@@ -21,7 +21,8 @@ pub fn equal_line(
 ) -> Result<Option<Equated>, Memory>
     requires { IsPast theory.now pool.old past.now }
     ensures within { IfOk result (λ o. IfSome o (IsEquated pool.new)) }
-    ensures says { IfOk result (λ o. option_map (equated_in pool.new) o ≡ equal_says (history_of pool.old past.now) line) }
+    ensures says { IfOk result (λ o. option_map (equated_in pool.new) o
+        ≡ equal_says (history_of pool.old past.now) line) }
     ensures grows { OnOk result (Grows pool.old pool.new) }
 {
     let Some(sides) = equation_of(past, line) else {
@@ -60,7 +61,8 @@ fn equal_terms(
     requires left { left < length pool.old.trees }
     requires right { right < length pool.old.trees }
     ensures within { IfOk result (λ o. IfSome o (IsEquated pool.new)) }
-    ensures says { IfOk result (λ o. option_map (equated_in pool.new) o ≡ equated (equated_in pool.old sides) (tree_in pool.old.trees left) (tree_in pool.old.trees right)) }
+    ensures says { IfOk result (λ o. option_map (equated_in pool.new) o
+        ≡ equated (equated_in pool.old sides) (tree_in pool.old.trees left) (tree_in pool.old.trees right)) }
     ensures grows { OnOk result (Grows pool.old pool.new) }
 {
     let equality = equality_in(alloc, pool, left, right)?;

@@ -29,7 +29,9 @@ pub fn inst_line(
 ) -> Result<Option<Equated>, Memory>
     requires { IsPast theory.now pool.old past.now }
     ensures within { IfOk result (λ o. IfSome o (IsEquated pool.new)) }
-    ensures says { IfOk result (λ o. option_map (equated_in pool.new) o ≡ inst_says (find_symbol theory.now (history_of pool.old past.now)) (history_of pool.old past.now) line bindings.now) }
+    ensures says { IfOk result (λ o. option_map (equated_in pool.new) o
+        ≡ inst_says (find_symbol theory.now (history_of pool.old past.now))
+        (history_of pool.old past.now) line bindings.now) }
     ensures grows { OnOk result (Grows pool.old pool.new) }
 {
     let Some(sides) = equation_of(past, line) else {
@@ -76,7 +78,8 @@ fn decode_bindings(
 ) -> Result<Option<Vec<larch_pool::Binding>>, Memory>
     requires { IsPast theory.now pool.old past.now }
     ensures within { IfOk result (λ o. IfSome o (λ by. AreBindings pool.new.trees by.items)) }
-    ensures says { IfOk result (λ o. option_map (λ by. entries_of pool.new.trees by.items) o ≡ each (decode_binding (find_symbol theory.now (history_of pool.old past.now))) bindings.now) }
+    ensures says { IfOk result (λ o. option_map (λ by. entries_of pool.new.trees by.items) o
+        ≡ each (decode_binding (find_symbol theory.now (history_of pool.old past.now))) bindings.now) }
     ensures grows { OnOk result (Grows pool.old pool.new) }
 {
     let mut by = Vec::with_capacity(alloc, bindings.len())?;
@@ -100,7 +103,8 @@ fn decode_binding(
 ) -> Result<Option<larch_pool::Binding>, Memory>
     requires { IsPast theory.now pool.old past.now }
     ensures within { IfOk result (λ o. IfSome o (IsBinding pool.new.trees)) }
-    ensures says { IfOk result (λ o. option_map (entry_of pool.new.trees) o ≡ decode_binding (find_symbol theory.now (history_of pool.old past.now)) binding.now) }
+    ensures says { IfOk result (λ o. option_map (entry_of pool.new.trees) o
+        ≡ decode_binding (find_symbol theory.now (history_of pool.old past.now)) binding.now) }
     ensures grows { OnOk result (Grows pool.old pool.new) }
 {
     let image = decode(alloc, pool, theory, past, &binding.term)?;

@@ -23,7 +23,8 @@ pub fn refl_line(
 ) -> Result<Option<Equated>, Memory>
     requires { IsPast theory.now pool.old past.now }
     ensures within { IfOk result (λ o. IfSome o (IsEquated pool.new)) }
-    ensures says { IfOk result (λ o. option_map (equated_in pool.new) o ≡ refl_says (find_symbol theory.now (history_of pool.old past.now)) term.now) }
+    ensures says { IfOk result (λ o. option_map (equated_in pool.new) o
+        ≡ refl_says (find_symbol theory.now (history_of pool.old past.now)) term.now) }
     ensures grows { OnOk result (Grows pool.old pool.new) }
 {
     let number = decode(alloc, pool, theory, past, term)?;

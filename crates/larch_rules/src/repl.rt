@@ -23,7 +23,8 @@ pub fn repl_line(
 ) -> Result<Option<Equated>, Memory>
     requires { IsPast theory.now pool.old past.now }
     ensures within { IfOk result (λ o. IfSome o (IsEquated pool.new)) }
-    ensures says { IfOk result (λ o. option_map (equated_in pool.new) o ≡ repl_says (history_of pool.old past.now) line place.now by) }
+    ensures says { IfOk result (λ o. option_map (equated_in pool.new) o
+        ≡ repl_says (history_of pool.old past.now) line place.now by) }
     ensures grows { OnOk result (Grows pool.old pool.new) }
 {
     let Some(changed) = equation_of(past, line) else {
@@ -47,7 +48,8 @@ fn replace_side(
     requires changed { IsEquated pool.old changed }
     requires by { IsEquated pool.old by }
     ensures within { IfOk result (λ o. IfSome o (IsEquated pool.new)) }
-    ensures says { IfOk result (λ o. option_map (equated_in pool.new) o ≡ replaced place.now (equated_in pool.old changed) (equated_in pool.old by)) }
+    ensures says { IfOk result (λ o. option_map (equated_in pool.new) o
+        ≡ replaced place.now (equated_in pool.old changed) (equated_in pool.old by)) }
     ensures grows { OnOk result (Grows pool.old pool.new) }
 {
     let Some(there) = at(pool, changed.right, place) else {

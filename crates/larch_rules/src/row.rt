@@ -49,7 +49,8 @@ fn row_with(
 ) -> Result<Option<Stated>, Memory>
     requires { sorted ≡ false → sort.now ≡ bool_sort }
     ensures within { IfOk result (λ o. IfSome o (IsStated pool.new)) }
-    ensures says { IfOk result (λ o. option_map (stated_in pool.new) o ≡ row_at sorted (numbered (built_in_rows sort.now) number)) }
+    ensures says { IfOk result (λ o. option_map (stated_in pool.new) o
+        ≡ row_at sorted (numbered (built_in_rows sort.now) number)) }
     ensures grows { OnOk result (Grows pool.old pool.new) }
 {
     let statement = row_equation(alloc, number, sort, sorted)?;

@@ -14,7 +14,8 @@ use Rattle.larch_term.specs.declared.statement.Theory.{Theory}
 use Rattle.larch_term.specs.Truth.{truth}
 use Rattle.larch_calculus.specs.Derivable.{Derivable}
 use Rattle.larch_calculus.specs.Formula.{falsity, constant, applied}
-use Rattle.larch_calculus.specs.Generation.{place_name, generation_hypotheses, constant_terms, equation_at, induction_hypotheses}
+use Rattle.larch_calculus.specs.Generation.{place_name, generation_hypotheses, constant_terms, equation_at}
+use Rattle.larch_calculus.specs.Generation.{induction_hypotheses}
 use Rattle.larch_calculus.specs.Observation.{Observation, observations_of, observed, observations}
 use Rattle.larch_calculus.specs.Theories.{IsIncluded, IsNewName, AreConstants, with_statements, extended}
 use Rattle.larch_models.specs.Computed.{holds}

@@ -11,8 +11,16 @@ ghost use Rattle.larch_calculus.specs.Freed.{freed};
 ghost use Rattle.larch_calculus.specs.Observation.{Observation, observations_of, other_variables, AreDifferent};
 ghost use Rattle.larch_calculus.specs.Theories.{IsNewName};
 ghost use Rattle.larch_models.specs.Computed.{holds};
-ghost use Rattle.larch_soundness.specs.Conditions.{Refutes, WeakenPremises, FreshPremises, CasesPremises, InductPremises, ObservePremises, OccursNot, GeneratedPremises, PartitionedPremises};
-ghost use Rattle.larch_soundness.specs.Counterexamples.{sort_n, constant_a, constant_b, variable_x, term_x, term_y, term_z, all_nought, equal_constants, x_is_nought, named_z, operator_f, operator_g, observer_of_pairs, observed_with_own, own_values, observer_of_triples, observed_with_one, one_values, operator_p, operator_q, equal_pairs, pair_values, box_constant, one_twice, predicate, holding_everywhere, true_values, alike, ill_sorted, sorted_again};
+ghost use Rattle.larch_soundness.specs.Conditions.{Refutes, WeakenPremises, FreshPremises, CasesPremises};
+ghost use Rattle.larch_soundness.specs.Conditions.{InductPremises, ObservePremises, OccursNot, GeneratedPremises};
+ghost use Rattle.larch_soundness.specs.Conditions.{PartitionedPremises};
+ghost use Rattle.larch_soundness.specs.Counterexamples.{sort_n, constant_a, constant_b, variable_x, term_x, term_y};
+ghost use Rattle.larch_soundness.specs.Counterexamples.{term_z, all_nought, equal_constants, x_is_nought, named_z};
+ghost use Rattle.larch_soundness.specs.Counterexamples.{operator_f, operator_g, observer_of_pairs, observed_with_own};
+ghost use Rattle.larch_soundness.specs.Counterexamples.{own_values, observer_of_triples, observed_with_one};
+ghost use Rattle.larch_soundness.specs.Counterexamples.{one_values, operator_p, operator_q, equal_pairs, pair_values};
+ghost use Rattle.larch_soundness.specs.Counterexamples.{box_constant, one_twice, predicate, holding_everywhere};
+ghost use Rattle.larch_soundness.specs.Counterexamples.{true_values, alike, ill_sorted, sorted_again};
 ghost use Rattle.larch_models.specs.Examples.{modulo_two};
 ghost use Rattle.larch_models.specs.Models.{IsModel};
 

@@ -1,7 +1,8 @@
 ghost use Rattle.std.specs.Prelude.{◌≡◌, ◌≤◌, ◌-◌, IfOk, None, length};
 ghost use Rattle.std.specs.List.{slice_get};
 ghost use Rattle.larch_term.specs.Tree.{var};
-ghost use Rattle.larch_tables.specs.Spelling.{words, variables, arity, word_before, before, spelled, only, spelled_side, equation_of};
+ghost use Rattle.larch_tables.specs.Spelling.{words, variables, arity, word_before, before, spelled, only};
+ghost use Rattle.larch_tables.specs.Spelling.{spelled_side, equation_of};
 
 use crate::row::{Side, Sides};
 use larch_base::{Memory, Name, Sequence};

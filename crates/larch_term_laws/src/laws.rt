@@ -117,8 +117,8 @@ pub fn puts_compose()
     ensures exchange { (t : Tree) (p q : List ℕ) (u v : Tree) → Part p q → put (put t p u) q v ≡ put (put t q v) p u }
 {}
 
-/// The list of a term's places has exactly those at which something stands, in preorder, none of them twice, and as many
-/// as the term has nodes.
+/// The list of a term's places has exactly those at which something stands, in preorder, none of them twice, and as
+/// many as the term has nodes.
 pub fn places_are_listed()
     ensures listed { (t : Tree) (p : List ℕ) (u : Tree) → at t p ≡ Some u → Contains (places t) p }
     ensures stands { (t : Tree) (p : List ℕ) → Contains (places t) p → (u : Tree) × (at t p ≡ Some u) }

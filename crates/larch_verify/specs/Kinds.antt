@@ -1,7 +1,8 @@
 -- Rules by what they say and by what they take.
 use Rattle.std.specs.Prelude.{Bool, true, false}
 use Rattle.larch_certificate.specs.declared.line.Line.{Line}
-use Rattle.larch_certificate.specs.declared.line.Line.TheVariants.{Axiom, Row, BoxLine, Done, Fresh, Cases, Induct, Observe, Generated, Partitioned}
+use Rattle.larch_certificate.specs.declared.line.Line.TheVariants.{Axiom, Row, BoxLine, Done, Fresh, Cases, Induct}
+use Rattle.larch_certificate.specs.declared.line.Line.TheVariants.{Observe, Generated, Partitioned}
 
 -- whether what a line says, if it says something, is an equation by its rule
 abbrev pub says_equations : Line → Bool

@@ -50,8 +50,8 @@ pub fn way_line(builder: &mut Builder, start: &Term, way: Option<u64>) -> Result
     }
 }
 
-/// A line that says what another one says, with the argument with a number, counted from 1, of the right side changed as
-/// a further line says. A refused line changes nothing.
+/// A line that says what another one says, with the argument with a number, counted from 1, of the right side changed
+/// as a further line says. A refused line changes nothing.
 #[tactic(auto, using(larch_derive::proofs::Growth::extends_same))]
 pub fn argument_line(
     alloc: Global,
