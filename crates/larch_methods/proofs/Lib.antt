@@ -1,0 +1,11 @@
+pub mod Connectives
+pub mod Inductions
+pub mod Joining
+pub mod Lengths
+pub mod Numbered
+pub mod Observing
+pub mod Places
+pub mod Settled
+pub mod Sharing
+pub mod Shown
+pub mod Words

@@ -1,0 +1,20 @@
+use Rattle.larch_term.specs.Truth.{truth}
+use Rattle.larch_derive.proofs.Growth.{extends_trans}
+use Rattle.larch_methods.proofs.Inductions.{induced}
+use Rattle.larch_methods.proofs.Sharing.{said_right}
+use Rattle.larch_methods.proofs.induction.finish_induction.Goals as goal
+
+pub returns-clause-says : goal.returns-clause-says
+returns-clause-says c h =
+    said_right _ _ _ _ truth c.in_ok-truth.ensures
+    (induced _ _ _ _ _ _ _ _ _ _ h c.in_ok-variable.ensures c.in_ok-truth.ensures
+    (λ fs st s. c.in_ok-stated.ensures.extends _ st s.found)
+    (λ fs st s. c.in_ok-stated.ensures.says _ st s.found s.over)
+    (λ x fs s cs k t e. c.in_ok-line.ensures.says fs s cs k t e))
+
+pub returns-clause-extends : goal.returns-clause-extends
+returns-clause-extends c h =
+    induced _ _ _ _ _ _ _ _ _ _ h c.in_ok-variable.ensures c.in_ok-truth.ensures
+    (λ fs st s. c.in_ok-stated.ensures.extends _ st s.found)
+    (λ fs st s. c.in_ok-stated.ensures.says _ st s.found s.over)
+    (λ x fs s cs k t e. extends_trans _ _ _ x (c.in_ok-line.ensures.extends fs s cs k t e))

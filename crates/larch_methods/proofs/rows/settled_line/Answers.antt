@@ -1,0 +1,19 @@
+use Rattle.larch_derive.proofs.Growth.{extends_trans}
+use Rattle.larch_methods.proofs.Settled.{settles}
+use Rattle.larch_methods.proofs.rows.settled_line.Goals as goal
+
+pub returns-clause-says : goal.returns-clause-says
+returns-clause-says c v h =
+    settles _ _ _ _ _ _ _ _ _ v _ _ _ _ h (λ k. c.in_ok-same.ensures.says k) (λ k. c.in_ok-same.ensures.extends k)
+    (λ s t u f ds rs e p q. c.in_ok-changed.ensures.says s t u f ds rs e p q)
+    (λ s t u f ds rs e p q. c.in_ok-changed.ensures.extends s t u f ds rs e p q)
+    (λ l r e k. c.in_ok-settled.ensures.says l r e k) (λ l r e k. c.in_ok-settled.ensures.extends l r e k)
+    (λ x u p q. c.in_ok-number.ensures.says _ u v p q)
+
+pub returns-clause-extends : goal.returns-clause-extends
+returns-clause-extends c v h =
+    settles _ _ _ _ _ _ _ _ _ v _ _ _ _ h (λ k. c.in_ok-same.ensures.says k) (λ k. c.in_ok-same.ensures.extends k)
+    (λ s t u f ds rs e p q. c.in_ok-changed.ensures.says s t u f ds rs e p q)
+    (λ s t u f ds rs e p q. c.in_ok-changed.ensures.extends s t u f ds rs e p q)
+    (λ l r e k. c.in_ok-settled.ensures.says l r e k) (λ l r e k. c.in_ok-settled.ensures.extends l r e k)
+    (λ x u p q. extends_trans _ _ _ x (c.in_ok-number.ensures.extends _ u v p q))

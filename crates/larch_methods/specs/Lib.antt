@@ -1,0 +1,6 @@
+pub mod Clauses
+pub mod Conjuncts
+pub mod Inside
+pub mod Methods
+pub mod Observers
+pub mod Rows

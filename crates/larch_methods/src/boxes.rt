@@ -1,0 +1,115 @@
+ghost use Rattle.std.specs.Prelude.{◌≡◌, [], ◌∷◌, map, true, IfOk, OnOk};
+ghost use Rattle.larch_derive.specs.Predicates.{Grows, HasEquation, Known};
+ghost use Rattle.larch_derive.specs.declared.builder.Builder.{Builder as Built};
+ghost use Rattle.larch_derive.specs.declared.open_box.OpenBox.{OpenBox};
+ghost use Rattle.larch_derive_boxes.specs.Boxes.{Opens};
+ghost use Rattle.larch_methods.specs.Inside.{IsInside, ShowsUnder, closed_in, value_term, written_variable};
+ghost use Rattle.larch_methods.specs.Methods.{IsKnownFormula};
+ghost use Rattle.larch_term.specs.Sorts.{sort_of};
+ghost use Rattle.larch_term.specs.Tree.{Tree};
+ghost use Rattle.larch_term.specs.declared.statement.Statement.TheVariants.{Equation as equation};
+
+use larch_base::{Memory, Sequence};
+use larch_certificate::{CodedVar, CodedVars};
+use larch_derive::Builder;
+use larch_derive_boxes::{close_box, fresh_line, hyp_line};
+use larch_term::{BuiltIn, Statement, Statements, Term, Terms, Variable, bool_sort, copy};
+use std::alloc::Global;
+
+/// Closes the innermost box, which supposes nothing, with the equation that a line says, and says it with variables in
+/// the places of the box's constants.
+pub fn freed_line(
+    alloc: Global,
+    builder: &mut Builder,
+    number: u64,
+    line: u64,
+    variables: &[Variable],
+) -> Result<u64, Memory>
+    ensures says { IfOk result (λ n. (a : Built) (x : OpenBox) (l r : Tree) → x.number ≡ number
+        → IsInside a builder.old x variables.now
+        → HasEquation builder.old line (closed_in variables.now x l) (closed_in variables.now x r)
+        → Known a l → Known a r → sort_of l ≡ sort_of r → HasEquation builder.new n l r) }
+    ensures grows { OnOk result ((a : Built) (x : OpenBox) (l r : Tree) → x.number ≡ number
+        → IsInside a builder.old x variables.now
+        → HasEquation builder.old line (closed_in variables.now x l) (closed_in variables.now x r)
+        → Known a l → Known a r → Grows a builder.new) }
+{
+    let variables = coded_variables(alloc, variables)?;
+    close_box(alloc, builder, line)?;
+    let freed = fresh_line(builder, number, variables)?;
+    Ok(freed)
+}
+
+// Variables as lines write them.
+fn coded_variables(alloc: Global, variables: &[Variable]) -> Result<CodedVars, Memory>
+    ensures { IfOk result (λ vs. vs ≡ map written_variable variables.now) }
+{
+    let mut coded = Sequence::new(alloc);
+    for variable in variables {
+        let variable = coded_variable(variable)?;
+        coded.push(variable)?;
+    }
+    Ok(coded)
+}
+
+// A variable as lines write it.
+pub(crate) fn coded_variable(variable: &Variable) -> Result<CodedVar, Memory>
+    ensures { IfOk result (λ v. v ≡ written_variable variable.now) }
+{
+    let name = variable.name.copy()?;
+    let sort = variable.sort.copy()?;
+    Ok(CodedVar { name, sort })
+}
+
+/// Opens a box without constants that supposes that a formula is true, or that it is false, and answers its number.
+pub fn supposing_box(
+    alloc: Global,
+    builder: &mut Builder,
+    formula: &Term,
+    value: bool,
+) -> Result<u64, Memory>
+    ensures { IfOk result (λ n. IsKnownFormula builder.old formula.now
+        → Opens builder.old builder.new (record { number = n; constants = [] })
+        (equation formula.now (value_term value) ∷ [])) }
+{
+    let hypotheses = supposed(alloc, formula, value)?;
+    let number = builder.open_box(&Sequence::new(alloc), &hypotheses)?;
+    Ok(number)
+}
+
+// That a formula has a truth value, as the only hypothesis.
+fn supposed(alloc: Global, formula: &Term, value: bool) -> Result<Statements, Memory>
+    ensures { IfOk result (λ hs. hs ≡ equation formula.now (value_term value) ∷ []) }
+{
+    let formula = copy(alloc, formula)?;
+    let value = value_term(alloc, value)?;
+    let mut hypotheses = Sequence::new(alloc);
+    hypotheses.push(Statement::Equation(formula, value))?;
+    Ok(hypotheses)
+}
+
+// A truth value as a term.
+pub(crate) fn value_term(alloc: Global, value: bool) -> Result<Term, Memory>
+    ensures { IfOk result (λ t. t ≡ value_term value) }
+{
+    let sort = bool_sort(alloc)?;
+    let value = if value { BuiltIn::True } else { BuiltIn::False };
+    let operator = value.operator(alloc, &sort)?;
+    Ok(Term::app(operator, Terms::from_vec(Vec::new(alloc))))
+}
+
+// A closed box without constants, which supposes that a formula is true and shows just that: its number.
+pub(crate) fn trivial_box(
+    alloc: Global,
+    builder: &mut Builder,
+    formula: &Term,
+) -> Result<u64, Memory>
+    ensures shows { IfOk result (λ n. IsKnownFormula builder.old formula.now
+        → ShowsUnder builder.new formula.now true formula.now n) }
+    ensures grows { OnOk result (IsKnownFormula builder.old formula.now → Grows builder.old builder.new) }
+{
+    let number = supposing_box(alloc, builder, formula, true)?;
+    let line = hyp_line(builder, number, 1)?;
+    close_box(alloc, builder, line)?;
+    Ok(number)
+}

@@ -1,0 +1,34 @@
+ghost use Rattle.std.specs.Prelude.{IfOk, OnOk};
+ghost use Rattle.larch_derive.specs.Predicates.{Grows, HasEquation};
+ghost use Rattle.larch_derive.specs.declared.builder.Builder.{Builder as Built};
+ghost use Rattle.larch_methods.specs.Methods.{ByCases};
+ghost use Rattle.larch_term.specs.Tree.{Tree};
+ghost use Rattle.larch_term.specs.Truth.{truth};
+
+use crate::boxes::freed_line;
+use larch_base::Memory;
+use larch_derive::Builder;
+use larch_derive_boxes::cases_line;
+use larch_term::{Term, variables};
+use std::alloc::Global;
+
+/// A line that says that the goal is true, by cases of a formula: by the box of constants that both cases share, which
+/// is closed, and the closed boxes of the case in which the formula is true and of that in which it is false.
+pub fn finish_cases(
+    alloc: Global,
+    builder: &mut Builder,
+    formula: &Term,
+    shared: u64,
+    first: u64,
+    second: u64,
+) -> Result<u64, Memory>
+    ensures says { IfOk result (λ n. (a : Built) (g : Tree) → ByCases a builder.old formula.now g shared first second
+        → HasEquation builder.new n g truth) }
+    ensures grows { OnOk result ((a : Built) (g : Tree) → ByCases a builder.old formula.now g shared first second
+        → Grows a builder.new) }
+{
+    let variables = variables(alloc, formula)?;
+    let line = cases_line(builder, first, second)?;
+    let freed = freed_line(alloc, builder, shared, line, variables.as_slice())?;
+    Ok(freed)
+}

@@ -1,0 +1,60 @@
+ghost use Rattle.std.specs.Prelude.{◌≡◌, [], ◌∷◌, IfOk, OnOk};
+ghost use Rattle.larch_calculus.specs.Formula.{falsity};
+ghost use Rattle.larch_derive.specs.Predicates.{Extends, Grows, HasEquation};
+ghost use Rattle.larch_derive.specs.declared.builder.Builder.{Builder as Built};
+ghost use Rattle.larch_derive.specs.declared.open_box.OpenBox.{OpenBox};
+ghost use Rattle.larch_derive_boxes.specs.Boxes.{IsOpen};
+ghost use Rattle.larch_methods.specs.Methods.{ByContradiction};
+ghost use Rattle.larch_term.specs.Tree.{Tree};
+ghost use Rattle.larch_term.specs.Truth.{truth};
+ghost use Rattle.larch_term.specs.declared.statement.Statement.TheVariants.{Equation as equation};
+
+use crate::boxes::{freed_line, trivial_box};
+use larch_base::Memory;
+use larch_derive::Builder;
+use larch_derive_boxes::{cases_line, hyp_line};
+use larch_derive_lines::trans_line;
+use larch_term::{Term, variables};
+use std::alloc::Global;
+
+/// A line that says that the formula is true of which an open box supposes that it is false, by a line that says that
+/// false is true.
+pub fn contradicted_line(
+    alloc: Global,
+    builder: &mut Builder,
+    number: u64,
+    line: u64,
+) -> Result<u64, Memory>
+    ensures says { IfOk result (λ n. (x : OpenBox) (g : Tree) → x.number ≡ number
+        → IsOpen builder.old x (equation g falsity ∷ []) → HasEquation builder.old line falsity truth
+        → HasEquation builder.new n g truth) }
+    ensures extends { OnOk result ((x : OpenBox) (g : Tree) → x.number ≡ number
+        → IsOpen builder.old x (equation g falsity ∷ []) → HasEquation builder.old line falsity truth
+        → Extends builder.old builder.new) }
+{
+    let supposed = hyp_line(builder, number, 1)?;
+    let shown = trans_line(alloc, builder, supposed, line)?;
+    Ok(shown)
+}
+
+/// A line that says that the goal is true, by contradiction: by the goal with constants in the places of its variables,
+/// the box of these constants, which is closed, and the closed box in which the goal is supposed to be false.
+pub fn finish_contradiction(
+    alloc: Global,
+    builder: &mut Builder,
+    goal: &Term,
+    closed: &Term,
+    shared: u64,
+    number: u64,
+) -> Result<u64, Memory>
+    ensures says { IfOk result (λ n. (a : Built) → ByContradiction a builder.old goal.now closed.now shared number
+        → HasEquation builder.new n goal.now truth) }
+    ensures grows { OnOk result ((a : Built) → ByContradiction a builder.old goal.now closed.now shared number
+        → Grows a builder.new) }
+{
+    let variables = variables(alloc, goal)?;
+    let supposed = trivial_box(alloc, builder, closed)?;
+    let line = cases_line(builder, supposed, number)?;
+    let freed = freed_line(alloc, builder, shared, line, variables.as_slice())?;
+    Ok(freed)
+}

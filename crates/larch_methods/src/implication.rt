@@ -1,0 +1,89 @@
+ghost use Rattle.std.specs.Prelude.{◌≡◌, [], ◌∷◌, false, IfOk, OnOk};
+ghost use Rattle.larch_calculus.specs.Formula.{implication};
+ghost use Rattle.larch_derive.specs.Predicates.{Extends, Grows, HasEquation};
+ghost use Rattle.larch_derive.specs.declared.builder.Builder.{Builder as Built};
+ghost use Rattle.larch_methods.specs.Inside.{ShowsUnder};
+ghost use Rattle.larch_methods.specs.Methods.{ByImplication, IsKnownFormula};
+ghost use Rattle.larch_term.specs.Tree.{Tree};
+ghost use Rattle.larch_term.specs.Truth.{truth};
+ghost use Rattle.larch_term.specs.Variable.{variables_of};
+
+use crate::arguments::arguments_of;
+use crate::boxes::{freed_line, supposing_box};
+use crate::rows::settled_line;
+use larch_base::Memory;
+use larch_derive::Builder;
+use larch_derive_boxes::{cases_line, close_box, hyp_line};
+use larch_term::{Term, Variables, variables};
+use std::alloc::Global;
+
+// The row that says that false implies anything, and the one that says that anything implies true.
+const FROM_FALSE: u64 = 15;
+
+const TO_TRUE: u64 = 16;
+
+/// A line that says that an implication is true, by a line that says that its conclusion is.
+pub fn implied_line(
+    alloc: Global,
+    builder: &mut Builder,
+    whole: &Term,
+    line: u64,
+) -> Result<u64, Memory>
+    ensures says { IfOk result (λ n. (p q : Tree) → whole.now ≡ implication p q
+        → IsKnownFormula builder.old whole.now → HasEquation builder.old line q truth
+        → HasEquation builder.new n whole.now truth) }
+    ensures extends { OnOk result ((p q : Tree) → whole.now ≡ implication p q
+        → IsKnownFormula builder.old whole.now → HasEquation builder.old line q truth
+        → Extends builder.old builder.new) }
+{
+    let two = arguments_of(whole)?;
+    let implied = settled_line(alloc, builder, whole, 2, line, TO_TRUE, two.first)?;
+    Ok(implied)
+}
+
+// A closed box without constants, which supposes that the premise of an implication is false, and shows that the whole
+// is true: its number.
+fn vacuous_box(alloc: Global, builder: &mut Builder, whole: &Term) -> Result<u64, Memory>
+    ensures shows { IfOk result (λ n. (p q : Tree) → whole.now ≡ implication p q
+        → IsKnownFormula builder.old whole.now → ShowsUnder builder.new p false whole.now n) }
+    ensures grows { OnOk result ((p q : Tree) → whole.now ≡ implication p q → IsKnownFormula builder.old whole.now
+        → Grows builder.old builder.new) }
+{
+    let two = arguments_of(whole)?;
+    let number = supposing_box(alloc, builder, two.first, false)?;
+    let denied = hyp_line(builder, number, 1)?;
+    let line = settled_line(alloc, builder, whole, 1, denied, FROM_FALSE, two.second)?;
+    close_box(alloc, builder, line)?;
+    Ok(number)
+}
+
+/// A line that says that an implication is true: by the same with constants in the places of its premise's variables,
+/// the box of these constants, which is closed, and the closed box in which the premise is supposed to be true.
+pub fn finish_implication(
+    alloc: Global,
+    builder: &mut Builder,
+    goal: &Term,
+    closed: &Term,
+    shared: u64,
+    number: u64,
+) -> Result<u64, Memory>
+    ensures says { IfOk result (λ n. (a : Built) (p q : Tree) → goal.now ≡ implication p q
+        → ByImplication a builder.old p q closed.now shared number → HasEquation builder.new n goal.now truth) }
+    ensures grows { OnOk result ((a : Built) (p q : Tree) → goal.now ≡ implication p q
+        → ByImplication a builder.old p q closed.now shared number → Grows a builder.new) }
+{
+    let variables = premise_variables(alloc, goal)?;
+    let otherwise = vacuous_box(alloc, builder, closed)?;
+    let line = cases_line(builder, number, otherwise)?;
+    let freed = freed_line(alloc, builder, shared, line, variables.as_slice())?;
+    Ok(freed)
+}
+
+// The variables of an implication's premise.
+fn premise_variables(alloc: Global, goal: &Term) -> Result<Variables, Memory>
+    ensures { IfOk result (λ vs. (p q : Tree) → goal.now ≡ implication p q → vs ≡ variables_of p) }
+{
+    let two = arguments_of(goal)?;
+    let found = variables(alloc, two.first)?;
+    Ok(found)
+}

@@ -1,0 +1,65 @@
+ghost use Rattle.std.specs.Prelude.{◌≡◌, None, Some, codes, IfOk, OnOk};
+ghost use Rattle.larch_calculus.specs.Generation.{only};
+ghost use Rattle.larch_derive.specs.Predicates.{Extends, HasEquation, Known};
+ghost use Rattle.larch_lines.specs.Rules.{row_says};
+ghost use Rattle.larch_methods.specs.Methods.{IsKnownFormula};
+ghost use Rattle.larch_methods.specs.Rows.{IsSettledBy, of_formula};
+ghost use Rattle.larch_term.specs.BuiltIn.{bool_sort};
+ghost use Rattle.larch_term.specs.Tree.{Tree};
+ghost use Rattle.larch_term.specs.declared.statement.Statement.TheVariants.{Equation as equation};
+
+use larch_base::{Memory, Name};
+use larch_derive::Builder;
+use larch_derive_lines::{inst_line, refl_line, row_line, trans_line};
+use larch_term::{Substitution, Term, bool_sort, copy};
+use larch_ways::argument_line;
+use std::alloc::Global;
+
+// A line that says a row of truth values with a formula in the place of its variable.
+fn row_at(alloc: Global, builder: &mut Builder, row: u64, formula: &Term) -> Result<u64, Memory>
+    ensures says { IfOk result (λ n. (l r : Tree) → row_says row None ≡ Some (equation l r)
+        → IsKnownFormula builder.old formula.now
+        → HasEquation builder.new n (of_formula formula.now l) (of_formula formula.now r)) }
+    ensures extends { OnOk result ((l r : Tree) → row_says row None ≡ Some (equation l r)
+        → IsKnownFormula builder.old formula.now → Extends builder.old builder.new) }
+{
+    let by = for_x(alloc, formula)?;
+    let stated = row_line(builder, row, None)?;
+    let line = inst_line(alloc, builder, stated, &by)?;
+    Ok(line)
+}
+
+// A formula for x.
+fn for_x(alloc: Global, formula: &Term) -> Result<Substitution, Memory>
+    ensures { IfOk result (λ by. by ≡ only (codes "x") bool_sort formula.now) }
+{
+    let name = Name::new(alloc, b"x")?;
+    let sort = bool_sort(alloc)?;
+    let formula = copy(alloc, formula)?;
+    let mut by = Substitution::new(alloc);
+    by.push(name, sort, formula)?;
+    Ok(by)
+}
+
+// A line that says what a connective comes to, one argument of which is a truth value by a line: by a row, with a
+// formula in the place of its variable.
+pub(crate) fn settled_line(
+    alloc: Global,
+    builder: &mut Builder,
+    whole: &Term,
+    argument: u64,
+    line: u64,
+    row: u64,
+    formula: &Term,
+) -> Result<u64, Memory>
+    ensures says { IfOk result (λ n. (v : Tree) → IsSettledBy builder.old whole.now argument line row formula.now v
+        → HasEquation builder.new n whole.now v) }
+    ensures extends { OnOk result ((v : Tree) → IsSettledBy builder.old whole.now argument line row formula.now v
+        → Extends builder.old builder.new) }
+{
+    let same = refl_line(builder, whole)?;
+    let changed = argument_line(alloc, builder, same, argument, line)?;
+    let settled = row_at(alloc, builder, row, formula)?;
+    let number = trans_line(alloc, builder, changed, settled)?;
+    Ok(number)
+}
