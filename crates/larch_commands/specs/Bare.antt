@@ -2,7 +2,11 @@
 use Rattle.std.specs.Prelude.{map, option_map}
 use Rattle.larch_base.specs.Position.{start_of_text}
 use Rattle.larch_commands.specs.declared.command.CommandKind.{CommandKind}
-use Rattle.larch_commands.specs.declared.command.CommandKind.TheVariants.{Declare, Limit, BoxChecking, Height, Status, Prove, Cases, Implication, Conjunction, Contradiction, Induction, Partition, Instantiate, CriticalPairs, Normalize, Qed, Mark, Bad}
+use Rattle.larch_commands.specs.declared.command.CommandKind.TheVariants.{Declare, Limit, BoxChecking, Height, Status}
+use Rattle.larch_commands.specs.declared.command.CommandKind.TheVariants.{Prove, Cases, Implication, Conjunction}
+use Rattle.larch_commands.specs.declared.command.CommandKind.TheVariants.{Contradiction, Induction, Partition}
+use Rattle.larch_commands.specs.declared.command.CommandKind.TheVariants.{Instantiate, CriticalPairs, Normalize, Qed}
+use Rattle.larch_commands.specs.declared.command.CommandKind.TheVariants.{Mark, Bad}
 use Rattle.larch_commands.specs.declared.command.RawCommand.{RawCommand}
 use Rattle.larch_commands.specs.declared.command.RawInstance.{RawInstance}
 use Rattle.larch_raw.specs.RawTree.{RawTree, RawForest, apply, qualified, no_more, one_more}

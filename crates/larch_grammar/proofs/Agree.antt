@@ -1,5 +1,5 @@
 -- With and without symbols that are let in the machine steps the same, except at such a symbol.
-use Rattle.std.proofs.Common.{◌≡◌, true, false, Some, None, List, [], ◌∷◌, ap, ◌∙◌}
+use Rattle.std.proofs.Common.{◌≡◌, Bool, true, false, cond, Some, None, List, [], ◌∷◌, ap, ◌∙◌}
 use Rattle.larch_lexer.specs.declared.token.Token.{Token}
 use Rattle.larch_fronts.specs.Mark.{is_mixed}
 use Rattle.larch_fronts.specs.declared.mark.Mark.{Mark}
@@ -10,15 +10,15 @@ use Rattle.larch_raw.specs.declared.equation.RawEquation.{RawEquation}
 use Rattle.larch_raw.specs.declared.equation.RawTrait.{RawTrait}
 use Rattle.larch_raw.specs.declared.equation.RawVar.{RawVar}
 use Rattle.larch_raw.specs.RawTree.{RawTree}
-use Rattle.larch_grammar.specs.Terminals.{terminal_of}
-use Rattle.larch_grammar.specs.Machine.{Taking, after_symbol, after_word, first_word, hand, step, step_at, word_behind, word_frames, open_item}
+use Rattle.larch_grammar.specs.Terminals.{ends_reference, terminal_of}
+use Rattle.larch_grammar.specs.Machine.{Taking, after_symbol, after_word, behind_first, first_word, hand, implied_word, step, step_at, word_behind, word_frames, open_item}
 use Rattle.larch_grammar.specs.Trees.{call_tree, if_tree, chain_tree, postfix_tree, prefix_tree}
 use Rattle.larch_grammar.specs.declared.terminal.Terminal.{Terminal}
 use Rattle.larch_grammar.specs.declared.terminal.Terminal.TheVariants.{Word, Symbol, Connective, Equality, Colon, Dot, Open, OpenBracket, Generated, Partitioned}
 use Rattle.larch_grammar.specs.declared.machine.Frame.{Frame}
 use Rattle.larch_grammar.specs.declared.machine.Frame.TheVariants.{InFields, InStrays, Prefixed, InPostfixes, InInfixes, InEqualities, InConnectives, InElse}
 use Rattle.larch_grammar.specs.declared.machine.State.{State}
-use Rattle.larch_grammar.specs.declared.machine.State.TheVariants.{FirstWord, WordBehind, AfterWord, AfterSymbol, Have}
+use Rattle.larch_grammar.specs.declared.machine.State.TheVariants.{BehindFirst, FirstWord, ImpliedWord, WordBehind, AfterWord, AfterSymbol, Have}
 use Rattle.larch_grammar.specs.declared.machine.Waiting.TheVariants.{Item}
 
 -- two steps, with and without the symbols that are let in: each is the other, where what the first counts isn't MIXED
@@ -73,8 +73,23 @@ word_behind_alike raw vs es w Generated = same _
 word_behind_alike raw vs es w Partitioned = same _
 word_behind_alike raw vs es w t = after_word_alike w (word_frames w (Item (open_item raw vs es))) t
 
+unless_alike : (e : Bool) (a b : Taking) → Alike a b → Alike (cond e None a) (cond e None b)
+unless_alike true a b h = same None
+unless_alike false a b h = h
+
+implied_word_alike : (raw : RawTrait) (w : RawWord) (t : Terminal) → Alike (implied_word true raw w t) (implied_word false raw w t)
+implied_word_alike raw w Generated = same _
+implied_word_alike raw w Partitioned = same _
+implied_word_alike raw w (Open p) = same _
+implied_word_alike raw w t = unless_alike (ends_reference t) _ _ (after_word_alike w (word_frames w (Item (open_item raw [] []))) t)
+
+behind_first_alike : (raw : RawTrait) (w : RawWord) (ts : List RawTree) (t : Terminal) → Alike (behind_first true raw w ts t) (behind_first false raw w ts t)
+behind_first_alike raw w ts t = unless_alike (ends_reference t) _ _ (hand_alike (InFields ∷ word_frames w (Item (open_item raw [] []))) (call_tree w ts) t)
+
 alike : (n : State) (t : Terminal) → Alike (step true n t) (step false n t)
 alike (FirstWord raw w) t = first_word_alike raw w t
+alike (ImpliedWord raw w) t = implied_word_alike raw w t
+alike (BehindFirst raw w ts) t = behind_first_alike raw w ts t
 alike (WordBehind j w) t = word_behind_alike j.raw j.variables j.equations w t
 alike (AfterWord w k) t = after_word_alike w k t
 alike (AfterSymbol x r k) t = after_symbol_alike x r k t
@@ -89,9 +104,9 @@ agree n t = (alike n t).0
 pub stray : (n : State) (t : Terminal) (m : Mark) (k : State) → step false n t ≡ Some (m, k) → step true n t ≡ Some (m, k)
 stray n t = (alike n t).1
 
--- the same of the tokens of a text
-pub agree_at : (n : State) (t : Token) (m : Mark) (k : State) → step_at true n t ≡ Some (m, k) → is_mixed m ≡ false → step_at false n t ≡ Some (m, k)
-agree_at n t = agree n (terminal_of t)
+-- the same of the tokens of a text, where references follow `implies` or not
+pub agree_at : (g : Bool) (n : State) (t : Token) (m : Mark) (k : State) → step_at g true n t ≡ Some (m, k) → is_mixed m ≡ false → step_at g false n t ≡ Some (m, k)
+agree_at g n t = agree n (terminal_of g t)
 
-pub stray_at : (n : State) (t : Token) (m : Mark) (k : State) → step_at false n t ≡ Some (m, k) → step_at true n t ≡ Some (m, k)
-stray_at n t = stray n (terminal_of t)
+pub stray_at : (g : Bool) (n : State) (t : Token) (m : Mark) (k : State) → step_at g false n t ≡ Some (m, k) → step_at g true n t ≡ Some (m, k)
+stray_at g n t = stray n (terminal_of g t)

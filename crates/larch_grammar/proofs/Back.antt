@@ -6,9 +6,9 @@ use Rattle.larch_fronts.specs.declared.mark.Mark.TheVariants.{Outside}
 use Rattle.larch_grammar.specs.declared.terminal.Terminal.{Terminal}
 use Rattle.larch_grammar.specs.declared.terminal.Terminal.TheVariants.{Word, Arrow, Colon, Comma, Marker, Open, Trait, By, Of}
 use Rattle.larch_grammar.specs.declared.machine.Before.TheVariants as before
-use Rattle.larch_grammar.specs.declared.machine.Signing.TheVariants.{Declaration, Reference, Replacement, LoneForm}
+use Rattle.larch_grammar.specs.declared.machine.Signing.TheVariants.{Declaration, Reference, Replacement, LoneForm, Conversion}
 use Rattle.larch_grammar.specs.declared.machine.State.{State}
-use Rattle.larch_grammar.specs.declared.machine.State.TheVariants.{Start, AfterName, AfterFormals, NeedTrait, AfterHead, ShortWord, NeedConstants, NeedConstant, AfterConstant, NeedFields, NeedName, AfterNames, NeedFurtherName, NeedNamesSort, AfterField, NeedRef, AfterRefName, AfterRef, AfterRename, InPart, NeedForm, AfterSymbolForm, AfterDotForm, AfterMarker, AfterMarkerSymbol, NeedMarks, AfterMark, NeedMark, AfterForm, NeedSig, AfterSort, NeedSort, NeedRange, AfterReference, AfterLone, InItems, FirstWord, AfterSemicolon, WordBehind, ClauseWord, NeedBy, NeedVariable, AfterVariable, NeedFurtherVariable, NeedVariableSort, AfterGroup, NeedEquation, NeedTerm, NeedOperand, NeedPrefixed, NeedPost, NeedField, NeedSortOf, AfterWord, NeedFirst, AfterSymbol, Have}
+use Rattle.larch_grammar.specs.declared.machine.State.TheVariants.{Start, AfterName, AfterFormals, NeedTrait, AfterHead, ShortWord, NeedConstants, NeedConstant, AfterConstant, NeedFields, NeedName, AfterNames, NeedFurtherName, NeedNamesSort, AfterField, NeedRef, AfterRefName, AfterRef, AfterRename, InPart, NeedForm, AfterSymbolForm, AfterDotForm, AfterMarker, AfterMarkerSymbol, NeedMarks, AfterMark, NeedMark, AfterForm, NeedSig, AfterSort, NeedSort, NeedRange, AfterReference, AfterLone, InItems, FirstWord, AfterSemicolon, WordBehind, ClauseWord, NeedBy, NeedVariable, AfterVariable, NeedFurtherVariable, NeedVariableSort, AfterGroup, AfterImplies, ImpliedWord, BehindFirst, AfterConverted, NeedExempted, NeedFurtherExempted, NeedEquation, NeedTerm, NeedOperand, NeedPrefixed, NeedPost, NeedField, NeedSortOf, AfterWord, NeedFirst, AfterSymbol, Have}
 use Rattle.larch_grammar.specs.declared.machine.Whole.{Whole}
 use Rattle.larch_grammar.specs.Composition.{HasFormals, a_ref, fields_of_sort, formals, no_formal}
 use Rattle.larch_grammar.specs.Forms.{Marked, a_word, another_marker, another_word, group, no_word, signature, no_sort, sorts}
@@ -16,9 +16,9 @@ use Rattle.larch_grammar.specs.Machine.{step}
 use Rattle.larch_grammar.specs.Terms.{field, of_sort}
 use Rattle.larch_grammar.specs.Traits.{trait_of_body}
 use Rattle.larch_grammar.proofs.Fits.{Fits}
-use Rattle.larch_grammar.proofs.BackForms.{constant_back, constants_back, field_back, fields_back, form_back, form_read_back, head_back, mark_back, marker_back, marker_symbol_back, marks_back, part_of_decls_back, ref_back, ref_name_back, rename_back, short_word_back, symbol_form_back}
-use Rattle.larch_grammar.proofs.BackItems.{by_back, clause_back, first_back, group_back, item_back, reference_back, semicolon_back, word_behind_back}
-use Rattle.larch_grammar.proofs.BackTerms.{bracket_back, equation_back, hand_back, oper_back, operand_back, post_back, symbol_back, term_back, word_back}
+use Rattle.larch_grammar.proofs.BackForms.{constant_back, constants_back, converted_back, field_back, fields_back, form_back, form_read_back, head_back, mark_back, marker_back, marker_symbol_back, marks_back, part_of_decls_back, ref_back, ref_name_back, rename_back, short_word_back, symbol_form_back}
+use Rattle.larch_grammar.proofs.BackItems.{behind_first_back, by_back, clause_back, first_back, group_back, implied_back, implied_word_back, item_back, need_exempted_back, reference_back, semicolon_back, word_behind_back}
+use Rattle.larch_grammar.proofs.BackTerms.{bracket_back, equation_back, exempted_back, hand_back, oper_back, operand_back, post_back, symbol_back, term_back, word_back}
 
 -- the name of a trait is read
 name_back : (s : Bool) (w : RawWord) (i : List Marked) (z : Whole) → Fits s (AfterName w) i z → Fits s Start ((Word w, Outside) ∷ i) z
@@ -68,6 +68,7 @@ step_back s (NeedRange (Declaration r fs) ws) (Word w) = λ i z f. (i, w, a_word
 step_back s (NeedRange (Reference c rs g) ws) (Word w) = λ i z f. (i, w, a_word, f)
 step_back s (NeedRange (Replacement n g h) ws) (Word w) = λ i z f. (i, w, a_word, f)
 step_back s (NeedRange (LoneForm g) ws) (Word w) = λ i z f. (i, w, a_word, f)
+step_back s (NeedRange (Conversion r rs g) ws) (Word w) = λ i z f. (i, w, a_word, f)
 step_back s (AfterReference c rs) t = reference_back s c rs t
 step_back s (InItems r) t = item_back s r t
 step_back s (FirstWord r w) t = first_back s r w t
@@ -81,6 +82,12 @@ step_back s (AfterVariable r vs ws) (Colon p) = λ i z f. (i, f.0, p, ws, f.1, n
 step_back s (NeedFurtherVariable r vs ws) (Word w) = λ i z f. (f.0, f.1, f.2, f.3, f.4, another_word a_word f.5, f.6, f.7)
 step_back s (NeedVariableSort r vs ws) (Word sort) = λ i z f. (i, sort, a_word, f)
 step_back s (AfterGroup r vs) t = group_back s r vs t
+step_back s (AfterImplies r) t = implied_back s r t
+step_back s (ImpliedWord r w) t = implied_word_back s r w t
+step_back s (BehindFirst r w ts) t = behind_first_back s r w ts t
+step_back s (AfterConverted r rs) t = converted_back s r rs t
+step_back s (NeedExempted r rs) t = need_exempted_back s r rs t
+step_back s (NeedFurtherExempted c) t = exempted_back s c t
 step_back s (NeedEquation w) t = equation_back s w t
 step_back s (NeedTerm k) t = term_back s k t
 step_back s (NeedOperand k) t = oper_back s k t

@@ -1,5 +1,5 @@
 -- A step inside an equation can be taken back.
-use Rattle.std.proofs.Common.{suc, Bool, true, false, inl, inr, Option, Some, None, List, [], ◌∷◌, ◌++◌, refl, subst}
+use Rattle.std.proofs.Common.{◌≡◌, suc, Bool, true, false, not, cond, IsTrue, inl, inr, Option, Some, None, List, [], ◌∷◌, ◌++◌, refl, subst}
 use Rattle.larch_base.specs.declared.position.Pos.{Pos}
 use Rattle.larch_fronts.specs.Walks.{Taken}
 use Rattle.larch_fronts.specs.declared.mark.Mark.{Mark}
@@ -10,25 +10,26 @@ use Rattle.larch_raw.specs.declared.equation.RawTrait.{RawTrait}
 use Rattle.larch_grammar.specs.declared.terminal.Bracket.{Bracket}
 use Rattle.larch_grammar.specs.declared.terminal.Bracket.TheVariants.{Square, Curly}
 use Rattle.larch_grammar.specs.declared.terminal.Terminal.{Terminal}
-use Rattle.larch_grammar.specs.declared.terminal.Terminal.TheVariants.{Word, Symbol, Not, Connective, Equality, Equates, Colon, Comma, Semicolon, Dot, Open, Close, OpenBracket, CloseBracket, ForAll, Asserts, If, Then, Else}
+use Rattle.larch_grammar.specs.declared.terminal.Terminal.TheVariants.{Word, Symbol, Not, Connective, Equality, Equates, Colon, Comma, Semicolon, Dot, Open, Close, OpenBracket, CloseBracket, ForAll, Asserts, Implies, Converts, If, Then, Else}
 use Rattle.larch_grammar.specs.declared.machine.Before.{Before}
 use Rattle.larch_grammar.specs.declared.machine.Before.TheVariants as before
 use Rattle.larch_grammar.specs.declared.machine.Frame.{Frame}
-use Rattle.larch_grammar.specs.declared.machine.Frame.TheVariants.{InFields, InStrays, Prefixed, InPostfixes, InInfixes, InEqualities, InConnectives, InParentheses, InList, InIf, InThen, InElse, InLeft, InRight}
+use Rattle.larch_grammar.specs.declared.machine.Frame.TheVariants.{InFields, InStrays, Prefixed, InPostfixes, InInfixes, InEqualities, InConnectives, InParentheses, InList, InIf, InThen, InElse, InLeft, InRight, InExempted}
 use Rattle.larch_grammar.specs.declared.machine.Listing.{Listing}
-use Rattle.larch_grammar.specs.declared.machine.Listing.TheVariants.{Call, Bracketed}
-use Rattle.larch_grammar.specs.declared.machine.State.TheVariants.{AfterWord, NeedFirst, AfterSymbol}
+use Rattle.larch_grammar.specs.declared.machine.Listing.TheVariants.{Call, First as call_first, Bracketed}
+use Rattle.larch_grammar.specs.declared.machine.OpenConversion.{OpenConversion}
+use Rattle.larch_grammar.specs.declared.machine.State.TheVariants.{AfterWord, NeedFirst, AfterSymbol, InItems}
 use Rattle.larch_grammar.specs.declared.machine.Waiting.{Waiting}
 use Rattle.larch_grammar.specs.declared.machine.Waiting.TheVariants.{Alone, Item}
 use Rattle.larch_grammar.specs.declared.machine.Whole.{Whole}
 use Rattle.larch_grammar.specs.Depth.{depth_of}
 use Rattle.larch_grammar.specs.Forms.{Marked}
 use Rattle.larch_grammar.specs.Terminals.{position_of}
-use Rattle.larch_grammar.specs.Machine.{Taking, after_symbol, after_word, begin_bracket, begin_equation, begin_operand, begin_part, begin_post, begin_prefixed, begin_term, hand, hand_equation, hand_list}
+use Rattle.larch_grammar.specs.Machine.{Taking, after_symbol, after_word, begin_bracket, begin_claim, begin_conversion, begin_equation, begin_exempted, begin_operand, begin_part, begin_post, begin_prefixed, begin_term, behind_implies, close_conversion, hand, hand_equation, hand_exempted, hand_list, outside, with_exempted}
 use Rattle.larch_grammar.specs.Terms.{Cond, a_not, a_symbol, another, another_infix, another_postfix, another_prefix, behind, between, bracket, bracketed, call, conditional, connective, equal, equality, equation_of, first_position, formula, formula_of, logic, no_connective, no_equality, no_field, no_infix, no_operand, no_other, no_postfix, no_stray, no_symbol, operand, operands, parentheses, plain, prefixed, stray, two_sides, word_alone}
-use Rattle.larch_grammar.specs.Traits.{asserted, for_all, no_equation, no_item, with_equations}
+use Rattle.larch_grammar.specs.Traits.{another_exempted, asserted, conversions, converted, for_all, implied_items, implied_references, implying, no_equation, no_exempted, no_item, nothing_exempted, with_equations}
 use Rattle.larch_grammar.specs.Trees.{call_tree, if_tree, chain_tree, postfix_tree, prefix_tree}
-use Rattle.larch_grammar.proofs.Fits.{Fits, FitsBehind, FitsEquation, FitsEquations, FitsIn, FitsItems, FitsOper, FitsOperand, FitsPost, FitsTerm}
+use Rattle.larch_grammar.proofs.Fits.{Fits, FitsAssertions, FitsBehind, FitsConversions, FitsEquation, FitsEquations, FitsExempted, FitsFurther, FitsIn, FitsItems, FitsOper, FitsOperand, FitsPost, FitsTerm}
 
 -- behind a step at this token, what fits is what this says
 abbrev pub Back : Bool → Taking → Terminal → (List Marked → Whole → Type 0) → Type 0
@@ -81,11 +82,47 @@ pub equation_back : (s : Bool) (w : Waiting) (t : Terminal) → Back s (begin_eq
 equation_back s w t =
     passed s (begin_term t (InLeft (position_of t) w ∷ [])) t (FitsTerm s (InLeft (position_of t) w ∷ [])) (FitsEquation s w) (λ m i z f. equation_of_term s w ((t, m) ∷ i) f.0 f.1 z f.2 f.3) (term_back s (InLeft (position_of t) w ∷ []) t)
 
+-- a step that is taken unless this holds
+pub unless_back : (s : Bool) (b : Bool) (o : Taking) (t : Terminal) (F : List Marked → Whole → Type 0) → Back s o t F → Back s (cond b None o) t (λ i z. IsTrue (not b) × F i z)
+unless_back s true o t F h = tt
+unless_back s false o t F h = passed s o t F (λ i z. IsTrue (not false) × F i z) (λ m i z f. (refl, f)) h
+
+-- `asserts`, where nothing is implied
+asserts_back : (s : Bool) (r : RawTrait) (b : Bool) → r.implies ≡ b → Back s (cond b None (outside (InItems r))) Asserts (FitsAssertions s r)
+asserts_back s r true e = tt
+asserts_back s r false e = λ i z f. (f.2, asserted e f.3 f.4, f.5)
+
+-- `implies`, where nothing is implied
+implies_back : (s lists : Bool) (r : RawTrait) (b : Bool) → r.implies ≡ b → Back s (cond b None (outside (behind_implies lists (implying r)))) (Implies lists) (FitsAssertions s r)
+implies_back s lists r true e = tt
+implies_back s false r false e = λ i z f. (f.1.2, implied_items e f.0 f.1.3 f.1.4, f.1.5)
+implies_back s true r false e = λ i z f. (f.3.4.2, implied_references e f.2 f.3.3 f.3.2 f.3.4.3 f.3.4.4, f.3.4.5)
+
+-- a further conversion
+pub conversion_back : (s : Bool) (r : RawTrait) (t : Terminal) → Back s (begin_conversion r t) t (FitsConversions s r)
+conversion_back s r Converts = λ i z f. let q = f.3 i f.2 in (q.3.7.0, converted q.2 q.3.5 q.3.6 q.3.7.1, q.3.7.2)
+conversion_back s r _ = tt
+
+-- a part behind the declarations
+pub claim_back : (s : Bool) (r : RawTrait) (t : Terminal) → Back s (begin_claim r t) t (FitsAssertions s r)
+claim_back s r Asserts = asserts_back s r r.implies refl
+claim_back s r (Implies lists) = implies_back s lists r r.implies refl
+claim_back s r Converts = passed s (begin_conversion r Converts) Converts (FitsConversions s r) (FitsAssertions s r) (λ m i z f. (f.0, conversions f.1, f.2)) (conversion_back s r Converts)
+claim_back s r _ = tt
+
+-- a term that is exempted is read, the last of these, and a token stands behind it
+hand_exempted_back : (s : Bool) (c : OpenConversion) (t : Terminal) → Back s (hand_exempted c t) t (FitsExempted s c)
+hand_exempted_back s c Comma = λ i z f. (f.3.0, f.3.1, another_exempted f.2 f.3.2, f.3.3)
+hand_exempted_back s c t = passed s (begin_conversion (close_conversion c) t) t (FitsConversions s (close_conversion c)) (FitsExempted s c) (λ m i z f. ((t, m) ∷ i, c.exempted, no_exempted, f)) (conversion_back s (close_conversion c) t)
+
+-- the first token of a term that is exempted
+pub exempted_back : (s : Bool) (c : OpenConversion) (t : Terminal) → Back s (begin_exempted c t) t (FitsFurther s c)
+exempted_back s c t = passed s (begin_term t (InExempted (position_of t) c ∷ [])) t (FitsTerm s (InExempted (position_of t) c ∷ [])) (FitsFurther s c) (λ m i z f. (f.0, f.1, f.2, f.3)) (term_back s (InExempted (position_of t) c ∷ []) t)
+
 -- a part, or an item that needs no `;` before it
 pub part_back : (s : Bool) (b : Before) (r : RawTrait) (t : Terminal) → Back s (begin_part r t) t (FitsItems s b r)
 part_back s b r ForAll = λ i z f. (f.3.3.3.4.0, f.3.3.3.4.1, f.3.3.3.4.2, for_all f.2 f.3.2 f.3.3.2 f.3.3.3.3 f.3.3.3.4.3, f.3.3.3.4.4, f.3.3.3.4.5)
-part_back s b r Asserts = λ i z f. (_, r, f.2, no_item, asserted f.3 f.4, f.5)
-part_back s b r _ = tt
+part_back s b r t = passed s (begin_claim r t) t (FitsAssertions s r) (FitsItems s b r) (λ m i z f. ((t, m) ∷ i, r, f.0, no_item, f.1, f.2)) (claim_back s r t)
 
 -- an equation is read, and a token stands behind it
 behind_back : (s : Bool) (e : RawEquation) (w : Waiting) (t : Terminal) → Back s (hand_equation e w t) t (FitsBehind s e w)
@@ -99,6 +136,7 @@ behind_back s e (Item j) t =
 list_back : (s : Bool) (r : RawTree) (h : Listing) (ts : List RawTree) (k : List Frame) (t : Terminal) → Back s (hand_list r h ts k t) t (FitsIn s r (InList h ts ∷ k))
 list_back s r h ts k Comma = λ i z f. (f.3.0, f.3.1, another f.2 f.3.2, f.3.3)
 list_back s r (Call w) ts k Close = λ i z f. (i, ts ++ r ∷ [], no_other, f)
+list_back s r (call_first raw w) ts k Close = λ i z f. (i, ts ++ r ∷ [], no_other, f)
 list_back s r (Bracketed Square l p) ts k (CloseBracket Square) = λ i z f. (i, ts ++ r ∷ [], no_other, f)
 list_back s r (Bracketed Curly l p) ts k (CloseBracket Curly) = λ i z f. (i, ts ++ r ∷ [], no_other, f)
 list_back s r h ts k _ = tt
@@ -135,6 +173,7 @@ hand_back s r (InElse p a b ∷ k) t = hand_back s (if_tree p a b r) k t
 hand_back s r (InLeft p w ∷ k) (Equates q) = λ i z f. inr (i, f.0, q, f.1, refl, f.2, f.3)
 hand_back s r (InLeft p w ∷ k) t = passed s (hand_equation (formula_of r p) w t) t (FitsBehind s (formula_of r p) w) (FitsIn s r (InLeft p w ∷ k)) (λ m i z f. inl f) (behind_back s (formula_of r p) w t)
 hand_back s r (InRight p l q w ∷ k) t = behind_back s (equation_of l q r p) w t
+hand_back s r (InExempted p c ∷ k) t = hand_exempted_back s (with_exempted c (formula_of r p)) t
 
 -- a word is read: its arguments begin, or it stands alone
 pub word_back : (s : Bool) (w : RawWord) (k : List Frame) (t : Terminal) → Back s (after_word s w k t) t (Fits s (AfterWord w k))

@@ -20,11 +20,12 @@ use Rattle.larch_grammar.specs.declared.terminal.Terminal.{Terminal}
 use Rattle.larch_grammar.specs.declared.terminal.Terminal.TheVariants.{Colon, Comma, Marker, CloseBracket}
 use Rattle.larch_grammar.specs.declared.machine.Clause.{Clause}
 use Rattle.larch_grammar.specs.declared.machine.Naming.{Naming}
-use Rattle.larch_grammar.specs.declared.machine.Naming.TheVariants.{Declared, Referred, Formal, Actual, Renaming, Renamed, Lone}
+use Rattle.larch_grammar.specs.declared.machine.Naming.TheVariants.{Declared, Referred, Formal, Actual, Renaming, Renamed, Lone, Converted}
+use Rattle.larch_grammar.specs.declared.machine.Scope.{Scope}
 use Rattle.larch_grammar.specs.declared.machine.Signing.{Signing}
-use Rattle.larch_grammar.specs.declared.machine.Signing.TheVariants.{Declaration, Reference, LoneForm}
+use Rattle.larch_grammar.specs.declared.machine.Signing.TheVariants.{Declaration, Reference, LoneForm, Conversion}
 use Rattle.larch_grammar.specs.declared.machine.State.{State}
-use Rattle.larch_grammar.specs.declared.machine.State.TheVariants.{InPart, NeedForm, AfterSymbolForm, AfterMarkerSymbol, NeedMarks, AfterMark, AfterForm, NeedSig, AfterSort, AfterReference, NeedVariable, AfterVariable, AfterGroup}
+use Rattle.larch_grammar.specs.declared.machine.State.TheVariants.{InPart, NeedForm, AfterSymbolForm, AfterMarkerSymbol, NeedMarks, AfterMark, AfterForm, NeedSig, AfterSort, AfterConverted, AfterReference, NeedVariable, AfterVariable, AfterGroup}
 use Rattle.larch_grammar.specs.declared.machine.Whole.{Whole}
 use Rattle.larch_grammar.specs.declared.machine.Whole.TheVariants as whole
 
@@ -46,6 +47,7 @@ no_marker_behind (Actual n) f p = refl
 no_marker_behind (Renaming n) f p = refl
 no_marker_behind (Renamed n f) g p = refl
 no_marker_behind Lone f p = refl
+no_marker_behind (Converted raw rs) f p = refl
 
 -- a symbol alone is a form where no `__` follows
 symbol_alone : (s : Bool) (o : List Marked) (n : Naming) (x : RawWord) (z : Whole) → AcceptsFrom s (AfterForm n (mixfix (infix_name x.name) 2 x.pos)) o z → AcceptsFrom s (AfterSymbolForm n x) o z
@@ -128,18 +130,36 @@ oprefs_read (another_reference {rs = rs} q more) s c z r = (_, refl, opref_reads
 pub references_read : {i j o : List Marked} {q : RawOpRef} {rs : List RawOpRef} → IsOpRef i j q → AreOpRefs (q ∷ []) j o rs → (s : Bool) (c : Clause) (z : Whole) → AcceptsFrom s (AfterReference c rs) o z → AcceptsFrom s (NeedForm (Referred c [])) i z
 references_read q more s c z r = opref_reads q s c [] z (oprefs_read more s c z r)
 
+-- a reference of a conversion that is a form alone
+converted_alone : (s : Bool) (o : List Marked) (raw : RawTrait) (rs : List RawOpRef) (f : RawForm) (z : Whole) → AcceptsFrom s (AfterConverted raw (with_reference rs f)) o z → AcceptsFrom s (AfterForm (Converted raw rs) f) o z
+converted_alone s [] raw rs f z r = r
+converted_alone s ((Colon p, m) ∷ o) raw rs f z r = absurd (none_some r.1)
+converted_alone s ((t, m) ∷ o) raw rs f z r = r
+
+converted_reads : {i o : List Marked} {q : RawOpRef} → IsOpRef i o q → (s : Bool) (raw : RawTrait) (rs : List RawOpRef) (z : Whole) → AcceptsFrom s (AfterConverted raw (rs ++ q ∷ [])) o z → AcceptsFrom s (NeedForm (Converted raw rs)) i z
+converted_reads (by_form {o = o} {f = f} form) s raw rs z r = form_reads form s (Converted raw rs) z (converted_alone s o raw rs f z r)
+converted_reads (by_signature {f = f} form sig) s raw rs z r = form_reads form s (Converted raw rs) z (_, refl, sig_reads sig s (Conversion raw rs f) z r)
+
+further_converted : {rs qs : List RawOpRef} {i o : List Marked} → AreOpRefs rs i o qs → (s : Bool) (raw : RawTrait) (z : Whole) → AcceptsFrom s (AfterConverted raw qs) o z → AcceptsFrom s (AfterConverted raw rs) i z
+further_converted no_reference s raw z r = r
+further_converted (another_reference {rs = rs} q more) s raw z r = (_, refl, converted_reads q s raw rs z (further_converted more s raw z r))
+
+-- the references of a conversion
+pub all_converted : {i j o : List Marked} {q : RawOpRef} {rs : List RawOpRef} → IsOpRef i j q → AreOpRefs (q ∷ []) j o rs → (s : Bool) (raw : RawTrait) (z : Whole) → AcceptsFrom s (AfterConverted raw rs) o z → AcceptsFrom s (NeedForm (Converted raw [])) i z
+all_converted q more s raw z r = converted_reads q s raw [] z (further_converted more s raw z r)
+
 -- a reference by itself
 pub reference_reads : {i : List Marked} {q : RawOpRef} → IsOpRef i [] q → (s : Bool) → AcceptsFrom s (NeedForm Lone) i (whole.Reference q)
 reference_reads (by_form {f = f} form) s = form_reads form s Lone (whole.Reference (record { form = f; sig = None })) refl
 reference_reads (by_signature {f = f} {s = sig} form more) s = form_reads form s Lone (whole.Reference (record { form = f; sig = Some sig })) (_, refl, sig_reads more s (LoneForm f) (whole.Reference (record { form = f; sig = Some sig })) refl)
 
-names_read : {ws us : List RawWord} {i o : List Marked} → AreWords ws i o us → (s : Bool) (raw : RawTrait) (vs : List RawVar) (z : Whole) → AcceptsFrom s (AfterVariable raw vs us) o z → AcceptsFrom s (AfterVariable raw vs ws) i z
+names_read : {ws us : List RawWord} {i o : List Marked} → AreWords ws i o us → (s : Bool) (raw : Scope) (vs : List RawVar) (z : Whole) → AcceptsFrom s (AfterVariable raw vs us) o z → AcceptsFrom s (AfterVariable raw vs ws) i z
 names_read no_word s raw vs z r = r
 names_read (another_word a_word more) s raw vs z r = (_, refl, (_, refl, names_read more s raw vs z r))
 
-pub group_reads : {i o : List Marked} {gs : List RawVar} → IsGroup i o gs → (s : Bool) (raw : RawTrait) (vs : List RawVar) (z : Whole) → AcceptsFrom s (AfterGroup raw (vs ++ gs)) o z → AcceptsFrom s (NeedVariable raw vs) i z
+pub group_reads : {i o : List Marked} {gs : List RawVar} → IsGroup i o gs → (s : Bool) (raw : Scope) (vs : List RawVar) (z : Whole) → AcceptsFrom s (AfterGroup raw (vs ++ gs)) o z → AcceptsFrom s (NeedVariable raw vs) i z
 group_reads (group a_word more a_word) s raw vs z r = (_, refl, names_read more s raw vs z (_, refl, (_, refl, r)))
 
-pub groups_read : {vs us : List RawVar} {i o : List Marked} → AreGroups vs i o us → (s : Bool) (raw : RawTrait) (z : Whole) → AcceptsFrom s (AfterGroup raw us) o z → AcceptsFrom s (AfterGroup raw vs) i z
+pub groups_read : {vs us : List RawVar} {i o : List Marked} → AreGroups vs i o us → (s : Bool) (raw : Scope) (z : Whole) → AcceptsFrom s (AfterGroup raw us) o z → AcceptsFrom s (AfterGroup raw vs) i z
 groups_read no_group s raw z r = r
 groups_read (another_group {vs = vs} g more) s raw z r = (_, refl, group_reads g s raw vs z (groups_read more s raw z r))

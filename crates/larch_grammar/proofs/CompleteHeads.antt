@@ -1,5 +1,5 @@
 -- What the grammar of formals, shorthands and references allows the machine reads, from behind.
-use Rattle.std.proofs.Common.{◌≡◌, Bool, true, false, Some, None, List, [], ◌∷◌, ◌++◌, refl}
+use Rattle.std.proofs.Common.{◌≡◌, Bool, true, false, cond, IsTrue, Some, None, List, [], ◌∷◌, ◌++◌, refl, sym, ap, subst, ◌∙◌}
 use Rattle.larch_fronts.specs.declared.mark.Mark.TheVariants.{Outside}
 use Rattle.larch_fronts.proofs.Walking.{none_some}
 use Rattle.larch_raw.specs.declared.declared.RawForm.{RawForm}
@@ -12,7 +12,7 @@ use Rattle.larch_raw.specs.declared.reference.RawRef.{RawRef}
 use Rattle.larch_raw.specs.declared.shorthand.RawField.{RawField}
 use Rattle.larch_raw.specs.declared.shorthand.RawShorthand.{RawShorthand}
 use Rattle.larch_raw.specs.declared.shorthand.RawShorthand.TheVariants as shorthand
-use Rattle.larch_grammar.specs.Composition.{fields_at, with_fields, open_fields, close_fields, shorthand_of, with_shorthand, IsField, fields_of_sort, AreFields, no_field, another_field, IsShort, an_enumeration, a_tuple, a_union, HasFormals, no_formal, formals, open_ref, with_actual, close_ref, with_ref, replacement, AreActuals, in_place, replaces, EndActuals, no_actual, another_actual, HasActuals, bare, actuals, IsRef, a_ref, AreRefs, no_ref, another_ref}
+use Rattle.larch_grammar.specs.Composition.{fields_at, with_fields, open_fields, close_fields, shorthand_of, with_shorthand, IsField, fields_of_sort, AreFields, no_field, another_field, IsShort, an_enumeration, a_tuple, a_union, HasFormals, no_formal, formals, open_ref, with_actual, close_ref, with_ref, replacement, AreActuals, in_place, replaces, EndActuals, no_actual, another_actual, HasActuals, NoOpen, bare, actuals, IsRef, a_ref, AreRefs, next_kind, no_ref, another_ref}
 use Rattle.larch_grammar.specs.Forms.{Marked, a_word, AreWords, no_word, another_word, AreForms, no_form, another_form, IsOpRef, by_form, by_signature}
 use Rattle.larch_grammar.specs.Machine.{Taking, after_actual, after_form, after_rename, outside}
 use Rattle.larch_grammar.specs.declared.machine.FieldsKind.{FieldsKind}
@@ -21,9 +21,13 @@ use Rattle.larch_grammar.specs.declared.machine.Naming.{Naming}
 use Rattle.larch_grammar.specs.declared.machine.Naming.TheVariants.{Formal, Actual, Renaming, Renamed}
 use Rattle.larch_grammar.specs.declared.machine.OpenFields.{OpenFields}
 use Rattle.larch_grammar.specs.declared.machine.OpenRef.{OpenRef}
+use Rattle.larch_grammar.specs.declared.machine.RefKind.{RefKind}
+use Rattle.larch_grammar.specs.declared.machine.RefKind.TheVariants.{Included, Assumed, First, Further}
 use Rattle.larch_grammar.specs.declared.machine.Signing.TheVariants.{Replacement}
-use Rattle.larch_grammar.specs.declared.machine.State.TheVariants.{AfterName, AfterFormals, AfterHead, AfterConstant, NeedName, AfterNames, AfterField, NeedRef, AfterRefName, AfterRef, AfterRename, NeedForm, AfterForm}
+use Rattle.larch_grammar.specs.declared.machine.State.TheVariants.{InItems, AfterName, AfterFormals, AfterHead, AfterConstant, NeedName, AfterNames, AfterField, NeedRef, AfterRefName, AfterRef, AfterRename, NeedForm, AfterForm}
 use Rattle.larch_grammar.specs.declared.machine.Whole.{Whole}
+use Rattle.larch_grammar.specs.Terminals.{ends_reference}
+use Rattle.larch_grammar.specs.Traits.{ends_references}
 use Rattle.larch_grammar.specs.declared.terminal.Terminal.{Terminal}
 use Rattle.larch_grammar.specs.declared.terminal.Terminal.TheVariants.{Colon, Comma, Open, Close, For}
 use Rattle.larch_grammar.proofs.CompleteForms.{AcceptsBy, AcceptsFrom, form_reads, sig_reads}
@@ -132,12 +136,12 @@ comma_step : (b : Bool) (n : OpenRef) → behind_actual b n Comma ≡ outside (N
 comma_step false n = refl
 comma_step true n = refl
 
-close_step : (b : Bool) (n : OpenRef) → behind_actual b n Close ≡ outside (AfterRef (close_ref n) n.assumed)
+close_step : (b : Bool) (n : OpenRef) → behind_actual b n Close ≡ outside (AfterRef (close_ref n) n.kind)
 close_step false n = refl
 close_step true n = refl
 
 mutual
-  actuals_read : {b : Bool} {ps qs : List RawActual} {i o : List Marked} → AreActuals b ps i o qs → (s : Bool) (raw : RawTrait) (assumed : Bool) (name : RawWord) (z : Whole) → AcceptsFrom s (AfterRef (close_ref (open_ref raw assumed name qs)) assumed) o z
+  actuals_read : {b : Bool} {ps qs : List RawActual} {i o : List Marked} → AreActuals b ps i o qs → (s : Bool) (raw : RawTrait) (assumed : RefKind) (name : RawWord) (z : Whole) → AcceptsFrom s (AfterRef (close_ref (open_ref raw assumed name qs)) assumed) o z
       → AcceptsFrom s (NeedForm (naming_of b (open_ref raw assumed name ps))) i z
   actuals_read (in_place {ps = ps} {f = f} {j = j} form ends) s raw assumed name z r =
       form_reads form s (Actual (open_ref raw assumed name ps)) z (last_plain s j (open_ref raw assumed name ps) f z (actuals_end ends s raw assumed name z r))
@@ -148,31 +152,63 @@ mutual
         old_reads old s (open_ref raw assumed name ps) f z (last_rename s k (with_actual (open_ref raw assumed name ps) (replacement f q)) z (actuals_end ends s raw assumed name z r)),
       )
 
-  actuals_end : {b : Bool} {ps qs : List RawActual} {i o : List Marked} → EndActuals b ps i o qs → (s : Bool) (raw : RawTrait) (assumed : Bool) (name : RawWord) (z : Whole) → AcceptsFrom s (AfterRef (close_ref (open_ref raw assumed name qs)) assumed) o z
+  actuals_end : {b : Bool} {ps qs : List RawActual} {i o : List Marked} → EndActuals b ps i o qs → (s : Bool) (raw : RawTrait) (assumed : RefKind) (name : RawWord) (z : Whole) → AcceptsFrom s (AfterRef (close_ref (open_ref raw assumed name qs)) assumed) o z
       → AcceptsBy s (behind_actual b (open_ref raw assumed name ps)) None i z
   actuals_end (no_actual {b = b} {ps = ps}) s raw assumed name z r = (_, close_step b (open_ref raw assumed name ps), r)
   actuals_end (another_actual {b = b} {ps = ps} more) s raw assumed name z r = (_, comma_step b (open_ref raw assumed name ps), actuals_read more s raw assumed name z r)
 
-bare_ref : (s : Bool) (o : List Marked) (raw : RawTrait) (b : Bool) (w : RawWord) (z : Whole) → AcceptsFrom s (AfterRef (close_ref (open_ref raw b w [])) b) o z → AcceptsFrom s (AfterRefName raw b w) o z
-bare_ref s [] raw b w z r = r
-bare_ref s ((Open p, m) ∷ o) raw b w z r = absurd (none_some r.1)
-bare_ref s ((t, m) ∷ o) raw b w z r = r
+not_open : false ≡ true → ⊥
+not_open e = cc
 
-has_actuals_read : {i o : List Marked} {ps : List RawActual} → HasActuals i o ps → (s : Bool) (raw : RawTrait) (b : Bool) (w : RawWord) (z : Whole) → AcceptsFrom s (AfterRef (close_ref (open_ref raw b w ps)) b) o z → AcceptsFrom s (AfterRefName raw b w) i z
-has_actuals_read (bare {o = o}) s raw b w z r = bare_ref s o raw b w z r
+bare_ref : (s : Bool) (o : List Marked) (raw : RawTrait) (b : RefKind) (w : RawWord) (z : Whole) → NoOpen o → AcceptsFrom s (AfterRef (close_ref (open_ref raw b w [])) b) o z → AcceptsFrom s (AfterRefName raw b w) o z
+bare_ref s [] raw b w z n r = r
+bare_ref s ((Open p, m) ∷ o) raw b w z n r = absurd (not_open n)
+bare_ref s ((t, m) ∷ o) raw b w z n r = r
+
+has_actuals_read : {i o : List Marked} {ps : List RawActual} → HasActuals i o ps → (s : Bool) (raw : RawTrait) (b : RefKind) (w : RawWord) (z : Whole) → AcceptsFrom s (AfterRef (close_ref (open_ref raw b w ps)) b) o z → AcceptsFrom s (AfterRefName raw b w) i z
+has_actuals_read (bare {o = o} n) s raw b w z r = bare_ref s o raw b w z n r
 has_actuals_read (actuals more) s raw b w z r = (_, refl, actuals_read more s raw b w z r)
 
 -- a reference
-pub ref_reads : {i o : List Marked} {q : RawRef} → IsRef i o q → (s : Bool) (raw : RawTrait) (b : Bool) (z : Whole) → AcceptsFrom s (AfterRef (with_ref raw b q) b) o z → AcceptsFrom s (NeedRef raw b) i z
+pub ref_reads : {i o : List Marked} {q : RawRef} → IsRef i o q → (s : Bool) (raw : RawTrait) (b : RefKind) (z : Whole) → AcceptsFrom s (AfterRef (with_ref raw b q) b) o z → AcceptsFrom s (NeedRef raw b) i z
 ref_reads (a_ref {w = w} a_word more) s raw b z r = (_, refl, has_actuals_read more s raw b w z r)
 
--- the references behind it
-pub refs_read : {b : Bool} {r t : RawTrait} {i o : List Marked} → AreRefs b r i o t → (s : Bool) (z : Whole) → AcceptsFrom s (AfterRef t b) o z → AcceptsFrom s (AfterRef r b) i z
-refs_read no_ref s z h = h
-refs_read (another_ref {b = b} {r = r} q more) s z h = (_, refl, ref_reads q s r b z (refs_read more s z h))
+-- the references behind it, where a further one is for the same
+pub further_read : {b : RefKind} {r t : RawTrait} {i o : List Marked} → AreRefs b r i o t → (s : Bool) (z : Whole) → next_kind b ≡ b → AcceptsFrom s (AfterRef t b) o z → AcceptsFrom s (AfterRef r b) i z
+further_read no_ref s z e h = h
+further_read (another_ref {b = b} {r = r} {z = t} {o = o} q more) s z e h = (
+  _,
+  refl,
+  ref_reads q s r (next_kind b) z (further_read more s z (ap next_kind e) (subst (λ k. AcceptsFrom s (AfterRef t k) o z) (sym e) h)),
+)
 
 -- what follows references
-pub refs_end : (s : Bool) (o : List Marked) (raw : RawTrait) (b : Bool) (z : Whole) → AcceptsFrom s (AfterHead raw) o z → AcceptsFrom s (AfterRef raw b) o z
-refs_end s [] raw b z r = r
-refs_end s ((Comma, m) ∷ o) raw b z r = absurd (none_some r.1)
-refs_end s ((t, m) ∷ o) raw b z r = r
+pub includes_end : (s : Bool) (o : List Marked) (raw : RawTrait) (z : Whole) → AcceptsFrom s (AfterHead raw) o z → AcceptsFrom s (AfterRef raw Included) o z
+includes_end s [] raw z r = r
+includes_end s ((Comma, m) ∷ o) raw z r = absurd (none_some r.1)
+includes_end s ((t, m) ∷ o) raw z r = r
+
+pub assumes_end : (s : Bool) (o : List Marked) (raw : RawTrait) (z : Whole) → AcceptsFrom s (AfterHead raw) o z → AcceptsFrom s (AfterRef raw Assumed) o z
+assumes_end s [] raw z r = r
+assumes_end s ((Comma, m) ∷ o) raw z r = absurd (none_some r.1)
+assumes_end s ((t, m) ∷ o) raw z r = r
+
+further_end : (s : Bool) (o : List Marked) (raw : RawTrait) (z : Whole) → AcceptsFrom s (InItems raw) o z → AcceptsFrom s (AfterRef raw Further) o z
+further_end s [] raw z r = r
+further_end s ((Comma, m) ∷ o) raw z r = absurd (none_some r.1)
+further_end s ((t, m) ∷ o) raw z r = r
+
+-- where this holds, the one or the other
+where_true : {A : Type 0} (b : Bool) (x y z : A) → IsTrue b → x ≡ z → cond b x y ≡ z
+where_true true x y z h e = e
+where_true false x y z h e = let n : ⊥ = cc in absurd n
+
+first_end : (s : Bool) (o : List Marked) (raw : RawTrait) (z : Whole) → IsTrue (ends_references o) → AcceptsFrom s (InItems raw) o z → AcceptsFrom s (AfterRef raw First) o z
+first_end s [] raw z e r = r
+first_end s ((Comma, m) ∷ o) raw z e r = absurd (none_some r.1)
+first_end s ((t, m) ∷ o) raw z e r = (r.0, where_true (ends_reference t) _ None _ e r.1, r.2)
+
+-- the references of an implied part behind the first one, and what follows them
+pub first_read : {r t : RawTrait} {i o : List Marked} → AreRefs First r i o t → (s : Bool) (z : Whole) → IsTrue (ends_references i) → AcceptsFrom s (InItems t) o z → AcceptsFrom s (AfterRef r First) i z
+first_read (no_ref {r = r} {o = o}) s z e h = first_end s o r z e h
+first_read (another_ref {r = r} {z = t} {o = o} q more) s z e h = (_, refl, ref_reads q s r Further z (further_read more s z refl (further_end s o t z h)))

@@ -18,31 +18,31 @@ use Rattle.larch_grammar.specs.declared.machine.Frame.{Frame}
 use Rattle.larch_grammar.specs.declared.machine.Frame.TheVariants.{InFields, InStrays, Prefixed, InPostfixes, InInfixes, InEqualities, InConnectives, InParentheses, InList, InIf, InThen, InElse}
 use Rattle.larch_grammar.specs.declared.machine.Link.{Link}
 use Rattle.larch_grammar.specs.declared.machine.Listing.{Listing}
-use Rattle.larch_grammar.specs.declared.machine.Listing.TheVariants.{Call, Bracketed}
+use Rattle.larch_grammar.specs.declared.machine.Listing.TheVariants.{Call, First as call_first, Bracketed}
 use Rattle.larch_grammar.specs.declared.machine.State.{State}
-use Rattle.larch_grammar.specs.declared.machine.State.TheVariants.{NeedTerm, NeedOperand, NeedPrefixed, NeedPost, AfterWord, NeedFirst, AfterSymbol, Have}
+use Rattle.larch_grammar.specs.declared.machine.State.TheVariants.{NeedTerm, NeedOperand, NeedPrefixed, NeedPost, AfterWord, NeedFirst, AfterSymbol, BehindFirst, Have}
 use Rattle.larch_grammar.specs.declared.machine.Whole.{Whole}
 use Rattle.larch_grammar.proofs.CompleteForms.{AcceptsFrom}
 
 -- what these frames don't take behind a tree: the tokens that go on with a Post, symbols, equalities, connectives
 
-abbrev NoField : Bool → List Frame → Type 0
+abbrev pub NoField : Bool → List Frame → Type 0
 NoField s k = (r : RawTree) (p : Pos) (b : Bracket) → (hand s r k (Dot p) ≡ None) × (hand s r k (Colon p) ≡ None) × (hand s r k (Open p) ≡ None) × (hand s r k (OpenBracket b p) ≡ None)
 
-abbrev NoSymbol : Bool → List Frame → Type 0
+abbrev pub NoSymbol : Bool → List Frame → Type 0
 NoSymbol s k = (r : RawTree) (x : RawWord) → hand s r k (Symbol x) ≡ None
 
-abbrev NoEquality : Bool → List Frame → Type 0
+abbrev pub NoEquality : Bool → List Frame → Type 0
 NoEquality s k = (r : RawTree) (x : RawWord) → hand s r k (Equality x) ≡ None
 
-abbrev NoConnective : Bool → List Frame → Type 0
+abbrev pub NoConnective : Bool → List Frame → Type 0
 NoConnective s k = (r : RawTree) (x : RawWord) → hand s r k (Connective x) ≡ None
 
 -- where an Oper ends, an Equal, and a Cond
-abbrev OperEnds : Bool → List Frame → Type 0
+abbrev pub OperEnds : Bool → List Frame → Type 0
 OperEnds s k = NoField s k × NoSymbol s k
 
-abbrev EqualEnds : Bool → List Frame → Type 0
+abbrev pub EqualEnds : Bool → List Frame → Type 0
 EqualEnds s k = NoField s k × NoSymbol s k × NoEquality s k
 
 abbrev pub TermEnds : Bool → List Frame → Type 0
@@ -51,7 +51,8 @@ TermEnds s k = NoField s k × NoSymbol s k × NoEquality s k × NoConnective s k
 in_parentheses : (s : Bool) (k : List Frame) → TermEnds s (InParentheses ∷ k)
 in_parentheses s k = (λ r p b. (refl, refl, refl, refl), λ r x. refl, λ r x. refl, λ r x. refl)
 
-in_list : (s : Bool) (h : Listing) (ts : List RawTree) (k : List Frame) → TermEnds s (InList h ts ∷ k)
+pub in_list : (s : Bool) (h : Listing) (ts : List RawTree) (k : List Frame) → TermEnds s (InList h ts ∷ k)
+in_list s (call_first raw w) ts k = (λ r p b. (refl, refl, refl, refl), λ r x. refl, λ r x. refl, λ r x. refl)
 in_list s (Call w) ts k = (λ r p b. (refl, refl, refl, refl), λ r x. refl, λ r x. refl, λ r x. refl)
 in_list s (Bracketed Square l q) ts k = (λ r p b. (refl, refl, refl, refl), λ r x. refl, λ r x. refl, λ r x. refl)
 in_list s (Bracketed Curly l q) ts k = (λ r p b. (refl, refl, refl, refl), λ r x. refl, λ r x. refl, λ r x. refl)
@@ -65,10 +66,10 @@ in_then s q a k = (λ r p b. (refl, refl, refl, refl), λ r x. refl, λ r x. ref
 in_else : (s : Bool) (q : Pos) (a b : RawTree) (k : List Frame) → TermEnds s k → TermEnds s (InElse q a b ∷ k)
 in_else s q a b k f = (λ r. f.0 (if_tree q a b r), λ r. f.1 (if_tree q a b r), λ r. f.2 (if_tree q a b r), λ r. f.3 (if_tree q a b r))
 
-in_connectives : (s : Bool) (l : Option Link) (k : List Frame) → TermEnds s k → EqualEnds s (InConnectives l ∷ k)
+pub in_connectives : (s : Bool) (l : Option Link) (k : List Frame) → TermEnds s k → EqualEnds s (InConnectives l ∷ k)
 in_connectives s l k f = (λ r. f.0 (chain_tree l r), λ r. f.1 (chain_tree l r), λ r. f.2 (chain_tree l r))
 
-in_equalities : (s : Bool) (l : Option Link) (k : List Frame) → EqualEnds s k → OperEnds s (InEqualities l ∷ k)
+pub in_equalities : (s : Bool) (l : Option Link) (k : List Frame) → EqualEnds s k → OperEnds s (InEqualities l ∷ k)
 in_equalities s l k f = (λ r. f.0 (chain_tree l r), λ r. f.1 (chain_tree l r))
 
 in_prefixed : (s : Bool) (x : RawWord) (k : List Frame) → OperEnds s k → OperEnds s (Prefixed x ∷ k)
@@ -127,7 +128,7 @@ behind_word s [] w k z f h = h
 behind_word s ((Open p, m) ∷ o) w k z f h = absurd (none_some (sym (f (call_tree w []) p Square).2 ∙ h.1))
 behind_word s ((t, m) ∷ o) w k z f h = h
 
-never : false ≡ true → ⊥
+pub never : false ≡ true → ⊥
 never e = cc
 
 -- a symbol is postfix where no Post follows, and infix where one does
@@ -171,12 +172,20 @@ term_in_bracket s ((t, m) ∷ i) Curly l p k z h = h
 
 -- a list of terms ends, and a bracket without terms
 
-abbrev closing_of : Listing → Terminal
+abbrev pub closing_of : Listing → Terminal
 closing_of (Call w) = Close
+closing_of (call_first raw w) = Close
 closing_of (Bracketed b l p) = CloseBracket b
 
-list_ends : (h : Listing) (r : RawTree) (ts : List RawTree) (k : List Frame) → hand_list r h ts k (closing_of h) ≡ plainly (Have (listing_tree h (ts ++ r ∷ [])) k)
+-- the state behind a list of terms
+abbrev pub behind_list : Listing → List RawTree → List Frame → State
+behind_list (Call w) ts k = Have (listing_tree (Call w) ts) k
+behind_list (call_first raw w) ts k = BehindFirst raw w ts
+behind_list (Bracketed b l p) ts k = Have (listing_tree (Bracketed b l p) ts) k
+
+list_ends : (h : Listing) (r : RawTree) (ts : List RawTree) (k : List Frame) → hand_list r h ts k (closing_of h) ≡ plainly (behind_list h (ts ++ r ∷ []) k)
 list_ends (Call w) r ts k = refl
+list_ends (call_first raw w) r ts k = refl
 list_ends (Bracketed Square l p) r ts k = refl
 list_ends (Bracketed Curly l p) r ts k = refl
 
@@ -213,7 +222,7 @@ mutual
   )
   cond_reads (logic {s = s} {i = i} {l = l} a more) k z e f h = operand_first s i k z (equal_reads a (InConnectives None ∷ k) z e (in_connectives s None k f) (connectives_read more k z e f None l refl refl h))
 
-  connectives_read : {s : Bool} {d : ℕ} {x : Option RawWord} {v q : RawTree} {i o : List Marked} → Connectives s d x v i o q → (k : List Frame) (z : Whole) → d ≡ depth_of k → TermEnds s k
+  pub connectives_read : {s : Bool} {d : ℕ} {x : Option RawWord} {v q : RawTree} {i o : List Marked} → Connectives s d x v i o q → (k : List Frame) (z : Whole) → d ≡ depth_of k → TermEnds s k
       → (l : Option Link) (r : RawTree) → symbol_of l ≡ x → chain_tree l r ≡ v → AcceptsFrom s (Have q k) o z → AcceptsFrom s (Have r (InConnectives l ∷ k)) i z
   connectives_read (no_connective {s = s} {o = o}) k z e f l r g u h = behind_connectives s o l r k z f.3 (subst (λ y. AcceptsFrom s (Have y k) o z) (sym u) h)
   connectives_read (connective {s = s} {y = y} {r = a} term more) k z e f l r g u h = (
@@ -226,7 +235,7 @@ mutual
   equal_reads : {s : Bool} {d : ℕ} {i o : List Marked} {q : RawTree} → Equal s d i o q → (k : List Frame) (z : Whole) → d ≡ depth_of k → EqualEnds s k → AcceptsFrom s (Have q k) o z → AcceptsFrom s (NeedOperand (InEqualities None ∷ k)) i z
   equal_reads (equal {s = s} {l = l} a more) k z e f h = oper_reads a (InEqualities None ∷ k) z e (in_equalities s None k f) (equalities_read more k z e f None l refl refl h)
 
-  equalities_read : {s : Bool} {d : ℕ} {x : Option RawWord} {v q : RawTree} {i o : List Marked} → Equalities s d x v i o q → (k : List Frame) (z : Whole) → d ≡ depth_of k → EqualEnds s k
+  pub equalities_read : {s : Bool} {d : ℕ} {x : Option RawWord} {v q : RawTree} {i o : List Marked} → Equalities s d x v i o q → (k : List Frame) (z : Whole) → d ≡ depth_of k → EqualEnds s k
       → (l : Option Link) (r : RawTree) → symbol_of l ≡ x → chain_tree l r ≡ v → AcceptsFrom s (Have q k) o z → AcceptsFrom s (Have r (InEqualities l ∷ k)) i z
   equalities_read (no_equality {s = s} {o = o}) k z e f l r g u h = behind_equalities s o l r k z f.2 (subst (λ y. AcceptsFrom s (Have y k) o z) (sym u) h)
   equalities_read (equality {s = s} {y = y} {r = a} term more) k z e f l r g u h = (
@@ -246,7 +255,7 @@ mutual
   operand_reads (another_prefix {s = s} {x = x} {o = o} {q = q} a_not term) k z e f h = (_, refl, operand_reads term (Prefixed x ∷ k) z e (in_prefixed s x k f) (behind_prefix s o x q k z h))
   operand_reads (operand {s = s} {i = i} term more) k z e f h = post_behind_prefix s i k z (post_reads term (InStrays ∷ k) z e f.0 (strays_read more k z f.1 h))
 
-  symbols_read : {s : Bool} {d : ℕ} {l q : RawTree} {i o : List Marked} → Symbols s d l i o q → (k : List Frame) (z : Whole) → d ≡ depth_of k → OperEnds s k → AcceptsFrom s (Have q k) o z → AcceptsFrom s (Have l (InInfixes None ∷ k)) i z
+  pub symbols_read : {s : Bool} {d : ℕ} {l q : RawTree} {i o : List Marked} → Symbols s d l i o q → (k : List Frame) (z : Whole) → d ≡ depth_of k → OperEnds s k → AcceptsFrom s (Have q k) o z → AcceptsFrom s (Have l (InInfixes None ∷ k)) i z
   symbols_read (no_symbol {s = s} {l = l} {o = o}) k z e f h = behind_one s o l k z f.1 h
   symbols_read (behind {s = s} {x = x} {l = l} {i = i} n more) k z e f h = (_, refl, postfix_behind s i x l k z n (postfixes_read more s k z f.1 h))
   symbols_read (between {s = s} {x = x} {l = l} {r = r} {i = i} term more) k z e f h =
@@ -282,7 +291,7 @@ mutual
   )
   post_reads (bracketed {l = l} term more) k z e f h = bracket_reads term (NeedPost k) k z (λ b p. refl) e (fields_read more k z e f l refl h)
 
-  fields_read : {s : Bool} {d : ℕ} {v q : RawTree} {i o : List Marked} → Fields s d v i o q → (k : List Frame) (z : Whole) → d ≡ depth_of k → NoField s k → (r : RawTree) → r ≡ v → AcceptsFrom s (Have q k) o z → AcceptsFrom s (Have r (InFields ∷ k)) i z
+  pub fields_read : {s : Bool} {d : ℕ} {v q : RawTree} {i o : List Marked} → Fields s d v i o q → (k : List Frame) (z : Whole) → d ≡ depth_of k → NoField s k → (r : RawTree) → r ≡ v → AcceptsFrom s (Have q k) o z → AcceptsFrom s (Have r (InFields ∷ k)) i z
   fields_read (no_field {s = s} {o = o}) k z e f r u h = behind_fields s o r k z f (subst (λ y. AcceptsFrom s (Have y k) o z) (sym u) h)
   fields_read (of_sort {s = s} {w = w} {p = p} {o = o}) k z e f r u h = (_, refl, (_, refl, subst (λ y. AcceptsFrom s (Have (qualified y w p) k) o z) (sym u) h))
   fields_read (field {w = w} {p = p} more) k z e f r u h = (_, refl, (_, refl, fields_read more k z e f (field_tree p w r) (ap (λ y. field_tree p w y) u) h))
@@ -299,9 +308,9 @@ mutual
         (others_read further (Bracketed b l p) (InFields ∷ k) z (ap suc e) a [] refl refl h)),
   )
 
-  others_read : {s : Bool} {d : ℕ} {c : Terminal} {vs us : List RawTree} {i o : List Marked} → Others s d c vs i o us → (h : Listing) (k : List Frame) (z : Whole) → d ≡ suc (depth_of k)
-      → (r : RawTree) (ts : List RawTree) → closing_of h ≡ c → ts ++ r ∷ [] ≡ vs → AcceptsFrom s (Have (listing_tree h us) k) o z → AcceptsFrom s (Have r (InList h ts ∷ k)) i z
+  pub others_read : {s : Bool} {d : ℕ} {c : Terminal} {vs us : List RawTree} {i o : List Marked} → Others s d c vs i o us → (h : Listing) (k : List Frame) (z : Whole) → d ≡ suc (depth_of k)
+      → (r : RawTree) (ts : List RawTree) → closing_of h ≡ c → ts ++ r ∷ [] ≡ vs → AcceptsFrom s (behind_list h us k) o z → AcceptsFrom s (Have r (InList h ts ∷ k)) i z
   others_read (no_other {s = s} {o = o}) h k z e r ts g u rest =
-      (_, ap (λ x. hand_list r h ts k x) (sym g) ∙ list_ends h r ts k, subst (λ y. AcceptsFrom s (Have (listing_tree h y) k) o z) (sym u) rest)
+      (_, ap (λ x. hand_list r h ts k x) (sym g) ∙ list_ends h r ts k, subst (λ y. AcceptsFrom s (behind_list h y k) o z) (sym u) rest)
   others_read (another {s = s} {a = a} term more) h k z e r ts g u rest =
       (_, refl, cond_reads term (InList h (ts ++ r ∷ []) ∷ k) z e (in_list s h (ts ++ r ∷ []) k) (others_read more h k z e a (ts ++ r ∷ []) g (ap (λ y. y ++ a ∷ []) u) rest))

@@ -1,5 +1,5 @@
 -- What may follow in each state of the machine, so that the whole is this trait or this equation.
-use Rattle.std.proofs.Common.{◌≡◌, ℕ, suc, Bool, true, false, ◌⊎◌, Option, Some, None, List, [], ◌∷◌, ◌++◌, subst}
+use Rattle.std.proofs.Common.{◌≡◌, ℕ, suc, Bool, true, false, not, IsTrue, ◌⊎◌, Option, Some, None, List, [], ◌∷◌, ◌++◌, subst}
 use Rattle.larch_base.specs.declared.position.Pos.{Pos}
 use Rattle.larch_fronts.specs.declared.mark.Mark.{Mark}
 use Rattle.larch_fronts.specs.declared.mark.Mark.TheVariants.{Outside, Plain, Head}
@@ -21,24 +21,29 @@ use Rattle.larch_raw.specs.declared.shorthand.RawField.{RawField}
 use Rattle.larch_raw.specs.declared.shorthand.RawShorthand.TheVariants as shorthand
 use Rattle.larch_grammar.specs.declared.terminal.Bracket.{Bracket}
 use Rattle.larch_grammar.specs.declared.terminal.Terminal.{Terminal}
-use Rattle.larch_grammar.specs.declared.terminal.Terminal.TheVariants.{Word, Symbol, Equates, Arrow, Colon, Comma, Semicolon, Dot, Marker, Close, OpenBracket, CloseBracket, Trait, Generated, Partitioned, Enumeration, Tuple, Union, Then, Else}
+use Rattle.larch_grammar.specs.declared.terminal.Terminal.TheVariants.{Word, Symbol, Equates, Arrow, Colon, Comma, Semicolon, Dot, Marker, Close, OpenBracket, CloseBracket, Trait, Implies, Converts, Exempting, Generated, Partitioned, Enumeration, Tuple, Union, Then, Else}
 use Rattle.larch_grammar.specs.declared.machine.Before.{Before}
 use Rattle.larch_grammar.specs.declared.machine.Before.TheVariants as before
 use Rattle.larch_grammar.specs.declared.machine.Clause.{Clause}
 use Rattle.larch_grammar.specs.declared.machine.FieldsKind.{FieldsKind}
 use Rattle.larch_grammar.specs.declared.machine.FieldsKind.TheVariants as fields_kind
 use Rattle.larch_grammar.specs.declared.machine.Frame.{Frame}
-use Rattle.larch_grammar.specs.declared.machine.Frame.TheVariants.{InFields, InStrays, Prefixed, InPostfixes, InInfixes, InEqualities, InConnectives, InParentheses, InList, InIf, InThen, InElse, InLeft, InRight}
+use Rattle.larch_grammar.specs.declared.machine.Frame.TheVariants.{InFields, InStrays, Prefixed, InPostfixes, InInfixes, InEqualities, InConnectives, InParentheses, InList, InIf, InThen, InElse, InLeft, InRight, InExempted}
 use Rattle.larch_grammar.specs.declared.machine.Listing.{Listing}
-use Rattle.larch_grammar.specs.declared.machine.Listing.TheVariants.{Call, Bracketed}
+use Rattle.larch_grammar.specs.declared.machine.Listing.TheVariants.{Call, First as call_first, Bracketed}
 use Rattle.larch_grammar.specs.declared.machine.Naming.{Naming}
-use Rattle.larch_grammar.specs.declared.machine.Naming.TheVariants.{Declared, Referred, Formal, Actual, Renaming, Renamed, Lone}
+use Rattle.larch_grammar.specs.declared.machine.Naming.TheVariants.{Declared, Referred, Formal, Actual, Renaming, Renamed, Lone, Converted}
+use Rattle.larch_grammar.specs.declared.machine.OpenConversion.{OpenConversion}
 use Rattle.larch_grammar.specs.declared.machine.OpenFields.{OpenFields}
 use Rattle.larch_grammar.specs.declared.machine.OpenRef.{OpenRef}
+use Rattle.larch_grammar.specs.declared.machine.RefKind.{RefKind}
+use Rattle.larch_grammar.specs.declared.machine.RefKind.TheVariants.{Included, Assumed, First, Further}
+use Rattle.larch_grammar.specs.declared.machine.Scope.{Scope}
+use Rattle.larch_grammar.specs.declared.machine.Scope.TheVariants.{Quantified, Exempted}
 use Rattle.larch_grammar.specs.declared.machine.Signing.{Signing}
-use Rattle.larch_grammar.specs.declared.machine.Signing.TheVariants.{Declaration, Reference, Replacement, LoneForm}
+use Rattle.larch_grammar.specs.declared.machine.Signing.TheVariants.{Declaration, Reference, Replacement, LoneForm, Conversion}
 use Rattle.larch_grammar.specs.declared.machine.State.{State}
-use Rattle.larch_grammar.specs.declared.machine.State.TheVariants.{Start, AfterName, AfterFormals, NeedTrait, AfterHead, ShortWord, NeedConstants, NeedConstant, AfterConstant, NeedFields, NeedName, AfterNames, NeedFurtherName, NeedNamesSort, AfterField, NeedRef, AfterRefName, AfterRef, AfterRename, InPart, NeedForm, AfterSymbolForm, AfterDotForm, AfterMarker, AfterMarkerSymbol, NeedMarks, AfterMark, NeedMark, AfterForm, NeedSig, AfterSort, NeedSort, NeedRange, AfterReference, AfterLone, InItems, FirstWord, AfterSemicolon, WordBehind, ClauseWord, NeedBy, NeedVariable, AfterVariable, NeedFurtherVariable, NeedVariableSort, AfterGroup, NeedEquation, NeedTerm, NeedOperand, NeedPrefixed, NeedPost, NeedField, NeedSortOf, AfterWord, NeedFirst, AfterSymbol, Have}
+use Rattle.larch_grammar.specs.declared.machine.State.TheVariants.{Start, AfterName, AfterFormals, NeedTrait, AfterHead, ShortWord, NeedConstants, NeedConstant, AfterConstant, NeedFields, NeedName, AfterNames, NeedFurtherName, NeedNamesSort, AfterField, NeedRef, AfterRefName, AfterRef, AfterRename, InPart, NeedForm, AfterSymbolForm, AfterDotForm, AfterMarker, AfterMarkerSymbol, NeedMarks, AfterMark, NeedMark, AfterForm, NeedSig, AfterSort, NeedSort, NeedRange, AfterReference, AfterLone, InItems, FirstWord, AfterSemicolon, WordBehind, ClauseWord, NeedBy, NeedVariable, AfterVariable, NeedFurtherVariable, NeedVariableSort, AfterGroup, AfterImplies, ImpliedWord, BehindFirst, AfterConverted, NeedExempted, NeedFurtherExempted, NeedEquation, NeedTerm, NeedOperand, NeedPrefixed, NeedPost, NeedField, NeedSortOf, AfterWord, NeedFirst, AfterSymbol, Have}
 use Rattle.larch_grammar.specs.declared.machine.Waiting.{Waiting}
 use Rattle.larch_grammar.specs.declared.machine.Waiting.TheVariants.{Alone, Item}
 use Rattle.larch_grammar.specs.declared.machine.Whole.{Whole}
@@ -46,10 +51,10 @@ use Rattle.larch_grammar.specs.declared.machine.Whole.TheVariants as whole
 use Rattle.larch_grammar.specs.Composition.{AreActuals, AreFields, AreRefs, EndActuals, HasActuals, HasFormals, IsField, IsRef, fields_at, replacement, shorthand_of, with_actual, with_fields, with_ref, with_shorthand}
 use Rattle.larch_grammar.specs.Depth.{depth_of}
 use Rattle.larch_grammar.specs.Forms.{Marked, AreForms, AreGroups, AreMarkers, AreOpRefs, AreWords, IsForm, IsGroup, IsOpRef, IsSig, IsWord, Markers, variables_at}
-use Rattle.larch_grammar.specs.Machine.{symbol_of, with_clause, open_item}
-use Rattle.larch_grammar.specs.Terms.{Cond, Connectives, Equalities, Fields, InBracket, Infixes, IsEquation, Oper, Operand, Others, Post, Postfixes, Strays, Symbols, equation_of, formula_of, opens_head}
-use Rattle.larch_grammar.specs.Traits.{AreAssertions, AreDecls, AreEquations, AreItems, AreParts, IsBody, IsClause, IsMarkedTrait, MayEnd, named, with_declaration, with_equations, with_item}
-use Rattle.larch_grammar.specs.Trees.{bracket_form, field_name, if_tree, chain_tree, listing_tree, mixfix, prefix_tree}
+use Rattle.larch_grammar.specs.Machine.{open_conversion, open_item, symbol_of, with_clause, with_exempted}
+use Rattle.larch_grammar.specs.Terms.{Cond, Connectives, Equalities, Fields, InBracket, Infixes, IsEquation, Oper, Operand, Others, Post, Postfixes, Strays, Symbols, equation_of, first_position, formula_of, opens_head}
+use Rattle.larch_grammar.specs.Traits.{AreAssertions, AreConversions, AreDecls, AreEquations, AreExempted, AreItems, AreParts, HasExempted, IsBody, IsClause, IsMarkedTrait, MayEnd, begins_references, ends_references, named, with_conversion, with_declaration, with_equations, with_item}
+use Rattle.larch_grammar.specs.Trees.{bracket_form, call_tree, field_name, if_tree, chain_tree, listing_tree, mixfix, prefix_tree}
 
 -- parts and items
 
@@ -82,22 +87,6 @@ abbrev pub fields_terminal : FieldsKind → Terminal
 fields_terminal fields_kind.Tuple = Tuple
 fields_terminal fields_kind.Union = Union
 
--- what may follow a reference, which is assumed or included
-abbrev pub FitsRefs : Bool → Bool → RawTrait → List Marked → Whole → Type 0
-FitsRefs s b r i z = (j : List Marked) × (t : RawTrait) × AreRefs b r i j t × FitsBody s t j z
-
--- what may follow the name of a trait that is referred to
-abbrev pub FitsRefName : Bool → RawTrait → Bool → RawWord → List Marked → Whole → Type 0
-FitsRefName s r b w i z = (j : List Marked) × (ps : List RawActual) × HasActuals i j ps × FitsRefs s b (with_ref r b (record { name = w; actuals = ps })) j z
-
--- what may follow where an actual is needed; with `true` it is a replacement
-abbrev pub FitsActuals : Bool → Bool → OpenRef → List Marked → Whole → Type 0
-FitsActuals s b n i z = (j : List Marked) × (ps : List RawActual) × AreActuals b n.actuals i j ps × FitsRefs s n.assumed (with_ref n.raw n.assumed (record { name = n.name; actuals = ps })) j z
-
--- what may follow an actual
-abbrev pub FitsActual : Bool → Bool → OpenRef → List Marked → Whole → Type 0
-FitsActual s b n i z = (j : List Marked) × (ps : List RawActual) × EndActuals b n.actuals i j ps × FitsRefs s n.assumed (with_ref n.raw n.assumed (record { name = n.name; actuals = ps })) j z
-
 -- what may follow inside a part of declarations
 abbrev pub FitsDecls : Bool → RawTrait → List Marked → Whole → Type 0
 FitsDecls s r i z = (j : List Marked) × (t y : RawTrait) × AreDecls r i j t × AreParts s t j [] y × (whole.Trait y ≡ z)
@@ -105,6 +94,38 @@ FitsDecls s r i z = (j : List Marked) × (t y : RawTrait) × AreDecls r i j t ×
 -- what may follow inside a part of items, behind what stands before
 abbrev pub FitsItems : Bool → Before → RawTrait → List Marked → Whole → Type 0
 FitsItems s b r i z = (j : List Marked) × (t y : RawTrait) × AreItems s b r i j t × AreAssertions s t j [] y × (whole.Trait y ≡ z)
+
+-- what may follow references
+abbrev pub FitsBehindRefs : Bool → RefKind → RawTrait → List Marked → Whole → Type 0
+FitsBehindRefs s Included t j z = FitsBody s t j z
+FitsBehindRefs s Assumed t j z = FitsBody s t j z
+FitsBehindRefs s First t j z = FitsItems s before.Anything t j z
+FitsBehindRefs s Further t j z = FitsItems s before.Anything t j z
+
+-- what directly follows a reference: the first one of an implied part ends there
+abbrev pub MayFollow : RefKind → List Marked → Type 0
+MayFollow First i = IsTrue (ends_references i)
+MayFollow _ i = Unit {0}
+
+-- what may follow a reference, which is for this
+abbrev pub FitsRefs : Bool → RefKind → RawTrait → List Marked → Whole → Type 0
+FitsRefs s b r i z = (j : List Marked) × (t : RawTrait) × AreRefs b r i j t × MayFollow b i × FitsBehindRefs s b t j z
+
+-- what may follow the name of a trait that is referred to
+abbrev pub FitsRefName : Bool → RawTrait → RefKind → RawWord → List Marked → Whole → Type 0
+FitsRefName s r b w i z = (j : List Marked) × (ps : List RawActual) × HasActuals i j ps × FitsRefs s b (with_ref r b (record { name = w; actuals = ps })) j z
+
+-- what may follow where an actual is needed; with `true` it is a replacement
+abbrev pub FitsActuals : Bool → Bool → OpenRef → List Marked → Whole → Type 0
+FitsActuals s b n i z = (j : List Marked) × (ps : List RawActual) × AreActuals b n.actuals i j ps × FitsRefs s n.kind (with_ref n.raw n.kind (record { name = n.name; actuals = ps })) j z
+
+-- what may follow an actual
+abbrev pub FitsActual : Bool → Bool → OpenRef → List Marked → Whole → Type 0
+FitsActual s b n i z = (j : List Marked) × (ps : List RawActual) × EndActuals b n.actuals i j ps × FitsRefs s n.kind (with_ref n.raw n.kind (record { name = n.name; actuals = ps })) j z
+
+-- what may follow the declarations
+abbrev pub FitsAssertions : Bool → RawTrait → List Marked → Whole → Type 0
+FitsAssertions s r i z = (y : RawTrait) × AreAssertions s r i [] y × (whole.Trait y ≡ z)
 
 -- what may follow these equations of an item
 abbrev pub FitsEquations : Bool → RawTrait → List RawVar → List RawEquation → List Marked → Whole → Type 0
@@ -119,12 +140,33 @@ FitsBehind s e (Item j) i z = FitsEquations s j.raw j.variables (j.equations ++ 
 abbrev pub FitsEquation : Bool → Waiting → List Marked → Whole → Type 0
 FitsEquation s w i z = (j : List Marked) × (e : RawEquation) × IsEquation s i j e × FitsBehind s e w j z
 
+-- what may follow conversions
+abbrev pub FitsConversions : Bool → RawTrait → List Marked → Whole → Type 0
+FitsConversions s r i z = (y : RawTrait) × AreConversions s r i [] y × (whole.Trait y ≡ z)
+
+-- what may follow a term that is exempted, the last of these
+abbrev pub FitsExempted : Bool → OpenConversion → List Marked → Whole → Type 0
+FitsExempted s c i z = (j : List Marked) × (es : List RawEquation) × AreExempted s c.exempted i j es × FitsConversions s (with_conversion c.raw c.converted c.variables es) j z
+
+-- what may follow where a term is needed that is exempted
+abbrev pub FitsFurther : Bool → OpenConversion → List Marked → Whole → Type 0
+FitsFurther s c i z = (j : List Marked) × (l : RawTree) × Cond s 0 i j l × FitsExempted s (with_exempted c (formula_of l (first_position i))) j z
+
+-- what may follow the references of a conversion
+abbrev pub FitsConverted : Bool → RawTrait → List RawOpRef → List Marked → Whole → Type 0
+FitsConverted s r rs i z = (j k : List Marked) × (qs : List RawOpRef) × (vs : List RawVar) × (es : List RawEquation) × AreOpRefs rs i j qs × HasExempted s j k vs es × FitsConversions s (with_conversion r qs vs es) k z
+
+-- what may follow variables
+abbrev pub FitsScope : Bool → Scope → List RawVar → List Marked → Whole → Type 0
+FitsScope s (Quantified r) us j z = FitsEquation s (Item (open_item r us [])) j z
+FitsScope s (Exempted r rs) us j z = FitsFurther s (open_conversion r rs us []) j z
+
 -- what may follow these variables
-abbrev pub FitsGroups : Bool → RawTrait → List RawVar → List Marked → Whole → Type 0
-FitsGroups s r vs i z = (j : List Marked) × (us : List RawVar) × AreGroups vs i j us × FitsEquation s (Item (open_item r us [])) j z
+abbrev pub FitsGroups : Bool → Scope → List RawVar → List Marked → Whole → Type 0
+FitsGroups s r vs i z = (j : List Marked) × (us : List RawVar) × AreGroups vs i j us × FitsScope s r us j z
 
 -- what may follow these variables, and these names that are to be variables too
-abbrev pub FitsNames : Bool → RawTrait → List RawVar → List RawWord → List Marked → Whole → Type 0
+abbrev pub FitsNames : Bool → Scope → List RawVar → List RawWord → List Marked → Whole → Type 0
 FitsNames s r vs ws i z = (j k : List Marked) × (p : Pos) × (us : List RawWord) × (sort : RawWord) × AreWords ws i ((Colon p, Outside) ∷ j) us × IsWord j k sort × FitsGroups s r (vs ++ variables_at us sort) k z
 
 -- references, forms and signatures
@@ -147,6 +189,7 @@ abbrev pub FitsSigned : Bool → Signing → RawSig → List Marked → Whole �
 FitsSigned s (Declaration r fs) sig i z = FitsDecls s (with_declaration r (record { forms = fs; sig = sig })) i z
 FitsSigned s (Reference c rs f) sig i z = FitsReferences s c (rs ++ record { form = f; sig = Some sig } ∷ []) i z
 FitsSigned s (Replacement n f g) sig i z = FitsActual s true (with_actual n (actual.Replace f g (Some sig))) i z
+FitsSigned s (Conversion r rs f) sig i z = FitsConverted s r (rs ++ record { form = f; sig = Some sig } ∷ []) i z
 FitsSigned s (LoneForm f) sig i z = (i ≡ []) × (whole.Reference (record { form = f; sig = Some sig }) ≡ z)
 
 -- what may follow where a signature is needed
@@ -169,6 +212,7 @@ FitsForm s (Formal w fs) f i z = (j : List Marked) × (gs : List RawForm) × Are
 FitsForm s (Actual n) f i z = (h : List Marked) → IsForm h i f → FitsActuals s false n h z
 FitsForm s (Renaming n) f i z = (h : List Marked) → IsForm h i f → FitsActuals s true n h z
 FitsForm s (Renamed n f) g i z = (h : List Marked) → IsForm h i g → (j : List Marked) × (r : RawOpRef) × IsOpRef h j r × FitsActual s true (with_actual n (replacement f r)) j z
+FitsForm s (Converted r rs) f i z = (h : List Marked) → IsForm h i f → (j : List Marked) × (q : RawOpRef) × IsOpRef h j q × FitsConverted s r (rs ++ q ∷ []) j z
 FitsForm s Lone f i z = (h : List Marked) → IsForm h i f → (j : List Marked) × (r : RawOpRef) × IsOpRef h j r × (j ≡ []) × (whole.Reference r ≡ z)
 
 -- what may follow where a form is needed
@@ -184,7 +228,35 @@ FitsMarks s n behind b m p i z = (j : List Marked) × (l : ℕ) × AreMarkers b 
 -- what ends a list of terms
 abbrev pub closing : Listing → Terminal
 closing (Call w) = Close
+closing (call_first r w) = Close
 closing (Bracketed b l p) = CloseBracket b
+
+-- what may follow the left side of an equation
+abbrev pub FitsLeft : Bool → RawTree → Pos → Waiting → List Marked → Whole → Type 0
+FitsLeft s q p w i z = FitsBehind s (formula_of q p) w i z ⊎ ((j o : List Marked) × (e : Pos) × (r : RawTree) × (i ≡ (Equates e, Head) ∷ j) × Cond s 0 j o r × FitsBehind s (equation_of q e r p) w o z)
+
+-- what may follow connectives, equalities, symbols and fields of it
+abbrev pub FitsLogic : Bool → RawTree → Pos → Waiting → List Marked → Whole → Type 0
+FitsLogic s q p w i z = (o : List Marked) × (r : RawTree) × Connectives s 0 None q i o r × FitsLeft s r p w o z
+
+abbrev pub FitsEqual : Bool → RawTree → Pos → Waiting → List Marked → Whole → Type 0
+FitsEqual s q p w i z = (o : List Marked) × (r : RawTree) × Equalities s 0 None q i o r × FitsLogic s r p w o z
+
+abbrev pub FitsSymbols : Bool → RawTree → Pos → Waiting → List Marked → Whole → Type 0
+FitsSymbols s q p w i z = (o : List Marked) × (r : RawTree) × Symbols s 0 q i o r × FitsEqual s r p w o z
+
+abbrev pub FitsFirst : Bool → RawTree → Pos → Waiting → List Marked → Whole → Type 0
+FitsFirst s q p w i z = (o : List Marked) × (r : RawTree) × Fields s 0 q i o r × FitsSymbols s r p w o z
+
+-- what may follow the arguments of the word that begins an implied part: no list of references ends there
+abbrev pub FitsImplied : Bool → RawTrait → RawWord → List RawTree → List Marked → Whole → Type 0
+FitsImplied s r w us i z = IsTrue (not (ends_references i)) × FitsFirst s (call_tree w us) w.pos (Item (open_item r [] [])) i z
+
+-- what may follow a list of terms, where that may follow its tree
+abbrev pub FitsList : Bool → Listing → List RawTree → List Marked → Whole → (RawTree → Type 0) → Type 0
+FitsList s (Call w) us o z further = further (listing_tree (Call w) us)
+FitsList s (call_first r w) us o z further = FitsImplied s r w us o z
+FitsList s (Bracketed b l p) us o z further = further (listing_tree (Bracketed b l p) us)
 
 -- what may follow a tree in these frames; where nothing waits for it, nothing is said
 abbrev pub FitsIn : Bool → RawTree → List Frame → List Marked → Whole → Type 0
@@ -198,12 +270,13 @@ FitsIn s q (InInfixes (Some l) ∷ k) i z = (o : List Marked) × (p : RawTree) �
 FitsIn s q (InEqualities l ∷ k) i z = (o : List Marked) × (p : RawTree) × Equalities s (depth_of k) (symbol_of l) (chain_tree l q) i o p × FitsIn s p k o z
 FitsIn s q (InConnectives l ∷ k) i z = (o : List Marked) × (p : RawTree) × Connectives s (depth_of k) (symbol_of l) (chain_tree l q) i o p × FitsIn s p k o z
 FitsIn s q (InParentheses ∷ k) i z = (o : List Marked) × (i ≡ (Close, Plain) ∷ o) × FitsIn s q k o z
-FitsIn s q (InList h ts ∷ k) i z = (o : List Marked) × (us : List RawTree) × Others s (suc (depth_of k)) (closing h) (ts ++ q ∷ []) i o us × FitsIn s (listing_tree h us) k o z
+FitsIn s q (InList h ts ∷ k) i z = (o : List Marked) × (us : List RawTree) × Others s (suc (depth_of k)) (closing h) (ts ++ q ∷ []) i o us × FitsList s h us o z (λ t. FitsIn s t k o z)
 FitsIn s q (InIf p ∷ k) i z = (j l m o : List Marked) × (b c : RawTree) × (i ≡ (Then, Plain) ∷ j) × Cond s (suc (depth_of k)) j l b × (l ≡ (Else, Plain) ∷ m) × Cond s (suc (depth_of k)) m o c × FitsIn s (if_tree p q b c) k o z
 FitsIn s q (InThen p a ∷ k) i z = (m o : List Marked) × (c : RawTree) × (i ≡ (Else, Plain) ∷ m) × Cond s (suc (depth_of k)) m o c × FitsIn s (if_tree p a q c) k o z
 FitsIn s q (InElse p a b ∷ k) i z = FitsIn s (if_tree p a b q) k i z
 FitsIn s q (InLeft p w ∷ k) i z = FitsBehind s (formula_of q p) w i z ⊎ ((j o : List Marked) × (e : Pos) × (r : RawTree) × (i ≡ (Equates e, Head) ∷ j) × Cond s (depth_of k) j o r × FitsBehind s (equation_of q e r p) w o z)
 FitsIn s q (InRight p l e w ∷ k) i z = FitsBehind s (equation_of l e q p) w i z
+FitsIn s q (InExempted p c ∷ k) i z = FitsExempted s (with_exempted c (formula_of q p)) i z
 
 -- what may follow where a term is needed
 abbrev pub FitsTerm : Bool → List Frame → List Marked → Whole → Type 0
@@ -273,6 +346,12 @@ Fits s (AfterVariable r vs ws) i z = FitsNames s r vs ws i z
 Fits s (NeedFurtherVariable r vs ws) i z = FitsNames s r vs ws ((Comma, Outside) ∷ i) z
 Fits s (NeedVariableSort r vs ws) i z = (j : List Marked) × (sort : RawWord) × IsWord i j sort × FitsGroups s r (vs ++ variables_at ws sort) j z
 Fits s (AfterGroup r vs) i z = FitsGroups s r vs i z
+Fits s (AfterImplies r) i z = IsTrue (not (begins_references i)) × FitsItems s before.Anything r i z
+Fits s (ImpliedWord r w) i z = IsTrue (not (begins_references ((Word w, Head) ∷ i))) × FitsItems s before.Anything r ((Word w, Head) ∷ i) z
+Fits s (BehindFirst r w ts) i z = FitsImplied s r w ts i z
+Fits s (AfterConverted r rs) i z = FitsConverted s r rs i z
+Fits s (NeedExempted r rs) i z = (k : List Marked) × (vs : List RawVar) × (es : List RawEquation) × HasExempted s ((Exempting, Outside) ∷ i) k vs es × FitsConversions s (with_conversion r rs vs es) k z
+Fits s (NeedFurtherExempted c) i z = FitsFurther s c i z
 Fits s (NeedEquation w) i z = FitsEquation s w i z
 Fits s (NeedTerm k) i z = FitsTerm s k i z
 Fits s (NeedOperand k) i z = FitsOper s k i z

@@ -9,6 +9,11 @@ pub mod CompleteTerms
 pub mod CompleteTraits
 pub mod Ends
 pub mod Fits
+pub mod Groups
+pub mod Inside
 pub mod Law
 pub mod Markers
+pub mod Places
+pub mod Readings
+pub mod Stands
 pub mod Words

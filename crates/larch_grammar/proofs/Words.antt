@@ -11,7 +11,7 @@ use Rattle.larch_lexer.specs.declared.token.Token.{Token}
 use Rattle.larch_fronts.specs.Claims.{Spells, tokens_of}
 use Rattle.larch_fronts.specs.declared.mark.Mark.{Mark}
 use Rattle.larch_raw.specs.RawTree.{RawTree, raw_forest}
-use Rattle.larch_raw.specs.Worded.{Worded, WordedActual, WordedDecl, WordedField, WordedEquation, WordedForm, WordedItem, WordedRef, WordedReference, WordedShorthand, WordedSig, WordedTerm, WordedTerms, WordedTrait, WordedVar}
+use Rattle.larch_raw.specs.Worded.{Worded, WordedActual, WordedConversion, WordedDecl, WordedField, WordedEquation, WordedForm, WordedItem, WordedRef, WordedReference, WordedShorthand, WordedSig, WordedTarget, WordedTerm, WordedTerms, WordedTrait, WordedVar}
 use Rattle.larch_raw.specs.declared.declared.RawDecl.{RawDecl}
 use Rattle.larch_raw.specs.declared.declared.RawForm.{RawForm}
 use Rattle.larch_raw.specs.declared.declared.RawOpRef.{RawOpRef}
@@ -27,14 +27,16 @@ use Rattle.larch_raw.specs.declared.reference.RawRef.{RawRef}
 use Rattle.larch_raw.specs.declared.shorthand.RawField.{RawField}
 use Rattle.larch_raw.specs.declared.shorthand.RawShorthand.{RawShorthand}
 use Rattle.larch_grammar.specs.Answers.{Traits}
-use Rattle.larch_grammar.specs.Composition.{AreActuals, AreFields, AreRefs, EndActuals, HasActuals, HasFormals, IsField, IsRef, IsRefsWord, IsShort, a_ref, a_tuple, a_union, actuals, an_enumeration, another_actual, another_field as further_field, another_ref, bare, fields_at, fields_of_sort, formals, in_place, no_actual, no_field as no_further_field, no_formal, no_ref, replaces, replacement, with_ref, with_shorthand}
+use Rattle.larch_grammar.specs.Composition.{AreActuals, AreFields, AreRefs, EndActuals, HasActuals, HasFormals, IsField, IsRef, IsRefsWord, IsShort, a_ref, a_tuple, a_union, actuals, an_enumeration, another_actual, another_field as further_field, another_ref, bare, next_kind, fields_at, fields_of_sort, formals, in_place, no_actual, no_field as no_further_field, no_formal, no_ref, replaces, replacement, with_ref, with_shorthand}
 use Rattle.larch_grammar.specs.Forms.{Marked, IsWord, a_word, AreWords, no_word, another_word, AreMarkers, no_marker, another_marker, Markers, empty, marked, IsForm, bare_word, bare_symbol, bare_field, field_form, prefix_form, postfix_form, infix_form, bracketed_form, bracket_behind, AreForms, no_form, another_form, IsDomain, no_sort, sorts, IsSig, signature, IsOpRef, by_form, by_signature, AreOpRefs, no_reference, another_reference, variables_at, IsGroup, group, AreGroups, no_group, another_group}
-use Rattle.larch_grammar.specs.Terminals.{stands_nowhere, bracket_terminal, head_word, punctuation_terminal, run_terminal, term_word, terminal_by, terminal_of, word_terminal}
-use Rattle.larch_grammar.specs.Terms.{Cond, conditional, logic, Connectives, no_connective, connective, Equal, equal, Equalities, no_equality, equality, Oper, prefixed, plain, Operand, another_prefix, operand, Symbols, no_symbol, behind, between, Infixes, no_infix, another_infix, Postfixes, no_postfix, another_postfix, Strays, no_stray, stray, Post, word_alone, call, parentheses, bracketed, Fields, no_field, of_sort, field, bracket, InBracket, no_operand, operands, Others, no_other, another, IsEquation, formula, two_sides}
-use Rattle.larch_grammar.specs.Traits.{IsMarkedTrait, trait_of_body, IsBody, parts, a_shorthand, references, AreParts, assertions, introduced, AreAssertions, no_assertion, asserted, AreItems, no_item, a_clause, for_all, without_variables, AreEquations, no_equation, ended, another_equation, IsClause, clause, MayEnd, no_end, an_end, AreDecls, no_declaration, another_declaration, IsDecl, declaration, seen}
+use Rattle.larch_grammar.specs.Terminals.{bracket_terminal, claim_word, head_word, punctuation_terminal, run_terminal, term_word, terminal_by, terminal_of, word_terminal}
+use Rattle.larch_grammar.specs.Terms.{Cond, conditional, logic, Connectives, no_connective, connective, Equal, equal, Equalities, no_equality, equality, Oper, prefixed, plain, Operand, another_prefix, operand, Symbols, no_symbol, behind, between, Infixes, no_infix, another_infix, Postfixes, no_postfix, another_postfix, Strays, no_stray, stray, Post, word_alone, call, parentheses, bracketed, Fields, no_field, of_sort, field, bracket, InBracket, no_operand, operands, Others, no_other, another, IsEquation, formula, two_sides, first_position, formula_of}
+use Rattle.larch_grammar.specs.Traits.{IsMarkedTrait, trait_of_body, IsBody, parts, a_shorthand, references, AreParts, assertions, introduced, AreExempted, no_exempted, another_exempted, HasVariables, no_variables, some_variables, HasExempted, nothing_exempted, exempted, AreConversions, no_conversion, converted, implying, with_item, AreAssertions, conversions, asserted, implied_items, implied_references, AreItems, no_item, a_clause, for_all, without_variables, AreEquations, no_equation, ended, another_equation, IsClause, clause, MayEnd, no_end, an_end, AreDecls, no_declaration, another_declaration, IsDecl, declaration, seen}
 use Rattle.larch_grammar.specs.Trees.{bracket_tree}
 use Rattle.larch_grammar.specs.WordTokens.{AreWordTokens, IsWordToken}
 use Rattle.larch_grammar.specs.declared.machine.Before.{Before}
+use Rattle.larch_grammar.specs.declared.machine.RefKind.{RefKind}
+use Rattle.larch_grammar.specs.declared.machine.RefKind.TheVariants.{Included, Assumed, First, Further}
 use Rattle.larch_grammar.specs.declared.terminal.Bracket.{Bracket}
 use Rattle.larch_grammar.specs.declared.terminal.Bracket.TheVariants.{Square, Curly}
 use Rattle.larch_grammar.specs.declared.terminal.Terminal.{Terminal}
@@ -238,7 +240,7 @@ decls_lettered : {r z : RawTrait} {i o : List Marked} → AreDecls r i o z → W
 decls_lettered no_declaration w h = (w, h)
 decls_lettered (another_declaration {r = r} {d = d} q more) w h =
     let x = decl_lettered q h in
-    decls_lettered more (w.0, All-push WordedDecl r.declarations d w.1 x.0, w.2, w.3, w.4, w.5) x.1
+    decls_lettered more (w.0, All-push WordedDecl r.declarations d w.1 x.0, w.2, w.3, w.4, w.5, w.6, w.7, w.8) x.1
 
 end_left : {i o : List Marked} → MayEnd i o → AllLettered i → AllLettered o
 end_left no_end h = h
@@ -258,32 +260,56 @@ equations_lettered (another_equation {es = es} {e = e} q more) a h =
     equations_lettered more (All-push WordedEquation es e a x.0) x.1
 
 -- a trait with an item more
-item_worded : (r : RawTrait) (c : RawItem) → WordedTrait r → WordedItem c → All WordedItem (r.items ++ c ∷ [])
-item_worded r c w h = All-push WordedItem r.items c w.2 h
+item_put : (r : RawTrait) (c : RawItem) (b : Bool) → WordedTrait r → WordedItem c → WordedTrait (cond b (record r { implied_items = r.implied_items ++ c ∷ [] }) (record r { items = r.items ++ c ∷ [] }))
+item_put r c true w h = (w.0, w.1, w.2, w.3, w.4, w.5, w.6, All-push WordedItem r.implied_items c w.7 h, w.8)
+item_put r c false w h = (w.0, w.1, All-push WordedItem r.items c w.2 h, w.3, w.4, w.5, w.6, w.7, w.8)
+
+item_worded : (r : RawTrait) (c : RawItem) → WordedTrait r → WordedItem c → WordedTrait (with_item r c)
+item_worded r c w h = item_put r c r.implies w h
 
 items_lettered : {s : Bool} {b : Before} {r z : RawTrait} {i o : List Marked} → AreItems s b r i o z → WordedTrait r → AllLettered i → WordedTrait z × AllLettered o
 items_lettered no_item w h = (w, h)
 items_lettered (a_clause {r = r} {c = c} q more) w h =
     let x = clause_lettered q h in
-    items_lettered more (w.0, w.1, item_worded r c w x.0, w.3, w.4, w.5) x.1
+    items_lettered more (item_worded r c w x.0) x.1
 items_lettered (for_all {r = r} {e = e} q groups first es more) w h =
     let g = group_lettered q h.1 in
     let gs = groups_lettered groups g.0 g.1 in
     let x = equation_lettered first gs.1 in
     let y = equations_lettered es (All-push WordedEquation [] e (All-nil WordedEquation) x.0) x.1 in
-    items_lettered more (w.0, w.1, item_worded r _ w (gs.0, y.0), w.3, w.4, w.5) y.1
+    items_lettered more (item_worded r _ w (gs.0, y.0)) y.1
 items_lettered (without_variables {r = r} {e = e} first es more) w h =
     let x = equation_lettered first h in
     let y = equations_lettered es (All-push WordedEquation [] e (All-nil WordedEquation) x.0) x.1 in
-    items_lettered more (w.0, w.1, item_worded r _ w (All-nil WordedVar, y.0), w.3, w.4, w.5) y.1
+    items_lettered more (item_worded r _ w (All-nil WordedVar, y.0)) y.1
 
-assertions_lettered : {s : Bool} {r z : RawTrait} {i o : List Marked} → AreAssertions s r i o z → WordedTrait r → AllLettered i → WordedTrait z × AllLettered o
-assertions_lettered no_assertion w h = (w, h)
-assertions_lettered (asserted q more) w h = let x = items_lettered q w h.1 in assertions_lettered more x.0 x.1
+-- conversions
 
-parts_lettered : {s : Bool} {r z : RawTrait} {i o : List Marked} → AreParts s r i o z → WordedTrait r → AllLettered i → WordedTrait z × AllLettered o
-parts_lettered (assertions q) w h = assertions_lettered q w h
-parts_lettered (introduced q more) w h = let x = decls_lettered q w h.1 in parts_lettered more x.0 x.1
+variables_lettered : {i o : List Marked} {vs : List RawVar} → HasVariables i o vs → AllLettered i → All WordedVar vs × AllLettered o
+variables_lettered no_variables h = (All-nil WordedVar, h)
+variables_lettered (some_variables q more) h = let g = group_lettered q h.1 in groups_lettered more g.0 g.1
+
+exempted_lettered : {s : Bool} {es fs : List RawEquation} {i o : List Marked} → AreExempted s es i o fs → All WordedEquation es → AllLettered i → All WordedEquation fs × AllLettered o
+exempted_lettered no_exempted a h = (a, h)
+exempted_lettered (another_exempted {es = es} {l = l} {i = i} q more) a h =
+    let x = cond_lettered q h.1 in
+    exempted_lettered more (All-push WordedEquation es (formula_of l (first_position i)) a (x.0, tt)) x.1
+
+exemptions_lettered : {s : Bool} {vs : List RawVar} {es : List RawEquation} {i o : List Marked} → HasExempted s i o vs es → AllLettered i → All WordedVar vs × All WordedEquation es × AllLettered o
+exemptions_lettered nothing_exempted h = (All-nil WordedVar, All-nil WordedEquation, h)
+exemptions_lettered (exempted {l = l} {j = j} variables q more) h =
+    let v = variables_lettered variables h.1 in
+    let x = cond_lettered q v.1 in
+    let y = exempted_lettered more (All-push WordedEquation [] (formula_of l (first_position j)) (All-nil WordedEquation) (x.0, tt)) x.1 in
+    (v.0, y.0, y.1)
+
+conversions_lettered : {s : Bool} {r z : RawTrait} {i o : List Marked} → AreConversions s r i o z → WordedTrait r → AllLettered i → WordedTrait z × AllLettered o
+conversions_lettered no_conversion w h = (w, h)
+conversions_lettered (converted {r = r} {q = p} {qs = qs} {vs = vs} {es = es} q more ex further) w h =
+    let x = ref_lettered q h.1 in
+    let y = refs_lettered more (All-push WordedRef [] p (All-nil WordedRef) x.0) x.1 in
+    let e = exemptions_lettered ex y.1 in
+    conversions_lettered further (w.0, w.1, w.2, w.3, w.4, w.5, w.6, w.7, All-push WordedConversion r.conversions (record { converted = qs; variables = vs; exempted = es }) w.8 (y.0, e.0, e.1)) e.2
 
 -- formals, shorthands and references
 
@@ -347,25 +373,49 @@ mutual
   actuals_end_lettered (another_actual more) a h = actuals_lettered more a h.1
 
 has_actuals_lettered : {i o : List Marked} {ps : List RawActual} → HasActuals i o ps → AllLettered i → All WordedActual ps × AllLettered o
-has_actuals_lettered bare h = (All-nil WordedActual, h)
+has_actuals_lettered (bare n) h = (All-nil WordedActual, h)
 has_actuals_lettered (actuals more) h = actuals_lettered more (All-nil WordedActual) h.1
 
+-- the trait with an implied part
+implying_worded : (r : RawTrait) → WordedTrait r → WordedTrait (implying r)
+implying_worded r w = (w.0, w.1, w.2, w.3, w.4, w.5, w.6, w.7, w.8)
+
 -- the trait with a reference more
-ref_worded : {i o : List Marked} {q : RawRef} → IsRef i o q → (b : Bool) (r : RawTrait) → WordedTrait r → AllLettered i → WordedTrait (with_ref r b q) × AllLettered o
+target_put : (b : RefKind) (r : RawTrait) (q : RawRef) → WordedTrait r → WordedTarget q → WordedTrait (with_ref r b q)
+target_put Included r q w h = (w.0, w.1, w.2, w.3, w.4, All-push WordedReference r.references (record { assumed = false; target = q }) w.5 h, w.6, w.7, w.8)
+target_put Assumed r q w h = (w.0, w.1, w.2, w.3, w.4, All-push WordedReference r.references (record { assumed = true; target = q }) w.5 h, w.6, w.7, w.8)
+target_put First r q w h = (w.0, w.1, w.2, w.3, w.4, w.5, All-push WordedTarget r.implied q w.6 h, w.7, w.8)
+target_put Further r q w h = (w.0, w.1, w.2, w.3, w.4, w.5, All-push WordedTarget r.implied q w.6 h, w.7, w.8)
+
+ref_worded : {i o : List Marked} {q : RawRef} → IsRef i o q → (b : RefKind) (r : RawTrait) → WordedTrait r → AllLettered i → WordedTrait (with_ref r b q) × AllLettered o
 ref_worded (a_ref {w = n} {ps = ps} q more) b r w h =
     let x = word_lettered q h in
     let y = has_actuals_lettered more x.1 in
-    ((w.0, w.1, w.2, w.3, w.4, All-push WordedReference r.references (record { assumed = b; target = record { name = n; actuals = ps } }) w.5 (x.0, y.0)), y.1)
+    (target_put b r (record { name = n; actuals = ps }) w (x.0, y.0), y.1)
 
-refs_worded : {b : Bool} {r z : RawTrait} {i o : List Marked} → AreRefs b r i o z → WordedTrait r → AllLettered i → WordedTrait z × AllLettered o
+refs_worded : {b : RefKind} {r z : RawTrait} {i o : List Marked} → AreRefs b r i o z → WordedTrait r → AllLettered i → WordedTrait z × AllLettered o
 refs_worded no_ref w h = (w, h)
-refs_worded (another_ref {b = b} {r = r} q more) w h = let x = ref_worded q b r w h.1 in refs_worded more x.0 x.1
+refs_worded (another_ref {b = b} {r = r} q more) w h = let x = ref_worded q (next_kind b) r w h.1 in refs_worded more x.0 x.1
+
+assertions_lettered : {s : Bool} {r z : RawTrait} {i o : List Marked} → AreAssertions s r i o z → WordedTrait r → AllLettered i → WordedTrait z × AllLettered o
+assertions_lettered (conversions q) w h = conversions_lettered q w h
+assertions_lettered (asserted e q more) w h = let x = items_lettered q w h.1 in assertions_lettered more x.0 x.1
+assertions_lettered (implied_items {r = r} e n q more) w h = let x = items_lettered q (implying_worded r w) h.1 in assertions_lettered more x.0 x.1
+assertions_lettered (implied_references {r = r} e q n qs items more) w h =
+    let x = ref_worded q First (implying r) (implying_worded r w) h.1 in
+    let y = refs_worded qs x.0 x.1 in
+    let z = items_lettered items y.0 y.1 in
+    assertions_lettered more z.0 z.1
+
+parts_lettered : {s : Bool} {r z : RawTrait} {i o : List Marked} → AreParts s r i o z → WordedTrait r → AllLettered i → WordedTrait z × AllLettered o
+parts_lettered (assertions q) w h = assertions_lettered q w h
+parts_lettered (introduced q more) w h = let x = decls_lettered q w h.1 in parts_lettered more x.0 x.1
 
 body_lettered : {s : Bool} {r z : RawTrait} {i o : List Marked} → IsBody s r i o z → WordedTrait r → AllLettered i → WordedTrait z × AllLettered o
 body_lettered (parts p) w h = parts_lettered p w h
 body_lettered (a_shorthand {r = r} {h = short} q more) w h =
     let x = short_lettered q h in
-    body_lettered more (w.0, w.1, w.2, w.3, All-push WordedShorthand r.shorthands short w.4 x.0, w.5) x.1
+    body_lettered more (w.0, w.1, w.2, w.3, All-push WordedShorthand r.shorthands short w.4 x.0, w.5, w.6, w.7, w.8) x.1
 body_lettered (references {b = b} {r = r} word q qs more) w h =
     let x = ref_worded q b r w h.1 in
     let y = refs_worded qs x.0 x.1 in
@@ -375,7 +425,7 @@ trait_lettered : {s : Bool} {i : List Marked} {z : RawTrait} → IsMarkedTrait s
 trait_lettered (trait_of_body q named body) h =
     let n = word_lettered q h in
     let f = has_formals_lettered named n.1 in
-    (body_lettered body (n.0, All-nil WordedDecl, All-nil WordedItem, f.0, All-nil WordedShorthand, All-nil WordedReference) f.1.1.1).0
+    (body_lettered body (n.0, All-nil WordedDecl, All-nil WordedItem, f.0, All-nil WordedShorthand, All-nil WordedReference, All-nil WordedTarget, All-nil WordedItem, All-nil WordedConversion) f.1.1.1).0
 
 -- tokens
 
@@ -416,7 +466,7 @@ run_choice text pos =
     (choice (bytes_eq text (codes "=>") || bytes_eq text (codes "<=>")) (terminal.Connective (record { name = text; pos = pos })) _ tt
     (other (terminal.Symbol (record { name = text; pos = pos })) tt)))))
 
-backslash_choice : (text : List ℕ) (pos : Pos) → Sealed (terminal_by kind.Backslash text pos)
+backslash_choice : (text : List ℕ) (pos : Pos) → Sealed (terminal_by false kind.Backslash text pos)
 backslash_choice text pos =
     choice (bytes_eq text (codes "\\forall")) (terminal.ForAll) _ tt
     (other (terminal.Symbol (record { name = text; pos = pos })) tt)
@@ -426,11 +476,17 @@ term_choice text pos w =
     choice (bytes_eq text (codes "if")) (terminal.If pos) _ tt
     (choice (bytes_eq text (codes "then")) (terminal.Then) _ tt
     (choice (bytes_eq text (codes "else")) (terminal.Else) _ tt
-    (choice (stands_nowhere text) (terminal.Other) _ tt
-    (other (terminal.Word (record { name = text; pos = pos })) w))))
+    (other (terminal.Word (record { name = text; pos = pos })) w)))
 
-head_choice : (text : List ℕ) (pos : Pos) → IsTrue (is_word text) → Sealed (head_word text pos)
-head_choice text pos w =
+claim_choice : (g : Bool) (text : List ℕ) (pos : Pos) → IsTrue (is_word text) → Sealed (claim_word g text pos)
+claim_choice g text pos w =
+    choice (bytes_eq text (codes "implies")) (terminal.Implies g) _ tt
+    (choice (bytes_eq text (codes "converts")) (terminal.Converts) _ tt
+    (choice (bytes_eq text (codes "exempting")) (terminal.Exempting) _ tt
+    (term_choice text pos w)))
+
+head_choice : (g : Bool) (text : List ℕ) (pos : Pos) → IsTrue (is_word text) → Sealed (head_word g text pos)
+head_choice g text pos w =
     choice (bytes_eq text (codes "includes")) (terminal.Includes) _ tt
     (choice (bytes_eq text (codes "assumes")) (terminal.Assumes) _ tt
     (choice (bytes_eq text (codes "for")) (terminal.For) _ tt
@@ -438,32 +494,32 @@ head_choice text pos w =
     (choice (bytes_eq text (codes "tuple")) (terminal.Tuple) _ tt
     (choice (bytes_eq text (codes "union")) (terminal.Union) _ tt
     (choice (bytes_eq text (codes "of")) (terminal.Of) _ tt
-    (term_choice text pos w)))))))
+    (claim_choice g text pos w)))))))
 
-word_choice : (text : List ℕ) (pos : Pos) → IsTrue (is_word text) → Sealed (word_terminal text pos)
-word_choice text pos w =
+word_choice : (g : Bool) (text : List ℕ) (pos : Pos) → IsTrue (is_word text) → Sealed (word_terminal g text pos)
+word_choice g text pos w =
     choice (bytes_eq text (codes "trait")) (terminal.Trait) _ tt
     (choice (bytes_eq text (codes "introduces")) (terminal.Introduces) _ tt
     (choice (bytes_eq text (codes "asserts")) (terminal.Asserts) _ tt
     (choice (bytes_eq text (codes "generated")) (terminal.Generated) _ tt
     (choice (bytes_eq text (codes "partitioned")) (terminal.Partitioned) _ tt
     (choice (bytes_eq text (codes "by")) (terminal.By) _ tt
-    (head_choice text pos w))))))
+    (head_choice g text pos w))))))
 
-lettered_by : (k : Kind) (text : List ℕ) (pos : Pos) → (k ≡ kind.Word → IsTrue (is_word text)) → Sealed (terminal_by k text pos)
-lettered_by kind.Word text pos w = word_choice text pos (w refl)
-lettered_by kind.Marker text pos w = other (terminal.Marker pos) tt
-lettered_by kind.Backslash text pos w = backslash_choice text pos
-lettered_by kind.Connective text pos w = other (terminal.Connective (record { name = text; pos = pos })) tt
-lettered_by kind.Run text pos w = run_choice text pos
-lettered_by kind.Punctuation text pos w = punctuation_choice text pos
+lettered_by : (g : Bool) (k : Kind) (text : List ℕ) (pos : Pos) → (k ≡ kind.Word → IsTrue (is_word text)) → Sealed (terminal_by g k text pos)
+lettered_by g kind.Word text pos w = word_choice g text pos (w refl)
+lettered_by g kind.Marker text pos w = other (terminal.Marker pos) tt
+lettered_by g kind.Backslash text pos w = backslash_choice text pos
+lettered_by g kind.Connective text pos w = other (terminal.Connective (record { name = text; pos = pos })) tt
+lettered_by g kind.Run text pos w = run_choice text pos
+lettered_by g kind.Punctuation text pos w = punctuation_choice text pos
 
-token_lettered : (t : Token) → IsWordToken t → Lettered (terminal_of t)
-token_lettered t w = (lettered_by t.kind t.text t.pos w).inside
+token_lettered : (g : Bool) (t : Token) → IsWordToken t → Lettered (terminal_of g t)
+token_lettered g t w = (lettered_by g t.kind t.text t.pos w).inside
 
-tokens_lettered : (ms : List (Token × Mark)) → AreWordTokens (tokens_of ms) → AllLettered (map seen ms)
-tokens_lettered [] a = tt
-tokens_lettered (m ∷ ms) a = (token_lettered m.0 (a 0 m.0 (omega arith)), tokens_lettered ms (λ k d lt. a (suc k) d (omega arith)))
+tokens_lettered : (g : Bool) (ms : List (Token × Mark)) → AreWordTokens (tokens_of ms) → AllLettered (map (seen g) ms)
+tokens_lettered g [] a = tt
+tokens_lettered g (m ∷ ms) a = (token_lettered g m.0 (a 0 m.0 (omega arith)), tokens_lettered g ms (λ k d lt. a (suc k) d (omega arith)))
 
-pub trait_worded : (tokens : List Token) (raw : RawTrait) → AreWordTokens tokens → Spells Traits tokens raw → WordedTrait raw
-trait_worded tokens raw a s = trait_lettered s.1 (tokens_lettered s.0 (subst AreWordTokens (sym s.2) a))
+pub trait_worded : (lists : Bool) (tokens : List Token) (raw : RawTrait) → AreWordTokens tokens → Spells (Traits lists) tokens raw → WordedTrait raw
+trait_worded lists tokens raw a s = trait_lettered s.1 (tokens_lettered lists s.0 (subst AreWordTokens (sym s.2) a))

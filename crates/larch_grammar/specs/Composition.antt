@@ -1,5 +1,5 @@
 -- The grammar of shorthands and of references to traits, as relations between the tokens that are left before and behind.
-use Rattle.std.specs.Prelude.{Bool, true, false, List, [], ◌∷◌, ◌++◌, map}
+use Rattle.std.specs.Prelude.{Bool, true, false, not, IsTrue, List, [], ◌∷◌, ◌++◌, map}
 use Rattle.larch_base.specs.declared.position.Pos.{Pos}
 use Rattle.larch_fronts.specs.declared.mark.Mark.TheVariants.{Outside}
 use Rattle.larch_raw.specs.declared.declared.RawForm.{RawForm}
@@ -16,6 +16,8 @@ use Rattle.larch_grammar.specs.declared.machine.FieldsKind.{FieldsKind}
 use Rattle.larch_grammar.specs.declared.machine.FieldsKind.TheVariants as fields_kind
 use Rattle.larch_grammar.specs.declared.machine.OpenFields.{OpenFields}
 use Rattle.larch_grammar.specs.declared.machine.OpenRef.{OpenRef}
+use Rattle.larch_grammar.specs.declared.machine.RefKind.{RefKind}
+use Rattle.larch_grammar.specs.declared.machine.RefKind.TheVariants.{Included, Assumed, First, Further}
 use Rattle.larch_grammar.specs.declared.terminal.Terminal.{Terminal}
 use Rattle.larch_grammar.specs.declared.terminal.Terminal.TheVariants.{Colon, Comma, Open, Close, Includes, Assumes, For, Enumeration, Tuple, Union, Of}
 use Rattle.larch_grammar.specs.Forms.{Marked, IsWord, AreWords, IsForm, AreForms, IsOpRef}
@@ -72,19 +74,34 @@ pub data IsShort : List Marked → List Marked → RawShorthand → Type 0 where
 
 -- formals, references and actuals
 
+-- it is `(`
+abbrev pub is_open : Terminal → Bool
+is_open (Open p) = true
+is_open _ = false
+
 -- [ "(" Form { "," Form } ")" ]
 pub data HasFormals : List Marked → List Marked → List RawForm → Type 0 where
   no_formal : {o : List Marked} → HasFormals o o []
   formals : {i j o : List Marked} {p : Pos} {f : RawForm} {fs : List RawForm} → IsForm i j f
       → AreForms (f ∷ []) j ((Close, Outside) ∷ o) fs → HasFormals ((Open p, Outside) ∷ i) o fs
 
--- the trait with a reference more, which is assumed or included
-abbrev pub with_ref : RawTrait → Bool → RawRef → RawTrait
-with_ref raw assumed target = record raw { references = raw.references ++ record { assumed = assumed; target = target } ∷ [] }
+-- the trait with a reference more, which is included, assumed or implied
+abbrev pub with_ref : RawTrait → RefKind → RawRef → RawTrait
+with_ref raw Included target = record raw { references = raw.references ++ record { assumed = false; target = target } ∷ [] }
+with_ref raw Assumed target = record raw { references = raw.references ++ record { assumed = true; target = target } ∷ [] }
+with_ref raw First target = record raw { implied = raw.implied ++ target ∷ [] }
+with_ref raw Further target = record raw { implied = raw.implied ++ target ∷ [] }
 
--- a reference that is open: the trait before it, whether it is assumed, the name of the trait and the actuals
-abbrev pub open_ref : RawTrait → Bool → RawWord → List RawActual → OpenRef
-open_ref raw assumed name actuals = record { raw = raw; assumed = assumed; name = name; actuals = actuals }
+-- what the reference behind a `,` is for
+abbrev pub next_kind : RefKind → RefKind
+next_kind Included = Included
+next_kind Assumed = Assumed
+next_kind First = Further
+next_kind Further = Further
+
+-- a reference that is open: the trait before it, what it is for, the name of the trait and the actuals
+abbrev pub open_ref : RawTrait → RefKind → RawWord → List RawActual → OpenRef
+open_ref raw kind name actuals = record { raw = raw; kind = kind; name = name; actuals = actuals }
 
 -- the same with an actual more
 abbrev pub with_actual : OpenRef → RawActual → OpenRef
@@ -92,7 +109,7 @@ with_actual o a = record o { actuals = o.actuals ++ a ∷ [] }
 
 -- the trait with it as a reference more
 abbrev pub close_ref : OpenRef → RawTrait
-close_ref o = with_ref o.raw o.assumed (record { name = o.name; actuals = o.actuals })
+close_ref o = with_ref o.raw o.kind (record { name = o.name; actuals = o.actuals })
 
 -- this form in place of the operators of a reference
 abbrev pub replacement : RawForm → RawOpRef → RawActual
@@ -114,9 +131,14 @@ mutual
     another_actual : {b : Bool} {ps qs : List RawActual} {i o : List Marked} → AreActuals b ps i o qs
         → EndActuals b ps ((Comma, Outside) ∷ i) o qs
 
--- [ "(" Actual { "," Actual } ")" ]
+-- no `(` stands here
+abbrev pub NoOpen : List Marked → Type 0
+NoOpen [] = Unit {0}
+NoOpen (t ∷ i) = IsTrue (not (is_open t.0))
+
+-- [ "(" Actual { "," Actual } ")" ]: a `(` directly behind the name always opens actuals
 pub data HasActuals : List Marked → List Marked → List RawActual → Type 0 where
-  bare : {o : List Marked} → HasActuals o o []
+  bare : {o : List Marked} → NoOpen o → HasActuals o o []
   actuals : {i o : List Marked} {p : Pos} {ps : List RawActual} → AreActuals false [] i o ps
       → HasActuals ((Open p, Outside) ∷ i) o ps
 
@@ -125,13 +147,13 @@ pub data IsRef : List Marked → List Marked → RawRef → Type 0 where
   a_ref : {i j o : List Marked} {w : RawWord} {ps : List RawActual} → IsWord i j w → HasActuals j o ps
       → IsRef i o (record { name = w; actuals = ps })
 
--- { "," Ref }, from the trait so far to the trait with these references, which are assumed or included
-pub data AreRefs : Bool → RawTrait → List Marked → List Marked → RawTrait → Type 0 where
-  no_ref : {b : Bool} {r : RawTrait} {o : List Marked} → AreRefs b r o o r
-  another_ref : {b : Bool} {r z : RawTrait} {q : RawRef} {i j o : List Marked} → IsRef i j q
-      → AreRefs b (with_ref r b q) j o z → AreRefs b r ((Comma, Outside) ∷ i) o z
+-- { "," Ref }, from the trait so far to the trait with these references, which are included, assumed or implied
+pub data AreRefs : RefKind → RawTrait → List Marked → List Marked → RawTrait → Type 0 where
+  no_ref : {b : RefKind} {r : RawTrait} {o : List Marked} → AreRefs b r o o r
+  another_ref : {b : RefKind} {r z : RawTrait} {q : RawRef} {i j o : List Marked} → IsRef i j q
+      → AreRefs (next_kind b) (with_ref r (next_kind b) q) j o z → AreRefs b r ((Comma, Outside) ∷ i) o z
 
--- "includes" | "assumes": whether the traits are assumed
-pub data IsRefsWord : Terminal → Bool → Type 0 where
-  includes : IsRefsWord Includes false
-  assumes : IsRefsWord Assumes true
+-- "includes" | "assumes": what the traits are referred to for
+pub data IsRefsWord : Terminal → RefKind → Type 0 where
+  includes : IsRefsWord Includes Included
+  assumes : IsRefsWord Assumes Assumed

@@ -18,6 +18,10 @@ use Rattle.larch_grammar.specs.Trees.{infix_name, prefix_name, postfix_name, fie
 abbrev pub Marked : Type 0
 Marked = Terminal × Mark
 
+-- a token without its mark
+abbrev pub unmarked : Marked → Terminal
+unmarked m = m.0
+
 -- a token outside all equations
 abbrev pub out : Terminal → Marked
 out t = (t, Outside)

@@ -2,8 +2,10 @@ pub mod Answers
 pub mod Composition
 pub mod Depth
 pub mod Forms
+pub mod Leading
 pub mod Machine
 pub mod Opening
+pub mod Refused
 pub mod Terminals
 pub mod Terms
 pub mod Traits

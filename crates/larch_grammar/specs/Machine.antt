@@ -20,34 +20,39 @@ use Rattle.larch_raw.specs.RawTree.{RawTree, qualified}
 use Rattle.larch_grammar.specs.declared.terminal.Bracket.{Bracket}
 use Rattle.larch_grammar.specs.declared.terminal.Bracket.TheVariants.{Square, Curly}
 use Rattle.larch_grammar.specs.declared.terminal.Terminal.{Terminal}
-use Rattle.larch_grammar.specs.declared.terminal.Terminal.TheVariants.{Word, Symbol, Not, Connective, Equality, Equates, Arrow, Colon, Comma, Semicolon, Dot, Marker, Open, Close, OpenBracket, CloseBracket, ForAll, Trait, Introduces, Asserts, Generated, Partitioned, By, Includes, Assumes, For, Enumeration, Tuple, Union, Of, If, Then, Else}
+use Rattle.larch_grammar.specs.declared.terminal.Terminal.TheVariants.{Word, Symbol, Not, Connective, Equality, Equates, Arrow, Colon, Comma, Semicolon, Dot, Marker, Open, Close, OpenBracket, CloseBracket, ForAll, Trait, Introduces, Asserts, Implies, Converts, Exempting, Generated, Partitioned, By, Includes, Assumes, For, Enumeration, Tuple, Union, Of, If, Then, Else}
 use Rattle.larch_grammar.specs.declared.machine.Clause.{Clause}
 use Rattle.larch_grammar.specs.declared.machine.FieldsKind.TheVariants as fields_kind
 use Rattle.larch_grammar.specs.declared.machine.FormBracket.{FormBracket}
 use Rattle.larch_grammar.specs.declared.machine.Frame.{Frame}
-use Rattle.larch_grammar.specs.declared.machine.Frame.TheVariants.{InFields, InStrays, Prefixed, InPostfixes, InInfixes, InEqualities, InConnectives, InParentheses, InList, InIf, InThen, InElse, InLeft, InRight}
+use Rattle.larch_grammar.specs.declared.machine.Frame.TheVariants.{InFields, InStrays, Prefixed, InPostfixes, InInfixes, InEqualities, InConnectives, InParentheses, InList, InIf, InThen, InElse, InLeft, InRight, InExempted}
 use Rattle.larch_grammar.specs.declared.machine.Link.{Link}
 use Rattle.larch_grammar.specs.declared.machine.Listing.{Listing}
-use Rattle.larch_grammar.specs.declared.machine.Listing.TheVariants.{Call, Bracketed}
+use Rattle.larch_grammar.specs.declared.machine.Listing.TheVariants.{Call, First as call_first, Bracketed}
 use Rattle.larch_grammar.specs.declared.machine.Naming.{Naming}
-use Rattle.larch_grammar.specs.declared.machine.Naming.TheVariants.{Declared, Referred, Formal, Actual, Renaming, Renamed, Lone}
+use Rattle.larch_grammar.specs.declared.machine.Naming.TheVariants.{Declared, Referred, Formal, Actual, Renaming, Renamed, Lone, Converted}
+use Rattle.larch_grammar.specs.declared.machine.OpenConversion.{OpenConversion}
 use Rattle.larch_grammar.specs.declared.machine.OpenFields.{OpenFields}
 use Rattle.larch_grammar.specs.declared.machine.OpenItem.{OpenItem}
 use Rattle.larch_grammar.specs.declared.machine.OpenRef.{OpenRef}
+use Rattle.larch_grammar.specs.declared.machine.RefKind.{RefKind}
+use Rattle.larch_grammar.specs.declared.machine.RefKind.TheVariants.{Included, Assumed, First, Further}
+use Rattle.larch_grammar.specs.declared.machine.Scope.{Scope}
+use Rattle.larch_grammar.specs.declared.machine.Scope.TheVariants.{Quantified, Exempted}
 use Rattle.larch_grammar.specs.declared.machine.Signing.{Signing}
-use Rattle.larch_grammar.specs.declared.machine.Signing.TheVariants.{Declaration, Reference, Replacement, LoneForm}
+use Rattle.larch_grammar.specs.declared.machine.Signing.TheVariants.{Declaration, Reference, Replacement, LoneForm, Conversion}
 use Rattle.larch_grammar.specs.declared.machine.State.{State}
-use Rattle.larch_grammar.specs.declared.machine.State.TheVariants.{Start, AfterName, AfterFormals, NeedTrait, AfterHead, ShortWord, NeedConstants, NeedConstant, AfterConstant, NeedFields, NeedName, AfterNames, NeedFurtherName, NeedNamesSort, AfterField, NeedRef, AfterRefName, AfterRef, AfterRename, InPart, NeedForm, AfterSymbolForm, AfterDotForm, AfterMarker, AfterMarkerSymbol, NeedMarks, AfterMark, NeedMark, AfterForm, NeedSig, AfterSort, NeedSort, NeedRange, AfterReference, AfterLone, InItems, FirstWord, AfterSemicolon, WordBehind, ClauseWord, NeedBy, NeedVariable, AfterVariable, NeedFurtherVariable, NeedVariableSort, AfterGroup, NeedEquation, NeedTerm, NeedOperand, NeedPrefixed, NeedPost, NeedField, NeedSortOf, AfterWord, NeedFirst, AfterSymbol, Have}
+use Rattle.larch_grammar.specs.declared.machine.State.TheVariants.{Start, AfterName, AfterFormals, NeedTrait, AfterHead, ShortWord, NeedConstants, NeedConstant, AfterConstant, NeedFields, NeedName, AfterNames, NeedFurtherName, NeedNamesSort, AfterField, NeedRef, AfterRefName, AfterRef, AfterRename, InPart, NeedForm, AfterSymbolForm, AfterDotForm, AfterMarker, AfterMarkerSymbol, NeedMarks, AfterMark, NeedMark, AfterForm, NeedSig, AfterSort, NeedSort, NeedRange, AfterReference, AfterLone, InItems, FirstWord, AfterSemicolon, WordBehind, ClauseWord, NeedBy, NeedVariable, AfterVariable, NeedFurtherVariable, NeedVariableSort, AfterGroup, AfterImplies, ImpliedWord, BehindFirst, AfterConverted, NeedExempted, NeedFurtherExempted, NeedEquation, NeedTerm, NeedOperand, NeedPrefixed, NeedPost, NeedField, NeedSortOf, AfterWord, NeedFirst, AfterSymbol, Have}
 use Rattle.larch_grammar.specs.declared.machine.Waiting.{Waiting}
 use Rattle.larch_grammar.specs.declared.machine.Waiting.TheVariants.{Alone, Item}
 use Rattle.larch_grammar.specs.declared.machine.Whole.{Whole}
 use Rattle.larch_grammar.specs.declared.machine.Whole.TheVariants as whole
-use Rattle.larch_grammar.specs.Composition.{close_fields, close_ref, fields_at, open_fields, open_ref, with_actual, with_fields, with_shorthand}
+use Rattle.larch_grammar.specs.Composition.{close_fields, close_ref, fields_at, next_kind, open_fields, open_ref, with_actual, with_fields, with_shorthand}
 use Rattle.larch_grammar.specs.Depth.{depth_of}
 use Rattle.larch_grammar.specs.Forms.{variables_at}
-use Rattle.larch_grammar.specs.Terminals.{terminal_of, position_of}
+use Rattle.larch_grammar.specs.Terminals.{ends_reference, terminal_of, position_of}
 use Rattle.larch_grammar.specs.Terms.{opens, opens_head, chained, formula_of, equation_of}
-use Rattle.larch_grammar.specs.Traits.{named, with_declaration, with_item, with_equations}
+use Rattle.larch_grammar.specs.Traits.{implying, named, with_conversion, with_declaration, with_item, with_equations}
 use Rattle.larch_grammar.specs.Trees.{infix_name, prefix_name, postfix_name, field_name, prefix_tree, postfix_tree, field_tree, call_tree, bracket_tree, listing_tree, if_tree, chain_tree, mixfix, plain_form, bracket_form}
 
 -- the mark and the state of a step, if there is one
@@ -106,17 +111,30 @@ begin_equation t w = begin_term t (InLeft (position_of t) w ∷ [])
 abbrev pub open_item : RawTrait → List RawVar → List RawEquation → OpenItem
 open_item raw vs es = record { raw = raw; variables = vs; equations = es }
 
+-- `implies` is read, and whether references follow it
+abbrev pub behind_implies : Bool → RawTrait → State
+behind_implies false raw = AfterImplies raw
+behind_implies true raw = NeedRef raw First
+
+-- a part behind the declarations
+abbrev pub begin_claim : RawTrait → Terminal → Taking
+begin_claim raw Asserts = cond raw.implies None (outside (InItems raw))
+begin_claim raw (Implies lists) = cond raw.implies None (outside (behind_implies lists (implying raw)))
+begin_claim raw Converts = outside (NeedForm (Converted raw []))
+begin_claim raw _ = None
+
 -- a part, or an item that needs no `;` before it
 abbrev pub begin_part : RawTrait → Terminal → Taking
-begin_part raw ForAll = outside (NeedVariable raw [])
-begin_part raw Asserts = outside (InItems raw)
-begin_part raw _ = None
+begin_part raw ForAll = outside (NeedVariable (Quantified raw) [])
+begin_part raw t = begin_claim raw t
 
 -- the first token of any item, or a part
 abbrev pub begin_item : RawTrait → Terminal → Taking
 begin_item raw (Word w) = at_head (FirstWord raw w)
 begin_item raw ForAll = begin_part raw ForAll
 begin_item raw Asserts = begin_part raw Asserts
+begin_item raw (Implies lists) = begin_part raw (Implies lists)
+begin_item raw Converts = begin_part raw Converts
 begin_item raw t = begin_equation t (Item (open_item raw [] []))
 
 -- an equation is read, and a token stands behind it
@@ -135,9 +153,49 @@ symbol_of (Some link) = Some link.symbol
 abbrev pub hand_list : RawTree → Listing → List RawTree → List Frame → Terminal → Taking
 hand_list r h ts k Comma = plainly (NeedTerm (InList h (ts ++ r ∷ []) ∷ k))
 hand_list r (Call w) ts k Close = plainly (Have (listing_tree (Call w) (ts ++ r ∷ [])) k)
+hand_list r (call_first raw w) ts k Close = plainly (BehindFirst raw w (ts ++ r ∷ []))
 hand_list r (Bracketed Square l p) ts k (CloseBracket Square) = plainly (Have (listing_tree (Bracketed Square l p) (ts ++ r ∷ [])) k)
 hand_list r (Bracketed Curly l p) ts k (CloseBracket Curly) = plainly (Have (listing_tree (Bracketed Curly l p) (ts ++ r ∷ [])) k)
 hand_list r h ts k _ = None
+
+-- conversions
+
+-- a conversion that is open
+abbrev pub open_conversion : RawTrait → List RawOpRef → List RawVar → List RawEquation → OpenConversion
+open_conversion raw rs vs es = record { raw = raw; converted = rs; variables = vs; exempted = es }
+
+-- the same with a term more that is exempted
+abbrev pub with_exempted : OpenConversion → RawEquation → OpenConversion
+with_exempted c e = record c { exempted = c.exempted ++ e ∷ [] }
+
+-- the trait with it as a conversion more
+abbrev pub close_conversion : OpenConversion → RawTrait
+close_conversion c = with_conversion c.raw c.converted c.variables c.exempted
+
+-- a further conversion
+abbrev pub begin_conversion : RawTrait → Terminal → Taking
+begin_conversion raw Converts = outside (NeedForm (Converted raw []))
+begin_conversion raw _ = None
+
+-- a term that is exempted is read, the last of these, and a token stands behind it
+abbrev pub hand_exempted : OpenConversion → Terminal → Taking
+hand_exempted c Comma = outside (NeedFurtherExempted c)
+hand_exempted c t = begin_conversion (close_conversion c) t
+
+-- the first token of a term that is exempted
+abbrev pub begin_exempted : OpenConversion → Terminal → Taking
+begin_exempted c t = begin_term t (InExempted (position_of t) c ∷ [])
+
+-- `exempting` is read
+abbrev pub need_exempted : RawTrait → List RawOpRef → Terminal → Taking
+need_exempted raw rs ForAll = outside (NeedVariable (Exempted raw rs) [])
+need_exempted raw rs t = begin_exempted (open_conversion raw rs [] []) t
+
+-- a reference of a conversion is read, the last of these, and a token stands behind it
+abbrev pub after_converted : RawTrait → List RawOpRef → Terminal → Taking
+after_converted raw rs Comma = outside (NeedForm (Converted raw rs))
+after_converted raw rs Exempting = outside (NeedExempted raw rs)
+after_converted raw rs t = begin_conversion (with_conversion raw rs [] []) t
 
 -- a term is read, and a token stands behind it: the innermost frame takes the token, or hands on what it makes of the term
 abbrev pub hand : Bool → RawTree → List Frame → Terminal → Taking
@@ -170,6 +228,7 @@ hand s r (InElse p a b ∷ k) t = hand s (if_tree p a b r) k t
 hand s r (InLeft p w ∷ k) (Equates q) = at_head (NeedTerm (InRight p r q w ∷ k))
 hand s r (InLeft p w ∷ k) t = hand_equation (formula_of r p) w t
 hand s r (InRight p l q w ∷ k) t = hand_equation (equation_of l q r p) w t
+hand s r (InExempted p c ∷ k) t = hand_exempted (with_exempted c (formula_of r p)) t
 
 -- the whole, where the tokens may end behind an equation
 abbrev pub end_equation : RawEquation → Waiting → Option Whole
@@ -193,6 +252,7 @@ finish r (InThen p a ∷ k) = None
 finish r (InElse p a b ∷ k) = finish (if_tree p a b r) k
 finish r (InLeft p w ∷ k) = end_equation (formula_of r p) w
 finish r (InRight p l q w ∷ k) = end_equation (equation_of l q r p) w
+finish r (InExempted p c ∷ k) = Some (whole.Trait (close_conversion (with_exempted c (formula_of r p))))
 
 -- a word is read: its arguments begin, or it stands alone
 abbrev pub after_word : Bool → RawWord → List Frame → Terminal → Taking
@@ -248,13 +308,13 @@ with_reference rs f = rs ++ record { form = f; sig = None } ∷ []
 -- an actual is read, the last of these, and a token stands behind it
 abbrev pub after_actual : OpenRef → Terminal → Taking
 after_actual o Comma = outside (NeedForm (Actual o))
-after_actual o Close = outside (AfterRef (close_ref o) o.assumed)
+after_actual o Close = outside (AfterRef (close_ref o) o.kind)
 after_actual o _ = None
 
 -- the same of a replacement
 abbrev pub after_rename : OpenRef → Terminal → Taking
 after_rename o Comma = outside (NeedForm (Renaming o))
-after_rename o Close = outside (AfterRef (close_ref o) o.assumed)
+after_rename o Close = outside (AfterRef (close_ref o) o.kind)
 after_rename o _ = None
 
 -- a form is read, and a token stands behind it
@@ -275,6 +335,8 @@ after_form (Renamed o f) g (Colon p) = outside (NeedSig (Replacement o f g))
 after_form (Renamed o f) g t = after_rename (with_actual o (actual.Replace f g None)) t
 after_form Lone f (Colon p) = outside (NeedSig (LoneForm f))
 after_form Lone f _ = None
+after_form (Converted raw rs) f (Colon p) = outside (NeedSig (Conversion raw rs f))
+after_form (Converted raw rs) f t = after_converted raw (with_reference rs f) t
 
 -- a signature is read: what waits for it takes it
 abbrev pub hand_sig : Signing → RawSig → State
@@ -282,6 +344,7 @@ hand_sig (Declaration raw fs) sig = InPart (with_declaration raw (record { forms
 hand_sig (Reference c rs f) sig = AfterReference c (rs ++ record { form = f; sig = Some sig } ∷ [])
 hand_sig (Replacement o f g) sig = AfterRename (with_actual o (actual.Replace f g (Some sig)))
 hand_sig (LoneForm f) sig = AfterLone (record { form = f; sig = Some sig })
+hand_sig (Conversion raw rs f) sig = AfterConverted raw (rs ++ record { form = f; sig = Some sig } ∷ [])
 
 -- a symbol that begins a form is read
 abbrev pub after_symbol_form : Naming → RawWord → Terminal → Taking
@@ -339,27 +402,35 @@ abbrev pub after_semicolon : RawTrait → List RawVar → List RawEquation → T
 after_semicolon raw vs es (Word w) = at_head (WordBehind (open_item raw vs es) w)
 after_semicolon raw vs es ForAll = begin_part (with_equations raw vs es) ForAll
 after_semicolon raw vs es Asserts = begin_part (with_equations raw vs es) Asserts
+after_semicolon raw vs es (Implies lists) = begin_part (with_equations raw vs es) (Implies lists)
+after_semicolon raw vs es Converts = begin_part (with_equations raw vs es) Converts
 after_semicolon raw vs es t = begin_equation t (Item (open_item raw vs es))
 
+-- what variables are read for begins: an equation, or a term that is exempted
+abbrev pub begin_quantified : Scope → List RawVar → Terminal → Taking
+begin_quantified (Quantified raw) vs t = begin_equation t (Item (open_item raw vs []))
+begin_quantified (Exempted raw rs) vs t = begin_exempted (open_conversion raw rs vs []) t
+
 -- variables with their sorts are read
-abbrev pub after_group : RawTrait → List RawVar → Terminal → Taking
-after_group raw vs Comma = outside (NeedVariable raw vs)
-after_group raw vs t = begin_equation t (Item (open_item raw vs []))
+abbrev pub after_group : Scope → List RawVar → Terminal → Taking
+after_group sc vs Comma = outside (NeedVariable sc vs)
+after_group sc vs t = begin_quantified sc vs t
 
 -- `introduces` or a declaration is read
 abbrev pub in_part : RawTrait → Terminal → Taking
 in_part raw Introduces = outside (InPart raw)
-in_part raw Asserts = outside (InItems raw)
+in_part raw Asserts = begin_claim raw Asserts
+in_part raw (Implies lists) = begin_claim raw (Implies lists)
+in_part raw Converts = begin_claim raw Converts
 in_part raw t = begin_form (Declared raw []) t
 
 -- the head of a trait is read, or a shorthand or references of it
 abbrev pub after_head : RawTrait → Terminal → Taking
 after_head raw (Word w) = outside (ShortWord raw w)
-after_head raw Includes = outside (NeedRef raw false)
-after_head raw Assumes = outside (NeedRef raw true)
+after_head raw Includes = outside (NeedRef raw Included)
+after_head raw Assumes = outside (NeedRef raw Assumed)
 after_head raw Introduces = outside (InPart raw)
-after_head raw Asserts = outside (InItems raw)
-after_head raw _ = None
+after_head raw t = begin_claim raw t
 
 -- the word that begins a shorthand is read
 abbrev pub short_word : RawTrait → RawWord → Terminal → Taking
@@ -378,15 +449,38 @@ abbrev pub after_field : OpenFields → Terminal → Taking
 after_field o Comma = outside (NeedName o)
 after_field o t = after_head (close_fields o) t
 
--- a reference is read, which is assumed or included
-abbrev pub after_ref : RawTrait → Bool → Terminal → Taking
-after_ref raw b Comma = outside (NeedRef raw b)
-after_ref raw b t = after_head raw t
+-- what follows references: for the first one of an implied part a token that ends a list of them
+abbrev pub behind_refs : RefKind → RawTrait → Terminal → Taking
+behind_refs Included raw t = after_head raw t
+behind_refs Assumed raw t = after_head raw t
+behind_refs First raw t = cond (ends_reference t) (begin_item raw t) None
+behind_refs Further raw t = begin_item raw t
+
+-- a reference is read, which is for this
+abbrev pub after_ref : RawTrait → RefKind → Terminal → Taking
+after_ref raw b Comma = outside (NeedRef raw (next_kind b))
+after_ref raw b t = behind_refs b raw t
 
 -- the name of a trait that is referred to is read
-abbrev pub after_ref_name : RawTrait → Bool → RawWord → Terminal → Taking
+abbrev pub after_ref_name : RawTrait → RefKind → RawWord → Terminal → Taking
 after_ref_name raw b w (Open p) = outside (NeedForm (Actual (open_ref raw b w [])))
 after_ref_name raw b w t = after_ref (close_ref (open_ref raw b w [])) b t
+
+-- behind `implies` an item or a part may stand
+abbrev pub after_implies : RawTrait → Terminal → Taking
+after_implies raw (Word w) = at_head (ImpliedWord raw w)
+after_implies raw t = begin_item raw t
+
+-- the same and a word are read: it begins no references
+abbrev pub implied_word : Bool → RawTrait → RawWord → Terminal → Taking
+implied_word s raw w Generated = clause_word raw w Generated
+implied_word s raw w Partitioned = clause_word raw w Partitioned
+implied_word s raw w (Open p) = Some (opens 1, NeedTerm (InList (call_first raw w) [] ∷ []))
+implied_word s raw w t = cond (ends_reference t) None (after_word s w (word_frames w (Item (open_item raw [] []))) t)
+
+-- the same and its arguments are read
+abbrev pub behind_first : Bool → RawTrait → RawWord → List RawTree → Terminal → Taking
+behind_first s raw w ts t = cond (ends_reference t) None (hand s (call_tree w ts) (InFields ∷ word_frames w (Item (open_item raw [] []))) t)
 
 -- the mark of a token and the state behind it
 abbrev pub step : Bool → State → Terminal → Taking
@@ -434,12 +528,18 @@ step s (AfterSemicolon j) t = after_semicolon j.raw j.variables j.equations t
 step s (WordBehind j w) t = word_behind s j.raw j.variables j.equations w t
 step s (ClauseWord raw w) t = clause_word raw w t
 step s (NeedBy c) By = outside (NeedForm (Referred c []))
-step s (NeedVariable raw vs) (Word w) = outside (AfterVariable raw vs (w ∷ []))
-step s (AfterVariable raw vs ws) Comma = outside (NeedFurtherVariable raw vs ws)
-step s (AfterVariable raw vs ws) (Colon p) = outside (NeedVariableSort raw vs ws)
-step s (NeedFurtherVariable raw vs ws) (Word w) = outside (AfterVariable raw vs (ws ++ w ∷ []))
-step s (NeedVariableSort raw vs ws) (Word sort) = outside (AfterGroup raw (vs ++ variables_at ws sort))
-step s (AfterGroup raw vs) t = after_group raw vs t
+step s (NeedVariable sc vs) (Word w) = outside (AfterVariable sc vs (w ∷ []))
+step s (AfterVariable sc vs ws) Comma = outside (NeedFurtherVariable sc vs ws)
+step s (AfterVariable sc vs ws) (Colon p) = outside (NeedVariableSort sc vs ws)
+step s (NeedFurtherVariable sc vs ws) (Word w) = outside (AfterVariable sc vs (ws ++ w ∷ []))
+step s (NeedVariableSort sc vs ws) (Word sort) = outside (AfterGroup sc (vs ++ variables_at ws sort))
+step s (AfterGroup sc vs) t = after_group sc vs t
+step s (AfterImplies raw) t = after_implies raw t
+step s (ImpliedWord raw w) t = implied_word s raw w t
+step s (BehindFirst raw w ts) t = behind_first s raw w ts t
+step s (AfterConverted raw rs) t = after_converted raw rs t
+step s (NeedExempted raw rs) t = need_exempted raw rs t
+step s (NeedFurtherExempted c) t = begin_exempted c t
 step s (NeedEquation w) t = begin_equation t w
 step s (NeedTerm k) t = begin_term t k
 step s (NeedOperand k) t = begin_operand t k
@@ -456,6 +556,7 @@ step s _ _ = None
 -- the whole, where the tokens may end behind a form
 abbrev pub end_form : Naming → RawForm → Option Whole
 end_form (Referred c rs) f = Some (whole.Trait (with_clause c (with_reference rs f)))
+end_form (Converted raw rs) f = Some (whole.Trait (with_conversion raw (with_reference rs f) [] []))
 end_form Lone f = Some (whole.Reference (record { form = f; sig = None }))
 end_form _ f = None
 
@@ -473,6 +574,8 @@ final (AfterForm n f) = end_form n f
 final (AfterReference c rs) = Some (whole.Trait (with_clause c rs))
 final (AfterLone r) = Some (whole.Reference r)
 final (InItems raw) = Some (whole.Trait raw)
+final (AfterImplies raw) = Some (whole.Trait raw)
+final (AfterConverted raw rs) = Some (whole.Trait (with_conversion raw rs [] []))
 final (FirstWord raw w) = finish (call_tree w []) (word_frames w (Item (open_item raw [] [])))
 final (AfterSemicolon j) = Some (whole.Trait (with_equations j.raw j.variables j.equations))
 final (WordBehind j w) = finish (call_tree w []) (word_frames w (Item (open_item j.raw j.variables j.equations)))
@@ -481,9 +584,9 @@ final (AfterSymbol x r k) = finish (postfix_tree x r) k
 final (Have r k) = finish r k
 final _ = None
 
--- the same at a token of a text
-abbrev pub step_at : Bool → State → Token → Taking
-step_at s n t = step s n (terminal_of t)
+-- the same at a token of a text, where references follow `implies` or not
+abbrev pub step_at : Bool → Bool → State → Token → Taking
+step_at lists s n t = step s n (terminal_of lists t)
 
 -- the whole as a trait
 abbrev pub as_trait : Option Whole → Option RawTrait

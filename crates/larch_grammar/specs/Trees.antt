@@ -8,7 +8,7 @@ use Rattle.larch_grammar.specs.declared.terminal.Bracket.{Bracket}
 use Rattle.larch_grammar.specs.declared.terminal.Bracket.TheVariants.{Square, Curly}
 use Rattle.larch_grammar.specs.declared.machine.Link.{Link}
 use Rattle.larch_grammar.specs.declared.machine.Listing.{Listing}
-use Rattle.larch_grammar.specs.declared.machine.Listing.TheVariants.{Call, Bracketed}
+use Rattle.larch_grammar.specs.declared.machine.Listing.TheVariants.{Call, First, Bracketed}
 
 -- `__ + __`
 abbrev pub infix_name : List ℕ → List ℕ
@@ -85,6 +85,7 @@ bracket_tree b (Some l) p ts = apply (bracket_behind_name b (length ts)) (raw_fo
 -- what a list of terms belongs to, with the list
 abbrev pub listing_tree : Listing → List RawTree → RawTree
 listing_tree (Call w) ts = call_tree w ts
+listing_tree (First raw w) ts = call_tree w ts
 listing_tree (Bracketed b l p) ts = bracket_tree b l p ts
 
 -- `if`, with its position and three parts

@@ -1,8 +1,8 @@
-ghost use Rattle.std.specs.Prelude.{◌≡◌, ◌++◌, [], IfOk};
-ghost use Rattle.larch_grammar.specs.Composition.{close_fields, close_ref, fields_at, open_fields, open_ref, shorthand_of, with_actual, with_fields, with_shorthand};
+ghost use Rattle.std.specs.Prelude.{◌≡◌, ◌++◌, ◌∷◌, [], IfOk};
+ghost use Rattle.larch_grammar.specs.Composition.{close_fields, close_ref, fields_at, next_kind, open_fields, open_ref, shorthand_of, with_actual, with_fields, with_ref, with_shorthand};
 
 use crate::draft::Draft;
-use crate::machine::{FieldsKind, OpenFields, OpenRef};
+use crate::machine::{FieldsKind, OpenFields, OpenRef, RefKind};
 use crate::traits::copy_word;
 use larch_base::{Memory, Sequence};
 use larch_raw::{
@@ -91,13 +91,23 @@ pub fn close_fields(shorthand: OpenFields) -> Result<Draft, Memory>
     Ok(raw)
 }
 
+/// What the reference behind a `,` is for.
+pub fn next_kind(kind: RefKind) -> RefKind
+    ensures { result ≡ next_kind kind }
+{
+    match kind {
+        RefKind::First => RefKind::Further,
+        _ => kind,
+    }
+}
+
 /// A reference with no actuals yet.
-pub fn open_ref(alloc: Global, raw: Draft, assumed: bool, name: RawWord) -> OpenRef
-    ensures { result ≡ open_ref raw assumed name [] }
+pub fn open_ref(alloc: Global, raw: Draft, kind: RefKind, name: RawWord) -> OpenRef
+    ensures { result ≡ open_ref raw kind name [] }
 {
     OpenRef {
         raw,
-        assumed,
+        kind,
         name,
         actuals: Sequence::new(alloc),
     }
@@ -118,12 +128,39 @@ pub fn close_ref(reference: OpenRef) -> Result<Draft, Memory>
 {
     let OpenRef {
         raw,
-        assumed,
+        kind,
         name,
         actuals,
     } = reference;
+    let raw = with_ref(raw, kind, RawRef { name, actuals })?;
+    Ok(raw)
+}
+
+// The same, of a reference that is for this.
+fn with_ref(raw: Draft, kind: RefKind, target: RawRef) -> Result<Draft, Memory>
+    ensures { IfOk result (λ more. more ≡ with_ref raw kind target) }
+{
+    match kind {
+        RefKind::Included => with_reference(raw, false, target),
+        RefKind::Assumed => with_reference(raw, true, target),
+        RefKind::First | RefKind::Further => with_implied(raw, target),
+    }
+}
+
+// The trait with a reference more that is included or assumed.
+fn with_reference(raw: Draft, assumed: bool, target: RawRef) -> Result<Draft, Memory>
+    ensures { IfOk result (λ more. more ≡ record raw { references = raw.references ++ record { assumed = assumed; target = target } ∷ [] }) }
+{
     let mut draft = raw;
-    let target = RawRef { name, actuals };
     draft.raw.references.push(RawReference { assumed, target })?;
+    Ok(draft)
+}
+
+// The trait with a reference more that is implied.
+fn with_implied(raw: Draft, target: RawRef) -> Result<Draft, Memory>
+    ensures { IfOk result (λ more. more ≡ record raw { implied = raw.implied ++ target ∷ [] }) }
+{
+    let mut draft = raw;
+    draft.raw.implied.push(target)?;
     Ok(draft)
 }

@@ -24,6 +24,13 @@ impl Model for Draft {
 }
 
 impl Draft {
+    /// Whether an implied part stands in it.
+    pub fn implies(&self) -> bool
+        ensures { result ≡ self.now.implies }
+    {
+        self.raw.implies
+    }
+
     /// The raw trait. It takes no memory.
     pub fn into_raw(self) -> RawTrait
         ensures { result ≡ self }

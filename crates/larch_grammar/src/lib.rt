@@ -16,19 +16,21 @@ mod traits;
 mod trees;
 
 pub use composition::{
-    close_fields, close_ref, open_fields, open_ref, with_actual, with_fields, with_shorthand,
+    close_fields, close_ref, next_kind, open_fields, open_ref, with_actual, with_fields,
+    with_shorthand,
 };
 pub use draft::Draft;
 pub use form::{bracket_form, field_form, infix_form, plain_form, postfix_form, prefix_form};
 pub use machine::{
-    Before, Clause, FieldsKind, FormBracket, Frame, Link, Listing, Naming, OpenFields, OpenItem,
-    OpenRef, Signing, State, Waiting, Whole,
+    Before, Clause, FieldsKind, FormBracket, Frame, Link, Listing, Naming, OpenConversion,
+    OpenFields, OpenItem, OpenRef, RefKind, Scope, Signing, State, Waiting, Whole,
 };
 pub use stack::Stack;
-pub use terminal::{Bracket, Terminal, position_of, terminal_of};
+pub use terminal::{Bracket, Terminal, ends_reference, position_of, terminal_of};
 pub use traits::{
-    equation_of, formula_of, named, with_clause, with_declaration, with_equations, with_group,
-    with_last, with_reference, with_word,
+    close_conversion, equation_of, formula_of, implying, named, open_conversion, with_clause,
+    with_converted, with_declaration, with_equations, with_exempted, with_group, with_last,
+    with_reference, with_word,
 };
 pub use trees::{
     bracket_tree, call_tree, chain_tree, field_tree, if_tree, no_terms, postfix_tree, prefix_tree,

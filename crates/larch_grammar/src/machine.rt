@@ -39,12 +39,25 @@ pub struct OpenFields {
     pub fields: RawFields,
 }
 
-/// A reference that is open: the trait before it, whether it is assumed, the name of the trait that it refers to, and
-/// its actuals so far.
+/// What a trait is referred to for.
+#[derive(Clone, Copy, Debug, PartialEq, Eq)]
+pub enum RefKind {
+    /// It is included.
+    Included,
+    /// It is assumed.
+    Assumed,
+    /// It is implied, the first one of the implied part.
+    First,
+    /// It is implied, a further one.
+    Further,
+}
+
+/// A reference that is open: the trait before it, what it is for, the name of the trait that it refers to, and its
+/// actuals so far.
 #[derive(Drop)]
 pub struct OpenRef {
     pub raw: Draft,
-    pub assumed: bool,
+    pub kind: RefKind,
     pub name: RawWord,
     pub actuals: RawActuals,
 }
@@ -74,6 +87,8 @@ pub enum Naming {
     Renamed(OpenRef, RawForm),
     /// A reference to operators by itself.
     Lone,
+    /// A conversion in a trait, behind these references.
+    Converted(Draft, RawOpRefs),
 }
 
 /// A bracket that is open in a form: what waits for the form, whether a `__` stands in front, which bracket it is, and
@@ -97,6 +112,26 @@ pub enum Signing {
     Replacement(OpenRef, RawForm, RawForm),
     /// A reference to operators by itself, whose form it is.
     LoneForm(RawForm),
+    /// The last reference of a conversion in a trait, whose form it is, behind these.
+    Conversion(Draft, RawOpRefs, RawForm),
+}
+
+/// What variables are read for.
+#[derive(Drop)]
+pub enum Scope {
+    /// An item of a trait.
+    Quantified(Draft),
+    /// What is exempted from the conversion of these references in a trait.
+    Exempted(Draft, RawOpRefs),
+}
+
+/// A conversion that is open: the trait before it, its references, its variables, and what is exempted so far.
+#[derive(Drop)]
+pub struct OpenConversion {
+    pub raw: Draft,
+    pub converted: RawOpRefs,
+    pub variables: RawVars,
+    pub exempted: RawEquations,
 }
 
 /// An item of equations that is open: the trait before it, its variables, and its equations so far.
@@ -139,6 +174,8 @@ pub struct Link {
 pub enum Listing {
     /// The arguments of a word.
     Call(RawWord),
+    /// The arguments of the word that begins the implied part of a trait.
+    First(Draft, RawWord),
     /// A bracket with the operand in front of it, and where it opens.
     Bracketed(Bracket, Option<RawTerm>, Pos),
 }
@@ -174,6 +211,8 @@ pub enum Frame {
     InLeft(Pos, Waiting),
     /// The right side: where the equation begins, its left side, and where `==` stands.
     InRight(Pos, RawTerm, Pos, Waiting),
+    /// A term that begins there and is exempted from this conversion.
+    InExempted(Pos, OpenConversion),
 }
 
 /// What is read so far, and what is needed next.
@@ -209,12 +248,12 @@ pub enum State {
     NeedNamesSort(OpenFields, RawWords),
     /// Fields with their sorts: `,`, or what follows a shorthand.
     AfterField(OpenFields),
-    /// `includes` or `assumes`, or a `,` behind a reference: the name of a trait, and whether it is assumed.
-    NeedRef(Draft, bool),
+    /// `includes` or `assumes`, `implies`, or a `,` behind a reference: the name of a trait, and what it is for.
+    NeedRef(Draft, RefKind),
     /// The name of a trait that is referred to: `(`, `,`, or what follows references.
-    AfterRefName(Draft, bool, RawWord),
+    AfterRefName(Draft, RefKind, RawWord),
     /// A reference: `,`, or what follows references.
-    AfterRef(Draft, bool),
+    AfterRef(Draft, RefKind),
     /// A replacement, the last of these actuals: `,` or `)`.
     AfterRename(OpenRef),
     /// `introduces`, or a declaration of its part: a declaration, a part, or the end.
@@ -262,15 +301,27 @@ pub enum State {
     /// `generated` or `partitioned`: `by`.
     NeedBy(Clause),
     /// `\forall`, or a `,` behind these variables: a word.
-    NeedVariable(Draft, RawVars),
+    NeedVariable(Scope, RawVars),
     /// These variables, and names of which the sort is to come: `,` or `:`.
-    AfterVariable(Draft, RawVars, RawWords),
+    AfterVariable(Scope, RawVars, RawWords),
     /// A `,` behind the names: a word.
-    NeedFurtherVariable(Draft, RawVars, RawWords),
+    NeedFurtherVariable(Scope, RawVars, RawWords),
     /// The `:` behind the names: a word.
-    NeedVariableSort(Draft, RawVars, RawWords),
-    /// These variables with their sorts: `,` or an equation.
-    AfterGroup(Draft, RawVars),
+    NeedVariableSort(Scope, RawVars, RawWords),
+    /// These variables with their sorts: `,`, or an equation or a term.
+    AfterGroup(Scope, RawVars),
+    /// `implies`: an item, a conversion, or the end.
+    AfterImplies(Draft),
+    /// The same and a word: an item of either kind.
+    ImpliedWord(Draft, RawWord),
+    /// The same and its arguments: more of an equation.
+    BehindFirst(Draft, RawWord, RawTerms),
+    /// A reference of a conversion with its signature, the last of these.
+    AfterConverted(Draft, RawOpRefs),
+    /// `exempting`: `\forall` or a term.
+    NeedExempted(Draft, RawOpRefs),
+    /// A `,` behind a term that is exempted: another one.
+    NeedFurtherExempted(OpenConversion),
     /// An equation.
     NeedEquation(Waiting),
     /// A term.

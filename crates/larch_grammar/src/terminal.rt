@@ -1,5 +1,5 @@
-ghost use Rattle.std.specs.Prelude.{◌≡◌, IfOk};
-ghost use Rattle.larch_grammar.specs.Terminals.{bracket_terminal, terminal_by, terminal_of, position_of, punctuation_terminal, run_terminal, head_word, stands_nowhere, term_word, word_terminal};
+ghost use Rattle.std.specs.Prelude.{◌≡◌, false, IfOk};
+ghost use Rattle.larch_grammar.specs.Terminals.{bracket_terminal, claim_word, terminal_by, terminal_of, position_of, punctuation_terminal, run_terminal, head_word, term_word, word_terminal, ends_reference};
 ghost use Rattle.larch_lexer.specs.declared.token.Kind.TheVariants.{Backslash};
 
 use larch_base::{Memory, Name, Pos};
@@ -58,6 +58,12 @@ pub enum Terminal {
     Introduces,
     /// `asserts`.
     Asserts,
+    /// `implies`, and whether references follow it.
+    Implies(bool),
+    /// `converts`.
+    Converts,
+    /// `exempting`.
+    Exempting,
     /// `generated`.
     Generated,
     /// `partitioned`.
@@ -88,12 +94,12 @@ pub enum Terminal {
     Other,
 }
 
-/// What the grammar knows of a token. It fails where memory runs out.
-pub fn terminal_of(token: &Token) -> Result<Terminal, Memory>
-    ensures { IfOk result (λ terminal. terminal ≡ terminal_of token.now) }
+/// What the grammar knows of a token, where references follow `implies` or not. It fails where memory runs out.
+pub fn terminal_of(lists: bool, token: &Token) -> Result<Terminal, Memory>
+    ensures { IfOk result (λ terminal. terminal ≡ terminal_of lists token.now) }
 {
     match token.kind {
-        Kind::Word => word_terminal(&token.text, token.pos),
+        Kind::Word => word_terminal(lists, &token.text, token.pos),
         Kind::Marker => Ok(Terminal::Marker(token.pos)),
         Kind::Backslash => backslash_terminal(&token.text, token.pos),
         Kind::Connective => {
@@ -115,8 +121,8 @@ fn raw_word(text: &Name, pos: Pos) -> Result<RawWord, Memory>
 }
 
 // A token of kind word.
-fn word_terminal(text: &Name, pos: Pos) -> Result<Terminal, Memory>
-    ensures { IfOk result (λ terminal. terminal ≡ word_terminal text.now pos) }
+fn word_terminal(lists: bool, text: &Name, pos: Pos) -> Result<Terminal, Memory>
+    ensures { IfOk result (λ terminal. terminal ≡ word_terminal lists text.now pos) }
 {
     let bytes = text.bytes();
     if bytes == b"trait".as_slice() {
@@ -132,13 +138,13 @@ fn word_terminal(text: &Name, pos: Pos) -> Result<Terminal, Memory>
     } else if bytes == b"by".as_slice() {
         Ok(Terminal::By)
     } else {
-        head_word(text, pos)
+        head_word(lists, text, pos)
     }
 }
 
-// A word of shorthands and references, or a word of terms, or one that isn't reserved.
-fn head_word(text: &Name, pos: Pos) -> Result<Terminal, Memory>
-    ensures { IfOk result (λ terminal. terminal ≡ head_word text.now pos) }
+// A word of shorthands and references, or one of those below.
+fn head_word(lists: bool, text: &Name, pos: Pos) -> Result<Terminal, Memory>
+    ensures { IfOk result (λ terminal. terminal ≡ head_word lists text.now pos) }
 {
     let bytes = text.bytes();
     if bytes == b"includes".as_slice() {
@@ -156,6 +162,22 @@ fn head_word(text: &Name, pos: Pos) -> Result<Terminal, Memory>
     } else if bytes == b"of".as_slice() {
         Ok(Terminal::Of)
     } else {
+        claim_word(lists, text, pos)
+    }
+}
+
+// A word of what a trait is said to imply and to convert, or one of those below.
+fn claim_word(lists: bool, text: &Name, pos: Pos) -> Result<Terminal, Memory>
+    ensures { IfOk result (λ terminal. terminal ≡ claim_word lists text.now pos) }
+{
+    let bytes = text.bytes();
+    if bytes == b"implies".as_slice() {
+        Ok(Terminal::Implies(lists))
+    } else if bytes == b"converts".as_slice() {
+        Ok(Terminal::Converts)
+    } else if bytes == b"exempting".as_slice() {
+        Ok(Terminal::Exempting)
+    } else {
         term_word(text, pos)
     }
 }
@@ -171,26 +193,15 @@ fn term_word(text: &Name, pos: Pos) -> Result<Terminal, Memory>
         Ok(Terminal::Then)
     } else if bytes == b"else".as_slice() {
         Ok(Terminal::Else)
-    } else if stands_nowhere(bytes) {
-        Ok(Terminal::Other)
     } else {
         let word = raw_word(text, pos)?;
         Ok(Terminal::Word(word))
     }
 }
 
-// Whether a word is reserved for what the grammar doesn't have.
-fn stands_nowhere(text: &[u8]) -> bool
-    ensures { result ≡ stands_nowhere text.now }
-{
-    text == b"implies".as_slice()
-        || text == b"converts".as_slice()
-        || text == b"exempting".as_slice()
-}
-
 // A backslash word: `\forall`, or a symbol.
 fn backslash_terminal(text: &Name, pos: Pos) -> Result<Terminal, Memory>
-    ensures { IfOk result (λ terminal. terminal ≡ terminal_by Backslash text.now pos) }
+    ensures { IfOk result (λ terminal. terminal ≡ terminal_by false Backslash text.now pos) }
 {
     if text.bytes() == b"\\forall".as_slice() {
         Ok(Terminal::ForAll)
@@ -269,5 +280,20 @@ pub fn position_of(terminal: &Terminal) -> Pos
         Terminal::Word(word) | Terminal::Symbol(word) | Terminal::Not(word) => word.pos,
         Terminal::Open(pos) | Terminal::OpenBracket(_, pos) | Terminal::If(pos) => *pos,
         _ => Pos::start(),
+    }
+}
+
+/// Whether a list of references ends before this token or goes on with it: so it does before `,`, `\forall`, words and
+/// reserved words.
+pub fn ends_reference(terminal: &Terminal) -> bool
+    ensures { result ≡ ends_reference terminal.now }
+{
+    match terminal {
+        Terminal::Symbol(_) | Terminal::Not(_) | Terminal::Connective(_) | Terminal::Equality(_) =>
+            false,
+        Terminal::Equates(_) | Terminal::Arrow | Terminal::Colon(_) | Terminal::Semicolon => false,
+        Terminal::Dot(_) | Terminal::Marker(_) | Terminal::Open(_) | Terminal::Close => false,
+        Terminal::OpenBracket(_, _) | Terminal::CloseBracket(_) | Terminal::Other => false,
+        _ => true,
     }
 }

@@ -1,15 +1,15 @@
 ghost use Rattle.std.specs.Prelude.{◌≡◌, ◌++◌, ◌∷◌, [], IfOk};
 ghost use Rattle.larch_grammar.specs.Forms.{variables_at};
-ghost use Rattle.larch_grammar.specs.Machine.{with_clause, with_reference};
+ghost use Rattle.larch_grammar.specs.Machine.{close_conversion, open_conversion, with_clause, with_exempted, with_reference};
 ghost use Rattle.larch_grammar.specs.Terms.{equation_of, formula_of};
-ghost use Rattle.larch_grammar.specs.Traits.{named, with_declaration, with_equations, with_item};
+ghost use Rattle.larch_grammar.specs.Traits.{implying, named, with_conversion, with_declaration, with_equations, with_item};
 
 use crate::draft::Draft;
-use crate::machine::Clause;
+use crate::machine::{Clause, OpenConversion};
 use larch_base::{Memory, Pos, Sequence};
 use larch_raw::{
-    RawDecl, RawEquation, RawEquations, RawForm, RawForms, RawItem, RawOpRef, RawOpRefs, RawRight,
-    RawTerm, RawTrait, RawVar, RawVars, RawWord, RawWords,
+    RawConversion, RawDecl, RawEquation, RawEquations, RawForm, RawForms, RawItem, RawOpRef,
+    RawOpRefs, RawRight, RawTerm, RawTrait, RawVar, RawVars, RawWord, RawWords,
 };
 use std::alloc::Global;
 
@@ -24,6 +24,10 @@ pub fn named(alloc: Global, name: RawWord, formals: RawForms) -> Result<Draft, M
         references: Sequence::new(alloc),
         declarations: Sequence::new(alloc),
         items: Sequence::new(alloc),
+        implies: false,
+        implied: Sequence::new(alloc),
+        implied_items: Sequence::new(alloc),
+        conversions: Sequence::new(alloc),
     };
     let raw = Box::new(alloc, raw)?;
     Ok(Draft { raw })
@@ -38,13 +42,82 @@ pub fn with_declaration(raw: Draft, declaration: RawDecl) -> Result<Draft, Memor
     Ok(draft)
 }
 
-// The trait with an item more.
+// The trait with an item more: of its implied part where there is one.
 fn with_item(raw: Draft, item: RawItem) -> Result<Draft, Memory>
     ensures { IfOk result (λ more. more ≡ with_item raw item) }
 {
     let mut draft = raw;
-    draft.raw.items.push(item)?;
+    if draft.raw.implies {
+        draft.raw.implied_items.push(item)?;
+    } else {
+        draft.raw.items.push(item)?;
+    }
     Ok(draft)
+}
+
+/// The trait with an implied part, of which nothing is read.
+pub fn implying(raw: Draft) -> Draft
+    ensures { result ≡ implying raw }
+{
+    let mut draft = raw;
+    draft.raw.implies = true;
+    draft
+}
+
+/// A conversion with nothing exempted yet.
+pub fn open_conversion(
+    alloc: Global,
+    raw: Draft,
+    converted: RawOpRefs,
+    variables: RawVars,
+) -> OpenConversion
+    ensures { result ≡ open_conversion raw converted variables [] }
+{
+    OpenConversion {
+        raw,
+        converted,
+        variables,
+        exempted: Sequence::new(alloc),
+    }
+}
+
+/// The same with a term more that is exempted.
+pub fn with_exempted(
+    conversion: OpenConversion,
+    term: RawEquation,
+) -> Result<OpenConversion, Memory>
+    ensures { IfOk result (λ more. more ≡ with_exempted conversion term) }
+{
+    let mut conversion = conversion;
+    conversion.exempted.push(term)?;
+    Ok(conversion)
+}
+
+/// The trait with a conversion more.
+pub fn close_conversion(conversion: OpenConversion) -> Result<Draft, Memory>
+    ensures { IfOk result (λ raw. raw ≡ close_conversion conversion) }
+{
+    let OpenConversion {
+        raw,
+        converted,
+        variables,
+        exempted,
+    } = conversion;
+    let mut draft = raw;
+    draft.raw.conversions.push(RawConversion {
+        converted,
+        variables,
+        exempted,
+    })?;
+    Ok(draft)
+}
+
+/// The trait with a conversion more, from which nothing is exempted.
+pub fn with_converted(alloc: Global, raw: Draft, converted: RawOpRefs) -> Result<Draft, Memory>
+    ensures { IfOk result (λ more. more ≡ with_conversion raw converted [] []) }
+{
+    let conversion = open_conversion(alloc, raw, converted, Sequence::new(alloc));
+    close_conversion(conversion)
 }
 
 /// The trait with these equations as an item more.

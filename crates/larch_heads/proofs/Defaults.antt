@@ -1,15 +1,15 @@
 -- Tokens of which a definition has no case of their own.
-use Rattle.std.specs.Prelude.{◌≡◌, Bool, None, refl, List, []}
+use Rattle.std.specs.Prelude.{◌≡◌, None, refl, List}
 use Rattle.larch_base.specs.declared.position.Pos.{Pos}
 use Rattle.larch_raw.specs.declared.declared.RawForm.{RawForm}
 use Rattle.larch_raw.specs.declared.declared.RawWord.{RawWord}
 use Rattle.larch_raw.specs.declared.equation.RawTrait.{RawTrait}
 use Rattle.larch_raw.specs.declared.reference.RawActual.TheVariants as actual
 use Rattle.larch_raw.specs.declared.shorthand.RawShorthand.TheVariants as shorthand
-use Rattle.larch_grammar.specs.Composition.{close_fields, close_ref, open_ref, with_actual, with_shorthand}
-use Rattle.larch_grammar.specs.Machine.{after_actual, after_constant, after_field, after_form, after_head, after_ref, after_ref_name, after_rename}
+use Rattle.larch_grammar.specs.Composition.{close_fields, with_actual, with_shorthand}
+use Rattle.larch_grammar.specs.Machine.{after_actual, after_constant, after_field, after_form, after_head, after_rename}
 use Rattle.larch_grammar.specs.declared.terminal.Terminal.{Terminal}
-use Rattle.larch_grammar.specs.declared.terminal.Terminal.TheVariants.{Colon, Comma, Open, For}
+use Rattle.larch_grammar.specs.declared.terminal.Terminal.TheVariants.{Colon, Comma, For}
 use Rattle.larch_grammar.specs.declared.machine.Naming.TheVariants.{Actual, Renamed}
 use Rattle.larch_grammar.specs.declared.machine.OpenFields.{OpenFields}
 use Rattle.larch_grammar.specs.declared.machine.OpenRef.{OpenRef}
@@ -22,15 +22,6 @@ other_constant raw sort ws t h = refl
 pub other_field : (n : OpenFields) (t : Terminal) → (t ≡ Comma → ⊥) → after_field n t ≡ after_head (close_fields n) t
 other_field n Comma h = absurd (h refl)
 other_field n t h = refl
-
-pub other_ref : (raw : RawTrait) (b : Bool) (t : Terminal) → (t ≡ Comma → ⊥) → after_ref raw b t ≡ after_head raw t
-other_ref raw b Comma h = absurd (h refl)
-other_ref raw b t h = refl
-
-pub other_ref_name : (raw : RawTrait) (b : Bool) (w : RawWord) (t : Terminal) → ((p : Pos) → t ≡ Open p → ⊥)
-    → after_ref_name raw b w t ≡ after_ref (close_ref (open_ref raw b w [])) b t
-other_ref_name raw b w (Open p) h = absurd (h p refl)
-other_ref_name raw b w t h = refl
 
 pub other_plain : (n : OpenRef) (f : RawForm) (t : Terminal) → (t ≡ For → ⊥)
     → after_form (Actual n) f t ≡ after_actual (with_actual n (actual.Plain f)) t

@@ -1,10 +1,13 @@
-ghost use Rattle.std.specs.Prelude.{◌≡◌};
+ghost use Rattle.std.specs.Prelude.{◌≡◌, List, Some};
+ghost use Rattle.larch_grammar.specs.Machine.{begin_claim};
+ghost use Rattle.larch_grammar.specs.declared.machine.Frame.{Frame};
 ghost use Rattle.larch_grammar.specs.declared.machine.Naming.TheVariants.{Formal};
-ghost use Rattle.larch_heads.specs.Outcome.{Settles, settled, stepped};
+ghost use Rattle.larch_grammar.specs.declared.machine.Whole.TheVariants.{Trait as whole_trait};
+ghost use Rattle.larch_heads.specs.Outcome.{Leaves, Settles, outcome, settled, stepped};
 
 use crate::outcome::{Outcome, ends, outside, stops};
 use larch_base::{Memory, Sequence};
-use larch_grammar::{Draft, Naming, State, Terminal, named};
+use larch_grammar::{Draft, Naming, RefKind, State, Terminal, implying, named};
 use larch_raw::{RawForm, RawForms, RawWord};
 use std::alloc::Global;
 
@@ -78,15 +81,46 @@ pub fn need_trait(
 }
 
 /// The head of a trait is read, or a shorthand or references of it.
-pub fn after_head(raw: Draft, terminal: Terminal) -> Outcome
+pub fn after_head(alloc: Global, raw: Draft, terminal: Terminal) -> Outcome
     ensures { settled result ≡ stepped (State.AfterHead raw) terminal }
 {
     match terminal {
         Terminal::Word(word) => outside(State::ShortWord(raw, word)),
-        Terminal::Includes => outside(State::NeedRef(raw, false)),
-        Terminal::Assumes => outside(State::NeedRef(raw, true)),
+        Terminal::Includes => outside(State::NeedRef(raw, RefKind::Included)),
+        Terminal::Assumes => outside(State::NeedRef(raw, RefKind::Assumed)),
         Terminal::Introduces => outside(State::InPart(raw)),
-        Terminal::Asserts => outside(State::InItems(raw)),
+        Terminal::Asserts | Terminal::Implies(_) | Terminal::Converts => {
+            begin_claim(alloc, raw, terminal)
+        }
+        _ => ends(raw),
+    }
+}
+
+/// A part behind the declarations begins, or the trait ends.
+pub fn begin_claim(alloc: Global, raw: Draft, terminal: Terminal) -> Outcome
+    ensures outcome { settled result ≡ outcome (begin_claim raw terminal) (Some (whole_trait raw)) }
+    ensures frames { (frames : List Frame) → Leaves frames result }
+{
+    match terminal {
+        Terminal::Asserts => {
+            if raw.implies() {
+                ends(raw)
+            } else {
+                outside(State::InItems(raw))
+            }
+        }
+        Terminal::Implies(lists) => {
+            if raw.implies() {
+                ends(raw)
+            } else if lists {
+                outside(State::NeedRef(implying(raw), RefKind::First))
+            } else {
+                outside(State::AfterImplies(implying(raw)))
+            }
+        }
+        Terminal::Converts => {
+            outside(State::NeedForm(Naming::Converted(raw, Sequence::new(alloc))))
+        }
         _ => ends(raw),
     }
 }

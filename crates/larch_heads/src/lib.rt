@@ -8,11 +8,11 @@ mod outcome;
 mod references;
 mod shorthands;
 
-pub use head::{after_formal, after_formals, after_head, after_name, at_start, need_trait};
-pub use outcome::{Outcome, at_head, ends, outside, plainly, stops};
-pub use references::{
-    after_plain, after_ref, after_ref_name, after_rename, after_renamed, after_renaming, need_ref,
+pub use head::{
+    after_formal, after_formals, after_head, after_name, at_start, begin_claim, need_trait,
 };
+pub use outcome::{Outcome, at_head, ends, outside, plainly, stops};
+pub use references::{after_plain, after_rename, after_renamed, after_renaming, need_ref};
 pub use shorthands::{
     after_constant, after_field, after_names, need_constant, need_constants, need_fields,
     need_further_name, need_name, need_names_sort, short_word,

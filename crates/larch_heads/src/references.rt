@@ -3,54 +3,20 @@ ghost use Rattle.larch_grammar.specs.Machine.{after_actual};
 ghost use Rattle.larch_grammar.specs.declared.machine.Naming.TheVariants.{Actual, Renaming, Renamed};
 ghost use Rattle.larch_heads.specs.Outcome.{Settles, outcome, settled, stepped};
 
-use crate::head::after_head;
 use crate::outcome::{Outcome, outside, stops};
 use larch_base::Memory;
 use larch_grammar::{
-    Draft, Naming, OpenRef, Signing, State, Terminal, close_ref, open_ref, with_actual,
+    Draft, Naming, OpenRef, RefKind, Signing, State, Terminal, close_ref, with_actual,
 };
-use larch_raw::{RawActual, RawForm, RawWord};
-use std::alloc::Global;
+use larch_raw::{RawActual, RawForm};
 
-/// The name of a trait is needed, which is assumed or included.
-pub fn need_ref(raw: Draft, assumed: bool, terminal: Terminal) -> Outcome
-    ensures { settled result ≡ stepped (State.NeedRef raw assumed) terminal }
+/// The name of a trait is needed, which is for this.
+pub fn need_ref(raw: Draft, kind: RefKind, terminal: Terminal) -> Outcome
+    ensures { settled result ≡ stepped (State.NeedRef raw kind) terminal }
 {
     match terminal {
-        Terminal::Word(name) => outside(State::AfterRefName(raw, assumed, name)),
+        Terminal::Word(name) => outside(State::AfterRefName(raw, kind, name)),
         _ => stops(),
-    }
-}
-
-/// The name of a trait that is referred to is read. It fails where memory runs out.
-#[tactic(auto, using(crate::proofs::Defaults::other_ref_name))]
-pub fn after_ref_name(
-    alloc: Global,
-    raw: Draft,
-    assumed: bool,
-    name: RawWord,
-    terminal: Terminal,
-) -> Result<Outcome, Memory>
-    ensures { Settles result (stepped (State.AfterRefName raw assumed name) terminal) }
-{
-    let reference = open_ref(alloc, raw, assumed, name);
-    match terminal {
-        Terminal::Open(_pos) => Ok(outside(State::NeedForm(Naming::Actual(reference)))),
-        other => {
-            let raw = close_ref(reference)?;
-            Ok(after_ref(raw, assumed, other))
-        }
-    }
-}
-
-/// A reference is read.
-#[tactic(auto, using(crate::proofs::Defaults::other_ref))]
-pub fn after_ref(raw: Draft, assumed: bool, terminal: Terminal) -> Outcome
-    ensures { settled result ≡ stepped (State.AfterRef raw assumed) terminal }
-{
-    match terminal {
-        Terminal::Comma => outside(State::NeedRef(raw, assumed)),
-        other => after_head(raw, other),
     }
 }
 
@@ -58,9 +24,9 @@ pub fn after_ref(raw: Draft, assumed: bool, terminal: Terminal) -> Outcome
 fn ends_reference(reference: OpenRef) -> Result<Outcome, Memory>
     ensures { Settles result (outcome (after_actual reference Terminal.Close) None) }
 {
-    let assumed = reference.assumed;
+    let kind = reference.kind;
     let raw = close_ref(reference)?;
-    Ok(outside(State::AfterRef(raw, assumed)))
+    Ok(outside(State::AfterRef(raw, kind)))
 }
 
 // An actual is read, the last of these.

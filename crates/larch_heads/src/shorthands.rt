@@ -54,6 +54,7 @@ pub fn need_constant(
 /// A constant is read, the last of these. It fails where memory runs out.
 #[tactic(auto, using(crate::proofs::Defaults::other_constant))]
 pub fn after_constant(
+    alloc: Global,
     raw: Draft,
     sort: RawWord,
     constants: RawWords,
@@ -65,7 +66,7 @@ pub fn after_constant(
         Terminal::Comma => Ok(outside(State::NeedConstant(raw, sort, constants))),
         other => {
             let raw = with_shorthand(raw, RawShorthand::Enumeration(sort, constants))?;
-            Ok(after_head(raw, other))
+            Ok(after_head(alloc, raw, other))
         }
     }
 }
@@ -150,14 +151,18 @@ pub fn need_names_sort(
 
 /// Fields with their sorts are read. It fails where memory runs out.
 #[tactic(auto, using(crate::proofs::Defaults::other_field))]
-pub fn after_field(shorthand: OpenFields, terminal: Terminal) -> Result<Outcome, Memory>
+pub fn after_field(
+    alloc: Global,
+    shorthand: OpenFields,
+    terminal: Terminal,
+) -> Result<Outcome, Memory>
     ensures { Settles result (stepped (State.AfterField shorthand) terminal) }
 {
     match terminal {
         Terminal::Comma => Ok(outside(State::NeedName(shorthand))),
         other => {
             let raw = close_fields(shorthand)?;
-            Ok(after_head(raw, other))
+            Ok(after_head(alloc, raw, other))
         }
     }
 }

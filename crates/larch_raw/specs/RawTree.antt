@@ -5,7 +5,8 @@ use Rattle.larch_base.specs.declared.position.Pos.{Pos}
 use Rattle.larch_raw.specs.declared.declared.RawWord.{RawWord}
 
 mutual
-  -- a canonical name with its arguments, or a term with the sort that it is said to have; and the position of its head token
+  -- a canonical name with its arguments, or a term with the sort that it is said to have; and the position of its
+  -- head token
   pub data RawTree : Type 0 where
     apply : List ℕ → RawForest → Pos → RawTree
     qualified : RawTree → RawWord → Pos → RawTree

@@ -7,6 +7,7 @@ use Rattle.larch_raw.specs.declared.declared.RawForm.{RawForm}
 use Rattle.larch_raw.specs.declared.declared.RawOpRef.{RawOpRef}
 use Rattle.larch_raw.specs.declared.declared.RawSig.{RawSig}
 use Rattle.larch_raw.specs.declared.declared.RawWord.{RawWord}
+use Rattle.larch_raw.specs.declared.equation.RawConversion.{RawConversion}
 use Rattle.larch_raw.specs.declared.equation.RawEquation.{RawEquation}
 use Rattle.larch_raw.specs.declared.equation.RawItem.{RawItem}
 use Rattle.larch_raw.specs.declared.equation.RawItem.TheVariants.{Clause, Equations}
@@ -15,6 +16,7 @@ use Rattle.larch_raw.specs.declared.equation.RawTrait.{RawTrait}
 use Rattle.larch_raw.specs.declared.equation.RawVar.{RawVar}
 use Rattle.larch_raw.specs.declared.reference.RawActual.{RawActual}
 use Rattle.larch_raw.specs.declared.reference.RawActual.TheVariants.{Plain, Replace}
+use Rattle.larch_raw.specs.declared.reference.RawRef.{RawRef}
 use Rattle.larch_raw.specs.declared.reference.RawReference.{RawReference}
 use Rattle.larch_raw.specs.declared.shorthand.RawField.{RawField}
 use Rattle.larch_raw.specs.declared.shorthand.RawShorthand.{RawShorthand}
@@ -80,8 +82,17 @@ WordedActual (Plain form) = WordedForm form
 WordedActual (Replace new old sig) = WordedForm new × WordedForm old × WordedIfAny sig
 
 -- the trait's name is a word, and so are the bare words and the sorts of its actuals
+abbrev pub WordedTarget : RawRef → Type 0
+WordedTarget target = Worded target.name × All WordedActual target.actuals
+
+-- the same where it is assumed or included
 abbrev pub WordedReference : RawReference → Type 0
-WordedReference reference = Worded reference.target.name × All WordedActual reference.target.actuals
+WordedReference reference = WordedTarget reference.target
+
+-- the sorts of what is converted are words, and the sorts and variables of what is exempted
+abbrev pub WordedConversion : RawConversion → Type 0
+WordedConversion conversion =
+    All WordedRef conversion.converted × All WordedVar conversion.variables × All WordedEquation conversion.exempted
 
 -- a field and its sort are words
 abbrev pub WordedField : RawField → Type 0
@@ -98,3 +109,4 @@ abbrev pub WordedTrait : RawTrait → Type 0
 WordedTrait raw =
     Worded raw.name × All WordedDecl raw.declarations × All WordedItem raw.items
     × All WordedForm raw.formals × All WordedShorthand raw.shorthands × All WordedReference raw.references
+    × All WordedTarget raw.implied × All WordedItem raw.implied_items × All WordedConversion raw.conversions

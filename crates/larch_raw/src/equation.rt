@@ -1,7 +1,7 @@
 ghost use Rattle.std.specs.Prelude.{◌≡◌};
 
 use crate::declared::{RawDecls, RawForms, RawOpRefs, RawWord};
-use crate::reference::RawReferences;
+use crate::reference::{RawReferences, RawRefs};
 use crate::shorthand::RawShorthands;
 use crate::term::RawTerm;
 use larch_base::{Name, Pos, Sequence};
@@ -55,7 +55,18 @@ pub enum RawItem {
 /// The items of a trait, in order.
 pub type RawItems = Sequence<RawItem>;
 
-/// A trait as it is written.
+/// Operators that a trait is said to convert, and terms that are exempted, which are equations without a right side.
+#[derive(Drop)]
+pub struct RawConversion {
+    pub converted: RawOpRefs,
+    pub variables: RawVars,
+    pub exempted: RawEquations,
+}
+
+/// The conversions of a trait, in order.
+pub type RawConversions = Sequence<RawConversion>;
+
+/// A trait as it is written; whether an implied part stands in it, with its references and items.
 #[derive(Drop)]
 pub struct RawTrait {
     pub name: RawWord,
@@ -64,6 +75,10 @@ pub struct RawTrait {
     pub references: RawReferences,
     pub declarations: RawDecls,
     pub items: RawItems,
+    pub implies: bool,
+    pub implied: RawRefs,
+    pub implied_items: RawItems,
+    pub conversions: RawConversions,
 }
 
 impl RawTrait {

@@ -13,8 +13,9 @@ pub use declared::{
     RawDecl, RawDecls, RawForm, RawForms, RawOpRef, RawOpRefs, RawSig, RawWord, RawWords,
 };
 pub use equation::{
-    ClauseKind, RawEquation, RawEquations, RawItem, RawItems, RawRight, RawTrait, RawVar, RawVars,
+    ClauseKind, RawConversion, RawConversions, RawEquation, RawEquations, RawItem, RawItems,
+    RawRight, RawTrait, RawVar, RawVars,
 };
-pub use reference::{RawActual, RawActuals, RawRef, RawReference, RawReferences};
+pub use reference::{RawActual, RawActuals, RawRef, RawReference, RawReferences, RawRefs};
 pub use shorthand::{RawField, RawFields, RawShorthand, RawShorthands};
 pub use term::{RawNode, RawTerm, RawTerms};

@@ -20,6 +20,9 @@ pub struct RawRef {
     pub actuals: RawActuals,
 }
 
+/// The references of an implied part, in order.
+pub type RawRefs = Sequence<RawRef>;
+
 /// A trait that is referred to, and whether it is assumed or included.
 #[derive(Debug, Drop)]
 pub struct RawReference {

@@ -1,5 +1,6 @@
 -- What the tokens of a line command.
-use Rattle.std.specs.Prelude.{ℕ, ◌+◌, ◌&&◌, ◌||◌, nat_le, Bool, true, false, List, [], ◌∷◌, ◌++◌, drop, Option, Some, None, option_map, option_and_then, if◌then◌else◌, codes}
+use Rattle.std.specs.Prelude.{ℕ, ◌+◌, ◌&&◌, ◌||◌, nat_le, Bool, true, false, List, [], ◌∷◌, ◌++◌, drop, Option, Some}
+use Rattle.std.specs.Prelude.{None, option_map, option_and_then, if◌then◌else◌, codes}
 use Rattle.std.specs.Str.{bytes_eq}
 use Rattle.larch_base.specs.declared.label.Label.{Label}
 use Rattle.larch_base.specs.declared.label.Label.TheVariants.{Assume, Imply, Convert}
@@ -8,7 +9,10 @@ use Rattle.larch_base.specs.declared.way.Way.{Way}
 use Rattle.larch_base.specs.declared.way.Way.TheVariants.{LeftToRight, RightToLeft, Multiset}
 use Rattle.larch_base.specs.declared.fact_name.FactName.{FactName}
 use Rattle.larch_commands.specs.declared.command.CommandKind.{CommandKind}
-use Rattle.larch_commands.specs.declared.command.CommandKind.TheVariants.{Declare, Limit, BoxChecking, Height, Status, Prove, Cases, Implication, Conjunction, Contradiction, Induction, Partition, CriticalPairs, Normalize, Qed}
+use Rattle.larch_commands.specs.declared.command.CommandKind.TheVariants.{Declare, Limit, BoxChecking, Height, Status}
+use Rattle.larch_commands.specs.declared.command.CommandKind.TheVariants.{Prove, Cases, Implication, Conjunction}
+use Rattle.larch_commands.specs.declared.command.CommandKind.TheVariants.{Contradiction, Induction, Partition}
+use Rattle.larch_commands.specs.declared.command.CommandKind.TheVariants.{CriticalPairs, Normalize, Qed}
 use Rattle.larch_grammar.specs.Terminals.{terminal_of}
 use Rattle.larch_lexer.specs.TokenList.{TokenList}
 use Rattle.larch_lexer.specs.declared.token.Token.{Token}
@@ -42,7 +46,7 @@ duty tokens =
 
 -- the word that is all of these tokens
 abbrev pub lone_word : List Token → Option RawWord
-lone_word (token ∷ []) = plain (terminal_of token)
+lone_word (token ∷ []) = plain (terminal_of false token)
 lone_word _ = None
 
 -- names with others before them, and their sort
@@ -62,7 +66,7 @@ declared (first ∷ sign ∷ rest) =
     if bytes_eq sign.text (codes ",") then behind_names (name ∷ []) (declared rest)
     else if bytes_eq sign.text (codes ":") then option_map (of_sort name) (lone_word rest)
     else None)
-    (plain (terminal_of first))
+    (plain (terminal_of false first))
 declared _ = None
 
 -- `declare variables x, y: S`; `variable` is right too

@@ -1,5 +1,6 @@
 -- Names of facts, as commands write them.
-use Rattle.std.specs.Prelude.{ℕ, ◌+◌, ◌==◌, List, [], ◌∷◌, Option, Some, None, option_map, option_and_then, if◌then◌else◌, codes}
+use Rattle.std.specs.Prelude.{ℕ, ◌+◌, ◌==◌, List, [], ◌∷◌, Option, Some, None, option_map, option_and_then}
+use Rattle.std.specs.Prelude.{if◌then◌else◌, codes}
 use Rattle.larch_base.specs.declared.fact_name.FactLetter.{FactLetter}
 use Rattle.larch_base.specs.declared.fact_name.FactLetter.TheVariants.{Axiom, Lemma, Hypothesis, Derived}
 use Rattle.larch_base.specs.declared.fact_name.FactName.{FactName}

@@ -1,5 +1,6 @@
 -- What `instantiate` puts in the places of variables.
-use Rattle.std.specs.Prelude.{ℕ, zero, suc, ◌+◌, List, [], ◌∷◌, ◌++◌, length, Option, Some, None, option_map, option_and_then, if◌then◌else◌, codes}
+use Rattle.std.specs.Prelude.{ℕ, zero, suc, ◌+◌, List, [], ◌∷◌, ◌++◌, length, Option, Some, None, option_map}
+use Rattle.std.specs.Prelude.{option_and_then, if◌then◌else◌, codes}
 use Rattle.larch_commands.specs.declared.command.CommandKind.{CommandKind}
 use Rattle.larch_commands.specs.declared.command.CommandKind.TheVariants.{Instantiate}
 use Rattle.larch_commands.specs.declared.command.RawInstance.{RawInstance}
@@ -19,7 +20,8 @@ abbrev pub instance_at : TokenList → ℕ → Option (RawInstance × ℕ)
 instance_at all place =
     option_and_then
     (λ name.
-    if says all.tokens (place + 1) (codes "by") then option_map (instance_of name) (term_at all (place + 2)) else None)
+    if says all.tokens (place + 1) (codes "by") then option_map (instance_of name)
+    (term_at all (place + 2)) else None)
     (word_at all.tokens place)
 
 -- instances with others before them
@@ -32,7 +34,8 @@ abbrev pub last_one : RawInstance × ℕ → List RawInstance × ℕ
 last_one first = (first.0 ∷ [], first.1 + 1)
 
 -- an instance with those that follow it: behind `,` further ones, from their place on, or behind `in` none
-abbrev pub with_further : TokenList → (ℕ → Option (List RawInstance × ℕ)) → RawInstance × ℕ → Option (List RawInstance × ℕ)
+abbrev pub with_further : TokenList → (ℕ → Option (List RawInstance × ℕ)) → RawInstance × ℕ
+    → Option (List RawInstance × ℕ)
 with_further all further first =
     if says all.tokens first.1 (codes ",") then behind_others (first.0 ∷ []) (further (first.1 + 1))
     else if says all.tokens first.1 (codes "in") then Some (last_one first)
@@ -41,7 +44,8 @@ with_further all further first =
 -- at most so many instances between commas from a place on, then `in`; with the place behind that
 abbrev pub instances_at : ℕ → TokenList → ℕ → Option (List RawInstance × ℕ)
 instances_at zero all place = None
-instances_at (suc count) all place = option_and_then (with_further all (λ next. instances_at count all next)) (instance_at all place)
+instances_at (suc count) all place =
+    option_and_then (with_further all (λ next. instances_at count all next)) (instance_at all place)
 
 -- instances of a fact that is all that stands behind them
 abbrev pub instances_of_fact : TokenList → List RawInstance × ℕ → Option CommandKind

@@ -25,8 +25,10 @@ block number label commands = record { line = number; label = label; commands = 
 -- a script with one line before its others: a duty begins a block of what stands before the next one
 abbrev pub with_line : ℕ → Line → Script → Script
 with_line number Nothing script = script
-with_line number (Command kind) script = record { preamble = on_line number kind ∷ script.preamble; blocks = script.blocks }
-with_line number (Duty label) script = record { preamble = []; blocks = block number label script.preamble ∷ script.blocks }
+with_line number (Command kind) script =
+    record { preamble = on_line number kind ∷ script.preamble; blocks = script.blocks }
+with_line number (Duty label) script =
+    record { preamble = []; blocks = block number label script.preamble ∷ script.blocks }
 
 -- the script of these lines, the first of which has this number
 abbrev pub script_from : ℕ → List (List ℕ) → Script

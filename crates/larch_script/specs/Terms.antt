@@ -1,5 +1,6 @@
 -- Terms, equations and references inside a line.
-use Rattle.std.specs.Prelude.{ℕ, ◌==◌, nat_le, Option, Some, None, option_map, option_and_then, if◌then◌else◌, is_some, length, Result, Ok, Err}
+use Rattle.std.specs.Prelude.{ℕ, ◌==◌, nat_le, Option, Some, None, option_map, option_and_then, if◌then◌else◌}
+use Rattle.std.specs.Prelude.{is_some, length, Result, Ok, Err}
 use Rattle.larch_base.specs.declared.fault.Fault.{Fault}
 use Rattle.larch_lexer.specs.TokenList.{TokenList}
 use Rattle.larch_raw.specs.declared.declared.RawOpRef.{RawOpRef}

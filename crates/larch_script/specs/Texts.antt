@@ -1,5 +1,6 @@
 -- The tokens of a line by their texts. Places are counted from 0.
-use Rattle.std.specs.Prelude.{ℕ, ◌+◌, ◌==◌, ◌&&◌, Bool, List, [], length, Option, Some, None, option_and_then, slice_get, codes}
+use Rattle.std.specs.Prelude.{ℕ, ◌+◌, ◌==◌, ◌&&◌, Bool, List, [], length, Option, Some, None, option_and_then}
+use Rattle.std.specs.Prelude.{false, slice_get, codes}
 use Rattle.std.specs.Option.{option_map_or}
 use Rattle.std.specs.Str.{bytes_eq}
 use Rattle.larch_grammar.specs.Terminals.{terminal_of}
@@ -32,4 +33,4 @@ plain _ = None
 
 -- the word at a place, unless it is reserved
 abbrev pub word_at : List Token → ℕ → Option RawWord
-word_at tokens place = option_and_then (λ token. plain (terminal_of token)) (slice_get tokens place)
+word_at tokens place = option_and_then (λ token. plain (terminal_of false token)) (slice_get tokens place)

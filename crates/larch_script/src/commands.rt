@@ -1,6 +1,9 @@
 ghost use Rattle.std.specs.Prelude.{◌≡◌, ◌≤◌, IfOk, option_map};
 ghost use Rattle.larch_commands.specs.declared.command.CommandKind.TheVariants.{Cases, Normalize, Prove};
-ghost use Rattle.larch_script.specs.Commands.{box_checking, by_verb, command_of, critical, declaration, declared, duty, induction, label_of, labelled, limit, limit_of, lone_word, method, method_of, resumption, setting, switch_of, verb_of, with_second};
+ghost use Rattle.larch_script.specs.Commands.{box_checking, by_verb, command_of, critical, declaration, declared};
+ghost use Rattle.larch_script.specs.Commands.{duty, induction, label_of, labelled, limit, limit_of, lone_word};
+ghost use Rattle.larch_script.specs.Commands.{method, method_of, resumption, setting, switch_of, verb_of};
+ghost use Rattle.larch_script.specs.Commands.{with_second};
 ghost use Rattle.larch_script.specs.Facts.{whole_fact_at};
 ghost use Rattle.larch_script.specs.Terms.{whole_equation_at, whole_term_at};
 

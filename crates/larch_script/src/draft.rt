@@ -42,7 +42,8 @@ impl Draft {
 
     // Takes a command, which stands in the open block if there is one.
     fn push(&mut self, command: RawCommand) -> Result<(), Memory>
-        ensures { OnOk result ((rest : Whole) → whole self.new rest ≡ whole self.old (with_line command.line (Command command.kind) rest)) }
+        ensures { OnOk result ((rest : Whole)
+            → whole self.new rest ≡ whole self.old (with_line command.line (Command command.kind) rest)) }
     {
         match &mut self.begun {
             Some(block) => block.commands.push(command),
@@ -52,7 +53,8 @@ impl Draft {
 
     // Begins a block.
     fn begin(&mut self, alloc: Global, number: u32, label: Label) -> Result<(), Memory>
-        ensures { OnOk result ((rest : Whole) → whole self.new rest ≡ whole self.old (with_line number (Duty label) rest)) }
+        ensures { OnOk result ((rest : Whole)
+            → whole self.new rest ≡ whole self.old (with_line number (Duty label) rest)) }
     {
         self.close()?;
         self.begun = Some(Block {

@@ -34,7 +34,8 @@ pub fn read_script(alloc: Global, text: &[u8]) -> Result<Script, Memory>
 fn take(alloc: Global, draft: &mut Draft, number: u32, line: &[u8]) -> Result<(), Memory>
     requires short { length line.now ≤ MAX_FILE_BYTES }
     requires one_line { All (λ byte. byte ≢ 10) line.now }
-    ensures { OnOk result ((rest : Whole) → whole draft.new rest ≡ whole draft.old (with_line number (line_of number line.now) rest)) }
+    ensures { OnOk result ((rest : Whole) → whole draft.new rest
+        ≡ whole draft.old (with_line number (line_of number line.now) rest)) }
 {
     let read = read_line(alloc, line, number)?;
     draft.put(alloc, number, read)

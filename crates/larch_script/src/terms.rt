@@ -1,5 +1,6 @@
 ghost use Rattle.std.specs.Prelude.{◌≡◌, ◌≤◌, ◌<◌, ◌^◌, IfOk, IfSome, length};
-ghost use Rattle.larch_script.specs.Terms.{equation_at, read, reference_at, term_alone, term_at, whole_equation_at, whole_reference_at, whole_term_at};
+ghost use Rattle.larch_script.specs.Terms.{equation_at, read, reference_at, term_alone, term_at, whole_equation_at};
+ghost use Rattle.larch_script.specs.Terms.{whole_reference_at, whole_term_at};
 ghost use Rattle.larch_syntax.specs.Read.{reference_of, term_of};
 
 use larch_base::Memory;

@@ -1,4 +1,4 @@
-ghost use Rattle.std.specs.Prelude.{◌≡◌, ◌+◌, ◌<◌, ◌^◌, IfOk};
+ghost use Rattle.std.specs.Prelude.{◌≡◌, ◌+◌, ◌<◌, ◌^◌, false, IfOk};
 ghost use Rattle.larch_grammar.specs.Terminals.{terminal_of};
 ghost use Rattle.larch_script.specs.Texts.{ends, plain, says, says_dashed, text_at, word_at};
 
@@ -53,9 +53,9 @@ pub(crate) fn word_at(tokens: &[Token], place: usize) -> Result<Option<RawWord>,
 
 /// The token as a word, unless it is reserved.
 pub(crate) fn plain_word(token: &Token) -> Result<Option<RawWord>, Memory>
-    ensures { IfOk result (λ word. word ≡ plain (terminal_of token.now)) }
+    ensures { IfOk result (λ word. word ≡ plain (terminal_of false token.now)) }
 {
-    match terminal_of(token)? {
+    match terminal_of(false, token)? {
         Terminal::Word(word) => Ok(Some(word)),
         _ => Ok(None),
     }

@@ -6,12 +6,14 @@ use Rattle.larch_raw.specs.declared.declared.RawForm.{RawForm}
 use Rattle.larch_grammar.specs.Machine.{after_form, end_marks, final, hand, step}
 use Rattle.larch_grammar.specs.Trees.{chain_tree, if_tree, infix_name, mixfix, postfix_name, postfix_tree, prefix_tree, call_tree}
 use Rattle.larch_grammar.specs.declared.machine.Frame.{Frame}
-use Rattle.larch_grammar.specs.declared.machine.Frame.TheVariants.{InFields, InStrays, Prefixed, InPostfixes, InInfixes, InEqualities, InConnectives, InParentheses, InList, InIf, InThen, InElse, InLeft, InRight}
-use Rattle.larch_grammar.specs.declared.machine.Listing.TheVariants.{Call, Bracketed}
+use Rattle.larch_grammar.specs.declared.machine.Frame.TheVariants.{InFields, InStrays, Prefixed, InPostfixes, InInfixes, InEqualities, InConnectives, InParentheses, InList, InIf, InThen, InElse, InLeft, InRight, InExempted}
+use Rattle.larch_grammar.specs.declared.machine.Listing.TheVariants.{Call, First as call_first, Bracketed}
+use Rattle.larch_grammar.specs.declared.machine.RefKind.TheVariants.{Included, Assumed, First, Further}
+use Rattle.larch_grammar.specs.declared.machine.Scope.TheVariants.{Quantified, Exempted}
 use Rattle.larch_grammar.specs.declared.machine.Naming.{Naming}
-use Rattle.larch_grammar.specs.declared.machine.Naming.TheVariants.{Declared, Referred, Formal, Actual, Renaming, Renamed, Lone}
+use Rattle.larch_grammar.specs.declared.machine.Naming.TheVariants.{Declared, Referred, Formal, Actual, Renaming, Renamed, Lone, Converted}
 use Rattle.larch_grammar.specs.declared.machine.State.{State}
-use Rattle.larch_grammar.specs.declared.machine.State.TheVariants.{AfterSymbolForm, AfterMarkerSymbol, NeedMarks, AfterMark, AfterForm, AfterWord, NeedFirst, AfterSymbol, Have}
+use Rattle.larch_grammar.specs.declared.machine.State.TheVariants.{AfterGroup, AfterRef, AfterRefName, AfterSymbolForm, AfterMarkerSymbol, NeedMarks, AfterMark, AfterForm, AfterWord, NeedFirst, AfterSymbol, Have}
 use Rattle.larch_grammar.specs.declared.machine.Waiting.TheVariants.{Alone, Item}
 use Rattle.larch_grammar.specs.declared.terminal.Bracket.{Bracket}
 use Rattle.larch_grammar.specs.declared.terminal.Bracket.TheVariants.{Square, Curly}
@@ -31,6 +33,7 @@ hand_nothing r (InEqualities l ∷ k) = hand_nothing (chain_tree l r) k
 hand_nothing r (InConnectives l ∷ k) = hand_nothing (chain_tree l r) k
 hand_nothing r (InParentheses ∷ k) = refl
 hand_nothing r (InList (Call w) ts ∷ k) = refl
+hand_nothing r (InList (call_first raw w) ts ∷ k) = refl
 hand_nothing r (InList (Bracketed Square l p) ts ∷ k) = refl
 hand_nothing r (InList (Bracketed Curly l p) ts ∷ k) = refl
 hand_nothing r (InIf p ∷ k) = refl
@@ -40,6 +43,7 @@ hand_nothing r (InLeft p Alone ∷ k) = refl
 hand_nothing r (InLeft p (Item j) ∷ k) = refl
 hand_nothing r (InRight p l q Alone ∷ k) = refl
 hand_nothing r (InRight p l q (Item j) ∷ k) = refl
+hand_nothing r (InExempted p c ∷ k) = refl
 
 form_nothing : (n : Naming) (f : RawForm) → after_form n f Other ≡ None
 form_nothing (Declared raw fs) f = refl
@@ -49,6 +53,7 @@ form_nothing (Actual n) f = refl
 form_nothing (Renaming n) f = refl
 form_nothing (Renamed n f) g = refl
 form_nothing Lone f = refl
+form_nothing (Converted raw rs) f = refl
 
 marks_nothing : (n : Naming) (behind : Bool) (b : Bracket) (m : ℕ) (p : Pos) → end_marks n behind b m p Other ≡ None
 marks_nothing n behind Square m p = refl
@@ -65,6 +70,16 @@ step_nothing (NeedFirst Square l p k) = refl
 step_nothing (NeedFirst Curly l p k) = refl
 step_nothing (AfterSymbol x r k) = hand_nothing (postfix_tree x r) k
 step_nothing (Have r k) = hand_nothing r k
+step_nothing (AfterRefName raw Included w) = refl
+step_nothing (AfterRefName raw Assumed w) = refl
+step_nothing (AfterRefName raw First w) = refl
+step_nothing (AfterRefName raw Further w) = refl
+step_nothing (AfterRef raw Included) = refl
+step_nothing (AfterRef raw Assumed) = refl
+step_nothing (AfterRef raw First) = refl
+step_nothing (AfterRef raw Further) = refl
+step_nothing (AfterGroup (Quantified raw) vs) = refl
+step_nothing (AfterGroup (Exempted raw rs) vs) = refl
 step_nothing n = refl
 
 pub stops_at_end : (n : State) → stepped n Other ≡ Stops (final n)

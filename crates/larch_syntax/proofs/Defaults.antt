@@ -1,5 +1,5 @@
 -- Tokens of which a definition has no case of their own.
-use Rattle.std.specs.Prelude.{◌≡◌, Option, None, true, false, refl, List, [], ◌∷◌}
+use Rattle.std.specs.Prelude.{◌≡◌, cond, Option, None, true, false, refl, List, [], ◌∷◌}
 use Rattle.larch_base.specs.declared.position.Pos.{Pos}
 use Rattle.larch_raw.specs.RawTree.{RawTree}
 use Rattle.larch_raw.specs.declared.declared.RawForm.{RawForm}
@@ -8,18 +8,24 @@ use Rattle.larch_raw.specs.declared.declared.RawWord.{RawWord}
 use Rattle.larch_raw.specs.declared.equation.RawEquation.{RawEquation}
 use Rattle.larch_raw.specs.declared.equation.RawTrait.{RawTrait}
 use Rattle.larch_raw.specs.declared.equation.RawVar.{RawVar}
-use Rattle.larch_grammar.specs.Machine.{after_form, after_group, after_reference, after_symbol, after_word, begin_bracket, begin_equation, begin_item, begin_operand, begin_post, begin_prefixed, begin_term, first_word, hand, hand_equation, plainly, with_clause, with_reference, word_behind, word_frames, open_item}
+use Rattle.larch_grammar.specs.Machine.{after_converted, after_form, after_group, after_implies, after_ref, after_ref_name, after_reference, after_symbol, after_word, begin_bracket, begin_conversion, begin_exempted, begin_item, begin_operand, begin_post, begin_prefixed, begin_quantified, begin_term, behind_refs, close_conversion, first_word, hand, hand_equation, hand_exempted, implied_word, need_exempted, open_conversion, plainly, with_clause, with_reference, word_behind, word_frames, open_item}
 use Rattle.larch_grammar.specs.Terms.{formula_of}
 use Rattle.larch_grammar.specs.Trees.{bracket_tree, call_tree, postfix_tree}
 use Rattle.larch_grammar.specs.declared.terminal.Bracket.{Bracket}
 use Rattle.larch_grammar.specs.declared.terminal.Bracket.TheVariants.{Square, Curly}
 use Rattle.larch_grammar.specs.declared.terminal.Terminal.{Terminal}
-use Rattle.larch_grammar.specs.declared.terminal.Terminal.TheVariants.{Word, Symbol, Not, Equates, Colon, Comma, Semicolon, Open, OpenBracket, CloseBracket, Generated, Partitioned, If}
+use Rattle.larch_grammar.specs.declared.terminal.Terminal.TheVariants.{Word, Symbol, Not, Equates, Colon, Comma, Semicolon, Open, OpenBracket, CloseBracket, Exempting, ForAll, Generated, Partitioned, If}
 use Rattle.larch_grammar.specs.declared.machine.Clause.{Clause}
 use Rattle.larch_grammar.specs.declared.machine.Frame.{Frame}
 use Rattle.larch_grammar.specs.declared.machine.Frame.TheVariants.{InConnectives, InEqualities, InFields, InInfixes, InLeft, InList, InPostfixes, InStrays}
 use Rattle.larch_grammar.specs.declared.machine.Listing.TheVariants.{Bracketed}
-use Rattle.larch_grammar.specs.declared.machine.Naming.TheVariants.{Referred}
+use Rattle.larch_grammar.specs.declared.machine.Naming.TheVariants.{Converted, Referred}
+use Rattle.larch_grammar.specs.declared.machine.OpenConversion.{OpenConversion}
+use Rattle.larch_grammar.specs.declared.machine.RefKind.{RefKind}
+use Rattle.larch_grammar.specs.declared.machine.Scope.{Scope}
+use Rattle.larch_grammar.specs.Composition.{close_ref, open_ref}
+use Rattle.larch_grammar.specs.Terminals.{ends_reference}
+use Rattle.larch_grammar.specs.Traits.{with_conversion}
 use Rattle.larch_grammar.specs.declared.machine.State.TheVariants.{Have}
 use Rattle.larch_grammar.specs.declared.machine.Waiting.{Waiting}
 use Rattle.larch_grammar.specs.declared.machine.Waiting.TheVariants.{Item}
@@ -39,9 +45,47 @@ pub other_term : (t : Terminal) (k : List Frame) → ((p : Pos) → t ≡ If p �
 other_term (If p) k h = absurd (h p refl)
 other_term t k h = refl
 
-pub other_group : (raw : RawTrait) (vs : List RawVar) (t : Terminal) → (t ≡ Comma → ⊥) → after_group raw vs t ≡ begin_equation t (Item (open_item raw vs []))
-other_group raw vs Comma h = absurd (h refl)
-other_group raw vs t h = refl
+pub other_group : (sc : Scope) (vs : List RawVar) (t : Terminal) → (t ≡ Comma → ⊥) → after_group sc vs t ≡ begin_quantified sc vs t
+other_group sc vs Comma h = absurd (h refl)
+other_group sc vs t h = refl
+
+pub other_ref : (raw : RawTrait) (b : RefKind) (t : Terminal) → (t ≡ Comma → ⊥) → after_ref raw b t ≡ behind_refs b raw t
+other_ref raw b Comma h = absurd (h refl)
+other_ref raw b t h = refl
+
+pub other_ref_name : (raw : RawTrait) (b : RefKind) (w : RawWord) (t : Terminal) → ((p : Pos) → t ≡ Open p → ⊥)
+    → after_ref_name raw b w t ≡ after_ref (close_ref (open_ref raw b w [])) b t
+other_ref_name raw b w (Open p) h = absurd (h p refl)
+other_ref_name raw b w t h = refl
+
+pub other_implies : (raw : RawTrait) (t : Terminal) → ((w : RawWord) → t ≡ Word w → ⊥) → after_implies raw t ≡ begin_item raw t
+other_implies raw (Word w) h = absurd (h w refl)
+other_implies raw t h = refl
+
+pub other_implied : (raw : RawTrait) (w : RawWord) (t : Terminal) → (t ≡ Generated → ⊥) → (t ≡ Partitioned → ⊥) → ((p : Pos) → t ≡ Open p → ⊥)
+    → implied_word true raw w t ≡ cond (ends_reference t) None (after_word true w (word_frames w (Item (open_item raw [] []))) t)
+other_implied raw w Generated h i j = absurd (h refl)
+other_implied raw w Partitioned h i j = absurd (i refl)
+other_implied raw w (Open p) h i j = absurd (j p refl)
+other_implied raw w t h i j = refl
+
+pub other_converted_form : (raw : RawTrait) (rs : List RawOpRef) (f : RawForm) (t : Terminal) → ((p : Pos) → t ≡ Colon p → ⊥)
+    → after_form (Converted raw rs) f t ≡ after_converted raw (with_reference rs f) t
+other_converted_form raw rs f (Colon p) h = absurd (h p refl)
+other_converted_form raw rs f t h = refl
+
+pub other_converted : (raw : RawTrait) (rs : List RawOpRef) (t : Terminal) → (t ≡ Comma → ⊥) → (t ≡ Exempting → ⊥) → after_converted raw rs t ≡ begin_conversion (with_conversion raw rs [] []) t
+other_converted raw rs Comma h i = absurd (h refl)
+other_converted raw rs Exempting h i = absurd (i refl)
+other_converted raw rs t h i = refl
+
+pub other_exempted_term : (c : OpenConversion) (t : Terminal) → (t ≡ Comma → ⊥) → hand_exempted c t ≡ begin_conversion (close_conversion c) t
+other_exempted_term c Comma h = absurd (h refl)
+other_exempted_term c t h = refl
+
+pub other_exempted : (raw : RawTrait) (rs : List RawOpRef) (t : Terminal) → (t ≡ ForAll → ⊥) → need_exempted raw rs t ≡ begin_exempted (open_conversion raw rs [] []) t
+other_exempted raw rs ForAll h = absurd (h refl)
+other_exempted raw rs t h = refl
 
 pub other_reference : (c : Clause) (rs : List RawOpRef) (t : Terminal) → (t ≡ Comma → ⊥) → (t ≡ Semicolon → ⊥) → after_reference c rs t ≡ begin_item (with_clause c rs) t
 other_reference c rs Comma h i = absurd (h refl)

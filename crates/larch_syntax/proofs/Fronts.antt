@@ -1,8 +1,9 @@
 -- What taking a token makes of the answer.
-use Rattle.std.proofs.Common.{◌≡◌, ◌+◌, ℕ, suc, true, Option, Some, None, IfSome, Result, Ok, Err, List, ◌∷◌, ◌∙◌, refl, sym, ap, arith}
+use Rattle.std.proofs.Common.{◌≡◌, ◌+◌, ℕ, suc, Bool, true, false, Option, Some, None, IfSome, Result, Ok, Err, List, ◌∷◌, ◌∙◌, refl, sym, ap, arith}
 use Rattle.larch_base.specs.declared.fault.Fault.{Fault}
 use Rattle.larch_base.specs.declared.position.Pos.{Pos}
-use Rattle.larch_grammar.specs.Answers.{position_of_token, trait_from}
+use Rattle.larch_grammar.specs.Answers.{trait_from}
+use Rattle.larch_grammar.specs.Refused.{position_of_token}
 use Rattle.larch_grammar.specs.Machine.{Taking, final, step_at}
 use Rattle.larch_grammar.specs.declared.machine.State.{State}
 use Rattle.larch_grammar.specs.declared.machine.Whole.{Whole}
@@ -35,23 +36,23 @@ trait_taken : (pos : Pos) (heads : ℕ) (whole : Option Whole) (s : Taking) (fur
 trait_taken pos heads whole None further = refl
 trait_taken pos heads whole (Some step) further = trait_marked pos step.1 (admitted heads step.0) further
 
-trait_step : (end : Pos) (heads : ℕ) (state : State) (token : Token) (rest : List Token) (t : Result Taken Fault) → taken_at heads state token ≡ t
-    → with_fault (trait_from end heads state (token ∷ rest)) ≡ trait_behind token.pos t (λ m a. with_fault (trait_from end m a rest))
-trait_step end heads state token rest t e =
-    trait_taken token.pos heads (final state) (step_at true state token) (λ m a. trait_from end m a rest)
-    ∙ ap (λ x. trait_behind token.pos x (λ m a. with_fault (trait_from end m a rest))) e
+trait_step : (g : Bool) (end : Pos) (heads : ℕ) (state : State) (token : Token) (rest : List Token) (t : Result Taken Fault) → taken_at g heads state token ≡ t
+    → with_fault (trait_from g end heads state (token ∷ rest)) ≡ trait_behind token.pos t (λ m a. with_fault (trait_from g end m a rest))
+trait_step g end heads state token rest t e =
+    trait_taken token.pos heads (final state) (step_at g true state token) (λ m a. trait_from g end m a rest)
+    ∙ ap (λ x. trait_behind token.pos x (λ m a. with_fault (trait_from g end m a rest))) e
 
 -- a trait goes on behind a token that is taken
-pub trait_goes_on : (end : Pos) (heads more : ℕ) (state after : State) (token : Token) (rest ts : List Token) (answer : Result RawTrait Fault) → taken_at heads state token ≡ Ok (On more after)
-    → ts ≡ token ∷ rest → with_fault (trait_from end heads state ts) ≡ answer → with_fault (trait_from end more after rest) ≡ answer
-trait_goes_on end heads more state after token rest ts answer e l h =
-    sym (trait_step end heads state token rest (Ok (On more after)) e) ∙ ap (λ x. with_fault (trait_from end heads state x)) (sym l) ∙ h
+pub trait_goes_on : (g : Bool) (end : Pos) (heads more : ℕ) (state after : State) (token : Token) (rest ts : List Token) (answer : Result RawTrait Fault) → taken_at g heads state token ≡ Ok (On more after)
+    → ts ≡ token ∷ rest → with_fault (trait_from g end heads state ts) ≡ answer → with_fault (trait_from g end more after rest) ≡ answer
+trait_goes_on g end heads more state after token rest ts answer e l h =
+    sym (trait_step g end heads state token rest (Ok (On more after)) e) ∙ ap (λ x. with_fault (trait_from g end heads state x)) (sym l) ∙ h
 
 -- it is refused at a token that no step takes
-pub trait_stops : (end : Pos) (heads : ℕ) (state : State) (whole : Option Whole) (token : Token) (rest ts : List Token) (answer : Result RawTrait Fault) → taken_at heads state token ≡ Ok (Stops whole)
-    → ts ≡ token ∷ rest → with_fault (trait_from end heads state ts) ≡ answer → answer ≡ Err (fault_of (flaw.Syntax, token.pos))
-trait_stops end heads state whole token rest ts answer e l h =
-    sym h ∙ ap (λ x. with_fault (trait_from end heads state x)) l ∙ trait_step end heads state token rest (Ok (Stops whole)) e
+pub trait_stops : (g : Bool) (end : Pos) (heads : ℕ) (state : State) (whole : Option Whole) (token : Token) (rest ts : List Token) (answer : Result RawTrait Fault) → taken_at g heads state token ≡ Ok (Stops whole)
+    → ts ≡ token ∷ rest → with_fault (trait_from g end heads state ts) ≡ answer → answer ≡ Err (fault_of (flaw.Syntax, token.pos))
+trait_stops g end heads state whole token rest ts answer e l h =
+    sym h ∙ ap (λ x. with_fault (trait_from g end heads state x)) l ∙ trait_step g end heads state token rest (Ok (Stops whole)) e
 
 -- what is true of each fault is true of the one that is told
 told_on : (o : Option Fault) (P Q : Fault → Type 0) → ((f : Fault) → P f → Q f) → IfSome o P → IfSome o Q
@@ -59,15 +60,15 @@ told_on None P Q k h = tt
 told_on (Some f) P Q k h = k f h
 
 -- it is refused by what is counted at a token
-pub trait_counted : (end : Pos) (heads : ℕ) (state : State) (refusal : SyntaxRefusal) (token : Token) (rest ts : List Token) (answer : Result RawTrait Fault) → IfSome (told refusal) (λ fault. taken_at heads state token ≡ Err fault)
-    → ts ≡ token ∷ rest → with_fault (trait_from end heads state ts) ≡ answer → IfSome (told refusal) (λ fault. answer ≡ Err fault)
-trait_counted end heads state refusal token rest ts answer e l h =
-    told_on (told refusal) (λ fault. taken_at heads state token ≡ Err fault) (λ fault. answer ≡ Err fault)
-    (λ fault q. sym h ∙ ap (λ x. with_fault (trait_from end heads state x)) l ∙ trait_step end heads state token rest (Err fault) q) e
+pub trait_counted : (g : Bool) (end : Pos) (heads : ℕ) (state : State) (refusal : SyntaxRefusal) (token : Token) (rest ts : List Token) (answer : Result RawTrait Fault) → IfSome (told refusal) (λ fault. taken_at g heads state token ≡ Err fault)
+    → ts ≡ token ∷ rest → with_fault (trait_from g end heads state ts) ≡ answer → IfSome (told refusal) (λ fault. answer ≡ Err fault)
+trait_counted g end heads state refusal token rest ts answer e l h =
+    told_on (told refusal) (λ fault. taken_at g heads state token ≡ Err fault) (λ fault. answer ≡ Err fault)
+    (λ fault q. sym h ∙ ap (λ x. with_fault (trait_from g end heads state x)) l ∙ trait_step g end heads state token rest (Err fault) q) e
 
 -- the tree at the longest front of these tokens from a state on, which is a part of the whole that ends there
 abbrev pub front_by : {T : Type 0} → (Option Whole → Option T) → Pos → ℕ → ℕ → State → List Token → Result (T × ℕ) (Flaw × Pos)
-front_by part end heads taken state tokens = front (step_at true) (λ n. part (final n)) position_of_token end heads taken state tokens
+front_by part end heads taken state tokens = front (step_at false true) (λ n. part (final n)) position_of_token end heads taken state tokens
 
 -- how a tree at a front goes on behind a token, so many being before it
 abbrev front_behind : {T : Type 0} → (Option Whole → Option T) → Pos → ℕ → Result Taken Fault → (ℕ → State → Result (T × ℕ) Fault) → Result (T × ℕ) Fault
@@ -85,28 +86,28 @@ front_taken : {T : Type 0} (part : Option Whole → Option T) (pos : Pos) (heads
 front_taken part pos heads taken whole None further = refl
 front_taken part pos heads taken whole (Some step) further = front_marked part pos taken step.1 (admitted heads step.0) further
 
-front_step : {T : Type 0} (part : Option Whole → Option T) (end : Pos) (heads taken : ℕ) (state : State) (token : Token) (rest : List Token) (t : Result Taken Fault) → taken_at heads state token ≡ t
+front_step : {T : Type 0} (part : Option Whole → Option T) (end : Pos) (heads taken : ℕ) (state : State) (token : Token) (rest : List Token) (t : Result Taken Fault) → taken_at false heads state token ≡ t
     → with_fault (front_by part end heads taken state (token ∷ rest)) ≡ front_behind part token.pos taken t (λ m a. with_fault (front_by part end m (suc taken) a rest))
 front_step part end heads taken state token rest t e =
-    front_taken part token.pos heads taken (final state) (step_at true state token) (λ m a. front_by part end m (suc taken) a rest)
+    front_taken part token.pos heads taken (final state) (step_at false true state token) (λ m a. front_by part end m (suc taken) a rest)
     ∙ ap (λ x. front_behind part token.pos taken x (λ m a. with_fault (front_by part end m (suc taken) a rest))) e
 
 -- it goes on behind a token that is taken
-pub front_goes_on : {T : Type 0} (part : Option Whole → Option T) (end : Pos) (heads more taken : ℕ) (state after : State) (token : Token) (rest ts : List Token) (answer : Result (T × ℕ) Fault) → taken_at heads state token ≡ Ok (On more after)
+pub front_goes_on : {T : Type 0} (part : Option Whole → Option T) (end : Pos) (heads more taken : ℕ) (state after : State) (token : Token) (rest ts : List Token) (answer : Result (T × ℕ) Fault) → taken_at false heads state token ≡ Ok (On more after)
     → ts ≡ token ∷ rest → with_fault (front_by part end heads taken state ts) ≡ answer → with_fault (front_by part end more (taken + 1) after rest) ≡ answer
 front_goes_on part end heads more taken state after token rest ts answer e l h =
     let next : taken + 1 ≡ suc taken = omega arith in
     ap (λ n. with_fault (front_by part end more n after rest)) next ∙ sym (front_step part end heads taken state token rest (Ok (On more after)) e) ∙ ap (λ x. with_fault (front_by part end heads taken state x)) (sym l) ∙ h
 
 -- it ends before a token that no step takes, or is refused there
-pub front_stops : {T : Type 0} (part : Option Whole → Option T) (end : Pos) (heads taken : ℕ) (state : State) (whole : Option Whole) (token : Token) (rest ts : List Token) (answer : Result (T × ℕ) Fault) → taken_at heads state token ≡ Ok (Stops whole)
+pub front_stops : {T : Type 0} (part : Option Whole → Option T) (end : Pos) (heads taken : ℕ) (state : State) (whole : Option Whole) (token : Token) (rest ts : List Token) (answer : Result (T × ℕ) Fault) → taken_at false heads state token ≡ Ok (Stops whole)
     → ts ≡ token ∷ rest → with_fault (front_by part end heads taken state ts) ≡ answer → with_fault (at_front token.pos taken (part whole)) ≡ answer
 front_stops part end heads taken state whole token rest ts answer e l h =
     sym (front_step part end heads taken state token rest (Ok (Stops whole)) e) ∙ ap (λ x. with_fault (front_by part end heads taken state x)) (sym l) ∙ h
 
 -- it is refused by what is counted at a token
-pub front_counted : {T : Type 0} (part : Option Whole → Option T) (end : Pos) (heads taken : ℕ) (state : State) (refusal : SyntaxRefusal) (token : Token) (rest ts : List Token) (answer : Result (T × ℕ) Fault) → IfSome (told refusal) (λ fault. taken_at heads state token ≡ Err fault)
+pub front_counted : {T : Type 0} (part : Option Whole → Option T) (end : Pos) (heads taken : ℕ) (state : State) (refusal : SyntaxRefusal) (token : Token) (rest ts : List Token) (answer : Result (T × ℕ) Fault) → IfSome (told refusal) (λ fault. taken_at false heads state token ≡ Err fault)
     → ts ≡ token ∷ rest → with_fault (front_by part end heads taken state ts) ≡ answer → IfSome (told refusal) (λ fault. answer ≡ Err fault)
 front_counted part end heads taken state refusal token rest ts answer e l h =
-    told_on (told refusal) (λ fault. taken_at heads state token ≡ Err fault) (λ fault. answer ≡ Err fault)
+    told_on (told refusal) (λ fault. taken_at false heads state token ≡ Err fault) (λ fault. answer ≡ Err fault)
     (λ fault q. sym h ∙ ap (λ x. with_fault (front_by part end heads taken state x)) l ∙ front_step part end heads taken state token rest (Err fault) q) e

@@ -1,7 +1,11 @@
 pub mod AtEnd
+pub mod Behind
 pub mod Defaults
+pub mod Either
+pub mod Forgotten
 pub mod FormDefaults
 pub mod Fronts
 pub mod Stacks
 pub mod Told
+pub mod Which
 pub mod Words

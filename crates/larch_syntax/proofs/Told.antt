@@ -3,13 +3,12 @@ use Rattle.std.proofs.Common.{◌≡◌, ◌+◌, ℕ, IfSome, Result, Ok, Err, 
 use Rattle.larch_base.specs.Answering.{Answers}
 use Rattle.larch_base.specs.declared.position.Pos.{Pos}
 use Rattle.larch_lexer.specs.TokenList.{TokenList}
-use Rattle.larch_fronts.specs.Claims.{Means}
 use Rattle.larch_fronts.specs.declared.mark.Flaw.{Flaw}
 use Rattle.larch_fronts.specs.declared.mark.Flaw.TheVariants as flaw
 use Rattle.larch_raw.specs.declared.declared.RawOpRef.{RawOpRef}
 use Rattle.larch_raw.specs.declared.equation.RawEquation.{RawEquation}
 use Rattle.larch_raw.specs.declared.equation.RawTrait.{RawTrait}
-use Rattle.larch_grammar.specs.Answers.{Traits, position_of_token, reference_answer, term_answer, trait_answer}
+use Rattle.larch_grammar.specs.Answers.{MeansTrait, reference_answer, term_answer, trait_answer}
 use Rattle.larch_grammar.proofs.Law.{reference_law, term_law, trait_law}
 use Rattle.larch_syntax.specs.Read.{MeansFrom, MeansReference, Says, from_there, reference_of, term_of, trait_of, with_fault}
 use Rattle.larch_syntax.specs.Refusals.{code_of, fault_of, flaw_told, told}
@@ -38,11 +37,11 @@ one_flaw flaw.Large flaw.Large e = refl
 one_found : (f g : Flaw × Pos) → fault_of f ≡ fault_of g → f ≡ g
 one_found f g e = let a = one_flaw f.0 g.0 (ap (λ x. x.code) e) in let b : f.1 ≡ g.1 = ap (λ x. x.pos) e in λ i. (a i, b i)
 
-ok_back : {V : Type 0} (a : Result V (Flaw × Pos)) (v : V) → with_fault a ≡ Ok v → a ≡ Ok v
+pub ok_back : {V : Type 0} (a : Result V (Flaw × Pos)) (v : V) → with_fault a ≡ Ok v → a ≡ Ok v
 ok_back (Ok x) v e = let q : x ≡ v = cc in ap Ok q
 ok_back (Err f) v e = let n : ⊥ = cc in absurd n
 
-err_back : {V : Type 0} (a : Result V (Flaw × Pos)) (f : Flaw × Pos) → with_fault a ≡ Err (fault_of f) → a ≡ Err f
+pub err_back : {V : Type 0} (a : Result V (Flaw × Pos)) (f : Flaw × Pos) → with_fault a ≡ Err (fault_of f) → a ≡ Err f
 err_back (Ok x) f e = let n : ⊥ = cc in absurd n
 err_back (Err g) f e = let q : fault_of g ≡ fault_of f = cc in ap Err (one_found g f q)
 
@@ -56,10 +55,10 @@ said a (Large pos) C k e = k _ (err_back a (flaw.Large, pos) e)
 said a Memory C k e = tt
 
 pub trait_said : (tokens : TokenList) (r : Result RawTrait SyntaxRefusal) → Answers told r (trait_of tokens)
-    → Says (Means Traits position_of_token tokens.end tokens.tokens) r
-trait_said tokens (Ok raw) e = (trait_law tokens (Ok raw)).0 (ok_back (trait_answer tokens) raw e)
+    → Says (MeansTrait tokens) r
+trait_said tokens (Ok raw) e = trait_law tokens (Ok raw) (ok_back (trait_answer tokens) raw e)
 trait_said tokens (Err refusal) e =
-    said (trait_answer tokens) refusal (λ f. Means Traits position_of_token tokens.end tokens.tokens (Err f)) (λ f q. (trait_law tokens (Err f)).0 q) e
+    said (trait_answer tokens) refusal (λ f. MeansTrait tokens (Err f)) (λ f q. trait_law tokens (Err f) q) e
 
 -- the number of the token behind a tree is that of its tokens
 there_back : {T : Type 0} (from : ℕ) (a : Result (T × ℕ) (Flaw × Pos)) (read : T × ℕ) → from_there from (with_fault a) ≡ Ok read

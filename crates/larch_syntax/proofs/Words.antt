@@ -45,5 +45,5 @@ read_from (Err found) raw e = absurd cc
 -- what is read of them is written with words
 pub read_words : (tokens : TokenList) (raw : RawTrait) → AreWordTokens tokens.tokens → trait_of tokens ≡ Ok raw → WordedTrait raw
 read_words tokens raw ws e =
-    let means = (trait_law tokens (Ok raw)).0 (read_from (trait_answer tokens) raw e) in
-    trait_worded tokens.tokens raw ws means.1
+    let means = trait_law tokens (Ok raw) (read_from (trait_answer tokens) raw e) in
+    trait_worded means.0 tokens.tokens raw ws means.1.1

@@ -1,2 +1,4 @@
 pub mod Read
 pub mod Refusals
+pub mod Refused
+pub mod Step

@@ -1,11 +1,12 @@
 -- What reading tokens as a trait or a term answers.
-use Rattle.std.specs.Prelude.{◌≡◌, ℕ, ◌+◌, None, IfSome, Result, Ok, Err, drop}
+use Rattle.std.specs.Prelude.{◌≡◌, ℕ, Bool, ◌+◌, None, IfSome, Result, Ok, Err, drop}
 use Rattle.larch_base.specs.declared.fault.Fault.{Fault}
 use Rattle.larch_base.specs.declared.position.Pos.{Pos}
 use Rattle.larch_fronts.specs.Claims.{MeansFront}
 use Rattle.larch_fronts.specs.Mark.{admitted}
 use Rattle.larch_fronts.specs.declared.mark.Flaw.{Flaw}
-use Rattle.larch_grammar.specs.Answers.{Equations, References, position_of_token, reference_answer, term_answer, trait_answer}
+use Rattle.larch_grammar.specs.Answers.{Equations, References, reference_answer, term_answer, trait_answer}
+use Rattle.larch_grammar.specs.Refused.{position_of_token}
 use Rattle.larch_grammar.specs.Terminals.{terminal_of}
 use Rattle.larch_grammar.specs.declared.machine.State.{State}
 use Rattle.larch_lexer.specs.TokenList.{TokenList}
@@ -60,14 +61,16 @@ abbrev pub MeansFrom : TokenList → ℕ → Result (RawEquation × ℕ) (Flaw �
 MeansFrom tokens from (Ok read) =
     (taken : ℕ) × MeansFront Equations position_of_token tokens.end (drop from tokens.tokens) (Ok (read.0, taken)) ×
     (read.1 ≡ from + taken)
-MeansFrom tokens from (Err found) = MeansFront Equations position_of_token tokens.end (drop from tokens.tokens) (Err found)
+MeansFrom tokens from (Err found) =
+    MeansFront Equations position_of_token tokens.end (drop from tokens.tokens) (Err found)
 
 -- the same of a reference to operators
 abbrev pub MeansReference : TokenList → ℕ → Result (RawOpRef × ℕ) (Flaw × Pos) → Type 0
 MeansReference tokens from (Ok read) =
     (taken : ℕ) × MeansFront References position_of_token tokens.end (drop from tokens.tokens) (Ok (read.0, taken)) ×
     (read.1 ≡ from + taken)
-MeansReference tokens from (Err found) = MeansFront References position_of_token tokens.end (drop from tokens.tokens) (Err found)
+MeansReference tokens from (Err found) =
+    MeansFront References position_of_token tokens.end (drop from tokens.tokens) (Err found)
 
 -- a token that is taken leads to a state, with so many head tokens behind it, unless something is counted at it
 abbrev pub leads_to : State → Result ℕ Fault → Result Taken Fault
@@ -80,6 +83,6 @@ counted pos heads (outcome.Taken mark after) = leads_to after (fault_at pos (adm
 counted pos heads (outcome.Handed term frames terminal) = Ok (Stops None)
 counted pos heads (outcome.Stops whole) = Ok (Stops whole)
 
--- what a token does in a state behind so many head tokens
-abbrev pub taken_at : ℕ → State → Token → Result Taken Fault
-taken_at heads state token = counted token.pos heads (stepped state (terminal_of token))
+-- what a token does in a state behind so many head tokens, where references follow `implies` or not
+abbrev pub taken_at : Bool → ℕ → State → Token → Result Taken Fault
+taken_at lists heads state token = counted token.pos heads (stepped state (terminal_of lists token))

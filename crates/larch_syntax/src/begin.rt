@@ -175,7 +175,8 @@ fn begin_first(
     stack: Stack,
     terminal: Terminal,
 ) -> Result<Outcome, Memory>
-    ensures { Settles result (stepped (State.NeedTerm (Frame.InList (Listing.Bracketed bracket front pos) [] ∷ stack)) terminal) }
+    ensures { Settles result
+        (stepped (State.NeedTerm (Frame.InList (Listing.Bracketed bracket front pos) [] ∷ stack)) terminal) }
 {
     let listing = Listing::Bracketed(bracket, front, pos);
     let inside = stack.with(Frame::InList(listing, no_terms(alloc)))?;

@@ -2,7 +2,8 @@ ghost use Rattle.std.specs.Prelude.{◌≡◌, ◌∷◌, IfOk};
 ghost use Rattle.larch_grammar.specs.Machine.{symbol_of};
 ghost use Rattle.larch_grammar.specs.Terms.{chained};
 ghost use Rattle.larch_grammar.specs.Trees.{chain_tree};
-ghost use Rattle.larch_grammar.specs.declared.machine.Frame.TheVariants.{InConnectives, InEqualities, InInfixes, InPostfixes, InStrays};
+ghost use Rattle.larch_grammar.specs.declared.machine.Frame.TheVariants.{InConnectives, InEqualities, InInfixes};
+ghost use Rattle.larch_grammar.specs.declared.machine.Frame.TheVariants.{InPostfixes, InStrays};
 ghost use Rattle.larch_heads.specs.Outcome.{Leaves, Settles, handed};
 
 use larch_base::Memory;

@@ -3,6 +3,7 @@ ghost use Rattle.larch_grammar.specs.Machine.{end_marks, hand_sig};
 ghost use Rattle.larch_grammar.specs.declared.machine.Naming.TheVariants.{Declared, Lone, Referred};
 ghost use Rattle.larch_heads.specs.Outcome.{Settles, outcome, settled, stepped};
 
+use crate::conversions::after_converted_form;
 use crate::items::begin_item;
 use larch_base::{Memory, Pos, Sequence};
 use larch_grammar::{
@@ -207,6 +208,7 @@ pub(crate) fn after_form(
         Naming::Renaming(reference) => Ok(after_renaming(reference, form, terminal)),
         Naming::Renamed(reference, renamed) => after_renamed(reference, renamed, form, terminal),
         Naming::Lone => Ok(after_lone(form, terminal)),
+        Naming::Converted(raw, refs) => after_converted_form(alloc, raw, refs, form, terminal),
     }
 }
 
@@ -365,6 +367,12 @@ fn hand_sig(signing: Signing, sig: RawSig) -> Result<State, Memory>
             let actual = RawActual::Replace(renamed, form, Some(sig));
             let reference = with_actual(reference, actual)?;
             Ok(State::AfterRename(reference))
+        }
+        Signing::Conversion(raw, refs, form) => {
+            let mut refs = refs;
+            let sig = Some(sig);
+            refs.push(RawOpRef { form, sig })?;
+            Ok(State::AfterConverted(raw, refs))
         }
         Signing::LoneForm(form) => {
             let sig = Some(sig);

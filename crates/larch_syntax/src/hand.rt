@@ -1,9 +1,11 @@
 ghost use Rattle.std.specs.Prelude.{◌≡◌, ◌∷◌, IfOk};
-ghost use Rattle.larch_grammar.specs.declared.machine.Frame.TheVariants.{InFields, InIf, InLeft, InList, InParentheses, InThen};
+ghost use Rattle.larch_grammar.specs.declared.machine.Frame.TheVariants.{InFields, InIf, InLeft, InList};
+ghost use Rattle.larch_grammar.specs.declared.machine.Frame.TheVariants.{InParentheses, InThen};
 ghost use Rattle.larch_heads.specs.Outcome.{Leaves, Settles, handed, settled, stepped};
 
 use crate::begin::{begin_post, open_bracket, opens};
 use crate::chains::{in_connectives, in_equalities, in_infixes, in_postfixes, in_strays};
+use crate::conversions::in_exempted;
 use crate::items::hand_equation;
 use larch_base::{Memory, Pos};
 use larch_grammar::{
@@ -78,6 +80,7 @@ fn pass(
             let equation = equation_of(left, equates, term, pos);
             hand_equation(alloc, equation, waiting, terminal)
         }
+        Frame::InExempted(pos, conversion) => in_exempted(alloc, pos, conversion, term, terminal),
     }
 }
 
@@ -125,6 +128,9 @@ fn in_list(
         }
         (Listing::Call(word), Terminal::Close) => {
             Ok(plainly(State::Have(call_tree(word, terms), stack)))
+        }
+        (Listing::First(raw, word), Terminal::Close) => {
+            Ok(plainly(State::BehindFirst(raw, word, terms)))
         }
         (
             Listing::Bracketed(Bracket::Square, front, pos),

@@ -1,19 +1,21 @@
-ghost use Rattle.std.specs.Prelude.{◌≡◌, [], IfOk, List, Some};
-ghost use Rattle.larch_grammar.specs.Machine.{begin_part, end_equation, hand_equation, open_item, word_frames};
+ghost use Rattle.std.specs.Prelude.{◌≡◌, [], IfOk, List, None, Some};
+ghost use Rattle.larch_grammar.specs.Machine.{begin_part, begin_quantified, end_equation, hand_equation};
+ghost use Rattle.larch_grammar.specs.Machine.{open_item, word_frames};
 ghost use Rattle.larch_grammar.specs.Traits.{with_equations};
 ghost use Rattle.larch_grammar.specs.declared.machine.Frame.{Frame};
 ghost use Rattle.larch_grammar.specs.declared.machine.Waiting.TheVariants.{Item};
 ghost use Rattle.larch_heads.specs.Outcome.{Leaves, Settles, outcome, settled, stepped};
 
 use crate::begin::{begin_equation, word_frames};
+use crate::conversions::begin_exempted;
 use crate::forms::begin_form;
 use crate::hand::after_word;
 use larch_base::{Memory, Sequence};
 use larch_grammar::{
-    Clause, Draft, Naming, OpenItem, State, Terminal, Waiting, Whole, with_equations, with_group,
-    with_word,
+    Clause, Draft, Naming, OpenItem, Scope, State, Terminal, Waiting, Whole, open_conversion,
+    with_equations, with_group, with_word,
 };
-use larch_heads::{Outcome, at_head, ends, outside, stops};
+use larch_heads::{Outcome, at_head, begin_claim, ends, outside, stops};
 use larch_raw::{ClauseKind, RawEquation, RawVars, RawWord, RawWords};
 use std::alloc::Global;
 
@@ -23,7 +25,9 @@ pub(crate) fn in_part(alloc: Global, raw: Draft, terminal: Terminal) -> Outcome
 {
     match terminal {
         Terminal::Introduces => outside(State::InPart(raw)),
-        Terminal::Asserts => outside(State::InItems(raw)),
+        Terminal::Asserts | Terminal::Implies(_) | Terminal::Converts => {
+            begin_claim(alloc, raw, terminal)
+        }
         Terminal::Word(_)
         | Terminal::Symbol(_)
         | Terminal::Dot(_)
@@ -41,14 +45,18 @@ fn begin_part(alloc: Global, raw: Draft, terminal: Terminal) -> Outcome
     ensures frames { (frames : List Frame) → Leaves frames result }
 {
     match terminal {
-        Terminal::ForAll => outside(State::NeedVariable(raw, Sequence::new(alloc))),
-        Terminal::Asserts => outside(State::InItems(raw)),
+        Terminal::ForAll => {
+            outside(State::NeedVariable(Scope::Quantified(raw), Sequence::new(alloc)))
+        }
+        Terminal::Asserts | Terminal::Implies(_) | Terminal::Converts => {
+            begin_claim(alloc, raw, terminal)
+        }
         _ => ends(raw),
     }
 }
 
 // An equation of an item over no variables, which is its first.
-fn first_of_item(alloc: Global, raw: Draft) -> Waiting
+pub(crate) fn first_of_item(alloc: Global, raw: Draft) -> Waiting
     ensures { result ≡ Item (open_item raw [] []) }
 {
     Waiting::Item(OpenItem {
@@ -64,7 +72,9 @@ pub(crate) fn begin_item(alloc: Global, raw: Draft, terminal: Terminal) -> Resul
 {
     match terminal {
         Terminal::Word(word) => Ok(at_head(State::FirstWord(raw, word))),
-        Terminal::ForAll | Terminal::Asserts => Ok(begin_part(alloc, raw, terminal)),
+        Terminal::ForAll | Terminal::Asserts | Terminal::Implies(_) | Terminal::Converts => {
+            Ok(begin_part(alloc, raw, terminal))
+        }
         Terminal::Symbol(_)
         | Terminal::Not(_)
         | Terminal::Open(_)
@@ -81,7 +91,8 @@ pub(crate) fn hand_equation(
     waiting: Waiting,
     terminal: Terminal,
 ) -> Result<Outcome, Memory>
-    ensures outcome { Settles result (outcome (hand_equation equation waiting terminal) (end_equation equation waiting)) }
+    ensures outcome { Settles result
+        (outcome (hand_equation equation waiting terminal) (end_equation equation waiting)) }
     ensures frames { (frames : List Frame) → IfOk result (Leaves frames) }
 {
     match waiting {
@@ -109,7 +120,8 @@ fn behind_equation(
     equation: RawEquation,
     terminal: Terminal,
 ) -> Result<Outcome, Memory>
-    ensures outcome { Settles result (outcome (hand_equation equation (Item item) terminal) (end_equation equation (Item item))) }
+    ensures outcome { Settles result
+        (outcome (hand_equation equation (Item item) terminal) (end_equation equation (Item item))) }
     ensures frames { (frames : List Frame) → IfOk result (Leaves frames) }
 {
     let mut item = item;
@@ -120,7 +132,7 @@ fn behind_equation(
             let raw = close_item(item)?;
             Ok(outside(State::ClauseWord(raw, word)))
         }
-        Terminal::ForAll | Terminal::Asserts => {
+        Terminal::ForAll | Terminal::Asserts | Terminal::Implies(_) | Terminal::Converts => {
             let raw = close_item(item)?;
             Ok(begin_part(alloc, raw, terminal))
         }
@@ -214,7 +226,7 @@ pub(crate) fn after_semicolon(
 {
     match terminal {
         Terminal::Word(word) => Ok(at_head(State::WordBehind(item, word))),
-        Terminal::ForAll | Terminal::Asserts => {
+        Terminal::ForAll | Terminal::Asserts | Terminal::Implies(_) | Terminal::Converts => {
             let raw = close_item(item)?;
             Ok(begin_part(alloc, raw, terminal))
         }
@@ -233,16 +245,16 @@ pub(crate) fn after_semicolon(
 // A variable is needed.
 pub(crate) fn need_variable(
     alloc: Global,
-    raw: Draft,
+    scope: Scope,
     variables: RawVars,
     terminal: Terminal,
 ) -> Result<Outcome, Memory>
-    ensures { Settles result (stepped (State.NeedVariable raw variables) terminal) }
+    ensures { Settles result (stepped (State.NeedVariable scope variables) terminal) }
 {
     match terminal {
         Terminal::Word(name) => {
             let names = with_word(Sequence::new(alloc), name)?;
-            Ok(outside(State::AfterVariable(raw, variables, names)))
+            Ok(outside(State::AfterVariable(scope, variables, names)))
         }
         _ => Ok(stops()),
     }
@@ -250,33 +262,33 @@ pub(crate) fn need_variable(
 
 // Names of variables are read.
 pub(crate) fn after_variable(
-    raw: Draft,
+    scope: Scope,
     variables: RawVars,
     names: RawWords,
     terminal: Terminal,
 ) -> Outcome
-    ensures { settled result ≡ stepped (State.AfterVariable raw variables names) terminal }
+    ensures { settled result ≡ stepped (State.AfterVariable scope variables names) terminal }
 {
     match terminal {
-        Terminal::Comma => outside(State::NeedFurtherVariable(raw, variables, names)),
-        Terminal::Colon(_pos) => outside(State::NeedVariableSort(raw, variables, names)),
+        Terminal::Comma => outside(State::NeedFurtherVariable(scope, variables, names)),
+        Terminal::Colon(_pos) => outside(State::NeedVariableSort(scope, variables, names)),
         _ => stops(),
     }
 }
 
 // A `,` behind names of variables is read.
 pub(crate) fn need_further_variable(
-    raw: Draft,
+    scope: Scope,
     variables: RawVars,
     names: RawWords,
     terminal: Terminal,
 ) -> Result<Outcome, Memory>
-    ensures { Settles result (stepped (State.NeedFurtherVariable raw variables names) terminal) }
+    ensures { Settles result (stepped (State.NeedFurtherVariable scope variables names) terminal) }
 {
     match terminal {
         Terminal::Word(name) => {
             let names = with_word(names, name)?;
-            Ok(outside(State::AfterVariable(raw, variables, names)))
+            Ok(outside(State::AfterVariable(scope, variables, names)))
         }
         _ => Ok(stops()),
     }
@@ -284,17 +296,17 @@ pub(crate) fn need_further_variable(
 
 // The `:` behind names of variables is read.
 pub(crate) fn need_variable_sort(
-    raw: Draft,
+    scope: Scope,
     variables: RawVars,
     names: RawWords,
     terminal: Terminal,
 ) -> Result<Outcome, Memory>
-    ensures { Settles result (stepped (State.NeedVariableSort raw variables names) terminal) }
+    ensures { Settles result (stepped (State.NeedVariableSort scope variables names) terminal) }
 {
     match terminal {
         Terminal::Word(sort) => {
             let variables = with_group(variables, &names, &sort)?;
-            Ok(outside(State::AfterGroup(raw, variables)))
+            Ok(outside(State::AfterGroup(scope, variables)))
         }
         _ => Ok(stops()),
     }
@@ -304,21 +316,39 @@ pub(crate) fn need_variable_sort(
 #[tactic(auto, using(crate::proofs::Defaults::other_group))]
 pub(crate) fn after_group(
     alloc: Global,
-    raw: Draft,
+    scope: Scope,
     variables: RawVars,
     terminal: Terminal,
 ) -> Result<Outcome, Memory>
-    ensures { Settles result (stepped (State.AfterGroup raw variables) terminal) }
+    ensures { Settles result (stepped (State.AfterGroup scope variables) terminal) }
 {
     match terminal {
-        Terminal::Comma => Ok(outside(State::NeedVariable(raw, variables))),
-        other => {
+        Terminal::Comma => Ok(outside(State::NeedVariable(scope, variables))),
+        other => begin_quantified(alloc, scope, variables, other),
+    }
+}
+
+// What variables are read for begins: an equation, or a term that is exempted.
+fn begin_quantified(
+    alloc: Global,
+    scope: Scope,
+    variables: RawVars,
+    terminal: Terminal,
+) -> Result<Outcome, Memory>
+    ensures { Settles result (outcome (begin_quantified scope variables terminal) None) }
+{
+    match scope {
+        Scope::Quantified(raw) => {
             let item = OpenItem {
                 raw,
                 variables,
                 equations: Sequence::new(alloc),
             };
-            begin_equation(alloc, other, Waiting::Item(item))
+            begin_equation(alloc, terminal, Waiting::Item(item))
+        }
+        Scope::Exempted(raw, refs) => {
+            let conversion = open_conversion(alloc, raw, refs, variables);
+            begin_exempted(alloc, conversion, terminal)
         }
     }
 }

@@ -8,5 +8,6 @@ ghost use Rattle.larch_syntax.specs.Read.{trait_of};
 
 /// The name, the sorts and the variables of a raw trait that is read from a text are words.
 pub fn text_reads_words()
-    ensures { (text : List ℕ) (tokens : TokenList) (raw : RawTrait) → lexed text ≡ Ok tokens → trait_of tokens ≡ Ok raw → WordedTrait raw }
+    ensures { (text : List ℕ) (tokens : TokenList) (raw : RawTrait)
+        → lexed text ≡ Ok tokens → trait_of tokens ≡ Ok raw → WordedTrait raw }
 {}

@@ -5,18 +5,21 @@
 
 mod begin;
 mod chains;
+mod conversions;
 mod forms;
 mod hand;
+mod implied;
 mod items;
 pub mod laws;
 mod read;
 mod refusal;
+mod refused;
 mod step;
 
 pub use larch_raw::{
-    ClauseKind, RawDecl, RawDecls, RawEquation, RawEquations, RawForm, RawForms, RawItem, RawItems,
-    RawNode, RawOpRef, RawOpRefs, RawRight, RawSig, RawTerm, RawTerms, RawTrait, RawVar, RawVars,
-    RawWord, RawWords,
+    ClauseKind, RawConversion, RawConversions, RawDecl, RawDecls, RawEquation, RawEquations,
+    RawForm, RawForms, RawItem, RawItems, RawNode, RawOpRef, RawOpRefs, RawRight, RawSig, RawTerm,
+    RawTerms, RawTrait, RawVar, RawVars, RawWord, RawWords,
 };
 pub use read::{read_reference, read_term, read_trait};
 pub use refusal::SyntaxRefusal;

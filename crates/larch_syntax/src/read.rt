@@ -1,14 +1,15 @@
-ghost use Rattle.std.specs.Prelude.{◌≡◌, ◌+◌, ◌≤◌, length, IfOk};
+ghost use Rattle.std.specs.Prelude.{◌≡◌, ◌+◌, ◌≤◌, length, false, Err, IfOk, IfSome};
 ghost use Rattle.larch_base.specs.Answering.{Answers};
 ghost use Rattle.larch_fronts.specs.Answer.{at_front};
-ghost use Rattle.larch_fronts.specs.Claims.{Means};
 ghost use Rattle.larch_fronts.specs.Mark.{admitted};
-ghost use Rattle.larch_grammar.specs.Answers.{Traits, position_of_token, reference_from, term_from};
+ghost use Rattle.larch_grammar.specs.Answers.{MeansTrait, reference_from, term_from, trait_by};
 ghost use Rattle.larch_grammar.specs.Machine.{as_equation, as_reference, as_trait};
-ghost use Rattle.larch_syntax.specs.Read.{MeansFrom, MeansReference, Says, fault_at, reference_of, taken_at, term_of, trait_of, with_fault};
+ghost use Rattle.larch_syntax.specs.Read.{MeansFrom, MeansReference, Says, fault_at, reference_of, taken_at, term_of};
+ghost use Rattle.larch_syntax.specs.Read.{trait_of, with_fault};
 ghost use Rattle.larch_syntax.specs.Refusals.{told};
 
 use crate::refusal::{SyntaxRefusal, refusal_of};
+use crate::refused::{place_of, which_refusal};
 use crate::step::{last, step};
 use larch_base::{Memory, Pos};
 use larch_fronts::{Mark, admit};
@@ -19,24 +20,55 @@ use larch_raw::{RawEquation, RawOpRef, RawTrait};
 use std::alloc::Global;
 
 /// The raw trait that these tokens are, all of them; or the first refusal. Of several that stand at one token the order
-/// is MIXED, SYNTAX, DEEP, SIZE. One pass over the tokens, without recursion.
+/// is MIXED, SYNTAX, DEEP, SIZE. One pass over the tokens, without recursion; where it is refused a second one, with
+/// references behind `implies`.
 pub fn read_trait(alloc: Global, tokens: &Tokens) -> Result<RawTrait, SyntaxRefusal>
     ensures answer { Answers told result (trait_of tokens.now) }
 
     // The grammar says the same without a machine.
-    ensures grammar { Says (Means Traits position_of_token tokens.now.end tokens.now.tokens) result }
+    ensures grammar { Says (MeansTrait tokens.now) result }
 {
-    trait_by_steps(alloc, tokens)
+    either_reading(alloc, tokens)
 }
 
 // The same, by the machine.
-fn trait_by_steps(alloc: Global, tokens: &Tokens) -> Result<RawTrait, SyntaxRefusal>
+#[tactic(auto, using(crate::proofs::Either::item_read))]
+fn either_reading(alloc: Global, tokens: &Tokens) -> Result<RawTrait, SyntaxRefusal>
     ensures { Answers told result (trait_of tokens.now) }
+{
+    match trait_by_steps(alloc, false, tokens) {
+        Ok(raw) => Ok(raw),
+        Err(item) => or_references(alloc, tokens, item),
+    }
+}
+
+// The same, where a trait of which an item follows `implies` is refused so.
+#[tactic(auto, using(crate::proofs::Either::list_read, crate::proofs::Either::both_refused))]
+fn or_references(
+    alloc: Global,
+    tokens: &Tokens,
+    item: SyntaxRefusal,
+) -> Result<RawTrait, SyntaxRefusal>
+    requires { IfSome (told item) (λ fault. with_fault (trait_by false tokens.now) ≡ Err fault) }
+    ensures { Answers told result (trait_of tokens.now) }
+{
+    let Some(_place) = place_of(item) else {
+        return Err(SyntaxRefusal::Memory);
+    };
+    match trait_by_steps(alloc, true, tokens) {
+        Ok(raw) => Ok(raw),
+        Err(list) => Err(which_refusal(tokens, item, list)),
+    }
+}
+
+// The trait where references follow `implies` or not, by the machine.
+fn trait_by_steps(alloc: Global, lists: bool, tokens: &Tokens) -> Result<RawTrait, SyntaxRefusal>
+    ensures { Answers told result (with_fault (trait_by lists tokens.now)) }
 {
     let mut state = State::Start;
     let mut heads: u32 = 0;
     for token in tokens.as_slice() {
-        match take(alloc, heads, state, token) {
+        match take(alloc, lists, heads, state, token) {
             Ok(Taken::On(more, after)) => {
                 heads = more;
                 state = after;
@@ -105,7 +137,7 @@ fn front(alloc: Global, tokens: &[Token], end: Pos) -> Result<(RawEquation, usiz
     let mut state = State::NeedEquation(Waiting::Alone);
     let mut heads: u32 = 0;
     for (taken, token) in tokens.iter().enumerate() {
-        match take(alloc, heads, state, token) {
+        match take(alloc, false, heads, state, token) {
             Ok(Taken::On(more, after)) => {
                 heads = more;
                 state = after;
@@ -139,8 +171,8 @@ fn as_equation(whole: Option<Whole>) -> Option<RawEquation>
 }
 
 /// The raw reference to operators at the front of the tokens from this one on, and the number of the token behind it,
-/// both counted from 0; or the refusal, which is SYNTAX. The reference ends where no reference goes on so: before `>` in
-/// `f : S -> T > g`, and before `+` in `__ ! + x`.
+/// both counted from 0; or the refusal, which is SYNTAX. The reference ends where no reference goes on so: before `>`
+/// in `f : S -> T > g`, and before `+` in `__ ! + x`.
 pub fn read_reference(
     alloc: Global,
     tokens: &Tokens,
@@ -181,7 +213,7 @@ fn reference_front(
     let mut state = State::NeedForm(Naming::Lone);
     let mut heads: u32 = 0;
     for (taken, token) in tokens.iter().enumerate() {
-        match take(alloc, heads, state, token) {
+        match take(alloc, false, heads, state, token) {
             Ok(Taken::On(more, after)) => {
                 heads = more;
                 state = after;
@@ -214,10 +246,16 @@ pub(crate) enum Taken {
 }
 
 // Takes a token in a state, or answers what is counted at it.
-fn take(alloc: Global, heads: u32, state: State, token: &Token) -> Result<Taken, SyntaxRefusal>
-    ensures { Answers told result (taken_at heads state token.now) }
+fn take(
+    alloc: Global,
+    lists: bool,
+    heads: u32,
+    state: State,
+    token: &Token,
+) -> Result<Taken, SyntaxRefusal>
+    ensures { Answers told result (taken_at lists heads state token.now) }
 {
-    let terminal = terminal_of(token)?;
+    let terminal = terminal_of(lists, token)?;
     match step(alloc, state, terminal)? {
         Outcome::Taken(mark, after) => {
             match count(heads, mark, token.pos) {

@@ -6,12 +6,14 @@ ghost use Rattle.larch_heads.specs.declared.outcome.Outcome.TheVariants.{Stops};
 use crate::begin::{
     begin_bracket, begin_equation, begin_operand, begin_post, begin_prefixed, begin_term,
 };
+use crate::conversions::{after_converted, begin_exempted, need_exempted};
 use crate::forms::{
     after_dot_form, after_form, after_mark, after_marker, after_marker_symbol, after_reference,
     after_sort, after_symbol_form, begin_form, need_mark, need_marks, need_range, need_sig,
     need_sort,
 };
 use crate::hand::{after_symbol, after_word, hand, need_field, need_sort_of};
+use crate::implied::{after_implies, after_ref, after_ref_name, behind_first, implied_word};
 use crate::items::{
     after_group, after_semicolon, after_variable, begin_item, clause_word, first_word, in_part,
     need_by, need_further_variable, need_variable, need_variable_sort, word_behind,
@@ -20,8 +22,8 @@ use larch_base::Memory;
 use larch_grammar::{State, Terminal, Whole};
 use larch_heads::{
     Outcome, after_constant, after_field, after_formals, after_head, after_name, after_names,
-    after_ref, after_ref_name, after_rename, at_start, need_constant, need_constants, need_fields,
-    need_further_name, need_name, need_names_sort, need_ref, need_trait, short_word,
+    after_rename, at_start, need_constant, need_constants, need_fields, need_further_name,
+    need_name, need_names_sort, need_ref, need_trait, short_word,
 };
 use std::alloc::Global;
 
@@ -72,22 +74,20 @@ fn begin_step(alloc: Global, state: State, terminal: Terminal) -> Result<Outcome
         State::AfterName(name) => Ok(after_name(alloc, name, terminal)),
         State::AfterFormals(name, formals) => Ok(after_formals(name, formals, terminal)),
         State::NeedTrait(name, formals) => need_trait(alloc, name, formals, terminal),
-        State::AfterHead(raw) => Ok(after_head(raw, terminal)),
+        State::AfterHead(raw) => Ok(after_head(alloc, raw, terminal)),
         State::ShortWord(raw, sort) => Ok(short_word(raw, sort, terminal)),
         State::NeedConstants(raw, sort) => Ok(need_constants(alloc, raw, sort, terminal)),
         State::NeedConstant(raw, sort, words) => need_constant(raw, sort, words, terminal),
-        State::AfterConstant(raw, sort, words) => after_constant(raw, sort, words, terminal),
+        State::AfterConstant(raw, sort, words) => after_constant(alloc, raw, sort, words, terminal),
         State::NeedFields(raw, kind, sort) => Ok(need_fields(alloc, raw, kind, sort, terminal)),
         State::NeedName(shorthand) => need_name(alloc, shorthand, terminal),
         State::AfterNames(shorthand, names) => Ok(after_names(shorthand, names, terminal)),
         State::NeedFurtherName(shorthand, names) => need_further_name(shorthand, names, terminal),
         State::NeedNamesSort(shorthand, names) => need_names_sort(shorthand, names, terminal),
-        State::AfterField(shorthand) => after_field(shorthand, terminal),
-        State::NeedRef(raw, assumed) => Ok(need_ref(raw, assumed, terminal)),
-        State::AfterRefName(raw, assumed, name) => after_ref_name(
-            alloc, raw, assumed, name, terminal,
-        ),
-        State::AfterRef(raw, assumed) => Ok(after_ref(raw, assumed, terminal)),
+        State::AfterField(shorthand) => after_field(alloc, shorthand, terminal),
+        State::NeedRef(raw, kind) => Ok(need_ref(raw, kind, terminal)),
+        State::AfterRefName(raw, kind, name) => after_ref_name(alloc, raw, kind, name, terminal),
+        State::AfterRef(raw, kind) => after_ref(alloc, raw, kind, terminal),
         State::AfterRename(reference) => after_rename(reference, terminal),
         State::InPart(raw) => Ok(in_part(alloc, raw, terminal)),
         State::NeedForm(naming) => Ok(begin_form(naming, terminal)),
@@ -115,17 +115,23 @@ fn begin_step(alloc: Global, state: State, terminal: Terminal) -> Result<Outcome
         State::WordBehind(item, word) => word_behind(alloc, item, word, terminal),
         State::ClauseWord(raw, sort) => Ok(clause_word(raw, sort, terminal)),
         State::NeedBy(clause) => Ok(need_by(alloc, clause, terminal)),
-        State::NeedVariable(raw, variables) => need_variable(alloc, raw, variables, terminal),
-        State::AfterVariable(raw, variables, names) => Ok(after_variable(
-            raw, variables, names, terminal,
+        State::NeedVariable(scope, variables) => need_variable(alloc, scope, variables, terminal),
+        State::AfterVariable(scope, variables, names) => Ok(after_variable(
+            scope, variables, names, terminal,
         )),
-        State::NeedFurtherVariable(raw, variables, names) => need_further_variable(
-            raw, variables, names, terminal,
+        State::NeedFurtherVariable(scope, variables, names) => need_further_variable(
+            scope, variables, names, terminal,
         ),
-        State::NeedVariableSort(raw, variables, names) => need_variable_sort(
-            raw, variables, names, terminal,
+        State::NeedVariableSort(scope, variables, names) => need_variable_sort(
+            scope, variables, names, terminal,
         ),
-        State::AfterGroup(raw, variables) => after_group(alloc, raw, variables, terminal),
+        State::AfterGroup(scope, variables) => after_group(alloc, scope, variables, terminal),
+        State::AfterImplies(raw) => after_implies(alloc, raw, terminal),
+        State::ImpliedWord(raw, word) => implied_word(alloc, raw, word, terminal),
+        State::BehindFirst(raw, word, terms) => behind_first(alloc, raw, word, terms, terminal),
+        State::AfterConverted(raw, refs) => after_converted(alloc, raw, refs, terminal),
+        State::NeedExempted(raw, refs) => need_exempted(alloc, raw, refs, terminal),
+        State::NeedFurtherExempted(conversion) => begin_exempted(alloc, conversion, terminal),
         State::NeedEquation(waiting) => begin_equation(alloc, terminal, waiting),
         State::NeedTerm(stack) => begin_term(terminal, stack),
         State::NeedOperand(stack) => begin_operand(terminal, stack),
