@@ -1,0 +1,12 @@
+//! What a trait claims: its duties, as definitions that compute, with worked examples. No function here does anything.
+#![tactic(auto)]
+
+mod examples;
+mod laws;
+
+pub use examples::{
+    a_converted_operator_is_its_copy, an_exempted_term_is_the_same_by_the_copies,
+    clauses_number_on, operators_are_converted_together, what_is_assumed_is_discharged,
+    what_is_wrong_with_a_conversion, what_is_wrong_with_an_implied_trait,
+};
+pub use laws::{duties_are_sound, duties_are_told, duties_have_plain_names};
