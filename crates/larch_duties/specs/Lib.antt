@@ -1,0 +1,7 @@
+pub mod DutiesCode
+pub mod Finding
+pub mod Kept
+pub mod Lines
+pub mod Names
+pub mod Steps
+pub mod TraitDuties

@@ -1,0 +1,173 @@
+ghost use Rattle.std.specs.Prelude.{◌≡◌, [], ◌++◌, length, map, not, IfOk};
+ghost use Rattle.std.specs.List.{list_all};
+ghost use Rattle.larch_base.specs.Answering.{Answers};
+ghost use Rattle.larch_items.specs.Refusals.{told};
+ghost use Rattle.larch_items.specs.Steps.{all_behind, all_taken};
+ghost use Rattle.larch_claims.specs.Implied.{implied, is_among};
+ghost use Rattle.larch_sources.specs.Sources.{files_in};
+ghost use Rattle.larch_flatten.specs.Known.{AreAllKnown, Knows, stop_told};
+ghost use Rattle.larch_duties.specs.Steps.{new_in, reference_implies, renamed_in, trait_implies};
+ghost use Rattle.larch_duties.specs.TraitDuties.{flat_with};
+
+use crate::among::Among;
+use crate::known::{known_of, marked_at};
+use larch_base::{Code, Memory, Sequence};
+use larch_flatten::FlatTraits;
+use larch_gathered::Flat;
+use larch_items::{TraitRefusal, state_items};
+use larch_marked::{MarkedStatements, new_among};
+use larch_raw::{RawRef, RawTrait};
+use larch_replacing::{NewNames, replacements_of};
+use larch_sorts::Signature;
+use larch_sources::Sources;
+use larch_term::{Operator, Statements};
+use std::alloc::Global;
+
+// What a trait implies: by its references, then by its items; or what is wrong first.
+pub(crate) fn implied(
+    alloc: Global,
+    sources: &Sources,
+    flat_traits: &FlatTraits,
+    flat: &Flat,
+    raw: &RawTrait,
+    signature: &Signature,
+) -> Result<Statements, TraitRefusal>
+    requires known { Knows sources.now flat_traits.now }
+    requires all { AreAllKnown sources.now flat_traits.now }
+    requires signature { signature.now ≡ flat.now.operators }
+    ensures { Answers stop_told result
+        (implied (length sources.now) (files_in sources.now) (flat_with raw.now flat.now)) }
+{
+    let references = raw.implied.as_slice();
+    let statements = by_references(alloc, sources, flat_traits, flat, raw, references)?;
+    let more = state_items(alloc, signature, raw.implied_items.as_slice())?;
+    let all = joined(statements, more)?;
+    Ok(all)
+}
+
+// Statements with others behind them.
+pub(crate) fn joined(statements: Statements, more: Statements) -> Result<Statements, Memory>
+    ensures { IfOk result (λ all. all ≡ statements ++ more) }
+{
+    let mut all = statements.into_vec();
+    let mut more = more.into_vec();
+    all.append(&mut more)?;
+    Ok(Sequence::from_vec(all))
+}
+
+// What a trait implies by references, in order.
+fn by_references(
+    alloc: Global,
+    sources: &Sources,
+    flat_traits: &FlatTraits,
+    flat: &Flat,
+    raw: &RawTrait,
+    references: &[RawRef],
+) -> Result<Statements, TraitRefusal>
+    requires known { Knows sources.now flat_traits.now }
+    requires all { AreAllKnown sources.now flat_traits.now }
+    ensures { Answers stop_told result (all_taken
+        (λ ref. all_behind (reference_implies sources.now (flat_with raw.now flat.now) ref)) references.now []) }
+{
+    let own = Among::of(alloc, flat.operators.as_slice())?;
+    let mut statements = Sequence::new(alloc);
+    for reference in references {
+        let more = by_reference(alloc, sources, flat_traits, flat, raw, &own, reference)?;
+        statements = joined(statements, more)?;
+    }
+    Ok(statements)
+}
+
+// What a trait with these operators of its own implies by a reference.
+fn by_reference(
+    alloc: Global,
+    sources: &Sources,
+    flat_traits: &FlatTraits,
+    flat: &Flat,
+    raw: &RawTrait,
+    own: &Among,
+    reference: &RawRef,
+) -> Result<Statements, TraitRefusal>
+    requires known { Knows sources.now flat_traits.now }
+    requires all { AreAllKnown sources.now flat_traits.now }
+    requires own { own.now ≡ flat.now.operators }
+    ensures { Answers stop_told result (reference_implies sources.now (flat_with raw.now flat.now) reference.now) }
+{
+    let name = &reference.name;
+    let Some(found) = sources.number_of(&name.name) else {
+        return Err(TraitRefusal::Wrong(name.pos, Code::UnknownTrait));
+    };
+    match known_of(flat_traits, found) {
+        Ok(other) => match sources.text(found) {
+            Ok(text) => by_trait(alloc, flat, raw, own, other, text, reference),
+            Err(_) => Err(TraitRefusal::Wrong(name.pos, Code::BadReference)),
+        },
+        Err(_) => Err(TraitRefusal::Wrong(name.pos, Code::BadReference)),
+    }
+}
+
+// What a trait implies by a reference to another one, which has this text.
+fn by_trait(
+    alloc: Global,
+    flat: &Flat,
+    raw: &RawTrait,
+    own: &Among,
+    other: &Flat,
+    text: &RawTrait,
+    reference: &RawRef,
+) -> Result<Statements, TraitRefusal>
+    requires own { own.now ≡ flat.now.operators }
+    ensures { Answers told result
+        (trait_implies (flat_with raw.now flat.now) reference.now (flat_with text.now other.now)) }
+{
+    let operators = other.operators.as_slice();
+    let by = replacements_of(alloc, operators, text.formals.as_slice(), reference)?;
+    let names = NewNames::new(alloc, by, operators)?;
+    let operators = names.operators(alloc, operators)?;
+    if lacks_one(own, operators.as_slice()) {
+        return Err(TraitRefusal::Wrong(reference.name.pos, Code::ImpliedOperator));
+    }
+    let statements = new_statements(alloc, &flat.marked, &names, &other.marked)?;
+    Ok(statements)
+}
+
+// Whether one of some operators is none of a trait's own.
+fn lacks_one(own: &Among, operators: &[Operator]) -> bool
+    ensures { result ≡ not (list_all (is_among own.now) operators.now) }
+{
+    !are_among(own, operators)
+}
+
+// Whether each of some operators is one of a trait's own.
+fn are_among(own: &Among, operators: &[Operator]) -> bool
+    ensures { result ≡ list_all (is_among own.now) operators.now }
+{
+    operators.iter().all(|operator| own.has(operator))
+}
+
+// The statements of another trait by other names, each where it occurs first, without those that are the trait's own.
+fn new_statements(
+    alloc: Global,
+    own: &MarkedStatements,
+    names: &NewNames,
+    marked: &MarkedStatements,
+) -> Result<Statements, Memory>
+    ensures { IfOk result (λ new. new ≡ new_in own.now names.now marked.now) }
+{
+    let renamed = renamed(alloc, names, marked)?;
+    let new = new_among(alloc, own, renamed)?;
+    Ok(new)
+}
+
+// The statements of a trait by other names, in order.
+fn renamed(alloc: Global, names: &NewNames, marked: &MarkedStatements) -> Result<Statements, Memory>
+    ensures { IfOk result (λ renamed. renamed ≡ renamed_in names.now marked.now) }
+{
+    let mut renamed = Sequence::new(alloc);
+    for index in 0..marked.len() {
+        let (statement, _) = marked_at(marked, index);
+        let statement = names.rename_statement(alloc, statement)?;
+        renamed.push(statement)?;
+    }
+    Ok(renamed)
+}
