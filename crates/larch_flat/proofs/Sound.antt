@@ -135,7 +135,8 @@ found_by : (h f : PlainOperator) (fs : List PlainOperator) (b : Bool) → same_o
 found_by h f fs true q k e = subst (Contains (h ∷ fs)) (sym ((operator_Decides f h).0 q)) (contains_here h fs)
 found_by h f fs false q k e = contains_later h f fs (k e)
 
-found : (fs : List PlainOperator) (f : PlainOperator) → list_any (same_operator f) fs ≡ true → Contains fs f
+-- an operator that is found among others is one of them
+pub found : (fs : List PlainOperator) (f : PlainOperator) → list_any (same_operator f) fs ≡ true → Contains fs f
 found [] f e = cc
 found (h ∷ fs) f e = found_by h f fs (same_operator f h) refl (found fs f) e
 

@@ -86,7 +86,8 @@ new_by : (P : Statement → Type 0) (ss : List Statement) (s : Statement) (b : B
 new_by P ss s true a p = a
 new_by P ss s false a p = All-push P ss s a p
 
-all_new : (P : Statement → Type 0) (ss known : List Statement) → All P known → All P ss → All P (fold with_new known ss)
+-- what holds of statements holds of those that are new among them
+pub all_new : (P : Statement → Type 0) (ss known : List Statement) → All P known → All P ss → All P (fold with_new known ss)
 all_new P [] known k a = k
 all_new P (s ∷ ss) known k a = all_new P ss (with_new known s) (new_by P known s (stands_in known s) k (All-head P s ss a)) (All-tail P s ss a)
 
@@ -94,7 +95,7 @@ left_by : (P : Statement → Type 0) (s : Statement) (ss : List Statement) (b : 
 left_by P s ss true p a = All-cons P s ss p a
 left_by P s ss false p a = a
 
-all_left : (P : Statement → Type 0) (test : Statement → Bool) (ss : List Statement) → All P ss → All P (filter test ss)
+pub all_left : (P : Statement → Type 0) (test : Statement → Bool) (ss : List Statement) → All P ss → All P (filter test ss)
 all_left P test [] a = a
 all_left P test (s ∷ ss) a = left_by P s (filter test ss) (test s) (All-head P s ss a) (all_left P test ss (All-tail P s ss a))
 

@@ -1,5 +1,6 @@
 -- What examples are written with, and the traits of the examples.
-use Rattle.std.specs.Prelude.{ℕ, Bool, true, false, bytes_eq, codes, List, [], ◌∷◌, map, Some, None, Result, Ok, Err, replicate}
+use Rattle.std.specs.Prelude.{ℕ, Bool, true, false, bytes_eq, codes, List, [], ◌∷◌, map, Some, None, Result, Ok, Err}
+use Rattle.std.specs.Prelude.{replicate}
 use Rattle.std.specs.Fmt.{digits}
 use Rattle.std.specs.Map.{lookup}
 use Rattle.larch_base.specs.declared.code.Code.{Code}
@@ -119,6 +120,10 @@ a_trait name references declarations items =
       references = references;
       declarations = declarations;
       items = items;
+      implies = false;
+      implied = [];
+      implied_items = [];
+      conversions = [];
     }
 
 -- a trait of shorthands alone
@@ -131,6 +136,10 @@ of_shorthands name shorthands =
       references = [];
       declarations = [];
       items = [];
+      implies = false;
+      implied = [];
+      implied_items = [];
+      conversions = [];
     }
 
 -- a: -> A, b: -> B and f: A -> B, where f(a) is b
@@ -327,6 +336,10 @@ with_formal =
       references = [];
       declarations = declares (codes "a") [] (codes "A") ∷ [];
       items = [];
+      implies = false;
+      implied = [];
+      implied_items = [];
+      conversions = [];
     }
 
 -- the flat trait of a trait that includes it with these forms in the places of its formals

@@ -1,8 +1,13 @@
 //! Flat traits worked out, as the definitions compute them. No function here does anything.
 ghost use Rattle.std.specs.Prelude.{◌≡◌, true, false, codes, [], ◌∷◌, Ok, Err, replicate};
-ghost use Rattle.larch_base.specs.declared.code.Code.TheVariants.{Arity, BadReference, BuiltIn, Cycle, FieldTwice, NoReading, Rename, TraitName, UnknownTrait};
+ghost use Rattle.larch_base.specs.declared.code.Code.TheVariants.{Arity, BadReference, BuiltIn, Cycle, FieldTwice};
+ghost use Rattle.larch_base.specs.declared.code.Code.TheVariants.{NoReading, Rename, TraitName, UnknownTrait};
 ghost use Rattle.larch_raw.specs.declared.reference.RawActual.TheVariants.{Plain};
-ghost use Rattle.larch_flat.specs.Examples.{a_trait, alone, assumptions, bad_files, bare, base_statement, base_theory, beside_base, circle, constants, declares_truth, diamond, for_old, for_one, including_one, made_theory, no_circle, no_theory, of_base, of_formal, of_overloaded, shown, so_many, sorts_made, states_nothing, twice_named, unfit, wrong};
+ghost use Rattle.larch_flat.specs.Examples.{a_trait, alone, assumptions, bad_files, bare, base_statement};
+ghost use Rattle.larch_flat.specs.Examples.{base_theory, beside_base, circle, constants, declares_truth, diamond};
+ghost use Rattle.larch_flat.specs.Examples.{for_old, for_one, including_one, made_theory, no_circle, no_theory};
+ghost use Rattle.larch_flat.specs.Examples.{of_base, of_formal, of_overloaded, shown, so_many, sorts_made};
+ghost use Rattle.larch_flat.specs.Examples.{states_nothing, twice_named, unfit, wrong};
 ghost use Rattle.larch_flat.specs.Flat.{flat};
 ghost use Rattle.larch_flat.specs.Gathered.{is_too_large};
 

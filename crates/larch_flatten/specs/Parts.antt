@@ -37,7 +37,8 @@ with_new r by operators marked g =
     (renamed_marked by marked)
 
 -- with the operators and marked statements of a trait with these formals, by the names that a reference gives
-abbrev pub with_parts : RawReference → List RawForm → List PlainOperator → List Marked → Gathered → Result Gathered Fault
+abbrev pub with_parts : RawReference → List RawForm → List PlainOperator → List Marked → Gathered
+    → Result Gathered Fault
 with_parts r formals operators marked g =
     after (replacements_of operators formals r.target) (λ by.
     within r.target.name.pos (with_new r by operators marked g))

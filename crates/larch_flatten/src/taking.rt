@@ -58,7 +58,8 @@ pub(crate) fn take_target(
     requires within { found < length sources.now }
     requires size { length known.now ≡ length sources.now }
     requires known { is_known known.now found ≡ true }
-    ensures { (number : ℕ) (g : Gathered) → Knows sources.now known.now → IsTarget sources.now number reference.now found
+    ensures { (number : ℕ) (g : Gathered) → Knows sources.now known.now
+        → IsTarget sources.now number reference.now found
         → Keeps store.old g
         → Takes store.new result (with_reference sources.now (name_at sources.now number) reference.now g) }
 {
@@ -112,7 +113,8 @@ fn take_new(
     store: &mut Store,
 ) -> Result<(), TraitRefusal>
     ensures { (g : Gathered) → Keeps store.old g
-        → Leaves store.new result (within reference.now.target.name.pos (with_new reference.now by operators.now marked.now g)) }
+        → Leaves store.new result (within reference.now.target.name.pos
+        (with_new reference.now by operators.now marked.now g)) }
 {
     let names = NewNames::new(alloc, by, operators)?;
     let operators = names.operators(alloc, operators)?;

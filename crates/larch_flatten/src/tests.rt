@@ -40,6 +40,10 @@ fn a_trait(alloc: Global, name: &[u8], targets: &[&[u8]]) -> Result<RawTrait, Me
         references,
         declarations: Sequence::new(alloc),
         items: Sequence::new(alloc),
+        implies: false,
+        implied: Sequence::new(alloc),
+        implied_items: Sequence::new(alloc),
+        conversions: Sequence::new(alloc),
     })
 }
 

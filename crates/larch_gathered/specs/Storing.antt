@@ -1,7 +1,8 @@
 -- What is done with a store.
 use Rattle.std.specs.Prelude.{◌||◌, Bool, List}
 use Rattle.larch_term.specs.Operator.{PlainOperator}
-use Rattle.larch_flat.specs.Gathered.{Gathered, Marked, is_too_large, new_among, statements_in, with_operators, with_taken}
+use Rattle.larch_flat.specs.Gathered.{Gathered, Marked, is_too_large, new_among, statements_in, with_operators}
+use Rattle.larch_flat.specs.Gathered.{with_taken}
 use Rattle.larch_gathered.specs.Keeping.{Store}
 
 -- it is full where a limit is passed

@@ -1,5 +1,6 @@
 ghost use Rattle.std.specs.Prelude.{◌≡◌, fold, OnOk};
-ghost use Rattle.larch_flat.specs.Gathered.{Gathered, is_too_large, nothing, with_asserted, with_operator, with_operators, with_taken};
+ghost use Rattle.larch_flat.specs.Gathered.{Gathered, is_too_large, nothing, with_asserted, with_operator};
+ghost use Rattle.larch_flat.specs.Gathered.{with_operators, with_taken};
 ghost use Rattle.larch_gathered.specs.Keeping.{Keeps};
 ghost use Rattle.larch_gathered.specs.Storing.{storing, storing_operators, with_limits};
 
@@ -83,7 +84,9 @@ impl Store {
         statement: Statement,
         assumed: bool,
     ) -> Result<(), Memory>
-        ensures { (g : Gathered) → Keeps self.old g → OnOk result (Keeps self.new (with_taken assumes (record { statement = statement; assumed = assumed }) g)) }
+        ensures { (g : Gathered) → Keeps self.old g
+            → OnOk result (Keeps self.new (with_taken assumes
+            (record { statement = statement; assumed = assumed }) g)) }
     {
         if self.is_full() {
             return Ok(());
@@ -131,7 +134,8 @@ impl Store {
 
     // Puts a statement where it belongs, whatever the limits.
     fn put(&mut self, assumes: bool, statement: Statement, assumed: bool) -> Result<(), Memory>
-        ensures { OnOk result (self.new ≡ storing assumes (record { statement = statement; assumed = assumed }) self.old) }
+        ensures { OnOk result (self.new ≡ storing assumes
+            (record { statement = statement; assumed = assumed }) self.old) }
     {
         if assumes {
             self.marked.insert(statement, true)?;

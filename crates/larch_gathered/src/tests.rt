@@ -39,6 +39,10 @@ fn twice(alloc: Global) -> Result<RawTrait, TraitRefusal> {
         references: Sequence::new(alloc),
         declarations: Sequence::new(alloc),
         items: Sequence::new(alloc),
+        implies: false,
+        implied: Sequence::new(alloc),
+        implied_items: Sequence::new(alloc),
+        conversions: Sequence::new(alloc),
     })
 }
 

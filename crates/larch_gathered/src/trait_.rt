@@ -41,8 +41,8 @@ impl Store {
         Ok(())
     }
 
-    /// Takes what a trait declares, and then what its items state over all operators that are gathered. `Wrong` has what
-    /// is wrong with its declarations, or else with its items, as `larch_items` tells it.
+    /// Takes what a trait declares, and then what its items state over all operators that are gathered. `Wrong` has
+    /// what is wrong with its declarations, or else with its items, as `larch_items` tells it.
     pub fn take_own(&mut self, alloc: Global, raw: &RawTrait) -> Result<(), TraitRefusal>
         ensures { (g : Gathered) → Keeps self.old g → Leaves self.new result (take_own raw.now g) }
     {
@@ -56,7 +56,8 @@ impl Store {
     /// that is gathered then; what it states itself needs no discharge. `Wrong` has what is wrong with a shorthand, a
     /// declaration or an item first, or else SIZE at the trait's name where a limit is passed.
     pub fn take_rest(self, alloc: Global, raw: &RawTrait) -> Result<Flat, TraitRefusal>
-        ensures { (g : Gathered) → Keeps self g → Answers told result (after (take_rest raw.now g) (λ t. Ok (gathered_in t))) }
+        ensures { (g : Gathered) → Keeps self g
+            → Answers told result (after (take_rest raw.now g) (λ t. Ok (gathered_in t))) }
     {
         let mut store = self;
         store.take_shorthands(alloc, raw.shorthands.as_slice())?;
@@ -72,7 +73,8 @@ impl Store {
         alloc: Global,
         shorthands: &[RawShorthand],
     ) -> Result<(), TraitRefusal>
-        ensures { (g : Gathered) → Keeps self.old g → Leaves self.new result (all_taken take_shorthand shorthands.now g) }
+        ensures { (g : Gathered) → Keeps self.old g
+            → Leaves self.new result (all_taken take_shorthand shorthands.now g) }
     {
         for shorthand in shorthands {
             self.take_shorthand(alloc, shorthand)?;
@@ -101,7 +103,9 @@ impl Store {
 
     // All that is gathered, unless a limit is passed.
     fn finish(self, alloc: Global, raw: &RawTrait) -> Result<Flat, TraitRefusal>
-        ensures { (g : Gathered) → Keeps self g → Answers told result (after (after (within raw.now.name.pos g) (λ h. Ok (finished raw.now h))) (λ t. Ok (gathered_in t))) }
+        ensures { (g : Gathered) → Keeps self g
+            → Answers told result (after (after (within raw.now.name.pos g) (λ h. Ok (finished raw.now h)))
+            (λ t. Ok (gathered_in t))) }
     {
         if self.is_too_large() {
             return Err(TraitRefusal::Wrong(raw.name.pos, Code::Size));

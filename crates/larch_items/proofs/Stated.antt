@@ -102,7 +102,7 @@ module _ (fs : List PlainOperator) (vs : List RawVar) (scope : Variables) (e : v
       unless_was (fault_at UnknownSort (first_position (λ v. not (exists_sort fs v.sort.name)) (λ v. v.sort.pos) vs)) (all_taken with_declared vs []) scope e
 
   -- the sorts of variables that are declared exist
-  scope_exists : All (λ v. IsSortOf fs v.1) scope
+  pub scope_exists : All (λ v. IsSortOf fs v.1) scope
   scope_exists =
       scope_so (λ v. not (exists_sort fs v.sort.name) ≡ false) (λ v. IsSortOf fs v.1)
       (λ v h. (exists_Decides fs v.sort.name).0 (not_false (exists_sort fs v.sort.name) h)) vs scope
@@ -116,7 +116,8 @@ picked : (f g : PlainOperator) (b : Bool) → (if b then Some f else None) ≡ S
 picked f g true h = h
 picked f g false h = cc
 
-only_by : (is_so : PlainOperator → Bool) (fs : List PlainOperator) (g : PlainOperator) (found : Option PlainOperator)
+-- the one operator that is so is the first that is so
+pub only_by : (is_so : PlainOperator → Bool) (fs : List PlainOperator) (g : PlainOperator) (found : Option PlainOperator)
     → option_and_then (λ f. if all_same is_so f fs then Some f else None) found ≡ Some g → found ≡ Some g
 only_by is_so fs g None e = cc
 only_by is_so fs g (Some f) e = picked f g (all_same is_so f fs) e

@@ -1,5 +1,6 @@
 -- The operators that references of clauses name.
-use Rattle.std.specs.Prelude.{if◌then◌else◌, ◌&&◌, ◌||◌, ℕ, Bool, false, not, bytes_eq, List, Option, Some, None, option_map, option_and_then, find, Result, Ok, Err}
+use Rattle.std.specs.Prelude.{if◌then◌else◌, ◌&&◌, ◌||◌, ℕ, Bool, false, not, bytes_eq, List, Option, Some, None}
+use Rattle.std.specs.Prelude.{option_map, option_and_then, find, Result, Ok, Err}
 use Rattle.std.specs.List.{list_any, list_all}
 use Rattle.larch_base.specs.declared.code.Code.{Code}
 use Rattle.larch_base.specs.declared.code.Code.TheVariants.{Generator, Partition}

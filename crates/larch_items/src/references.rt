@@ -2,7 +2,8 @@ ghost use Rattle.std.specs.Prelude.{◌≡◌, IfOk, find};
 ghost use Rattle.std.specs.Option.{option_copied};
 ghost use Rattle.larch_base.specs.Answering.{Answers};
 ghost use Rattle.larch_term.specs.Equality.{same_operator};
-ghost use Rattle.larch_items.specs.References.{all_same, clause_code, is_meant, is_wanted, only_operator, operator_named, operators_named, suits, takes, wanted_of};
+ghost use Rattle.larch_items.specs.References.{all_same, clause_code, is_meant, is_wanted, only_operator};
+ghost use Rattle.larch_items.specs.References.{operator_named, operators_named, suits, takes, wanted_of};
 ghost use Rattle.larch_items.specs.Refusals.{told};
 
 use crate::declarations::operator_of;

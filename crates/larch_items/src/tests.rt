@@ -77,6 +77,10 @@ fn presented(
         references: Sequence::new(alloc),
         declarations,
         items,
+        implies: false,
+        implied: Sequence::new(alloc),
+        implied_items: Sequence::new(alloc),
+        conversions: Sequence::new(alloc),
     };
     present(alloc, &raw)
 }

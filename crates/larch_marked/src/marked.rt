@@ -1,4 +1,5 @@
-ghost use Rattle.std.specs.Prelude.{◌≡◌, ◌+◌, ◌-◌, ◌^◌, [], if◌then◌else◌, length, map, min, option_map, slice_get, take, IfOk, OnErr, OnOk};
+ghost use Rattle.std.specs.Prelude.{◌≡◌, ◌+◌, ◌-◌, ◌^◌, [], if◌then◌else◌, length, map, min, option_map, slice_get};
+ghost use Rattle.std.specs.Prelude.{take, IfOk, OnErr, OnOk};
 ghost use Rattle.larch_flat.specs.Gathered.{nodes_in, stands_in, statement_nodes, statements_in, with_statement};
 ghost use Rattle.larch_marked.specs.Marks.{marked_in, stated_in};
 ghost use Rattle.indexmap.specs.IndexMap.{keys};
@@ -115,7 +116,8 @@ fn put(
     statement: Statement,
     assumed: bool,
 ) -> Result<bool, Memory>
-    ensures put { OnOk result (marked_in entries.new.entries ≡ with_statement statement assumed (marked_in entries.old.entries)) }
+    ensures put { OnOk result (marked_in entries.new.entries
+        ≡ with_statement statement assumed (marked_in entries.old.entries)) }
     ensures nodes { IfOk result (λ added. nodes_in (marked_in entries.new.entries)
         ≡ nodes_in (marked_in entries.old.entries) + (if added then statement_nodes statement else 0)) }
     ensures err { OnErr result (entries.new.entries ≡ entries.old.entries) }

@@ -31,7 +31,8 @@ impl<'a> Model for OldNames<'a> {
 
     ghost view = { λ names. names.operators.now };
 
-    ghost invariant = { λ names. (names.sorts ≡ existing_sorts names.operators.now) × (names.truth_values ≡ both_truth_values) };
+    ghost invariant = { λ names. (names.sorts ≡ existing_sorts names.operators.now)
+        × (names.truth_values ≡ both_truth_values) };
 }
 
 impl<'a> OldNames<'a> {
@@ -63,7 +64,8 @@ impl<'a> OldNames<'a> {
         sig: Option<&RawSig>,
     ) -> Result<Operators, Memory>
         ensures { IfOk result (λ meant. meant
-            ≡ filter (is_meant (exactly old.now (option_copied sig.entry)) old.now.name) (with_truth_values self.now)) }
+            ≡ filter (is_meant (exactly old.now (option_copied sig.entry)) old.now.name)
+            (with_truth_values self.now)) }
     {
         let exact = exactly(alloc, old, sig)?;
         let mut meant = Sequence::new(alloc);

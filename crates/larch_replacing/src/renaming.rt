@@ -23,6 +23,14 @@ impl NewNames {
         let new = renamed_statement(alloc, self, statement)?;
         Ok(new)
     }
+
+    /// The term with the new sorts and operators in place of the old ones, made afresh.
+    pub fn rename_term(&self, alloc: Global, term: &Term) -> Result<Term, Memory>
+        ensures { IfOk result (λ new. new ≡ renamed (renaming self.now) term.now) }
+    {
+        let new = renamed(alloc, self, term)?;
+        Ok(new)
+    }
 }
 
 // The statement by new names, made afresh.

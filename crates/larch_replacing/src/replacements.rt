@@ -34,8 +34,8 @@ impl Model for Replacements {
 }
 
 impl Replacements {
-    // Nothing is replaced.
-    pub(crate) fn none(alloc: Global) -> Replacements
+    /// Nothing is replaced. It takes no memory.
+    pub fn none(alloc: Global) -> Replacements
         ensures { result ≡ none_replaced }
     {
         Replacements {
@@ -169,8 +169,8 @@ impl Replacements {
         Ok(by)
     }
 
-    // With a name for an operator.
-    fn with_operator(self, operator: &Operator, name: &Name) -> Result<Replacements, Memory>
+    /// With a name for an operator; one that it has already comes first.
+    pub fn with_operator(self, operator: &Operator, name: &Name) -> Result<Replacements, Memory>
         ensures { IfOk result (λ by. by ≡ these self.sorts (self.operators ++ (operator.now, name.now) ∷ [])) }
     {
         let Replacements {

@@ -6,7 +6,10 @@ ghost use Rattle.larch_base.specs.declared.code.Code.TheVariants.{Rename};
 ghost use Rattle.larch_term.specs.BuiltIn.{is_built_in};
 ghost use Rattle.larch_items.specs.Refusals.{told};
 ghost use Rattle.larch_items.specs.Steps.{after, all_taken};
-ghost use Rattle.larch_flat.specs.Replacements.{OldOperators, OldSort, by_name, by_position, cannot_rename, cannot_rename_sort, fits_operator, is_count_wrong, kept_apart, named, new_operator, none_or_any, none_replaced, plain_forms, replace, replaced, replacements_of};
+ghost use Rattle.larch_flat.specs.Replacements.{OldOperators, OldSort, by_name, by_position, cannot_rename};
+ghost use Rattle.larch_flat.specs.Replacements.{cannot_rename_sort, fits_operator, is_count_wrong, kept_apart, named};
+ghost use Rattle.larch_flat.specs.Replacements.{new_operator, none_or_any, none_replaced, plain_forms, replace};
+ghost use Rattle.larch_flat.specs.Replacements.{replaced, replacements_of};
 ghost use Rattle.larch_flat.specs.Stops.{refused_if};
 
 use crate::old_names::OldNames;

@@ -1,5 +1,6 @@
 -- The state of a proof: its levels, and how goals are opened and proved.
-use Rattle.std.specs.Prelude.{ℕ, ◌+◌, ◌||◌, Bool, true, false, if◌then◌else◌, List, [], ◌∷◌, ◌++◌, sum_by, length, fold, Result, Ok, Err}
+use Rattle.std.specs.Prelude.{ℕ, ◌+◌, ◌||◌, Bool, true, false, if◌then◌else◌, List, [], ◌∷◌, ◌++◌, sum_by, length}
+use Rattle.std.specs.Prelude.{fold, Result, Ok, Err}
 use Rattle.std.specs.List.{flat_map}
 use Rattle.larch_base.specs.declared.code.Code.{Code}
 use Rattle.larch_base.specs.declared.code.Code.TheVariants.{Limit, Size}
@@ -146,8 +147,8 @@ opened_from done parent below (s ∷ ss) p =
       | false ↦ Ok q
     ])
 
--- A level is proved, and these stand below it: the next subgoal is opened, or the level below is proved by it; a formula
--- that a command proved is added to the level below, which may be proved by that.
+-- A level is proved, and these stand below it: the next subgoal is opened, or the level below is proved by it; a
+-- formula that a command proved is added to the level below, which may be proved by that.
 abbrev pub risen : List Level → Level → Next
 risen [] level p = Ok (with_mark true (record p { current = level; below = []; is_proved = true }))
 risen (parent ∷ below) level p = elim level.purpose [

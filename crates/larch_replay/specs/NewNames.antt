@@ -17,8 +17,8 @@ abbrev pub all_bytes : List (List ℕ) → List ℕ
 all_bytes [] = []
 all_bytes (n ∷ ns) = n ++ all_bytes ns
 
--- The first of a word, the word with 1, with 2, .. that isn't taken. As many names as are taken, and one more, are looked
--- at, so that one of them is free; what would stand there else is longer than all that are taken.
+-- The first of a word, the word with 1, with 2, .. that isn't taken. As many names as are taken, and one more, are
+-- looked at, so that one of them is free; what would stand there else is longer than all that are taken.
 abbrev pub free_name : List (List ℕ) → List ℕ → List ℕ
 free_name taken word =
     unwrap_or (find (λ n. not (list_any (bytes_eq n) taken)) (word ∷ numbered_from word 1 (length taken)))

@@ -1,5 +1,6 @@
 -- What the methods make of a goal: new constants, and subgoals.
-use Rattle.std.specs.Prelude.{◌≡◌, ℕ, suc, ◌==◌, Bool, true, false, if◌then◌else◌, All, Contains, List, [], ◌∷◌, ◌++◌, map, bytes_eq, codes, Option, Some, None, option_map, Result, Ok, Err, find}
+use Rattle.std.specs.Prelude.{◌≡◌, ℕ, suc, ◌==◌, Bool, true, false, if◌then◌else◌, All, Contains, List, [], ◌∷◌, ◌++◌}
+use Rattle.std.specs.Prelude.{map, bytes_eq, codes, Option, Some, None, option_map, Result, Ok, Err, find}
 use Rattle.larch_base.specs.declared.code.Code.{Code}
 use Rattle.larch_base.specs.declared.code.Code.TheVariants as refusal
 use Rattle.larch_term.specs.Operator.{PlainOperator, name_bytes}
@@ -32,7 +33,8 @@ pub record Plan : Type 0 where
   pub constants : List PlainOperator
   pub subgoals : List Subgoal
 
--- what a method looks at beside the goal: the clauses, of which the first of a sort counts, and the names that are taken
+-- what a method looks at beside the goal: the clauses, of which the first of a sort counts, and the names that are
+-- taken
 pub record Setting : Type 0 where
   pub clauses : List Statement
   pub taken : List (List ℕ)

@@ -1,5 +1,6 @@
 -- How much of a report has to be replayed again behind an edit.
-use Rattle.std.specs.Prelude.{ℕ, ◌+◌, ◌==◌, ◌&&◌, Bool, true, false, if◌then◌else◌, List, [], ◌∷◌, length, bytes_eq, Option, Some, None, find, sum_by}
+use Rattle.std.specs.Prelude.{ℕ, ◌+◌, ◌==◌, ◌&&◌, Bool, true, false, if◌then◌else◌, List, [], ◌∷◌, length, bytes_eq}
+use Rattle.std.specs.Prelude.{Option, Some, None, find, sum_by}
 use Rattle.std.specs.Cmp.Lexicographic.{pointwise}
 use Rattle.larch_base.specs.CodeText.{code_text}
 use Rattle.larch_base.specs.declared.label.Label.{Label}
@@ -7,8 +8,11 @@ use Rattle.larch_base.specs.declared.way.Way.{Way}
 use Rattle.larch_base.specs.declared.way.Way.TheVariants.{LeftToRight, RightToLeft, Multiset}
 use Rattle.larch_term.specs.Equality.{same_operator, same_statement}
 use Rattle.larch_term.specs.declared.statement.Theory.{Theory}
-use Rattle.larch_replay.specs.Commands.{Spelling, Spellings, said, said_of, no_spelling, spelling, SpelledEquation, SpelledSignature, Reference, Instance, Command}
-use Rattle.larch_replay.specs.Commands.{Declare, SetLimit, BoxChecking, Height, SetStatus, Prove, ByCases, ByImplication, ByConjunction, ByContradiction, ByInduction, ByPartition, Instantiate, CriticalPairs, Normalize, Qed, Mark, Bad}
+use Rattle.larch_replay.specs.Commands.{Spelling, Spellings, said, said_of, no_spelling, spelling, SpelledEquation}
+use Rattle.larch_replay.specs.Commands.{SpelledSignature, Reference, Instance, Command}
+use Rattle.larch_replay.specs.Commands.{Declare, SetLimit, BoxChecking, Height, SetStatus, Prove, ByCases}
+use Rattle.larch_replay.specs.Commands.{ByImplication, ByConjunction, ByContradiction, ByInduction, ByPartition}
+use Rattle.larch_replay.specs.Commands.{Instantiate, CriticalPairs, Normalize, Qed, Mark, Bad}
 use Rattle.larch_replay.specs.Levels.{EarlierDuty}
 use Rattle.larch_replay.specs.Replays.{Duty, is_same_mark}
 use Rattle.larch_replay.specs.Scripts.{same_label}

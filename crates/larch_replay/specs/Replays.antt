@@ -1,5 +1,6 @@
 -- A block is replayed: its opening, and then command by command.
-use Rattle.std.specs.Prelude.{ℕ, suc, ◌+◌, min, ◌||◌, nat_lt, Bool, true, false, not, if◌then◌else◌, List, [], ◌∷◌, ◌++◌, map, codes, Result, Ok, Err}
+use Rattle.std.specs.Prelude.{ℕ, suc, ◌+◌, min, ◌||◌, nat_lt, Bool, true, false, not, if◌then◌else◌, List, [], ◌∷◌}
+use Rattle.std.specs.Prelude.{◌++◌, map, codes, Result, Ok, Err}
 use Rattle.std.specs.List.{flat_map}
 use Rattle.larch_base.specs.declared.code.Code.{Code}
 use Rattle.larch_base.specs.declared.code.Code.TheVariants as refusal
@@ -24,7 +25,8 @@ use Rattle.larch_replay.specs.Facts.{whole_name, no_facts, max_fact_number}
 use Rattle.larch_replay.specs.NewNames.{free_name, constant_named}
 use Rattle.larch_replay.specs.Plans.{holds}
 use Rattle.larch_replay.specs.Commands.{Command, Declare, SetLimit, BoxChecking, Height, SetStatus, Qed, Mark, Bad}
-use Rattle.larch_replay.specs.Levels.{Proof, EarlierDuty, Next, OfDuty, added, all_supposed, normal_goal, settled, with_goal, with_constants, open_goals, unless}
+use Rattle.larch_replay.specs.Levels.{Proof, EarlierDuty, Next, OfDuty, added, all_supposed, normal_goal, settled}
+use Rattle.larch_replay.specs.Levels.{with_goal, with_constants, open_goals, unless}
 use Rattle.larch_replay.specs.Steps.{carried_out, taken_names}
 
 -- where a block is refused: at a command of the preamble, at its opening, or at a command, these being counted from 1

@@ -1,12 +1,14 @@
 -- What a report says of a trait's duties and its script.
-use Rattle.std.specs.Prelude.{ℕ, suc, ◌-◌, ◌==◌, ◌&&◌, Bool, true, false, not, if◌then◌else◌, List, [], ◌∷◌, ◌++◌, map, filter, Option, Some, None}
+use Rattle.std.specs.Prelude.{ℕ, suc, ◌-◌, ◌==◌, ◌&&◌, Bool, true, false, not, if◌then◌else◌, List, [], ◌∷◌, ◌++◌}
+use Rattle.std.specs.Prelude.{map, filter, Option, Some, None}
 use Rattle.std.specs.List.{list_any}
 use Rattle.larch_base.specs.declared.code.Code.{Code}
 use Rattle.larch_base.specs.declared.code.Code.TheVariants.{UnknownDuty, DutyTwice}
 use Rattle.larch_base.specs.declared.label.Label.{Label}
 use Rattle.larch_term.specs.Tree.{Tree}
 use Rattle.larch_replay.specs.Levels.{EarlierDuty}
-use Rattle.larch_replay.specs.Replays.{Outcome, Proved, Suspended, Refused, RefusalPlace, InPreamble, AtOpening, AtCommand, Duty, replay}
+use Rattle.larch_replay.specs.Replays.{Outcome, Proved, Suspended, Refused, RefusalPlace, InPreamble, AtOpening}
+use Rattle.larch_replay.specs.Replays.{AtCommand, Duty, replay}
 use Rattle.larch_replay.specs.Scripts.{ScriptCommand, Block, Script, ClaimedDuty, commands_of, same_label, block_of}
 
 -- a duty with its number among those of the trait, from 1, and its outcome

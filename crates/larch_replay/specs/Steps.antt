@@ -1,5 +1,6 @@
 -- What each command does, and when it is refused.
-use Rattle.std.specs.Prelude.{ℕ, ◌==◌, ◌&&◌, Bool, true, false, not, if◌then◌else◌, List, [], ◌∷◌, ◌++◌, map, filter, fold, length, bytes_eq, Option, Some, None, Result, Ok, Err, find}
+use Rattle.std.specs.Prelude.{ℕ, ◌==◌, ◌&&◌, Bool, true, false, not, if◌then◌else◌, List, [], ◌∷◌, ◌++◌, map, filter}
+use Rattle.std.specs.Prelude.{fold, length, bytes_eq, Option, Some, None, Result, Ok, Err, find}
 use Rattle.std.specs.List.{list_any, list_all}
 use Rattle.larch_base.specs.declared.code.Code.{Code}
 use Rattle.larch_base.specs.declared.code.Code.TheVariants as refusal
@@ -29,10 +30,15 @@ use Rattle.larch_pairs.specs.Unify.{Oversize}
 use Rattle.larch_critical_pairs.specs.declared.pair.Pair.{Pair}
 use Rattle.larch_critical_pairs.specs.declared.pair.Rule.{Rule}
 use Rattle.larch_replay.specs.Facts.{Fact}
-use Rattle.larch_replay.specs.Plans.{Method, Setting, plan, with_found, Cases, Implication, Conjunction, Contradiction, Induction, Partition}
-use Rattle.larch_replay.specs.Commands.{Command, SpelledEquation, Spelling, SpelledSignature, Reference, Instance, placed_equation, spelled_formula}
-use Rattle.larch_replay.specs.Commands.{Declare, SetLimit, BoxChecking, Height, SetStatus, Prove, ByCases, ByImplication, ByConjunction, ByContradiction, ByInduction, ByPartition, Instantiate, CriticalPairs, Normalize, Qed, Mark, Bad}
-use Rattle.larch_replay.specs.Levels.{Proof, Next, OfProof, level_for, with_facts, derived, derived_by, normal_goal, settled, begun, unless, is_settled}
+use Rattle.larch_replay.specs.Plans.{Method, Setting, plan, with_found, Cases, Implication, Conjunction}
+use Rattle.larch_replay.specs.Plans.{Contradiction, Induction, Partition}
+use Rattle.larch_replay.specs.Commands.{Command, SpelledEquation, Spelling, SpelledSignature, Reference, Instance}
+use Rattle.larch_replay.specs.Commands.{placed_equation, spelled_formula}
+use Rattle.larch_replay.specs.Commands.{Declare, SetLimit, BoxChecking, Height, SetStatus, Prove, ByCases}
+use Rattle.larch_replay.specs.Commands.{ByImplication, ByConjunction, ByContradiction, ByInduction, ByPartition}
+use Rattle.larch_replay.specs.Commands.{Instantiate, CriticalPairs, Normalize, Qed, Mark, Bad}
+use Rattle.larch_replay.specs.Levels.{Proof, Next, OfProof, level_for, with_facts, derived, derived_by, normal_goal}
+use Rattle.larch_replay.specs.Levels.{settled, begun, unless, is_settled}
 
 -- the code of a reading that is refused; where it stands in a command isn't told
 abbrev pub read_or : {A : Type 0} → Result A Fault → Result A Code

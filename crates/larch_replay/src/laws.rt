@@ -1,5 +1,6 @@
 //! What holds of all replays, for crates above to cite. No function here does anything.
-ghost use Rattle.std.specs.Prelude.{◌≡◌, ◌≢◌, ◌<◌, ◌≤◌, ◌+◌, ◌++◌, ℕ, false, List, Option, length, sum_by, bytes_eq, All, Contains, Ok};
+ghost use Rattle.std.specs.Prelude.{◌≡◌, ◌≢◌, ◌<◌, ◌≤◌, ◌+◌, ◌++◌, ℕ, false, List, Option, length, sum_by, bytes_eq};
+ghost use Rattle.std.specs.Prelude.{All, Contains, Ok};
 ghost use Rattle.std.specs.List.{list_any, AllPairs};
 ghost use Rattle.larch_raw.specs.declared.equation.RawEquation.{RawEquation};
 ghost use Rattle.larch_term.specs.Operator.{PlainOperator, name_bytes};
@@ -55,8 +56,8 @@ pub fn redoing_is_bounded()
     ensures { (before now : List Replayed) → redo before now ≤ sum_by (λ r. 1 + length r.block) now }
 {}
 
-/// Where facts and an equation are well sorted over operators, so are the facts behind its adding. Where no fact rewrites
-/// a variable, none does behind it.
+/// Where facts and an equation are well sorted over operators, so are the facts behind its adding. Where no fact
+/// rewrites a variable, none does behind it.
 pub fn adding_keeps_sorts()
     ensures sorts { (fs : List PlainOperator) (how : Adding) (e : Sides) (facts : Facts) (b : ℕ) (made : Facts) (r : ℕ)
         → All (λ fact. AreSidesOver fs fact.sides) facts.rules → AreSidesOver fs e → add how e facts b ≡ Made made r

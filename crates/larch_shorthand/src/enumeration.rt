@@ -1,7 +1,9 @@
 ghost use Rattle.std.specs.Prelude.{◌≡◌, ◌∷◌, [], map, IfOk};
 ghost use Rattle.larch_term.specs.Truth.{truth};
 ghost use Rattle.larch_term.specs.declared.statement.Statement.TheVariants.{Generated};
-ghost use Rattle.larch_shorthand.specs.Enumeration.{all_differ, all_followed, differ, elements, enumerated, enumeration, enumeration_operators, followed, followed_from, successor};
+ghost use Rattle.larch_shorthand.specs.Enumeration.{all_differ, all_followed, differ, elements, enumerated};
+ghost use Rattle.larch_shorthand.specs.Enumeration.{enumeration, enumeration_operators, followed, followed_from};
+ghost use Rattle.larch_shorthand.specs.Enumeration.{successor};
 
 use crate::append::append;
 use crate::expansion::Expansion;

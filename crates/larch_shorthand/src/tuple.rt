@@ -2,7 +2,8 @@ ghost use Rattle.std.specs.Prelude.{◌≡◌, ◌∷◌, [], ◌++◌, codes, d
 ghost use Rattle.std.specs.List.{join_by};
 ghost use Rattle.larch_term.specs.Tree.{app, forest_of, var};
 ghost use Rattle.larch_term.specs.declared.statement.Statement.TheVariants.{Generated, Partitioned};
-ghost use Rattle.larch_shorthand.specs.Tuple.{all_set, component_of, components_of, getter, is_got, is_set, maker, setter, tuple, tuple_of, tuple_operators, tupled};
+ghost use Rattle.larch_shorthand.specs.Tuple.{all_set, component_of, components_of, getter, is_got, is_set, maker};
+ghost use Rattle.larch_shorthand.specs.Tuple.{setter, tuple, tuple_of, tuple_operators, tupled};
 
 use crate::append::append;
 use crate::expansion::Expansion;

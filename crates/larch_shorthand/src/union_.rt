@@ -5,7 +5,8 @@ ghost use Rattle.larch_shorthand.specs.Enumeration.{enumeration};
 ghost use Rattle.larch_shorthand.specs.Expansion.{joined};
 ghost use Rattle.larch_shorthand.specs.Operators.{on};
 ghost use Rattle.larch_shorthand.specs.Tuple.{getter};
-ghost use Rattle.larch_shorthand.specs.Union.{case_of, injection, is_back, is_tagged, names_of, tag, tag_of, tag_sort, union_, union_operators, united};
+ghost use Rattle.larch_shorthand.specs.Union.{case_of, injection, is_back, is_tagged, names_of, tag, tag_of};
+ghost use Rattle.larch_shorthand.specs.Union.{tag_sort, union_, union_operators, united};
 
 use crate::append::append;
 use crate::enumeration::{enumeration, enumeration_operators};

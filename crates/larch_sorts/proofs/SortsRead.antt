@@ -110,6 +110,10 @@ pub statement_sorts_exist : (fs : List PlainOperator) (vs : Variables) (raw : Ra
     → StatementSorts (IsSortOf fs) s
 statement_sorts_exist fs vs raw s scope r = statement_so (IsSortOf fs) fs vs (inl refl) (own_sorts fs) scope raw s r
 
+-- the same of a term
+pub term_sorts_exist : (fs : List PlainOperator) (vs : Variables) (raw : RawTree) (t : Tree) → All (λ v. IsSortOf fs v.1) vs → Reads fs vs raw t → TermSorts (IsSortOf fs) t
+term_sorts_exist fs vs raw t scope r = term_so (IsSortOf fs) fs vs (inl refl) (own_sorts fs) scope raw t r
+
 names_so : (P : List ℕ → Type 0) (vs : Variables) → All (λ v. P v.0) vs → (t : Tree) → HasVariablesOf vs t → All (λ v. P v.name) (occurrences t)
 names_so P vs h t in_scope =
     all_from (λ v. P v.name) (occurrences t)

@@ -1,5 +1,6 @@
 -- What operators make of the arguments in tables.
-use Rattle.std.specs.Prelude.{if◌then◌else◌, Bool, List, None, Option, Some, [], bytes_eq, false, fold, true, ℕ, ◌++◌, ◌∷◌}
+use Rattle.std.specs.Prelude.{if◌then◌else◌, Bool, List, None, Option, Some, [], bytes_eq, false, fold, true, ℕ, ◌++◌}
+use Rattle.std.specs.Prelude.{◌∷◌}
 use Rattle.larch_term.specs.Operator.{PlainOperator}
 use Rattle.larch_term.specs.Tree.{Tree}
 use Rattle.larch_sorts.specs.Table.{Entries, application, merged, reading_at}

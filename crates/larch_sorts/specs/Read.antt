@@ -1,6 +1,7 @@
 -- What reading an equation or a lone term answers.
 use Rattle.std.specs.List.{list_all}
-use Rattle.std.specs.Prelude.{if◌then◌else◌, Bool, Err, List, Ok, Option, Result, [], false, find, option_map, true, ℕ, ◌∷◌}
+use Rattle.std.specs.Prelude.{if◌then◌else◌, Bool, Err, List, Ok, Option, Result, [], false, find, option_map, true}
+use Rattle.std.specs.Prelude.{ℕ, ◌∷◌}
 use Rattle.larch_base.specs.declared.code.Code.TheVariants.{Ambiguous, NoReading, UnknownSort}
 use Rattle.larch_base.specs.declared.fault.Fault.{Fault}
 use Rattle.larch_base.specs.declared.position.Pos.{Pos}

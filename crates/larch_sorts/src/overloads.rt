@@ -33,7 +33,9 @@ impl Model for Overloads {
 
     ghost view = { λ overloads. overloads.operators };
 
-    ghost invariant = { λ overloads. IsOfConstants overloads.constants.found.value.entries overloads.operators × IfSome overloads.places (λ places. IsPlaced places.kept.entries overloads.operators × IsByDomain places.domains.kept.entries overloads.operators) };
+    ghost invariant = { λ overloads. IsOfConstants overloads.constants.found.value.entries overloads.operators
+        × IfSome overloads.places (λ places. IsPlaced places.kept.entries overloads.operators
+        × IsByDomain places.domains.kept.entries overloads.operators) };
 }
 
 impl Overloads {

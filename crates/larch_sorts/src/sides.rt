@@ -3,7 +3,8 @@ ghost use Rattle.larch_term.specs.BuiltIn.{bool_sort};
 ghost use Rattle.larch_term.specs.Truth.{truth};
 ghost use Rattle.larch_term.specs.Equality.{same_tree};
 ghost use Rattle.larch_sorts.specs.Table.{reading_at, merged_by};
-ghost use Rattle.larch_sorts.specs.Sides.{AreFound, sorts_in, with_found, found_anywhere, paired, same_sides, sides_found, formula_found};
+ghost use Rattle.larch_sorts.specs.Sides.{AreFound, sorts_in, with_found, found_anywhere, paired, same_sides};
+ghost use Rattle.larch_sorts.specs.Sides.{sides_found, formula_found};
 ghost use Rattle.larch_sorts.specs.declared.found.Found.TheVariants.{One, Several};
 
 use crate::found::{Found, Sides, Table};

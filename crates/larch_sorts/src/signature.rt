@@ -32,7 +32,8 @@ impl Model for Signature {
 
     ghost view = { λ signature. signature.operators };
 
-    ghost invariant = { λ signature. (signature.sorts ≡ existing_sorts signature.operators) × IsIndex signature.index.entries (taking_part signature.operators) };
+    ghost invariant = { λ signature. (signature.sorts ≡ existing_sorts signature.operators)
+        × IsIndex signature.index.entries (taking_part signature.operators) };
 }
 
 impl Signature {

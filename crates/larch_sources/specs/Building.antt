@@ -1,5 +1,6 @@
 -- The links as far as they are found.
-use Rattle.std.specs.Prelude.{◌≡◌, ◌↔◌, ◌⊎◌, ℕ, suc, ◌<◌, ◌≤◌, ◌-◌, ◌==◌, Bool, false, cond, List, [], ◌∷◌, ◌++◌, length, set, Contains, Option, Some, None}
+use Rattle.std.specs.Prelude.{◌≡◌, ◌↔◌, ◌⊎◌, ℕ, suc, ◌<◌, ◌≤◌, ◌-◌, ◌==◌, Bool, false, cond, List, [], ◌∷◌, ◌++◌}
+use Rattle.std.specs.Prelude.{length, set, Contains, Option, Some, None}
 use Rattle.std.specs.List.{slice_get}
 use Rattle.larch_sources.specs.Links.{referring}
 use Rattle.larch_sources.specs.Sources.{AreApart, Table, name_at, targets_of}

@@ -17,7 +17,8 @@ pub record AreLinks (table : Table) (links : List (List ℕ)) : Type 0 where
   pub apart : AreApart table
   pub size : length links ≡ length table
   pub each : (number m : ℕ) → number < length table
-      → Contains (referring links number) m ↔ ((m < length table) × Contains (targets_of table m) (name_at table number))
+      → Contains (referring links number) m ↔ ((m < length table)
+      × Contains (targets_of table m) (name_at table number))
   pub short : (number : ℕ) → length (referring links number) ≤ length table
 
 -- links lead from one number to another, in some number of steps

@@ -17,4 +17,5 @@ pub record Searching (links : List (List ℕ)) (marks : List Bool) (found : List
   pub led : (m : ℕ) → Contains found m → Leads links m (get_or found 0 0)
   pub listed : (m : ℕ) → is_marked marks m ≡ true → Contains found m
   pub first : is_marked marks (get_or found 0 0) ≡ true
-  pub closed : (i b a : ℕ) → i < next → slice_get found i ≡ Some b → Contains (referring links b) a → is_marked marks a ≡ true
+  pub closed : (i b a : ℕ) → i < next → slice_get found i ≡ Some b → Contains (referring links b) a
+      → is_marked marks a ≡ true

@@ -51,7 +51,8 @@ impl Links {
         requires { number < length self.now }
         ensures size { IfOk result (λ marks. length marks ≡ length self.now) }
         ensures leads { IfOk result (λ marks. (m : ℕ) → Decides (is_marked marks m) (Leads self.now m number)) }
-        ensures leading { IfOk result (λ marks. (table : Table) → AreLinks table self.now → AreLeading table marks number) }
+        ensures leading { IfOk result (λ marks. (table : Table) → AreLinks table self.now
+            → AreLeading table marks number) }
     {
         let marked = marked_from(alloc, self.referring.as_slice(), number)?;
         Ok(Marks::from_vec(marked))

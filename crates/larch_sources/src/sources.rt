@@ -43,7 +43,8 @@ impl Sources {
     /// nothing changes.
     pub fn insert(&mut self, name: Name, text: Result<RawTrait, Fault>) -> Result<(), Memory>
         ensures table { OnOk result (self.new ≡ put_text self.old name text) }
-        ensures files { OnOk result ((m : List ℕ) → files_in self.new m ≡ cond (bytes_eq name m) (Some text) (files_in self.old m)) }
+        ensures files { OnOk result ((m : List ℕ)
+            → files_in self.new m ≡ cond (bytes_eq name m) (Some text) (files_in self.old m)) }
         ensures err { OnErr result (self.new ≡ self.old) }
     {
         self.texts.insert(name, text)?;

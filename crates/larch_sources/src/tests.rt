@@ -34,6 +34,10 @@ fn composed(alloc: Global, bytes: &[u8], references: RawReferences) -> Result<Ra
         references,
         declarations: Sequence::new(alloc),
         items: Sequence::new(alloc),
+        implies: false,
+        implied: Sequence::new(alloc),
+        implied_items: Sequence::new(alloc),
+        conversions: Sequence::new(alloc),
     })
 }
 

@@ -1,1 +1,1 @@
-mod Worded
+pub mod Worded
