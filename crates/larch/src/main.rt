@@ -33,7 +33,8 @@ fn words(rt: &HostRuntime, alloc: Global) -> Result<Vec<String>, Memory> {
     }
 }
 
-// Runs the words' command over the working folder and the standard streams, its steps being counted in a ledger of their own.
+// Runs the words' command over the working folder and the standard streams, its steps being counted in a ledger of
+// their own.
 fn start<L: Ledger>(rt: &HostRuntime, blank: Blank, words: &[String]) -> Status
     requires name { blank.name ≡ L.name }
     requires parts { blank.parts ≡ L.parts }

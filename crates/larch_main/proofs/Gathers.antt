@@ -38,7 +38,7 @@ impossible None bytes e h = cc
 impossible (Some found) bytes e h = cc
 
 -- what one name more comes to, by what the folder has under it
-one_more : (folder : FileMap) (files : Table) (name : List ℕ) (rest : List (List ℕ)) (seen : Option (List ℕ)) (found : Gathered)
+one_more : (folder : FileMap) (files : Table) (name : List ℕ) (rest : List (List ℕ)) (seen : Option (List ℕ)) (found : Gathered Table)
     → file_of folder name ≡ seen → putting files name seen ≡ found
     → gathered folder files (name ∷ rest) ≡ and_then found (λ more. gathered folder more rest)
 one_more folder files name rest seen found is comes =
@@ -154,8 +154,8 @@ folder_for None files name seen new is of = let made = folder_with files name ne
 folder_for (Some folder) files name seen new is of = (folder, refl, of, is)
 
 -- a name that stops it
-pub stops : (told : Option FileMap) (names rest : List (List ℕ)) (files : Table) (name : List ℕ) (found : Gathered) → Gathers told names (name ∷ rest) files
-    → Shows told files name found → ((more : Table → Gathered) → and_then found more ≡ found) → ComesTo told names found
+pub stops : (told : Option FileMap) (names rest : List (List ℕ)) (files : Table) (name : List ℕ) (found : Gathered Table) → Gathers told names (name ∷ rest) files
+    → Shows told files name found → ((more : Table → Gathered Table) → and_then found more ≡ found) → ComesTo told names found
 stops told names rest files name found g s ends =
     let made = folder_for told files name s.seen s.new s.is_seen g.are_of in
     record {
@@ -169,7 +169,7 @@ pub ends : (told : Option FileMap) (names : List (List ℕ)) (files : Table) →
 ends None names files g = record { folder = files; is_folder = tt; is_found = g.onward files (own files) }
 ends (Some folder) names files g = record { folder = folder; is_folder = refl; is_found = g.onward folder g.are_of }
 
-done_by : {A : Type 0} (told : Option FileMap) (names : List (List ℕ)) (name : List ℕ) (result : Result Gathered A) → IfOk result (λ found. found ≡ Absent name)
+done_by : {A : Type 0} (told : Option FileMap) (names : List (List ℕ)) (name : List ℕ) (result : Result (Gathered Table) A) → IfOk result (λ found. found ≡ Absent name)
     → ComesTo told names (Absent name) → IfOk result (λ found. ComesTo told names found)
 done_by told names name (Ok found) is comes = subst (ComesTo told names) (sym is) comes
 done_by told names name (Err e) is comes = tt
@@ -180,7 +180,7 @@ module _ (told now : Option FileMap) (same : now ≡ told) (names : List (List �
   at_name : Gathers told names (name ∷ drop (i + 1) names) files
   at_name = subst (λ rest. Gathers told names rest files) (drop_more names i name inside ∙ ap (λ n. n ∷ drop (i + 1) names) (sym is)) g
 
-  pub is_absent : {A : Type 0} (result : Result Gathered A) → Looks now files more name (Err NotThere) → IfOk result (λ found. found ≡ Absent name)
+  pub is_absent : {A : Type 0} (result : Result (Gathered Table) A) → Looks now files more name (Err NotThere) → IfOk result (λ found. found ≡ Absent name)
       → IfOk result (λ found. ComesTo told names found)
   is_absent result shows made =
       done_by told names name result made

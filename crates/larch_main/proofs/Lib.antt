@@ -1,5 +1,8 @@
+pub mod Accepted
+pub mod Answering
 pub mod Digits
 pub mod Endings
+pub mod Evidence
 pub mod Found
 pub mod Gathers
 pub mod Looking
@@ -10,4 +13,5 @@ pub mod ReportLines
 pub mod Shapes
 pub mod Steps
 pub mod Tables
+pub mod Verdicts
 pub mod Whole

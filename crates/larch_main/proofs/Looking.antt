@@ -14,11 +14,11 @@ use Rattle.larch_main.specs.Look.{IsSeen, Shows, Looks}
 use Rattle.larch_main.specs.Session.{put_is_refused}
 use Rattle.larch_main.specs.declared.gather.Gathered.TheVariants.{Whole, TooLarge}
 
-seen_absent : (told : Option FileMap) (name : List ℕ) → FileRefused NotThere told name → IsSeen told name None
+pub seen_absent : (told : Option FileMap) (name : List ℕ) → FileRefused NotThere told name → IsSeen told name None
 seen_absent None name h = tt
 seen_absent (Some folder) name h = h
 
-seen_file : (told : Option FileMap) (name bytes : List ℕ) → IsFile told name bytes → IsSeen told name (Some bytes)
+pub seen_file : (told : Option FileMap) (name bytes : List ℕ) → IsFile told name bytes → IsSeen told name (Some bytes)
 seen_file None name bytes h = tt
 seen_file (Some folder) name bytes h = h
 
@@ -31,7 +31,7 @@ long_found : (folder : FileMap) (name : List ℕ) (seen : Option (List ℕ)) →
 long_found folder name None e h = absurd h
 long_found folder name (Some bytes) e h = (bytes, e, h)
 
-seen_long : (told : Option FileMap) (name : List ℕ) → FileRefused TooLong told name → (bytes : List ℕ) × IsSeen told name (Some bytes) × (MAX_FILE_BYTES < length bytes)
+pub seen_long : (told : Option FileMap) (name : List ℕ) → FileRefused TooLong told name → (bytes : List ℕ) × IsSeen told name (Some bytes) × (MAX_FILE_BYTES < length bytes)
 seen_long None name h = let made = longer MAX_FILE_BYTES in (made.0, tt, made.1)
 seen_long (Some folder) name h = long_found folder name (file_of folder name) refl h
 

@@ -1,5 +1,5 @@
 -- Names of files are texts.
-use Rattle.std.proofs.Common.{◌≡◌, ℕ, ◌+◌, ◌<◌, Bool, true, false, ◌||◌, List, [], ◌∷◌, length, drop, refl, sym, subst, ap, arith, length-drop}
+use Rattle.std.proofs.Common.{◌≡◌, ℕ, ◌+◌, ◌-◌, ◌<◌, ◌≤◌, Bool, true, false, ◌||◌, nat_le, List, [], ◌∷◌, length, drop, get_or, refl, sym, subst, ap, ◌∙◌, arith, drop-drop, length-drop}
 use Rattle.std.specs.List.{list_all, position_or_len}
 use Rattle.std.specs.Prelude.{codes}
 use Rattle.std.specs.Str.{IsAscii, IsUtf8}
@@ -9,6 +9,7 @@ use Rattle.std.proofs.lemmas.List.Sums.{passes_at_first, split_at_first}
 use Rattle.std.proofs.lemmas.Str.{IsAscii-append, IsUtf8-from_ascii}
 use Rattle.std.proofs.lemmas.Str.Ascii.{IsAscii-cons, IsAscii-nil}
 use Rattle.larch_base.proofs.Bools.{and_left, and_right}
+use Rattle.larch_words.specs.Call.{is_certificate}
 use Rattle.larch_base.specs.FileNames.{ending_of, is_dot, is_file_name, is_stem, is_stem_byte, is_trait_file, is_script_file, stem_of}
 
 stem_byte_low : (byte : ℕ) → is_stem_byte byte ≡ true → byte < 128
@@ -55,3 +56,55 @@ either_is_ascii name false false p q e = cc
 -- the bytes of a name of a file are a text
 pub name_is_text : (name : List ℕ) → is_file_name name ≡ true → IsUtf8 name
 name_is_text name e = IsUtf8-from_ascii name (either_is_ascii name (is_trait_file name) (is_script_file name) refl refl e)
+
+-- the ending of a name whose last bytes are those of the name of a certificate
+ending_is : (name ending : List ℕ) (k : ℕ) → ending_of name ≡ ending → 0 < length ending → length ending + k ≡ 5 → 5 ≤ length name
+    → drop (length name - 5) name ≡ codes ".cert" → ending ≡ drop k (codes ".cert")
+ending_is name ending k is some long enough e =
+    let place : ℕ = position_or_len is_dot name in
+    let size : length (drop (place + 1) name) ≡ length ending = ap length is in
+    let rest = length-drop (place + 1) name in
+    let at : (length name - 5) + k ≡ place + 1 = omega (arith, size, rest, some, long, enough) in
+    sym is ∙ ap (λ n. drop n name) (sym at) ∙ sym (drop-drop k (length name - 5) name) ∙ ap (λ xs. drop k xs) e
+
+abbrev first_of : List ℕ → ℕ
+first_of bytes = get_or bytes 0 0
+
+-- the endings of names of files begin with other bytes than stand there in the name of a certificate
+trait_first : first_of (codes "lsl") ≡ 108
+trait_first = refl
+
+there_trait : first_of (drop 2 (codes ".cert")) ≡ 101
+there_trait = refl
+
+script_first : first_of (codes "lp") ≡ 108
+script_first = refl
+
+there_script : first_of (drop 3 (codes ".cert")) ≡ 114
+there_script = refl
+
+trait_differs : first_of (codes "lsl") ≡ first_of (drop 2 (codes ".cert")) → ⊥
+trait_differs same = let no : 108 ≡ 101 = sym trait_first ∙ same ∙ there_trait in absurd (omega (arith, no))
+
+script_differs : first_of (codes "lp") ≡ first_of (drop 3 (codes ".cert")) → ⊥
+script_differs same = let no : 108 ≡ 114 = sym script_first ∙ same ∙ there_script in absurd (omega (arith, no))
+
+no_ending : (name ending : List ℕ) (k : ℕ) → 0 < length ending → length ending + k ≡ 5 → (first_of ending ≡ first_of (drop k (codes ".cert")) → ⊥)
+    → is_certificate name ≡ true → ending_of name ≡ ending → ⊥
+no_ending name ending k some long differ is named =
+    let enough : 5 ≤ length name = let le = and_left (nat_le 5 (length name)) _ is in grind (arith, nat_tests, le) in
+    let last = (bytes_decides (drop (length name - 5) name) (codes ".cert")).0 (and_right (nat_le 5 (length name)) _ is) in
+    differ (ap first_of (ending_is name ending k named some long enough last))
+
+-- the name of a certificate is no name of a file
+pub certificate_is_no_file : (name : List ℕ) → is_certificate name ≡ true → is_file_name name ≡ true → ⊥
+certificate_is_no_file name is named = by_kind (is_trait_file name) (is_script_file name) refl refl named
+  where
+    by_kind : (a b : Bool) → is_trait_file name ≡ a → is_script_file name ≡ b → (a || b) ≡ true → ⊥
+    by_kind true b p q e =
+        no_ending name (codes "lsl") 2 (omega arith) refl trait_differs is
+        ((bytes_decides (ending_of name) (codes "lsl")).0 (and_right (is_stem (stem_of name)) _ p))
+    by_kind false true p q e =
+        no_ending name (codes "lp") 3 (omega arith) refl script_differs is
+        ((bytes_decides (ending_of name) (codes "lp")).0 (and_right (is_stem (stem_of name)) _ q))
+    by_kind false false p q e = cc

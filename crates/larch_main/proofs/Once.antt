@@ -1,8 +1,8 @@
 -- A session on one input has one ending.
 use Rattle.std.proofs.Common.{◌≡◌, ℕ, Bool, List, ◌++◌, refl, sym, subst, ap₂, ◌∙◌}
 use Rattle.larch_main.specs.declared.status.Status.{Status}
-use Rattle.larch_main.specs.Session.{State, Reply, said, reported, Spells, Step, goes, stops, waits, step}
-use Rattle.larch_main.specs.Session.{Ending, with_status, waiting, Session, goes_on, ends, breaks_off}
+use Rattle.larch_main.specs.Session.{State, Reply, said, reported, Spells, goes, stops, waits}
+use Rattle.larch_main.specs.Session.{Ending, with_status, Session, goes_on, ends, breaks_off}
 
 -- a reply has one text
 one_text : (reply : Reply) (first second : List ℕ) → Spells reply first → Spells reply second → first ≡ second

@@ -1,26 +1,41 @@
 -- A report has one line of each trait.
-use Rattle.std.proofs.Common.{◌≡◌, refl, ◌∙◌, ap, ℕ, List, [], ◌∷◌, ◌++◌, map, flat_map, Result, Ok, Err}
+use Rattle.std.proofs.Common.{◌≡◌, refl, ◌∙◌, ap, ℕ, List, [], ◌∷◌, ◌++◌, length, map, flat_map, Result, Ok, Err, arith}
 use Rattle.larch_flat.specs.Flat.{FlatTrait}
 use Rattle.larch_flat.specs.Laws.{IsTold}
 use Rattle.larch_flat.specs.Stops.{Stop, Refused, TooDeep}
 use Rattle.larch_flatten.specs.Parts.{flat_trait}
-use Rattle.larch_sources.specs.Sources.{Table as Sources}
+use Rattle.larch_items.specs.Steps.{after}
+use Rattle.larch_sources.specs.Sources.{Table as Sources, files_in, names_in}
+use Rattle.larch_sources.proofs.Tables.{among, names_length}
+use Rattle.larch_claims.proofs.Told.{duties_told}
+use Rattle.larch_duties.specs.TraitDuties.{claimed, trait_duties}
 use Rattle.larch_main.specs.Laws.{stem_in}
 use Rattle.larch_main.specs.Report.{trait_lines}
 use Rattle.larch_main.specs.declared.report.ReportLine.{ReportLine}
 
-one_line : (stem : List ℕ) (flat : Result FlatTrait Stop) (rest : List ReportLine) → IsTold flat
-    → map stem_in (trait_lines stem flat ++ rest) ≡ stem ∷ map stem_in rest
+one_line : {A : Type 0} (stem : List ℕ) (told_of : Result A Stop) (rest : List ReportLine) → IsTold told_of
+    → map stem_in (trait_lines stem told_of ++ rest) ≡ stem ∷ map stem_in rest
 one_line stem (Ok t) rest told = refl
 one_line stem (Err (Refused fault)) rest told = refl
 one_line stem (Err TooDeep) rest told = absurd told
 
+claims_told : (sources : Sources) (own : FlatTrait) → IsTold (claimed sources own)
+claims_told sources own =
+    let l = names_length sources in
+    duties_told (files_in sources) (names_in sources) (among sources) (length sources) (omega (arith, l)) own
+
+duties_by : (sources : Sources) (flat : Result FlatTrait Stop) → IsTold flat → IsTold (after flat (claimed sources))
+duties_by sources (Ok own) told = claims_told sources own
+duties_by sources (Err (Refused fault)) told = tt
+duties_by sources (Err TooDeep) told = absurd told
+
 -- each of these files has one, where the flat trait of each is told
 pub one_of_each : (sources : Sources) → ((stem : List ℕ) → IsTold (flat_trait sources stem)) → (files : Sources)
-    → map stem_in (flat_map (λ source. trait_lines source.0 (flat_trait sources source.0)) files)
+    → map stem_in (flat_map (λ source. trait_lines source.0 (trait_duties sources source.0)) files)
     ≡ map (λ source. source.0) files
 one_of_each sources told [] = refl
 one_of_each sources told (file ∷ files) =
-    one_line file.0 (flat_trait sources file.0)
-    (flat_map (λ source. trait_lines source.0 (flat_trait sources source.0)) files) (told file.0)
+    one_line file.0 (trait_duties sources file.0)
+    (flat_map (λ source. trait_lines source.0 (trait_duties sources source.0)) files)
+    (duties_by sources (flat_trait sources file.0) (told file.0))
     ∙ ap (λ stems. file.0 ∷ stems) (one_of_each sources told files)

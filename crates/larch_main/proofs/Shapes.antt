@@ -1,10 +1,9 @@
 -- What every step of a session keeps, and that every session ends.
-use Rattle.std.proofs.Common.{◌≡◌, ℕ, zero, suc, ◌+◌, ◌<◌, ◌≤◌, ◌&&◌, ◌==◌, min, Bool, true, false, not, cond, nat_lt, nat_le, List, [], ◌++◌, length, take, drop, Option, Some, None, refl, arith, length-drop}
+use Rattle.std.proofs.Common.{◌≡◌, ℕ, zero, suc, ◌+◌, ◌<◌, ◌≤◌, ◌&&◌, ◌==◌, Bool, true, false, not, cond, nat_lt, nat_le, List, [], ◌++◌, length, take, drop, Option, Some, None, refl, arith, length-drop}
 use Rattle.std.specs.List.{position_or_len}
 use Rattle.std.proofs.lemmas.Bool.Decides.{nat_tests}
 use Rattle.std.proofs.lemmas.List.Sums.{prefix_len-le-length}
-use Rattle.larch_main.specs.declared.status.Status.{Status}
-use Rattle.larch_main.specs.declared.status.Status.TheVariants.{Good, Remains, Words, ReadFault, WriteFault, Memory, Malformed, Size, NoFile}
+use Rattle.larch_main.specs.declared.status.Status.TheVariants.{Good, Remains, Size}
 use Rattle.larch_main.specs.declared.command.Command.{Command}
 use Rattle.larch_main.specs.declared.command.Command.TheVariants.{Skip, Put, Drop, Report, Quit}
 use Rattle.larch_base.specs.declared.limits.TheConstants.{MAX_FILE_BYTES, MAX_LINE_BYTES}
@@ -12,7 +11,7 @@ use Rattle.larch_main.specs.Command.{command_of}
 use Rattle.larch_main.specs.Laws.{IsEnd, Ends}
 use Rattle.larch_main.specs.Report.{report_text}
 use Rattle.larch_main.specs.Lines.{is_newline, passes_room, LineFound, line, no_line, long_line, full, unfinished, line_at, line_of_size, BytesFound, bytes, cut, too_many, wanting, bytes_at}
-use Rattle.larch_main.specs.Session.{State, took, Step, goes, stops, waits, step, on_line, on_command, on_bytes, put_is_refused, room_left, status_of, Reply, said, reported, Spells, too_large, with_status, Session, goes_on, ends}
+use Rattle.larch_main.specs.Session.{State, took, Step, goes, stops, waits, step, on_line, on_command, on_bytes, put_is_refused, room_left, status_of, Reply, said, reported, Spells, too_large, goes_on, ends}
 
 -- a step on so many bytes that goes on leaves fewer, one that stops has such a status, and one waits only where more may come
 abbrev pub Shape : Bool → ℕ → Step → Type 0

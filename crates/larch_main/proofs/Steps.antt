@@ -20,9 +20,9 @@ use Rattle.larch_main.specs.declared.command.Command.TheVariants.{Drop, Put, Qui
 use Rattle.larch_main.specs.declared.status.Status.{Status}
 use Rattle.larch_main.specs.declared.status.Status.TheVariants.{Malformed, Size}
 use Rattle.larch_main.specs.Command.{command_of}
-use Rattle.larch_main.specs.Lines.{line, line_at, bytes_at}
+use Rattle.larch_main.specs.Lines.{line, line_at}
 use Rattle.larch_main.specs.Report.{report_of, report_text, is_good}
-use Rattle.larch_main.specs.Session.{State, took, Reply, nothing, reported, Spells, Step, goes, stops, step, on_line, on_command, on_bytes, on_file}
+use Rattle.larch_main.specs.Session.{State, took, Reply, nothing, reported, Step, goes, stops, step, on_line, on_command, on_bytes, on_file}
 use Rattle.larch_main.specs.Session.{status_of, room_left, malformed, too_large}
 use Rattle.larch_main.specs.Progress.{state_of, Machine, at_line, at_command, at_bytes, at_file, MayFollow, Makes, Wants, Moves, IsStop, Never, Refuses, PutsIn}
 use Rattle.larch_main.proofs.Found.{line_found, last_found, none_found, long_found, full_found, unfinished_found, bytes_found, cut_found, wanting_found, too_many_found}

@@ -1,22 +1,33 @@
 -- Calls that write one text at their end, and what no fault leaves.
-use Rattle.std.proofs.Common.{◌≡◌, ◌≢◌, ℕ, inl, inr, Bool, true, false, cond, List, [], Option, refl, sym, subst, ap, ◌∙◌}
+use Rattle.std.proofs.Common.{◌≡◌, ◌≢◌, ℕ, inl, inr, Bool, true, false, List, [], Option, Some, None, Result, Ok, Err, refl, sym, subst}
 use Rattle.std.proofs.KnownBytes.{Consumes-nil, Appends-nil}
+use Rattle.std.specs.Prelude.{IfErr, IfOk, MatchBool, OnOk}
 use Rattle.std.specs.Io.KnownBytes.{Appends}
 use Rattle.larch_io.specs.Faults.{Rose}
 use Rattle.larch_io.specs.Folder.{FileMap}
 use Rattle.larch_io.specs.Put.{PutsFront}
+use Rattle.larch_certificate.specs.declared.line.Line.{Line}
+use Rattle.larch_certificate_text.specs.CertificateText.{read_certificate}
+use Rattle.larch_lines.specs.Acceptance.{verdict}
+use Rattle.larch_claims.specs.Duties.{Duty}
 use Rattle.larch_words.specs.declared.call.Call.{Call}
 use Rattle.larch_words.specs.declared.call.Call.TheVariants as call_
+use Rattle.larch_main.specs.Answer.{Tells, answer_by, good_or_remains, said}
+use Rattle.larch_main.specs.declared.answer.Answer.{Answer}
 use Rattle.larch_main.specs.declared.gather.Gathered.{Gathered}
 use Rattle.larch_main.specs.declared.gather.Gathered.TheVariants.{Whole, Absent, TooLarge}
+use Rattle.larch_main.specs.declared.progress.Halt.{Halt}
+use Rattle.larch_main.specs.declared.progress.Halt.TheVariants as halt_
 use Rattle.larch_main.specs.declared.status.Status.{Status}
 use Rattle.larch_main.specs.declared.status.Status.TheVariants.{Good, Remains, Words, ReadFault, WriteFault, Memory, Malformed, Size, NoFile}
-use Rattle.larch_main.specs.Check.{check_text, check_status}
-use Rattle.larch_main.specs.Gather.{IsFolder, gathered}
-use Rattle.larch_main.specs.Look.{AnswersBy}
-use Rattle.larch_main.specs.Program.{usage_text, Output, Answers, WritesFront, Writes, CallTakes, Counts, KeepsFolder, KeepsSource, folder_failed, source_failed, sink_failed}
+use Rattle.larch_main.specs.Check.{checked}
+use Rattle.larch_main.specs.Gather.{IsFolder, evidence_in, gathered}
+use Rattle.larch_main.specs.Obligations.{obliged}
+use Rattle.larch_main.specs.Program.{usage_text, Answered, Output, Answers, WritesBefore, WritesFront, Writes, CallTakes, Counts, KeepsFolder, KeepsSource, folder_failed, source_failed, sink_failed, reads_folder, reads_source}
+use Rattle.larch_main.specs.Progress.{HaltFaults}
 use Rattle.larch_main.specs.Report.{is_good, report_of}
 use Rattle.larch_main.specs.Say.{Says}
+use Rattle.larch_main.specs.Verify.{duty_in, judged_by, verdict_told, verified}
 use Rattle.larch_main.proofs.Endings.{known_rest, input_is, known_files, folder_is, nothing_yet}
 
 -- a status that stands beside a text
@@ -26,14 +37,36 @@ IsSaid WriteFault = ⊥
 IsSaid Memory = ⊥
 IsSaid _ = Unit {0}
 
-either_said : (b : Bool) → IsSaid (cond b Good Remains)
+either_said : (b : Bool) → IsSaid (good_or_remains b)
 either_said true = tt
 either_said false = tt
 
-pub check_said : (found : Gathered) → IsSaid (check_status found)
-check_said (Whole files) = either_said (is_good (report_of files))
-check_said (Absent name) = tt
-check_said TooLarge = tt
+answer_said : {A : Type 0} (told : A → Answer) → ((found : A) → IsSaid (told found).status) → (found : Gathered A) → IsSaid (answer_by told found).status
+answer_said told each (Whole found) = each found
+answer_said told each (Absent name) = tt
+answer_said told each TooLarge = tt
+
+verdict_said : (o : Option ℕ) → IsSaid (verdict_told o).status
+verdict_said None = tt
+verdict_said (Some number) = tt
+
+judged_said : (duty : Option Duty) (read : Result (Bool × List Line) ℕ) → IsSaid (judged_by duty read).status
+judged_said None (Ok read) = tt
+judged_said (Some duty) (Ok read) = verdict_said (verdict duty.theory duty.statement read.1)
+judged_said duty (Err number) = tt
+
+-- the answer to a call that names files stands beside such a status
+pub output_said : (call : Call) → reads_folder call ≡ true → (folder : FileMap) (input text : List ℕ) (status : Status) → Output call folder input text status → IsSaid status
+output_said call_.Session reads folder input text status is = cc
+output_said (call_.Check names) reads folder input text status is =
+    subst IsSaid (sym is.1) (answer_said checked (λ files. either_said (is_good (report_of files))) (gathered folder [] names))
+output_said (call_.Obligations names) reads folder input text status is =
+    subst IsSaid (sym is.1) (answer_said obliged (λ files. either_said (is_good (report_of files))) (gathered folder [] names))
+output_said (call_.Verify asked) reads folder input text status is =
+    subst IsSaid (sym is.1)
+    (answer_said (verified asked.stem asked.label) (λ e. judged_said (duty_in e.files asked.stem asked.label) (read_certificate false e.certificate))
+    (evidence_in folder asked.certificate asked.files))
+output_said call_.Nothing reads folder input text status is = cc
 
 writes_said : (call : Call) (told : Option FileMap) (left leaves held holds : Option (List ℕ)) (status : Status) → IsSaid status
     → Answers call told left leaves held holds status → Writes call told left leaves held holds status
@@ -47,31 +80,32 @@ writes_said call told left leaves held holds ReadFault is a = absurd is
 writes_said call told left leaves held holds WriteFault is a = absurd is
 writes_said call told left leaves held holds Memory is a = absurd is
 
+-- nothing was written of a defined output
+nothing_of : (call : Call) (told : Option FileMap) (left held : Option (List ℕ)) (answer : Answer)
+    → Output call (known_files told) (known_rest left) answer.text answer.status → WritesFront call told left left held held
+nothing_of call told left held answer is = record {
+  folder = known_files told;
+  input = known_rest left;
+  front = [];
+  rest = answer.text;
+  status = answer.status;
+  is_folder = folder_is told;
+  is_input = input_is left left [] (Consumes-nil left);
+  defined = is;
+  written = Appends-nil held;
+}
+
 -- nothing was written, and memory ran out
 pub nothing_written : (call : Call) (told : Option FileMap) (left held : Option (List ℕ)) → WritesFront call told left left held held
 nothing_written call_.Session told left held = nothing_yet left held told
-nothing_written (call_.Check names) told left held = record {
-  folder = known_files told;
-  input = known_rest left;
-  front = [];
-  rest = check_text (gathered (known_files told) [] names);
-  status = check_status (gathered (known_files told) [] names);
-  is_folder = folder_is told;
-  is_input = input_is left left [] (Consumes-nil left);
-  defined = (refl, refl);
-  written = Appends-nil held;
-}
-nothing_written call_.Nothing told left held = record {
-  folder = known_files told;
-  input = known_rest left;
-  front = [];
-  rest = usage_text;
-  status = Words;
-  is_folder = folder_is told;
-  is_input = input_is left left [] (Consumes-nil left);
-  defined = (refl, refl);
-  written = Appends-nil held;
-}
+nothing_written (call_.Check names) told left held =
+    nothing_of (call_.Check names) told left held (answer_by checked (gathered (known_files told) [] names)) (refl, refl)
+nothing_written (call_.Obligations names) told left held =
+    nothing_of (call_.Obligations names) told left held (answer_by obliged (gathered (known_files told) [] names)) (refl, refl)
+nothing_written (call_.Verify asked) told left held =
+    nothing_of (call_.Verify asked) told left held
+    (answer_by (verified asked.stem asked.label) (evidence_in (known_files told) asked.certificate asked.files)) (refl, refl)
+nothing_written call_.Nothing told left held = nothing_of call_.Nothing told left held (said usage_text Words) (refl, refl)
 
 module _ (call : Call) (told : Option FileMap) (left held kept : Option (List ℕ)) where
   module _ (folder : FileMap) (text : List ℕ) (status : Status) (is : IsFolder told folder) (defined : Output call folder (known_rest left) text status) where
@@ -134,44 +168,68 @@ module _ (status : Status) (says : IsSaid status) where
     ]
   ]
 
-  no_folder_fault : (names : List (List ℕ)) (s : Status) → IsSaid s → folder_failed (call_.Check names) s ≡ false
-  no_folder_fault names Good is = refl
-  no_folder_fault names Remains is = refl
-  no_folder_fault names Words is = refl
-  no_folder_fault names Malformed is = refl
-  no_folder_fault names Size is = refl
-  no_folder_fault names NoFile is = refl
-  no_folder_fault names ReadFault is = absurd is
-  no_folder_fault names WriteFault is = absurd is
-  no_folder_fault names Memory is = absurd is
+  no_folder_fault : (call : Call) (s : Status) → IsSaid s → folder_failed call s ≡ false
+  no_folder_fault call Good is = refl
+  no_folder_fault call Remains is = refl
+  no_folder_fault call Words is = refl
+  no_folder_fault call Malformed is = refl
+  no_folder_fault call Size is = refl
+  no_folder_fault call NoFile is = refl
+  no_folder_fault call ReadFault is = absurd is
+  no_folder_fault call WriteFault is = absurd is
+  no_folder_fault call Memory is = absurd is
 
-  pub said_folder : (names : List (List ℕ)) (held kept : Option (List ℕ)) (before now : ℕ) (text : List ℕ) (result : Status) (first last : ℕ) → last ≡ first
-      → Says held kept before now text status result → Counts (folder_failed (call_.Check names) result) first last
-  said_folder names held kept before now text result first last same said = elim said [
-    | inl whole ↦ subst (λ r. Counts (folder_failed (call_.Check names) r) first last) (sym whole.0) (quiet (folder_failed (call_.Check names) status) first last (no_folder_fault names status says) same)
+  pub said_folder : (call : Call) (held kept : Option (List ℕ)) (before now : ℕ) (text : List ℕ) (result : Status) (first last : ℕ) → last ≡ first
+      → Says held kept before now text status result → Counts (folder_failed call result) first last
+  said_folder call held kept before now text result first last same said = elim said [
+    | inl whole ↦ subst (λ r. Counts (folder_failed call r) first last) (sym whole.0) (quiet (folder_failed call status) first last (no_folder_fault call status says) same)
     | inr front ↦ elim front [
-      | inl failed ↦ subst (λ r. Counts (folder_failed (call_.Check names) r) first last) (sym failed.0) same
-      | inr lacking ↦ subst (λ r. Counts (folder_failed (call_.Check names) r) first last) (sym lacking.0) same
+      | inl failed ↦ subst (λ r. Counts (folder_failed call r) first last) (sym failed.0) same
+      | inr lacking ↦ subst (λ r. Counts (folder_failed call r) first last) (sym lacking.0) same
     ]
   ]
 
-module _ (told : Option FileMap) (names : List (List ℕ)) (text : List ℕ) (status : Status) (by : AnswersBy told names text status) where
-  answer_said : IsSaid status
-  answer_said = subst IsSaid (sym by.3) (check_said by.0)
+-- before a fault of the folder nothing was written
+before_fault : (call : Call) → reads_folder call ≡ true → (left held : Option (List ℕ)) → WritesBefore call left left held held
+before_fault call_.Session reads left held = cc
+before_fault (call_.Check names) reads left held = Appends-nil held
+before_fault (call_.Obligations names) reads left held = Appends-nil held
+before_fault (call_.Verify asked) reads left held = Appends-nil held
+before_fault call_.Nothing reads left held = cc
 
-  -- an answer to files was to be written
-  pub check_writes : (left held kept : Option (List ℕ)) (before now : ℕ) (result : Status) → Says held kept before now text status result
-      → Writes (call_.Check names) told left left held kept result
-  check_writes left held kept =
-      said_writes (call_.Check names) told left held kept by.1.folder text status by.1.is_folder
-      (by.2 ∙ ap check_text (sym by.1.is_found), by.3 ∙ ap check_status (sym by.1.is_found)) answer_said
+module _ (call : Call) (reads : reads_folder call ≡ true) (told : Option FileMap) where
+  answer_is_said : (answer : Answer) → Answered call told answer → IsSaid answer.status
+  answer_is_said answer by = output_said call reads by.folder [] answer.text answer.status (by.defined [])
 
-  pub check_sink : (held kept : Option (List ℕ)) (before now : ℕ) (result : Status) → Says held kept before now text status result → Counts (sink_failed result) before now
-  check_sink held kept before now result said = said_sink status answer_said held kept before now text result said
+  -- what is answered to a call that names files was to be written
+  pub look_writes : (answered : Result Answer Halt) → IfOk answered (λ answer. Answered call told answer) → (left held kept : Option (List ℕ)) (before now : ℕ) (result : Status)
+      → Tells held kept before now answered result → Writes call told left left held kept result
+  look_writes (Ok answer) by left held kept before now result tells =
+      said_writes call told left held kept by.folder answer.text answer.status by.is_folder (by.defined (known_rest left)) (answer_is_said answer by)
+      before now result tells
+  look_writes (Err halt_.ReadFault) by left held kept before now result tells =
+      subst (Writes call told left left held kept) (sym tells.0)
+      (subst (λ k. WritesBefore call left left held k) (sym tells.1) (before_fault call reads left held))
+  look_writes (Err halt_.Memory) by left held kept before now result tells =
+      subst (Writes call told left left held kept) (sym tells.0)
+      (subst (λ k. WritesFront call told left left held k) (sym tells.1) (nothing_written call told left held))
 
-  pub check_folder : (held kept : Option (List ℕ)) (before now : ℕ) (result : Status) (first last : ℕ) → last ≡ first
-      → Says held kept before now text status result → Counts (folder_failed (call_.Check names) result) first last
-  check_folder held kept before now result first last same said = said_folder status answer_said names held kept before now text result first last same said
+  pub look_sink : (answered : Result Answer Halt) → IfOk answered (λ answer. Answered call told answer) → (held kept : Option (List ℕ)) (before now : ℕ) (result : Status)
+      → Tells held kept before now answered result → Counts (sink_failed result) before now
+  look_sink (Ok answer) by held kept before now result tells =
+      said_sink answer.status (answer_is_said answer by) held kept before now answer.text result tells
+  look_sink (Err halt_.ReadFault) by held kept before now result tells = subst (λ r. Counts (sink_failed r) before now) (sym tells.0) tells.2
+  look_sink (Err halt_.Memory) by held kept before now result tells = subst (λ r. Counts (sink_failed r) before now) (sym tells.0) tells.2
+
+  pub look_folder : (answered : Result Answer Halt) → IfOk answered (λ answer. Answered call told answer) → (held kept : Option (List ℕ)) (before now : ℕ) (result : Status)
+      (first last : ℕ) → OnOk answered (last ≡ first) → IfErr answered (λ halt. HaltFaults halt first last)
+      → Tells held kept before now answered result → Counts (folder_failed call result) first last
+  look_folder (Ok answer) by held kept before now result first last fine failed tells =
+      said_folder answer.status (answer_is_said answer by) call held kept before now answer.text result first last fine tells
+  look_folder (Err halt_.ReadFault) by held kept before now result first last fine failed tells =
+      subst (λ r. Counts (folder_failed call r) first last) (sym tells.0) (subst (λ b. Counts b first last) (sym reads) failed)
+  look_folder (Err halt_.Memory) by held kept before now result first last fine failed tells =
+      subst (λ r. Counts (folder_failed call r) first last) (sym tells.0) failed
 
 -- the usage line was to be written
 pub usage_writes : (told : Option FileMap) (left held kept : Option (List ℕ)) (before now : ℕ) (result : Status) → Says held kept before now usage_text Words result
@@ -190,6 +248,8 @@ complete call told left leaves held holds Remains a b c d e f w source folder si
 complete call told left leaves held holds Words a b c d e f w source folder sink read look write memory = w
 complete call_.Session told left leaves held holds ReadFault a b c d e f w source folder sink read look write memory = absurd (read source)
 complete (call_.Check names) told left leaves held holds ReadFault a b c d e f w source folder sink read look write memory = absurd (look folder)
+complete (call_.Obligations names) told left leaves held holds ReadFault a b c d e f w source folder sink read look write memory = absurd (look folder)
+complete (call_.Verify asked) told left leaves held holds ReadFault a b c d e f w source folder sink read look write memory = absurd (look folder)
 complete call_.Nothing told left leaves held holds ReadFault a b c d e f w source folder sink read look write memory = absurd w
 complete call told left leaves held holds WriteFault a b c d e f w source folder sink read look write memory = absurd (write sink)
 complete call told left leaves held holds Memory a b c d e f w source folder sink read look write memory = absurd (memory refl)
@@ -198,30 +258,41 @@ complete call told left leaves held holds Size a b c d e f w source folder sink 
 complete call told left leaves held holds NoFile a b c d e f w source folder sink read look write memory = w
 
 -- where memory ran out before the words were read, whatever they ask for
-pub memory_source : (call : Call) (n : ℕ) → Counts (source_failed call Memory) n n
-memory_source call_.Session n = refl
-memory_source (call_.Check names) n = refl
-memory_source call_.Nothing n = refl
-
-pub memory_folder : (call : Call) (n : ℕ) → Counts (folder_failed call Memory) n n
-memory_folder call_.Session n = refl
-memory_folder (call_.Check names) n = refl
-memory_folder call_.Nothing n = refl
-
 pub memory_input : (call : Call) (left leaves held holds : Option (List ℕ)) → CallTakes call left leaves held holds Memory
 memory_input call_.Session left leaves held holds = tt
 memory_input (call_.Check names) left leaves held holds = tt
+memory_input (call_.Obligations names) left leaves held holds = tt
+memory_input (call_.Verify asked) left leaves held holds = tt
 memory_input call_.Nothing left leaves held holds = tt
 
+-- a call that names files doesn't read the source
+pub look_unread : (call : Call) → reads_folder call ≡ true → reads_source call ≡ false
+look_unread call_.Session reads = cc
+look_unread (call_.Check names) reads = refl
+look_unread (call_.Obligations names) reads = refl
+look_unread (call_.Verify asked) reads = refl
+look_unread call_.Nothing reads = refl
+
+pub look_source : (call : Call) → reads_folder call ≡ true → (status : Status) (n : ℕ) → Counts (source_failed call status) n n
+look_source call reads Good n = refl
+look_source call reads Remains n = refl
+look_source call reads Words n = refl
+look_source call reads ReadFault n = subst (λ b. Counts b n n) (sym (look_unread call reads)) refl
+look_source call reads WriteFault n = refl
+look_source call reads Memory n = refl
+look_source call reads Malformed n = refl
+look_source call reads Size n = refl
+look_source call reads NoFile n = refl
+
+kept_by : {A : Type 0} (b : Bool) (x : A) → MatchBool b (Unit {0}) (x ≡ x)
+kept_by true x = tt
+kept_by false x = refl
+
 pub folder_kept : {A : Type 0} (call : Call) (x : A) → KeepsFolder call x x
-folder_kept call_.Session x = refl
-folder_kept (call_.Check names) x = tt
-folder_kept call_.Nothing x = refl
+folder_kept call x = kept_by (reads_folder call) x
 
 pub source_kept : {A : Type 0} (call : Call) (x : A) → KeepsSource call x x
-source_kept call_.Session x = tt
-source_kept (call_.Check names) x = refl
-source_kept call_.Nothing x = refl
+source_kept call x = kept_by (reads_source call) x
 
 -- what holds of one call holds of the same call
 pub writes_as : (these call : Call) (told : Option FileMap) (left leaves held holds : Option (List ℕ)) (result : Status) → these ≡ call
@@ -234,3 +305,27 @@ pub completes_as : (these call : Call) (told : Option FileMap) (left leaves held
 completes_as these call told left leaves held holds result a b c d e f is w source folder sink read look write memory =
     subst (λ t. Answers t told left leaves held holds result) is
     (complete these told left leaves held holds result a b c d e f w source folder sink read look write memory)
+
+-- a call that doesn't read the source has no fault of it
+pub unread : (call : Call) → reads_source call ≡ false → (status : Status) (n : ℕ) → Counts (source_failed call status) n n
+unread call reads Good n = refl
+unread call reads Remains n = refl
+unread call reads Words n = refl
+unread call reads ReadFault n = subst (λ b. Counts b n n) (sym reads) refl
+unread call reads WriteFault n = refl
+unread call reads Memory n = refl
+unread call reads Malformed n = refl
+unread call reads Size n = refl
+unread call reads NoFile n = refl
+
+-- and one that doesn't look at the folder none of that
+pub unlooked : (call : Call) → reads_folder call ≡ false → (status : Status) (n : ℕ) → Counts (folder_failed call status) n n
+unlooked call reads Good n = refl
+unlooked call reads Remains n = refl
+unlooked call reads Words n = refl
+unlooked call reads ReadFault n = subst (λ b. Counts b n n) (sym reads) refl
+unlooked call reads WriteFault n = refl
+unlooked call reads Memory n = refl
+unlooked call reads Malformed n = refl
+unlooked call reads Size n = refl
+unlooked call reads NoFile n = refl

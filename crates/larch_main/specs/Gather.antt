@@ -4,6 +4,7 @@ use Rattle.larch_base.specs.declared.limits.TheConstants.{MAX_FILE_BYTES}
 use Rattle.larch_io.specs.Folder.{FileMap, file_of}
 use Rattle.larch_traits.specs.Files.{Table, put_file}
 use Rattle.larch_main.specs.Session.{put_is_refused}
+use Rattle.larch_main.specs.declared.gather.Evidence.{Evidence}
 use Rattle.larch_main.specs.declared.gather.Gathered.{Gathered}
 use Rattle.larch_main.specs.declared.gather.Gathered.TheVariants.{Whole, Absent, TooLarge}
 
@@ -12,20 +13,31 @@ abbrev pub IsFolder : Option FileMap → FileMap → Type 0
 IsFolder told folder = IfSome told (λ files. files ≡ folder)
 
 -- one file more, by what a folder has under its name: it may be absent, too long, or one too many
-abbrev pub putting : Table → List ℕ → Option (List ℕ) → Gathered
+abbrev pub putting : Table → List ℕ → Option (List ℕ) → Gathered Table
 putting files name None = Absent name
 putting files name (Some bytes) =
     if nat_lt MAX_FILE_BYTES (length bytes) || put_is_refused files name then TooLarge
     else Whole (put_file files name bytes)
 
 -- the first thing that is wrong ends it
-abbrev pub and_then : Gathered → (Table → Gathered) → Gathered
-and_then (Whole files) more = more files
+abbrev pub and_then : {A B : Type 0} → Gathered A → (A → Gathered B) → Gathered B
+and_then (Whole found) more = more found
 and_then (Absent name) more = Absent name
 and_then TooLarge more = TooLarge
 
 -- the files of these names are put in, one after the other
-abbrev pub gathered : FileMap → Table → List (List ℕ) → Gathered
+abbrev pub gathered : FileMap → Table → List (List ℕ) → Gathered Table
 gathered folder files [] = Whole files
 gathered folder files (name ∷ names) =
     and_then (putting files name (file_of folder name)) (λ more. gathered folder more names)
+
+-- a file that isn't put in, by what a folder has under its name: it may be absent or too long
+abbrev pub fetching : List ℕ → Option (List ℕ) → Gathered (List ℕ)
+fetching name None = Absent name
+fetching name (Some bytes) = if nat_lt MAX_FILE_BYTES (length bytes) then TooLarge else Whole bytes
+
+-- a certificate comes first, then the files of these names
+abbrev pub evidence_in : FileMap → List ℕ → List (List ℕ) → Gathered Evidence
+evidence_in folder certificate names =
+    and_then (fetching certificate (file_of folder certificate)) (λ text.
+    and_then (gathered folder [] names) (λ files. Whole (record { certificate = text; files = files })))

@@ -1,9 +1,11 @@
+pub mod Answer
 pub mod Check
 pub mod Command
 pub mod Gather
 pub mod Laws
 pub mod Lines
 pub mod Look
+pub mod Obligations
 pub mod Progress
 pub mod Report
 pub mod Program
@@ -11,3 +13,4 @@ pub mod Say
 pub mod Session
 pub mod SoFar
 pub mod Status
+pub mod Verify

@@ -8,18 +8,17 @@ use Rattle.larch_io.specs.Folder.{FileMap, file_of}
 use Rattle.larch_io.specs.declared.refusal.FolderRefusal.{FolderRefusal}
 use Rattle.larch_io.specs.declared.refusal.FolderRefusal.TheVariants.{Failed, NotThere, TooLong, Memory}
 use Rattle.larch_traits.specs.Files.{Table, has_file, names_of, text_of}
-use Rattle.larch_main.specs.Check.{check_text, check_status}
-use Rattle.larch_main.specs.Gather.{IsFolder, putting, gathered}
+use Rattle.larch_main.specs.Gather.{IsFolder, evidence_in, fetching, putting, gathered}
+use Rattle.larch_main.specs.declared.gather.Evidence.{Evidence}
 use Rattle.larch_main.specs.declared.gather.Gathered.{Gathered}
 use Rattle.larch_main.specs.declared.gather.Gathered.TheVariants.{Whole, Absent, TooLarge}
-use Rattle.larch_main.specs.declared.status.Status.{Status}
 
 -- this is what a folder has under a name, where it tells
 abbrev pub IsSeen : Option FileMap → List ℕ → Option (List ℕ) → Type 0
 IsSeen told name seen = IfSome told (λ folder. file_of folder name ≡ seen)
 
 -- of a name that isn't there yet, the folder shows what comes to this
-pub record Shows (told : Option FileMap) (files : Table) (name : List ℕ) (found : Gathered) : Type 0 where
+pub record Shows (told : Option FileMap) (files : Table) (name : List ℕ) (found : Gathered Table) : Type 0 where
   pub new : has_file files name ≡ false
   pub seen : Option (List ℕ)
   pub is_seen : IsSeen told name seen
@@ -48,12 +47,20 @@ pub record Gathers (told : Option FileMap) (names rest : List (List ℕ)) (files
       → gathered folder [] names ≡ gathered folder files rest
 
 -- some folder, the told one where it is told, comes to this by these names
-pub record ComesTo (told : Option FileMap) (names : List (List ℕ)) (found : Gathered) : Type 0 where
+pub record ComesTo (told : Option FileMap) (names : List (List ℕ)) (found : Gathered Table) : Type 0 where
   pub folder : FileMap
   pub is_folder : IsFolder told folder
   pub is_found : gathered folder [] names ≡ found
 
--- this text and this status are the answer to the files of these names
-abbrev pub AnswersBy : Option FileMap → List (List ℕ) → List ℕ → Status → Type 0
-AnswersBy told names text status =
-    (found : Gathered) × ComesTo told names found × (text ≡ check_text found) × (status ≡ check_status found)
+-- what a folder has under a name, told or not, comes to this as a file that isn't put in
+pub record Fetches (told : Option FileMap) (name : List ℕ) (found : Gathered (List ℕ)) : Type 0 where
+  pub seen : Option (List ℕ)
+  pub is_seen : IsSeen told name seen
+  pub comes_to : fetching name seen ≡ found
+
+-- some folder, the told one where it is told, comes to this by a certificate's name and these names
+pub record EvidenceFor (told : Option FileMap) (certificate : List ℕ) (names : List (List ℕ)) (found : Gathered Evidence)
+    : Type 0 where
+  pub folder : FileMap
+  pub is_folder : IsFolder told folder
+  pub is_found : evidence_in folder certificate names ≡ found

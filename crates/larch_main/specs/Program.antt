@@ -5,10 +5,14 @@ use Rattle.larch_io.specs.Faults.{Rose}
 use Rattle.larch_io.specs.Folder.{FileMap}
 use Rattle.larch_words.specs.declared.call.Call.{Call}
 use Rattle.larch_words.specs.declared.call.Call.TheVariants as call_
+use Rattle.larch_main.specs.declared.answer.Answer.{Answer}
 use Rattle.larch_main.specs.declared.status.Status.{Status}
 use Rattle.larch_main.specs.declared.status.Status.TheVariants.{Good, Remains, Words, ReadFault, WriteFault, Memory, Malformed, Size, NoFile}
-use Rattle.larch_main.specs.Check.{check_text, check_status}
-use Rattle.larch_main.specs.Gather.{IsFolder, gathered}
+use Rattle.larch_main.specs.Answer.{IsAnswer, answer_by, said}
+use Rattle.larch_main.specs.Check.{checked}
+use Rattle.larch_main.specs.Gather.{IsFolder, evidence_in, gathered}
+use Rattle.larch_main.specs.Obligations.{obliged}
+use Rattle.larch_main.specs.Verify.{verified}
 use Rattle.larch_main.specs.Session.{State, start, with_status, waiting, Session}
 
 abbrev pub usage_text : List ℕ
@@ -19,8 +23,34 @@ abbrev pub Output : Call → FileMap → List ℕ → List ℕ → Status → Ty
 Output call_.Session folder input output status =
     (last : State) × Session true start input output (with_status status) last
 Output (call_.Check names) folder input output status =
-    (output ≡ check_text (gathered folder [] names)) × (status ≡ check_status (gathered folder [] names))
-Output call_.Nothing folder input output status = (output ≡ usage_text) × (status ≡ Words)
+    IsAnswer (answer_by checked (gathered folder [] names)) output status
+Output (call_.Obligations names) folder input output status =
+    IsAnswer (answer_by obliged (gathered folder [] names)) output status
+Output (call_.Verify asked) folder input output status =
+    IsAnswer (answer_by (verified asked.stem asked.label) (evidence_in folder asked.certificate asked.files)) output status
+Output call_.Nothing folder input output status = IsAnswer (said usage_text Words) output status
+
+-- this is the answer to a call: on some folder, the told one where it is told, and whatever the input is
+pub record Answered (call : Call) (told : Option FileMap) (answer : Answer) : Type 0 where
+  pub folder : FileMap
+  pub is_folder : IsFolder told folder
+  pub defined : (input : List ℕ) → Output call folder input answer.text answer.status
+
+-- a call reads the source: only a session does
+abbrev pub reads_source : Call → Bool
+reads_source call_.Session = true
+reads_source (call_.Check names) = false
+reads_source (call_.Obligations names) = false
+reads_source (call_.Verify asked) = false
+reads_source call_.Nothing = false
+
+-- a call looks at the folder: each one that names files does
+abbrev pub reads_folder : Call → Bool
+reads_folder call_.Session = false
+reads_folder (call_.Check names) = true
+reads_folder (call_.Obligations names) = true
+reads_folder (call_.Verify asked) = true
+reads_folder call_.Nothing = false
 
 -- all that a source has left, where it tells
 abbrev pub IsInput : Option (List ℕ) → List ℕ → Type 0
@@ -60,10 +90,12 @@ pub record BreaksOff (left leaves held holds : Option (List ℕ)) : Type 0 where
   pub replies : Session false start given output waiting last
   pub written : Appends held holds output
 
--- what was written before a fault of what is read: a session's replies; nothing of a check
+-- what was written before a fault of what is read: a session's replies; nothing by another call
 abbrev pub WritesBefore : Call → Option (List ℕ) → Option (List ℕ) → Option (List ℕ) → Option (List ℕ) → Type 0
 WritesBefore call_.Session left leaves held holds = BreaksOff left leaves held holds
 WritesBefore (call_.Check names) left leaves held holds = Appends held holds []
+WritesBefore (call_.Obligations names) left leaves held holds = Appends held holds []
+WritesBefore (call_.Verify asked) left leaves held holds = Appends held holds []
 WritesBefore call_.Nothing left leaves held holds = ⊥
 
 -- what was written, by the status
@@ -99,18 +131,17 @@ TakesInput left leaves held holds _ = Unit {0}
 -- what a call says of its input: only a session has one
 abbrev pub CallTakes : Call → Option (List ℕ) → Option (List ℕ) → Option (List ℕ) → Option (List ℕ) → Status → Type 0
 CallTakes call_.Session left leaves held holds status = TakesInput left leaves held holds status
-CallTakes (call_.Check names) left leaves held holds status = Unit {0}
-CallTakes call_.Nothing left leaves held holds status = Unit {0}
+CallTakes _ left leaves held holds status = Unit {0}
 
--- a status says that the source failed: only a session reads it
+-- a status says that the source failed
 abbrev pub source_failed : Call → Status → Bool
-source_failed call_.Session ReadFault = true
-source_failed _ _ = false
+source_failed call ReadFault = reads_source call
+source_failed call _ = false
 
--- a status says that the folder failed: only a check reads it
+-- a status says that the folder failed
 abbrev pub folder_failed : Call → Status → Bool
-folder_failed (call_.Check names) ReadFault = true
-folder_failed _ _ = false
+folder_failed call ReadFault = reads_folder call
+folder_failed call _ = false
 
 -- a status says that the sink failed
 abbrev pub sink_failed : Status → Bool
@@ -121,14 +152,10 @@ sink_failed _ = false
 abbrev pub Counts : Bool → ℕ → ℕ → Type 0
 Counts failed before now = MatchBool failed (Rose before now) (now ≡ before)
 
--- a call that is no session leaves the source as it was
+-- a call that doesn't read the source leaves it as it was
 abbrev pub KeepsSource : {A : Type 0} → Call → A → A → Type 0
-KeepsSource call_.Session before now = Unit {0}
-KeepsSource (call_.Check names) before now = now ≡ before
-KeepsSource call_.Nothing before now = now ≡ before
+KeepsSource call before now = MatchBool (reads_source call) (Unit {0}) (now ≡ before)
 
 -- a call that names no files doesn't look at the folder: its count and its files stay
 abbrev pub KeepsFolder : {A : Type 0} → Call → A → A → Type 0
-KeepsFolder call_.Session before now = now ≡ before
-KeepsFolder (call_.Check names) before now = Unit {0}
-KeepsFolder call_.Nothing before now = now ≡ before
+KeepsFolder call before now = MatchBool (reads_folder call) (Unit {0}) (now ≡ before)

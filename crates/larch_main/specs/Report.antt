@@ -1,32 +1,30 @@
 -- The report on the trait files of a session: its lines, and what is said and counted by them.
-use Rattle.std.specs.Prelude.{ℕ, ◌==◌, Bool, true, false, List, [], ◌∷◌, ◌++◌, length, flat_map, count_by, decimal, codes}
+use Rattle.std.specs.Prelude.{◌≡◌, ℕ, ◌==◌, Bool, true, false, List, [], ◌∷◌, ◌++◌, length, flat_map, count_by, decimal, codes}
 use Rattle.std.specs.Prelude.{Result, Ok, Err}
 use Rattle.larch_base.specs.CodeText.{code_text}
 use Rattle.larch_base.specs.Position.{position_text}
 use Rattle.larch_base.specs.declared.fault.Fault.{Fault}
-use Rattle.larch_flat.specs.Flat.{FlatTrait}
 use Rattle.larch_flat.specs.Stops.{Stop, Refused, TooDeep}
 use Rattle.larch_sources.specs.Sources.{Table as Sources}
-use Rattle.larch_flatten.specs.Parts.{flat_trait}
+use Rattle.larch_duties.specs.TraitDuties.{trait_duties}
 use Rattle.larch_traits.specs.Files.{Table}
 use Rattle.larch_traits.specs.Reading.{read_files}
 use Rattle.larch_main.specs.declared.report.ReportLine.{ReportLine}
 use Rattle.larch_main.specs.declared.report.ReportLine.TheVariants.{Right, Wrong}
 
--- the line of a trait, by what is told of it: something, or what is wrong with it first
-abbrev pub line_of : {A : Type 0} → List ℕ → Result A Fault → ReportLine
-line_of stem (Ok flat) = Right stem
-line_of stem (Err fault) = Wrong stem fault
-
--- the line of a trait, by its flat trait; there is one of each, since references are followed deep enough
-abbrev pub trait_lines : List ℕ → Result FlatTrait Stop → List ReportLine
-trait_lines stem (Ok flat) = Right stem ∷ []
+-- the line of a trait, by its duties; there is one of each, since references are followed deep enough
+abbrev pub trait_lines : {A : Type 0} → List ℕ → Result A Stop → List ReportLine
+trait_lines stem (Ok duties) = Right stem ∷ []
 trait_lines stem (Err (Refused fault)) = Wrong stem fault ∷ []
 trait_lines stem (Err TooDeep) = []
 
+-- this is the one line of the trait of a name
+abbrev pub IsLineOf : Sources → List ℕ → ReportLine → Type 0
+IsLineOf sources stem line = trait_lines stem (trait_duties sources stem) ≡ line ∷ []
+
 -- the lines of what is read of files: a line of each
 abbrev pub source_lines : Sources → List ReportLine
-source_lines sources = flat_map (λ source. trait_lines source.0 (flat_trait sources source.0)) sources
+source_lines sources = flat_map (λ source. trait_lines source.0 (trait_duties sources source.0)) sources
 
 -- the report on these files: the lines of the trait files, in byte order of their names
 abbrev pub report_of : Table → List ReportLine

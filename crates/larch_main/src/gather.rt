@@ -3,7 +3,8 @@ ghost use Rattle.std.specs.List.{list_all};
 ghost use Rattle.larch_base.specs.FileNames.{is_file_name};
 ghost use Rattle.larch_base.specs.declared.limits.TheConstants.{MAX_FILE_BYTES};
 ghost use Rattle.larch_io.specs.Refusals.{FolderFaults};
-ghost use Rattle.larch_main.specs.Look.{ComesTo, Looks};
+ghost use Rattle.larch_words.specs.Call.{is_certificate};
+ghost use Rattle.larch_main.specs.Look.{ComesTo, EvidenceFor, Fetches, Looks};
 ghost use Rattle.larch_main.specs.Progress.{HaltFaults};
 ghost use Rattle.larch_traits.specs.Files.{put_file};
 
@@ -12,17 +13,25 @@ use larch_base::limits::MAX_FILES;
 use larch_base::{Bytes, FileName, Name, NameRefusal};
 use larch_io::{Folder, FolderRefusal};
 use larch_traits::Files;
+use larch_words::CertificateName;
 use std::alloc::Global;
 
-/// What comes of looking for the files that words name.
+/// What comes of looking for what words name.
 #[derive(Drop)]
-pub enum Gathered {
-    /// They, each under its name.
-    Whole(Files),
+pub enum Gathered<T> {
+    /// All of it is there.
+    Whole(T),
     /// There is no file of this name.
     Absent(Name),
     /// A file has too many bytes, or there are too many files.
     TooLarge,
+}
+
+/// What is looked at to verify a certificate: its text, and the files among which the trait is.
+#[derive(Drop)]
+pub struct Evidence {
+    pub certificate: Bytes,
+    pub files: Files,
 }
 
 /// Looks for the files of these names in the folder, in their order, until one isn't there or passes a limit. A name
@@ -31,7 +40,7 @@ pub fn gather<F: Folder>(
     alloc: Global,
     names: &[FileName],
     folder: &mut F,
-) -> Result<Gathered, Halt>
+) -> Result<Gathered<Files>, Halt>
     requires { list_all is_file_name names.now ≡ true }
     ensures found { IfOk result (λ found. ComesTo (F.files folder.old) names.now found) }
     ensures same { F.files folder.new ≡ F.files folder.old }
@@ -42,7 +51,7 @@ pub fn gather<F: Folder>(
     for name in names {
         match look(alloc, &mut files, name, folder) {
             Ok(()) => {}
-            Err(FolderRefusal::NotThere) => return absent(alloc, name),
+            Err(FolderRefusal::NotThere) => return absent(alloc, name.bytes()),
             Err(FolderRefusal::TooLong) => return Ok(Gathered::TooLarge),
             Err(FolderRefusal::Failed) => return Err(Halt::ReadFault),
             Err(FolderRefusal::Memory) => return Err(Halt::Memory),
@@ -52,12 +61,57 @@ pub fn gather<F: Folder>(
 }
 
 // No file has this name.
-fn absent(alloc: Global, name: &FileName) -> Result<Gathered, Halt>
+fn absent<T>(alloc: Global, name: &[u8]) -> Result<Gathered<T>, Halt>
     ensures ok { IfOk result (λ found. found ≡ Gathered.Absent name.now) }
     ensures memory { IfErr result (λ halt. halt ≡ Halt.Memory) }
 {
-    let name = Name::new(alloc, name.bytes())?;
+    let name = Name::new(alloc, name)?;
     Ok(Gathered::Absent(name))
+}
+
+/// Looks for a certificate and then for the files of these names, until one isn't there or passes a limit.
+pub fn gather_evidence<F: Folder>(
+    alloc: Global,
+    certificate: &CertificateName,
+    names: &[FileName],
+    folder: &mut F,
+) -> Result<Gathered<Evidence>, Halt>
+    requires names { list_all is_file_name names.now ≡ true }
+    requires other { is_certificate certificate.now ≡ true }
+    ensures found { IfOk result (λ found. EvidenceFor (F.files folder.old) certificate.now names.now found) }
+    ensures same { F.files folder.new ≡ F.files folder.old }
+    ensures fine { OnOk result (F.faults folder.new ≡ F.faults folder.old) }
+    ensures faults { IfErr result (λ halt. HaltFaults halt (F.faults folder.old) (F.faults folder.new)) }
+{
+    match fetch(alloc, certificate, folder)? {
+        Gathered::Whole(certificate) => match gather(alloc, names, folder)? {
+            Gathered::Whole(files) => Ok(Gathered::Whole(Evidence { certificate, files })),
+            Gathered::Absent(name) => Ok(Gathered::Absent(name)),
+            Gathered::TooLarge => Ok(Gathered::TooLarge),
+        },
+        Gathered::Absent(name) => Ok(Gathered::Absent(name)),
+        Gathered::TooLarge => Ok(Gathered::TooLarge),
+    }
+}
+
+// Looks for a certificate.
+fn fetch<F: Folder>(
+    alloc: Global,
+    name: &CertificateName,
+    folder: &mut F,
+) -> Result<Gathered<Bytes>, Halt>
+    ensures found { IfOk result (λ found. Fetches (F.files folder.old) name.now found) }
+    ensures same { F.files folder.new ≡ F.files folder.old }
+    ensures fine { OnOk result (F.faults folder.new ≡ F.faults folder.old) }
+    ensures faults { IfErr result (λ halt. HaltFaults halt (F.faults folder.old) (F.faults folder.new)) }
+{
+    match folder.read_file(alloc, name.text()) {
+        Ok(bytes) => Ok(Gathered::Whole(Bytes::from_vec(bytes))),
+        Err(FolderRefusal::NotThere) => absent(alloc, name.text().as_bytes()),
+        Err(FolderRefusal::TooLong) => Ok(Gathered::TooLarge),
+        Err(FolderRefusal::Failed) => Err(Halt::ReadFault),
+        Err(FolderRefusal::Memory) => Err(Halt::Memory),
+    }
 }
 
 // Puts the file of a name in, unless it is there already. What has too many bytes and what is one file too many is

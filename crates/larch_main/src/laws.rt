@@ -2,10 +2,17 @@
 ghost use Rattle.std.specs.Prelude.{◌≡◌, ℕ, Bool, List, map};
 ghost use Rattle.larch_traits.specs.Files.{Table};
 ghost use Rattle.larch_traits.specs.Reading.{read_files};
+ghost use Rattle.larch_io.specs.Folder.{FileMap};
+ghost use Rattle.larch_words.specs.declared.call.Call.TheVariants.{Verify};
+ghost use Rattle.larch_words.specs.declared.call.Verification.{Verification};
 ghost use Rattle.larch_main.specs.Laws.{Ends, stem_in};
+ghost use Rattle.larch_main.specs.Program.{Output};
 ghost use Rattle.larch_main.specs.Report.{report_of};
 ghost use Rattle.larch_main.specs.Session.{State, Ending, Session};
+ghost use Rattle.larch_main.specs.Verify.{IsShown};
+ghost use Rattle.larch_main.specs.declared.status.Status.TheVariants.{Good};
 
+use larch_lines_law::laws::accepted_is_derivable;
 use larch_traits::laws::each_flat_trait_is_told;
 
 /// On every input, from every state, a session ends by itself, with one of the statuses 0, 1, 6 and 7.
@@ -32,4 +39,12 @@ pub fn each_trait_has_one_line()
     ensures { (files : Table) → map stem_in (report_of files) ≡ map (λ source. source.0) (read_files files) }
 {
     each_flat_trait_is_told()
+}
+
+/// Where `verify` ends well, the trait has the duty that was named, and its statement is derivable from its theory.
+pub fn what_is_verified_is_derivable()
+    ensures { (asked : Verification) (folder : FileMap) (input output : List ℕ)
+        → Output (Verify asked) folder input output Good → IsShown folder asked }
+{
+    accepted_is_derivable()
 }

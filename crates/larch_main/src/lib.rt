@@ -1,18 +1,24 @@
 //! The program's one call: words and streams in, a report and a status out.
 #![tactic(auto)]
 
+mod answer;
 mod check;
 mod command;
 mod gather;
 mod laws;
+mod obligations;
 mod program;
 mod progress;
 mod report;
 mod say;
 mod session;
 mod status;
+mod verify;
 
-pub use laws::{every_session_ends, one_ending, one_output};
+pub use laws::{
+    each_trait_has_one_line, every_session_ends, one_ending, one_output,
+    what_is_verified_is_derivable,
+};
 pub use program::run;
 pub use report::ReportLine;
 pub use status::Status;

@@ -1,11 +1,13 @@
-ghost use Rattle.std.specs.Prelude.{◌≡◌, ◌++◌, IfOk, OnOk};
+ghost use Rattle.std.specs.Prelude.{◌≡◌, ◌<◌, ◌++◌, length, IfOk, OnOk};
+ghost use Rattle.larch_sources.specs.Sources.{name_at};
 ghost use Rattle.larch_flatten.specs.Known.{AreAllKnown, Knows};
-ghost use Rattle.larch_main.specs.Report.{is_good, is_wrong, line_of, line_text, report_of, report_text, source_lines, total_text};
-ghost use Rattle.larch_main.specs.Report.{error_count, fault_text};
+ghost use Rattle.larch_main.specs.Report.{IsLineOf, is_good, is_wrong, line_text, report_of, report_text};
+ghost use Rattle.larch_main.specs.Report.{error_count, fault_text, source_lines, total_text};
 
 use larch_base::{Bytes, Fault, Memory, Name, Sequence};
+use larch_duties::duties_of;
 use larch_flatten::{FlatTraits, flatten};
-use larch_gathered::Flat;
+use larch_items::TraitRefusal;
 use larch_sources::Sources;
 use larch_traits::{Files, read_files};
 use std::alloc::Global;
@@ -42,22 +44,29 @@ fn source_lines(
 {
     let mut lines = Sequence::new(alloc);
     for number in 0..sources.len() {
-        if let Some(answer) = flat_traits.get(number) {
-            let line = line_of(sources.name(number), answer)?;
-            lines.push(line)?;
-        }
+        let line = line_of(alloc, sources, flat_traits, number)?;
+        lines.push(line)?;
     }
     Ok(lines)
 }
 
-// The line of the trait of this name, by its flat trait or what is wrong with it.
-fn line_of(name: &Name, answer: &Result<Flat, Fault>) -> Result<ReportLine, Memory>
-    ensures { IfOk result (λ line. line ≡ line_of name.now answer.now) }
+// The line of the trait of the file with a number, by its duties or what is wrong with it.
+fn line_of(
+    alloc: Global,
+    sources: &Sources,
+    flat_traits: &FlatTraits,
+    number: usize,
+) -> Result<ReportLine, Memory>
+    requires number { number < length sources.now }
+    requires known { Knows sources.now flat_traits.now }
+    requires all { AreAllKnown sources.now flat_traits.now }
+    ensures { IfOk result (λ line. IsLineOf sources.now (name_at sources.now number) line) }
 {
-    let name = name.copy()?;
-    match answer {
+    let name = sources.name(number).copy()?;
+    match duties_of(alloc, sources, flat_traits, number) {
         Ok(_) => Ok(ReportLine::Right(name)),
-        Err(fault) => Ok(ReportLine::Wrong(name, *fault)),
+        Err(TraitRefusal::Wrong(pos, code)) => Ok(ReportLine::Wrong(name, Fault { pos, code })),
+        Err(TraitRefusal::Memory) => Err(Memory),
     }
 }
 
@@ -80,8 +89,8 @@ pub fn is_good(lines: &[ReportLine]) -> bool
     error_count(lines) == 0
 }
 
-// Puts a line at the end.
-fn append_line(alloc: Global, text: &mut Bytes, line: &ReportLine) -> Result<(), Memory>
+/// Puts a line at the end.
+pub fn append_line(alloc: Global, text: &mut Bytes, line: &ReportLine) -> Result<(), Memory>
     ensures { OnOk result (text.new ≡ text.old ++ line_text line.now) }
 {
     text.append(b"trait ")?;

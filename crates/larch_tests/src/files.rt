@@ -8,12 +8,16 @@ use std::marker::Brand;
 use std::sync::ledger::{Blank, Ledger};
 use std::test::Fail;
 
-const ONE: &[u8] = b"One: trait\n  introduces\n    c: -> S\n";
+const ONE: &[u8] = b"One: trait\n  introduces\n    c: -> S\n  implies\n    c == c\n";
 
 const WRONG: &[u8] = b"Two: trait\n  introduces\n    c -> S\n";
 
 const BOTH: &[u8] = b"trait One\ntrait Two error 3:7 SYNTAX\n\
     total 2 traits, 1 errors, 0 proved, 0 suspended, 0 refused\nend\n";
+
+const REFLEXIVE: &[u8] = b"certificate 1\n1 refl #1\n";
+
+const LISTED: &[u8] = b"trait One\nop c: -> S\nimply.1 c == c\ntrait Two error 3:7 SYNTAX\nend\n";
 
 const ONE_ALONE: &[u8] =
     b"trait One\ntotal 1 traits, 0 errors, 0 proved, 0 suspended, 0 refused\nend\n";
@@ -45,12 +49,11 @@ fn status_of(
     counted::<Brand>(rt, Blank::new(1), words, folder, sink)
 }
 
-// The word `check`, and these names.
-fn check_of(alloc: Global, names: &[&str]) -> Result<Vec<String>, Memory> {
+// These words.
+fn words_of(alloc: Global, texts: &[&str]) -> Result<Vec<String>, Memory> {
     let mut words = Vec::new(alloc);
-    words.push(String::from_str(alloc, "check")?)?;
-    for name in names {
-        words.push(String::from_str(alloc, name)?)?;
+    for text in texts {
+        words.push(String::from_str(alloc, text)?)?;
     }
     Ok(words)
 }
@@ -62,31 +65,65 @@ fn put(alloc: Global, folder: &mut MemoryFolder, name: &[u8], text: &[u8]) -> Re
     folder.insert(Name::new(alloc, name)?, bytes)
 }
 
-// A folder with two traits, of which the second is wrong, and a script.
+// A folder with two traits, of which the second is wrong, a script, and a certificate of what the first one implies.
 fn two_traits(alloc: Global, failing: &[u64]) -> Result<MemoryFolder, Memory> {
     let mut folder = MemoryFolder::new(alloc, failing)?;
     put(alloc, &mut folder, b"One.lsl", ONE)?;
     put(alloc, &mut folder, b"Two.lsl", WRONG)?;
     put(alloc, &mut folder, b"One.lp", b"not looked at")?;
+    put(alloc, &mut folder, b"One.cert", REFLEXIVE)?;
     Ok(folder)
 }
 
-// What a check of these names writes, where the listed looks at the folder fail.
-fn checked(
+// What a call with these words writes, one byte at a time, where the listed looks at the folder and writes fail.
+fn called_with(
     rt: &HostRuntime,
-    names: &[&str],
-    failing: &[u64],
+    texts: &[&str],
+    looks: &[u64],
+    writes: &[u64],
 ) -> Result<(Status, MemorySink), Memory> {
-    let words = check_of(rt.alloc(), names)?;
-    let mut folder = two_traits(rt.alloc(), failing)?;
-    let mut sink = MemorySink::new(rt.alloc(), &[], 7)?;
+    let words = words_of(rt.alloc(), texts)?;
+    let mut folder = two_traits(rt.alloc(), looks)?;
+    let mut sink = MemorySink::new(rt.alloc(), writes, 1)?;
     let status = status_of(rt, &words, &mut folder, &mut sink)?;
     Ok((status, sink))
 }
 
+// The same, where no write fails.
+fn called(rt: &HostRuntime, texts: &[&str], looks: &[u64]) -> Result<(Status, MemorySink), Memory> {
+    called_with(rt, texts, looks, &[])
+}
+
+// The first look below a number at which a fault isn't told, or something is written all the same.
+fn first_wrong_look(rt: &HostRuntime, texts: &[&str], behind: u64) -> Result<Option<u64>, Memory> {
+    for look in 1..behind {
+        let (status, sink) = called(rt, texts, &[look])?;
+        if status != Status::ReadFault || !sink.bytes().is_empty() {
+            return Ok(Some(look));
+        }
+    }
+    Ok(None)
+}
+
+// How many bytes of the whole output stand where a write fails without being told, or something else than a front of
+// it is written.
+fn first_wrong_write(
+    rt: &HostRuntime,
+    texts: &[&str],
+    whole: &[u8],
+) -> Result<Option<usize>, Memory> {
+    for kept in 0..whole.len() {
+        let (status, sink) = called_with(rt, texts, &[], &[kept as u64 + 1])?;
+        if status != Status::WriteFault || sink.bytes() != &whole[..kept] {
+            return Ok(Some(kept));
+        }
+    }
+    Ok(None)
+}
+
 #[test]
 fn checks_files(rt: HostRuntime) -> Result<(), Fail> {
-    let (status, sink) = checked(&rt, &["Two.lsl", "One.lp", "One.lsl"], &[])?;
+    let (status, sink) = called(&rt, &["check", "Two.lsl", "One.lp", "One.lsl"], &[])?;
     assert_eq!(rt; status, Status::Remains);
     assert_eq!(rt; sink.bytes(), BOTH);
     Ok(())
@@ -95,7 +132,7 @@ fn checks_files(rt: HostRuntime) -> Result<(), Fail> {
 // A name that comes again isn't looked at again: the third look would fail.
 #[test]
 fn looks_once(rt: HostRuntime) -> Result<(), Fail> {
-    let (status, sink) = checked(&rt, &["One.lsl", "One.lp", "One.lsl"], &[3])?;
+    let (status, sink) = called(&rt, &["check", "One.lsl", "One.lp", "One.lsl"], &[3])?;
     assert_eq!(rt; status, Status::Good);
     assert_eq!(rt; sink.bytes(), ONE_ALONE);
     Ok(())
@@ -103,7 +140,7 @@ fn looks_once(rt: HostRuntime) -> Result<(), Fail> {
 
 #[test]
 fn tells_what_is_absent(rt: HostRuntime) -> Result<(), Fail> {
-    let (status, sink) = checked(&rt, &["One.lsl", "Nope.lsl", "No.lsl"], &[3])?;
+    let (status, sink) = called(&rt, &["check", "One.lsl", "Nope.lsl", "No.lsl"], &[3])?;
     assert_eq!(rt; status, Status::NoFile);
     assert_eq!(rt; sink.bytes(), b"no file Nope.lsl\n".as_slice());
     Ok(())
@@ -111,10 +148,52 @@ fn tells_what_is_absent(rt: HostRuntime) -> Result<(), Fail> {
 
 #[test]
 fn writes_nothing_after_a_fault(rt: HostRuntime) -> Result<(), Fail> {
-    for call in 1..4 {
-        let (status, sink) = checked(&rt, &["Two.lsl", "One.lp", "One.lsl"], &[call])?;
-        assert_eq!(rt; status, Status::ReadFault, "at look {call}");
-        assert_eq!(rt; sink.bytes(), b"".as_slice(), "at look {call}");
-    }
+    let wrong = first_wrong_look(&rt, &["check", "Two.lsl", "One.lp", "One.lsl"], 4)?;
+    assert_eq!(rt; wrong, None);
+    let wrong = first_wrong_look(&rt, &["obligations", "Two.lsl", "One.lsl"], 3)?;
+    assert_eq!(rt; wrong, None);
+    let wrong = first_wrong_look(&rt, &["verify", "One", "imply.1", "One.cert", "One.lsl"], 3)?;
+    assert_eq!(rt; wrong, None);
+    Ok(())
+}
+
+#[test]
+fn keeps_a_front_where_a_write_fails(rt: HostRuntime) -> Result<(), Fail> {
+    let wrong = first_wrong_write(&rt, &["check", "Two.lsl", "One.lsl"], BOTH)?;
+    assert_eq!(rt; wrong, None);
+    let wrong = first_wrong_write(&rt, &["obligations", "Two.lsl", "One.lsl"], LISTED)?;
+    assert_eq!(rt; wrong, None);
+    let words = ["verify", "One", "imply.1", "One.cert", "One.lsl"];
+    let wrong = first_wrong_write(&rt, &words, b"accepted\n")?;
+    assert_eq!(rt; wrong, None);
+    Ok(())
+}
+
+#[test]
+fn verifies(rt: HostRuntime) -> Result<(), Fail> {
+    let words = ["verify", "One", "imply.1", "One.cert", "One.lsl"];
+    let (status, sink) = called(&rt, &words, &[])?;
+    assert_eq!(rt; status, Status::Good);
+    assert_eq!(rt; sink.bytes(), b"accepted\n".as_slice());
+    Ok(())
+}
+
+#[test]
+fn lists_obligations(rt: HostRuntime) -> Result<(), Fail> {
+    let (status, sink) = called(&rt, &["obligations", "Two.lsl", "One.lsl"], &[])?;
+    assert_eq!(rt; status, Status::Remains);
+    assert_eq!(rt; sink.bytes(), LISTED);
+    Ok(())
+}
+
+// The certificate is looked for before the files, and a fault comes before its absence.
+#[test]
+fn looks_for_the_certificate_first(rt: HostRuntime) -> Result<(), Fail> {
+    let words = ["verify", "One", "imply.1", "No.cert", "Nope.lsl"];
+    let (status, sink) = called(&rt, &words, &[2])?;
+    assert_eq!(rt; status, Status::NoFile);
+    assert_eq!(rt; sink.bytes(), b"no file No.cert\n".as_slice());
+    let (status, _) = called(&rt, &words, &[1])?;
+    assert_eq!(rt; status, Status::ReadFault);
     Ok(())
 }

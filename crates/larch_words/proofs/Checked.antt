@@ -1,52 +1,121 @@
--- What a check is of.
-use Rattle.std.proofs.Common.{◌≡◌, refl, sym, ap, subst, ◌∙◌, ℕ, Bool, true, false, not, ◌&&◌, cond, List, Option, Some, None}
+-- What files are named by.
+use Rattle.std.proofs.Common.{◌≡◌, refl, sym, ap, subst, Bool, true, false, not, ◌&&◌, cond, List, [], ◌∷◌, ℕ, Option, Some, None}
 use Rattle.std.specs.List.{list_all}
 use Rattle.std.specs.Str.{bytes_eq}
 use Rattle.std.specs.Prelude.{codes}
 use Rattle.std.specs.Option.{option_map_or}
 use Rattle.clap.specs.Walk.{is_empty}
-use Rattle.larch_base.specs.FileNames.{is_file_name}
+use Rattle.larch_base.specs.FileNames.{is_file_name, is_stem}
+use Rattle.larch_base.specs.declared.label.Label.{Label}
 use Rattle.larch_base.proofs.Bools.{and_right}
-use Rattle.larch_words.specs.Call.{asked, call_of, called, checked, are_files, has_option}
+use Rattle.larch_words.specs.Call.{are_files, asked, call_of, called, files_named, has_option, is_certificate, of_files, verified, verified_by}
 use Rattle.larch_words.specs.CommandLine.{Request, request_of}
+use Rattle.larch_words.specs.Labels.{label_of}
 use Rattle.larch_words.specs.declared.call.Call.{Call}
-use Rattle.larch_words.specs.declared.call.Call.TheVariants.{Session, Check, Nothing}
+use Rattle.larch_words.specs.declared.call.Call.TheVariants.{Session, Check, Obligations, Verify, Nothing}
+use Rattle.larch_words.specs.declared.call.Verification.{Verification}
 
--- a call that is a check of these names is of names of files
-abbrev IsOfFiles : List (List ℕ) → Call → Type 0
-IsOfFiles names call = call ≡ Check names → list_all is_file_name names ≡ true
+-- the files that a call names have names of files
+abbrev AreNamed : Call → Type 0
+AreNamed call = list_all is_file_name (files_named call) ≡ true
 
-checks : (names these : List (List ℕ)) (b : Bool) → are_files these ≡ b → IsOfFiles names (cond b (Check these) Nothing)
-checks names these true e is =
-    let same : these ≡ names = cc in
-    subst (λ files. list_all is_file_name files ≡ true) same (and_right (not (is_empty these)) (list_all is_file_name these) e)
-checks names these false e is = cc
+either : (b : Bool) (x y : Call) → AreNamed x → AreNamed y → AreNamed (cond b x y)
+either true x y p q = p
+either false x y p q = q
 
-names_files : (names these : List (List ℕ)) → IsOfFiles names (checked these)
-names_files names these = checks names these (are_files these) refl
+-- a call that names exactly the files that it is asked for
+asked_of : (ask : List (List ℕ) → Call) → ((names : List (List ℕ)) → files_named (ask names) ≡ names) → (these : List (List ℕ)) (b : Bool)
+    → are_files these ≡ b → AreNamed (cond b (ask these) Nothing)
+asked_of ask is these true e =
+    subst (λ names. list_all is_file_name names ≡ true) (sym (is these)) (and_right (not (is_empty these)) (list_all is_file_name these) e)
+asked_of ask is these false e = refl
 
-no_check : (names : List (List ℕ)) (b : Bool) → IsOfFiles names (cond b Session Nothing)
-no_check names true is = cc
-no_check names false is = cc
+of_files_named : (ask : List (List ℕ) → Call) → ((names : List (List ℕ)) → files_named (ask names) ≡ names) → (these : List (List ℕ))
+    → AreNamed (of_files ask these)
+of_files_named ask is these = asked_of ask is these (are_files these) refl
 
-either : (names : List (List ℕ)) (b : Bool) (x y : Call) → IsOfFiles names x → IsOfFiles names y → IsOfFiles names (cond b x y)
-either names true x y p q = p
-either names false x y p q = q
+verified_by_named : (stem : List ℕ) (label : Option Label) (certificate : List ℕ) (files : List (List ℕ))
+    → AreNamed (verified_by stem label certificate files)
+verified_by_named stem None certificate files = refl
+verified_by_named stem (Some label) certificate files =
+    either (is_stem stem && is_certificate certificate) _ _
+    (of_files_named (λ names. Verify (record { stem = stem; label = label; certificate = certificate; files = names })) (λ names. refl) files) refl
 
-nothing : (names : List (List ℕ)) → IsOfFiles names Nothing
-nothing names is = cc
+verified_named : (words : List (List ℕ)) → AreNamed (verified words)
+verified_named [] = refl
+verified_named (stem ∷ []) = refl
+verified_named (stem ∷ label ∷ []) = refl
+verified_named (stem ∷ label ∷ certificate ∷ files) = verified_by_named stem (label_of label) certificate files
 
-called_names : (names these : List (List ℕ)) (command : List ℕ) → IsOfFiles names (called command these)
-called_names names these command =
-    either names (bytes_eq command (codes "session")) _ _ (no_check names (is_empty these))
-    (either names (bytes_eq command (codes "check")) _ _ (names_files names these) (nothing names))
+called_named : (command : List ℕ) (words : List (List ℕ)) → AreNamed (called command words)
+called_named command words =
+    either (bytes_eq command (codes "session")) _ _ (either (is_empty words) _ _ refl refl)
+    (either (bytes_eq command (codes "check")) _ _ (of_files_named Check (λ names. refl) words)
+    (either (bytes_eq command (codes "obligations")) _ _ (of_files_named Obligations (λ names. refl) words)
+    (either (bytes_eq command (codes "verify")) _ _ (verified_named words) refl)))
 
-asked_names : (names : List (List ℕ)) (request : Request) → IsOfFiles names (asked request)
-asked_names names request = either names (has_option request) _ _ (nothing names) (called_names names request.words request.command)
+found_named : (request : Option Request) → AreNamed (option_map_or asked request Nothing)
+found_named None = refl
+found_named (Some request) = either (has_option request) _ _ refl (called_named request.command request.words)
 
-found_names : (names : List (List ℕ)) (request : Option Request) → IsOfFiles names (option_map_or asked request Nothing)
-found_names names None = nothing names
-found_names names (Some request) = asked_names names request
+pub names_files : (words : List (List ℕ)) → AreNamed (call_of words)
+names_files words = found_named (request_of words)
 
-pub check_names_files : (words names : List (List ℕ)) → call_of words ≡ Check names → list_all is_file_name names ≡ true
-check_names_files words names = found_names names (request_of words)
+-- the certificate that a call names has the name of one
+abbrev IsCertified : Call → Type 0
+IsCertified call = (asked : Verification) → call ≡ Verify asked → is_certificate asked.certificate ≡ true
+
+either_certified : (b : Bool) (x y : Call) → IsCertified x → IsCertified y → IsCertified (cond b x y)
+either_certified true x y p q = p
+either_certified false x y p q = q
+
+nothing_certified : IsCertified Nothing
+nothing_certified asked e = cc
+
+checks_certified : (b : Bool) (these : List (List ℕ)) → IsCertified (cond b (Check these) Nothing)
+checks_certified true these asked e = cc
+checks_certified false these asked e = cc
+
+obligations_certified : (b : Bool) (these : List (List ℕ)) → IsCertified (cond b (Obligations these) Nothing)
+obligations_certified true these asked e = cc
+obligations_certified false these asked e = cc
+
+session_certified : (b : Bool) → IsCertified (cond b Session Nothing)
+session_certified true asked e = cc
+session_certified false asked e = cc
+
+verify_certified : (one : Verification) (b : Bool) → is_certificate one.certificate ≡ true → IsCertified (cond b (Verify one) Nothing)
+verify_certified one true is asked e = let same : one ≡ asked = cc in subst (λ x. is_certificate x.certificate ≡ true) same is
+verify_certified one false is asked e = cc
+
+named_certified : (stem : List ℕ) (label : Label) (certificate : List ℕ) (files : List (List ℕ)) (b : Bool) → (is_stem stem && is_certificate certificate) ≡ b
+    → IsCertified (cond b (of_files (λ names. Verify (record { stem = stem; label = label; certificate = certificate; files = names })) files) Nothing)
+named_certified stem label certificate files true e =
+    verify_certified (record { stem = stem; label = label; certificate = certificate; files = files }) (are_files files)
+    (and_right (is_stem stem) (is_certificate certificate) e)
+named_certified stem label certificate files false e = nothing_certified
+
+verified_by_certified : (stem : List ℕ) (label : Option Label) (certificate : List ℕ) (files : List (List ℕ))
+    → IsCertified (verified_by stem label certificate files)
+verified_by_certified stem None certificate files = nothing_certified
+verified_by_certified stem (Some label) certificate files = named_certified stem label certificate files (is_stem stem && is_certificate certificate) refl
+
+verified_certified : (words : List (List ℕ)) → IsCertified (verified words)
+verified_certified [] = nothing_certified
+verified_certified (stem ∷ []) = nothing_certified
+verified_certified (stem ∷ label ∷ []) = nothing_certified
+verified_certified (stem ∷ label ∷ certificate ∷ files) = verified_by_certified stem (label_of label) certificate files
+
+called_certified : (command : List ℕ) (words : List (List ℕ)) → IsCertified (called command words)
+called_certified command words =
+    either_certified (bytes_eq command (codes "session")) _ _ (session_certified (is_empty words))
+    (either_certified (bytes_eq command (codes "check")) _ _ (checks_certified (are_files words) words)
+    (either_certified (bytes_eq command (codes "obligations")) _ _ (obligations_certified (are_files words) words)
+    (either_certified (bytes_eq command (codes "verify")) _ _ (verified_certified words) nothing_certified)))
+
+found_certified : (request : Option Request) → IsCertified (option_map_or asked request Nothing)
+found_certified None = nothing_certified
+found_certified (Some request) = either_certified (has_option request) _ _ nothing_certified (called_certified request.command request.words)
+
+pub names_certificates : (words : List (List ℕ)) → IsCertified (call_of words)
+names_certificates words = found_certified (request_of words)

@@ -1,13 +1,16 @@
 -- What the words of the command line ask for.
-use Rattle.std.specs.Prelude.{ℕ, if◌then◌else◌, ◌&&◌, ◌||◌, not, Bool, List, [], ◌∷◌, is_some, codes}
+use Rattle.std.specs.Prelude.{ℕ, nat_le, if◌then◌else◌, ◌-◌, ◌&&◌, ◌||◌, not, Bool, List, [], ◌∷◌, drop, length, codes}
+use Rattle.std.specs.Prelude.{Option, Some, None, is_some}
 use Rattle.std.specs.List.{list_all}
 use Rattle.std.specs.Option.{option_map_or}
 use Rattle.std.specs.Str.{bytes_eq}
 use Rattle.clap.specs.Walk.{is_empty}
-use Rattle.larch_base.specs.FileNames.{is_file_name}
+use Rattle.larch_base.specs.FileNames.{is_file_name, is_stem}
+use Rattle.larch_base.specs.declared.label.Label.{Label}
 use Rattle.larch_words.specs.CommandLine.{Request, request_of}
+use Rattle.larch_words.specs.Labels.{label_of}
 use Rattle.larch_words.specs.declared.call.Call.{Call}
-use Rattle.larch_words.specs.declared.call.Call.TheVariants.{Session, Check, Nothing}
+use Rattle.larch_words.specs.declared.call.Call.TheVariants.{Session, Check, Obligations, Verify, Nothing}
 
 -- whether an option was given
 abbrev pub has_option : Request → Bool
@@ -17,15 +20,44 @@ has_option request = is_some request.limit || (is_some request.seed || is_some r
 abbrev pub are_files : List (List ℕ) → Bool
 are_files words = not (is_empty words) && list_all is_file_name words
 
--- a check of files
-abbrev pub checked : List (List ℕ) → Call
-checked words = if are_files words then Check words else Nothing
+-- what is asked of files, where words are names of some
+abbrev pub of_files : (List (List ℕ) → Call) → List (List ℕ) → Call
+of_files ask words = if are_files words then ask words else Nothing
 
--- a session takes no words, and a check takes files
+-- whether a word ends in `.cert`
+abbrev pub is_certificate : List ℕ → Bool
+is_certificate word = nat_le 5 (length word) && bytes_eq (drop (length word - 5) word) (codes ".cert")
+
+-- the certificate of a trait's duty is to be verified, over these files
+abbrev pub verified_by : List ℕ → Option Label → List ℕ → List (List ℕ) → Call
+verified_by stem None certificate files = Nothing
+verified_by stem (Some label) certificate files =
+    if is_stem stem && is_certificate certificate
+    then of_files (λ names. Verify (record { stem = stem; label = label; certificate = certificate; files = names })) files
+    else Nothing
+
+-- behind a trait and a label: a certificate and files
+abbrev pub verified_duty : List ℕ → Option Label → List (List ℕ) → Call
+verified_duty stem label [] = Nothing
+verified_duty stem label (certificate ∷ files) = verified_by stem label certificate files
+
+-- behind a trait: a label, a certificate and files
+abbrev pub verified_trait : List ℕ → List (List ℕ) → Call
+verified_trait stem [] = Nothing
+verified_trait stem (label ∷ words) = verified_duty stem (label_of label) words
+
+-- a trait, a label, a certificate and files
+abbrev pub verified : List (List ℕ) → Call
+verified [] = Nothing
+verified (stem ∷ words) = verified_trait stem words
+
+-- a session takes no words, the other commands take files
 abbrev pub called : List ℕ → List (List ℕ) → Call
 called command words =
     if bytes_eq command (codes "session") then (if is_empty words then Session else Nothing)
-    else if bytes_eq command (codes "check") then checked words
+    else if bytes_eq command (codes "check") then of_files Check words
+    else if bytes_eq command (codes "obligations") then of_files Obligations words
+    else if bytes_eq command (codes "verify") then verified words
     else Nothing
 
 -- no command takes an option yet
@@ -35,3 +67,11 @@ asked request = if has_option request then Nothing else called request.command r
 -- what these words ask for; words without matches mean nothing
 abbrev pub call_of : List (List ℕ) → Call
 call_of words = option_map_or asked (request_of words) Nothing
+
+-- the files that a call names
+abbrev pub files_named : Call → List (List ℕ)
+files_named Session = []
+files_named (Check names) = names
+files_named (Obligations names) = names
+files_named (Verify asked) = asked.files
+files_named Nothing = []

@@ -1,18 +1,36 @@
-ghost use Rattle.std.specs.Prelude.{◌≡◌, IfOk, IsErrOf, [], false, is_some, map, string_bytes, true};
+ghost use Rattle.std.specs.Prelude.{◌≡◌, if◌then◌else◌, IfOk, IsErrOf, [], false, is_some, map, string_bytes, true, Some, None};
 ghost use Rattle.std.specs.List.{list_all};
 ghost use Rattle.clap.specs.Words.{first_of, found_of, rows_of};
-ghost use Rattle.larch_base.specs.FileNames.{is_file_name};
-ghost use Rattle.larch_words.specs.Call.{asked, call_of, called, checked, has_option};
+ghost use Rattle.larch_base.specs.FileNames.{is_file_name, is_stem, is_stem_byte};
+ghost use Rattle.larch_words.specs.Call.{are_files, asked, call_of, called, has_option, is_certificate, of_files};
+ghost use Rattle.larch_words.specs.Call.{verified, verified_by, verified_duty, verified_trait};
 ghost use Rattle.larch_words.specs.CommandLine.{request_in};
+ghost use Rattle.larch_words.specs.declared.call.Call.TheVariants.{Check as call_check, Obligations as call_obligations};
 
+use crate::certificate_name::CertificateName;
 use crate::command_line::command_line;
+use crate::label::label_of;
 use clap::ArgMatches;
 use clap::error::ErrorKind;
-use larch_base::{FileName, Memory, NameRefusal, Sequence};
+use larch_base::limits::MAX_STEM_BYTES;
+use larch_base::{FileName, Label, Memory, Name, NameRefusal, Sequence};
 use std::alloc::Global;
 
 /// Several names of files, in order.
 pub type FileNames = Sequence<FileName>;
+
+/// What a certificate is to show, and where it stands.
+#[derive(Drop)]
+pub struct Verification {
+    /// The name of the trait.
+    pub stem: Name,
+    /// The label of its duty.
+    pub label: Label,
+    /// The file of the certificate.
+    pub certificate: CertificateName,
+    /// The files among which the trait is.
+    pub files: FileNames,
+}
 
 /// What the words of the command line ask for.
 #[derive(Drop)]
@@ -21,6 +39,10 @@ pub enum Call {
     Session,
     /// What is wrong with these files.
     Check(FileNames),
+    /// What the traits of these files claim.
+    Obligations(FileNames),
+    /// Whether a certificate shows what a trait claims.
+    Verify(Verification),
     /// Nothing: the words mean no command.
     Nothing,
 }
@@ -110,20 +132,152 @@ fn called(alloc: Global, command: &str, words: &[&str]) -> Result<Call, Memory>
             let call = check(alloc, words)?;
             Ok(call)
         }
+        "obligations" => {
+            let call = obligations(alloc, words)?;
+            Ok(call)
+        }
+        "verify" => {
+            let call = verify(alloc, words)?;
+            Ok(call)
+        }
         _ => Ok(Call::Nothing),
     }
 }
 
 // What a check of these words asks for.
 fn check(alloc: Global, words: &[&str]) -> Result<Call, Memory>
-    ensures { IfOk result (λ call. call ≡ checked (map (λ word. word.now) words.now)) }
+    ensures { IfOk result (λ call. call ≡ of_files call_check (map (λ word. word.now) words.now)) }
 {
-    if words.is_empty() {
+    match files(alloc, words)? {
+        Some(names) => Ok(Call::Check(names)),
+        None => Ok(Call::Nothing),
+    }
+}
+
+// What is asked for where the obligations of these words are.
+fn obligations(alloc: Global, words: &[&str]) -> Result<Call, Memory>
+    ensures { IfOk result (λ call. call ≡ of_files call_obligations (map (λ word. word.now) words.now)) }
+{
+    match files(alloc, words)? {
+        Some(names) => Ok(Call::Obligations(names)),
+        None => Ok(Call::Nothing),
+    }
+}
+
+// What is asked for where these words say what is to be verified.
+fn verify(alloc: Global, words: &[&str]) -> Result<Call, Memory>
+    ensures { IfOk result (λ call. call ≡ verified (map (λ word. word.now) words.now)) }
+{
+    match words {
+        [] => Ok(Call::Nothing),
+        [stem, words @ ..] => verify_trait(alloc, stem, words),
+    }
+}
+
+// The same behind the trait.
+fn verify_trait(alloc: Global, stem: &str, words: &[&str]) -> Result<Call, Memory>
+    ensures { IfOk result (λ call. call ≡ verified_trait stem.now (map (λ word. word.now) words.now)) }
+{
+    match words {
+        [] => Ok(Call::Nothing),
+        [label, words @ ..] => verify_duty(alloc, stem, label_of(label.as_bytes()), words),
+    }
+}
+
+// The same behind the trait and the label.
+fn verify_duty(
+    alloc: Global,
+    stem: &str,
+    label: Option<Label>,
+    words: &[&str],
+) -> Result<Call, Memory>
+    ensures { IfOk result (λ call. call ≡ verified_duty stem.now label (map (λ word. word.now) words.now)) }
+{
+    match words {
+        [] => Ok(Call::Nothing),
+        [certificate, files @ ..] => verify_by(alloc, stem, label, certificate, files),
+    }
+}
+
+// The certificate of a trait's duty is to be verified, over these files.
+fn verify_by(
+    alloc: Global,
+    stem: &str,
+    label: Option<Label>,
+    certificate: &str,
+    words: &[&str],
+) -> Result<Call, Memory>
+    ensures { IfOk result (λ call. call
+        ≡ verified_by stem.now label certificate.now (map (λ word. word.now) words.now)) }
+{
+    let Some(label) = label else {
+        return Ok(Call::Nothing);
+    };
+    if !is_stem(stem.as_bytes()) || !is_certificate(certificate.as_bytes()) {
         return Ok(Call::Nothing);
     }
+    match files(alloc, words)? {
+        Some(files) => {
+            let asked = verification_of(alloc, stem, label, certificate, files)?;
+            Ok(Call::Verify(asked))
+        }
+        None => Ok(Call::Nothing),
+    }
+}
+
+// What is to be verified.
+fn verification_of(
+    alloc: Global,
+    stem: &str,
+    label: Label,
+    certificate: &str,
+    files: FileNames,
+) -> Result<Verification, Memory>
+    ensures { IfOk result (λ asked. asked
+        ≡ record { stem = stem.now; label = label; certificate = certificate.now; files = files }) }
+{
+    let stem = Name::new(alloc, stem.as_bytes())?;
+    let certificate = CertificateName::new(alloc, certificate)?;
+    Ok(Verification {
+        stem,
+        label,
+        certificate,
+        files,
+    })
+}
+
+// Whether the word is the name of a trait's file without its ending.
+fn is_stem(word: &[u8]) -> bool
+    ensures { result ≡ is_stem word.now }
+{
+    0 < word.len() && word.len() <= MAX_STEM_BYTES as usize && are_stem_bytes(word)
+}
+
+fn are_stem_bytes(word: &[u8]) -> bool
+    ensures { result ≡ list_all is_stem_byte word.now }
+{
+    word.iter()
+        .all(|byte| byte.is_ascii_alphanumeric() || *byte == b'_')
+}
+
+// Whether the word ends in `.cert`.
+fn is_certificate(word: &[u8]) -> bool
+    ensures { result ≡ is_certificate word.now }
+{
+    5 <= word.len() && &word[word.len() - 5..] == b".cert".as_slice()
+}
+
+// The names of files that words are, if all of them are and there is one.
+fn files(alloc: Global, words: &[&str]) -> Result<Option<FileNames>, Memory>
+    ensures { IfOk result (λ names. names
+        ≡ (if are_files (map (λ word. word.now) words.now) then Some (map (λ word. word.now) words.now) else None)) }
+{
+    if words.is_empty() {
+        return Ok(None);
+    }
     match file_names(alloc, words) {
-        Ok(names) => Ok(Call::Check(names)),
-        Err(NameRefusal::NotAName) => Ok(Call::Nothing),
+        Ok(names) => Ok(Some(names)),
+        Err(NameRefusal::NotAName) => Ok(None),
         Err(NameRefusal::Memory) => Err(Memory),
     }
 }

@@ -2,10 +2,17 @@
 ghost use Rattle.std.specs.Prelude.{◌≡◌, ℕ, true, List};
 ghost use Rattle.std.specs.List.{list_all};
 ghost use Rattle.larch_base.specs.FileNames.{is_file_name};
-ghost use Rattle.larch_words.specs.Call.{call_of};
-ghost use Rattle.larch_words.specs.declared.call.Call.TheVariants.{Check};
+ghost use Rattle.larch_words.specs.Call.{call_of, files_named, is_certificate};
+ghost use Rattle.larch_words.specs.declared.call.Call.TheVariants.{Verify};
+ghost use Rattle.larch_words.specs.declared.call.Verification.{Verification};
 
-/// A check is always of names of files.
-pub fn a_check_names_files()
-    ensures { (words names : List (List ℕ)) → call_of words ≡ Check names → list_all is_file_name names ≡ true }
+/// The files that a call names have names of files.
+pub fn calls_name_files()
+    ensures { (words : List (List ℕ)) → list_all is_file_name (files_named (call_of words)) ≡ true }
+{}
+
+/// The certificate that a call names has the name of one.
+pub fn certificates_are_named()
+    ensures { (words : List (List ℕ)) (asked : Verification) → call_of words ≡ Verify asked
+        → is_certificate asked.certificate ≡ true }
 {}

@@ -2,8 +2,11 @@
 #![tactic(auto)]
 
 mod call;
+mod certificate_name;
 mod command_line;
+mod label;
 mod laws;
 
-pub use call::{Call, FileNames, read_words};
-pub use laws::a_check_names_files;
+pub use call::{Call, FileNames, Verification, read_words};
+pub use certificate_name::CertificateName;
+pub use laws::{calls_name_files, certificates_are_named};

@@ -7,7 +7,7 @@ pub returns-in-Err-NotThere-clause-found : goal.returns-in-Err-NotThere-clause-f
 returns-in-Err-NotThere-clause-found g c =
     is_absent _ _ c.loop-name.invariant.same c.args.names.now c.loop-name.files c.look.new.files c.loop-name.name-index c.name-item.result
     c.loop-name-test.true c.name-item.is c.loop-name.invariant.gathers c.absent.result
-    (rw c.in-Err-NotThere.field-0-is at c.in-Err-NotThere.ensures.looks) c.absent.ensures.ok
+    (rw c.in-Err-NotThere.field-0-is at c.in-Err-NotThere.ensures.looks) (rw c.bytes.ensures at c.absent.ensures.ok)
 
 pub returns-in-Err-TooLong-clause-found : goal.returns-in-Err-TooLong-clause-found
 returns-in-Err-TooLong-clause-found g c =

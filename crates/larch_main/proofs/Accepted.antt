@@ -1,0 +1,108 @@
+-- What is accepted is derivable.
+use Rattle.std.proofs.Common.{◌≡◌, refl, sym, ap, ◌∙◌, ℕ, Bool, false, List, [], Option, Some, None, Result, Ok, Err}
+use Rattle.std.specs.Prelude.{bytes_eq, length}
+use Rattle.std.proofs.lemmas.List.Elements.{All-contains}
+use Rattle.larch_base.specs.Labels.{label_text}
+use Rattle.larch_base.specs.declared.label.Label.{Label}
+use Rattle.larch_calculus.specs.Derivable.{Derivable}
+use Rattle.larch_calculus.specs.Renaming.{HasPlainNames}
+use Rattle.larch_certificate.specs.declared.line.Line.{Line}
+use Rattle.larch_certificate_text.specs.CertificateText.{read_certificate}
+use Rattle.larch_lines.specs.Acceptance.{verdict}
+use Rattle.larch_term.specs.Statement.{IsWellSortedTheory}
+use Rattle.larch_term.specs.declared.statement.Statement.{Statement}
+use Rattle.larch_term.specs.declared.statement.Theory.{Theory}
+use Rattle.larch_items.proofs.Kept.{after_was, found_is}
+use Rattle.larch_flat.specs.Stops.{Stop}
+use Rattle.larch_flatten.specs.Parts.{flat_trait}
+use Rattle.larch_sources.specs.Sources.{Table as Sources, files_in}
+use Rattle.larch_traits.specs.Files.{Table}
+use Rattle.larch_traits.specs.Reading.{read_files}
+use Rattle.larch_traits.proofs.Worded.{read_worded}
+use Rattle.larch_claims.specs.Duties.{Duties, Duty, all_duties}
+use Rattle.larch_claims.specs.Laws.{IsSoundDuty}
+use Rattle.larch_claims.proofs.Plain.{duties_plain}
+use Rattle.larch_claims.proofs.Sound.{duties_sound}
+use Rattle.larch_duties.specs.TraitDuties.{claimed, trait_duties}
+use Rattle.larch_io.specs.Folder.{FileMap, file_of}
+use Rattle.larch_words.specs.declared.call.Verification.{Verification}
+use Rattle.larch_main.specs.Answer.{IsAnswer, answer_by}
+use Rattle.larch_main.specs.Gather.{and_then, evidence_in, fetching, gathered}
+use Rattle.larch_main.specs.Verify.{IsShown, duty_among, duty_in, duty_with, judged_by, verdict_told, verified}
+use Rattle.larch_main.specs.declared.answer.Answer.{Answer}
+use Rattle.larch_main.specs.declared.gather.Evidence.{Evidence}
+use Rattle.larch_main.specs.declared.gather.Gathered.{Gathered}
+use Rattle.larch_main.specs.declared.gather.Gathered.TheVariants.{Whole, Absent, TooLarge}
+use Rattle.larch_main.specs.declared.status.Status.TheVariants.{Good}
+
+-- a good answer is that to something whole
+answer_good : {A : Type 0} (told : A → Answer) (found : Gathered A) → (answer_by told found).status ≡ Good
+    → (whole : A) × (found ≡ Whole whole) × ((told whole).status ≡ Good)
+answer_good told (Whole whole) e = (whole, refl, e)
+answer_good told (Absent name) e = cc
+answer_good told TooLarge e = cc
+
+then_whole : {A B : Type 0} (found : Gathered A) (next : A → Gathered B) (b : B) → and_then found next ≡ Whole b
+    → (a : A) × (found ≡ Whole a) × (next a ≡ Whole b)
+then_whole (Whole a) next b e = (a, refl, e)
+then_whole (Absent name) next b e = cc
+then_whole TooLarge next b e = cc
+
+abbrev SameFound : Gathered Evidence → Gathered Evidence → Type 0
+SameFound found other = found ≡ other
+
+whole_same : (one e : Evidence) → SameFound (Whole one) (Whole e) → one.files ≡ e.files
+whole_same one e is = let same : one ≡ e = cc in ap (λ x. x.files) same
+
+-- the files of the evidence are those that were gathered
+evidence_files : (folder : FileMap) (certificate : List ℕ) (names : List (List ℕ)) (e : Evidence) → evidence_in folder certificate names ≡ Whole e
+    → gathered folder [] names ≡ Whole e.files
+evidence_files folder certificate names e is =
+    let a = then_whole (fetching certificate (file_of folder certificate))
+    (λ text. and_then (gathered folder [] names) (λ files. Whole (record { certificate = text; files = files }))) e is in
+    let b = then_whole (gathered folder [] names) (λ files. Whole (record { certificate = a.0; files = files })) e a.2 in
+    b.1 ∙ ap Whole (whole_same (record { certificate = a.0; files = b.0 }) e b.2)
+
+told_good : (o : Option ℕ) → (verdict_told o).status ≡ Good → o ≡ None
+told_good None e = refl
+told_good (Some number) e = cc
+
+judged_good : (duty : Option Duty) (read : Result (Bool × List Line) ℕ) → (judged_by duty read).status ≡ Good
+    → (d : Duty) × (duty ≡ Some d) × (lines : List Line) × (verdict d.theory d.statement lines ≡ None)
+judged_good None (Ok read) e = cc
+judged_good (Some d) (Ok read) e = (d, refl, read.1, told_good (verdict d.theory d.statement read.1) e)
+judged_good duty (Err number) e = cc
+
+duty_from : (label : List ℕ) (r : Result Duties Stop) (d : Duty) → duty_among label r ≡ Some d
+    → (ds : Duties) × (r ≡ Ok ds) × (duty_with label (all_duties ds) ≡ Some d)
+duty_from label (Ok ds) d e = (ds, refl, e)
+duty_from label (Err stop) d e = cc
+
+module _ (law : (t : Theory) (s : Statement) (lines : List Line) → IsWellSortedTheory t → HasPlainNames t → verdict t s lines ≡ None → Derivable t s) where
+  -- a duty of a trait for which a certificate is accepted
+  duty_derivable : (files : Table) (stem : List ℕ) (label : Label) (d : Duty) (lines : List Line) → duty_in files stem label ≡ Some d
+      → verdict d.theory d.statement lines ≡ None → Derivable d.theory d.statement
+  duty_derivable files stem label d lines found accepted =
+      let sources : Sources = read_files files in
+      let a = duty_from (label_text label) (trait_duties sources stem) d found in
+      let b = after_was (flat_trait sources stem) (claimed sources) a.0 a.1 in
+      let c = found_is (λ x. bytes_eq (label_text label) (label_text x.label)) (all_duties a.0) d a.2 in
+      let sound = All-contains IsSoundDuty (all_duties a.0) d
+      (duties_sound (files_in sources) (read_worded files) (length sources) stem b.0 a.0 b.1 b.2) c.0 in
+      let plain = All-contains (λ x. HasPlainNames x.theory) (all_duties a.0) d
+      (duties_plain (files_in sources) (length sources) stem b.0 a.0 b.1 b.2) c.0 in
+      law d.theory d.statement lines sound.0.0.well_sorted plain accepted
+
+  pub shown : (asked : Verification) (folder : FileMap) (output : List ℕ)
+      → IsAnswer (answer_by (verified asked.stem asked.label) (evidence_in folder asked.certificate asked.files)) output Good → IsShown folder asked
+  shown asked folder output is =
+      let a = answer_good (verified asked.stem asked.label) (evidence_in folder asked.certificate asked.files) (sym is.1) in
+      let e : Evidence = a.0 in
+      let j = judged_good (duty_in e.files asked.stem asked.label) (read_certificate false e.certificate) a.2 in
+      record {
+        files = e.files;
+        are_files = evidence_files folder asked.certificate asked.files e a.1;
+        duty = j.0;
+        is_duty = j.1;
+        derivable = duty_derivable e.files asked.stem asked.label j.0 j.2 j.1 j.3;
+      }

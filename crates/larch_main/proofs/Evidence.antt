@@ -1,0 +1,136 @@
+-- A certificate and files that a folder has.
+use Rattle.std.proofs.Common.{◌≡◌, refl, sym, ap, subst, ◌∙◌, ℕ, ◌≤◌, Bool, true, false, cond, nat_lt, ◌&&◌, List, [], ◌∷◌, length, Option, Some, None, inl, inr, arith}
+use Rattle.std.specs.List.{list_all}
+use Rattle.std.specs.Str.{bytes_eq}
+use Rattle.std.specs.Cmp.Lexicographic.{bytes_decides, nat_list_eq_equiv}
+use Rattle.std.proofs.lemmas.Bool.Decides.{nat_tests}
+use Rattle.larch_base.specs.FileNames.{is_file_name}
+use Rattle.larch_base.specs.declared.limits.TheConstants.{MAX_FILE_BYTES}
+use Rattle.larch_base.proofs.Bools.{true_or_false}
+use Rattle.larch_io.specs.Folder.{FileMap, file_of, IsFile}
+use Rattle.larch_io.specs.Refusals.{FileRefused}
+use Rattle.larch_io.specs.declared.refusal.FolderRefusal.TheVariants.{TooLong}
+use Rattle.larch_traits.specs.Files.{Table}
+use Rattle.larch_words.specs.Call.{is_certificate}
+use Rattle.larch_main.specs.Gather.{IsFolder, and_then, fetching, gathered, putting}
+use Rattle.larch_main.specs.Look.{ComesTo, EvidenceFor, Fetches, IsSeen}
+use Rattle.larch_main.specs.declared.gather.Evidence.{Evidence}
+use Rattle.larch_main.specs.declared.gather.Gathered.{Gathered}
+use Rattle.larch_main.specs.declared.gather.Gathered.TheVariants.{Whole, Absent, TooLarge}
+use Rattle.larch_main.proofs.Looking.{seen_file, seen_long}
+use Rattle.larch_main.proofs.NameTexts.{certificate_is_no_file}
+
+-- what a folder gave under a certificate's name
+pub fetched : (told : Option FileMap) (name bytes : List ℕ) → IsFile told name bytes → length bytes ≤ MAX_FILE_BYTES → Fetches told name (Whole bytes)
+fetched told name bytes is short =
+    let small : nat_lt MAX_FILE_BYTES (length bytes) ≡ false = grind (arith, nat_tests) in
+    record { seen = Some bytes; is_seen = seen_file told name bytes is; comes_to = ap (λ b. cond b TooLarge (Whole bytes)) small }
+
+pub fetched_long : (told : Option FileMap) (name : List ℕ) → FileRefused TooLong told name → Fetches told name TooLarge
+fetched_long told name why =
+    let long = seen_long told name why in
+    let large : nat_lt MAX_FILE_BYTES (length long.0) ≡ true = let more = long.2 in grind (arith, nat_tests, more) in
+    record { seen = Some long.0; is_seen = long.1; comes_to = ap (λ b. cond b TooLarge (Whole long.0)) large }
+
+-- another folder has the same under each of these names
+same_gathered : (folder other : FileMap) (names : List (List ℕ)) → list_all is_file_name names ≡ true
+    → ((name : List ℕ) → is_file_name name ≡ true → file_of other name ≡ file_of folder name) → (files : Table)
+    → gathered other files names ≡ gathered folder files names
+same_gathered folder other [] all same files = refl
+same_gathered folder other (name ∷ names) all same files =
+    let p = both (is_file_name name) (list_all is_file_name names) all in
+    ap (λ seen. and_then (putting files name seen) (λ more. gathered other more names)) (same name p.0)
+    ∙ then_same (putting files name (file_of folder name)) (same_gathered folder other names p.1 same)
+  where
+    both : (a b : Bool) → (a && b) ≡ true → (a ≡ true) × (b ≡ true)
+    both true b e = (refl, e)
+    both false b e = cc
+
+    then_same : {A B : Type 0} (found : Gathered A) {f g : A → Gathered B} → ((a : A) → f a ≡ g a) → and_then found f ≡ and_then found g
+    then_same (Whole a) h = h a
+    then_same (Absent name) h = refl
+    then_same TooLarge h = refl
+
+-- some folder, the told one where it is told, has this under a certificate's name and the files of the other one
+record Joined (told : Option FileMap) (certificate : List ℕ) (seen : Option (List ℕ)) (folder : FileMap) : Type 0 where
+  pub both : FileMap
+  pub is_folder : IsFolder told both
+  pub is_seen : file_of both certificate ≡ seen
+  pub same : (name : List ℕ) → is_file_name name ≡ true → file_of both name ≡ file_of folder name
+
+joined_with : (certificate : List ℕ) → is_certificate certificate ≡ true → (bytes : List ℕ) (folder : FileMap) → Joined None certificate (Some bytes) folder
+joined_with certificate is bytes folder = record {
+  both = (certificate, bytes) ∷ folder;
+  is_folder = tt;
+  is_seen = ap (λ b. cond b (Some bytes) (file_of folder certificate)) (nat_list_eq_equiv.refl certificate);
+  same = λ name named. ap (λ b. cond b (Some bytes) (file_of folder name)) (apart name named);
+}
+  where
+    apart : (name : List ℕ) → is_file_name name ≡ true → bytes_eq name certificate ≡ false
+    apart name named = elim (true_or_false (bytes_eq name certificate)) [
+      | inl same ↦ absurd (certificate_is_no_file certificate is (subst (λ n. is_file_name n ≡ true) ((bytes_decides name certificate).0 same) named))
+      | inr other ↦ other
+    ]
+
+joined : (told : Option FileMap) (certificate : List ℕ) → is_certificate certificate ≡ true → (bytes : List ℕ) → IsSeen told certificate (Some bytes)
+    → (folder : FileMap) → IsFolder told folder → Joined told certificate (Some bytes) folder
+joined None certificate is bytes seen folder told_is = joined_with certificate is bytes folder
+joined (Some files) certificate is bytes seen folder told_is = record {
+  both = files;
+  is_folder = refl;
+  is_seen = seen;
+  same = λ name named. ap (λ f. file_of f name) told_is;
+}
+
+-- the certificate is there, and the files come to something
+module _ (told : Option FileMap) (certificate : List ℕ) (is : is_certificate certificate ≡ true) (names : List (List ℕ)) (all : list_all is_file_name names ≡ true)
+    (bytes : List ℕ) (got : Fetches told certificate (Whole bytes)) where
+  seen_whole : (seen : Option (List ℕ)) → fetching certificate seen ≡ Whole bytes → seen ≡ Some bytes
+  seen_whole None e = cc
+  seen_whole (Some text) e = by_size (nat_lt MAX_FILE_BYTES (length text)) e
+    where
+      by_size : (b : Bool) → cond b TooLarge (Whole text) ≡ Whole bytes → Some text ≡ Some bytes
+      by_size true e = cc
+      by_size false e = cc
+
+  pub whole_evidence : (found : Gathered Table) → ComesTo told names found
+      → EvidenceFor told certificate names (and_then found (λ files. Whole (record { certificate = bytes; files = files })))
+  whole_evidence found comes =
+      let e = seen_whole got.seen got.comes_to in
+      let j = joined told certificate is bytes (subst (IsSeen told certificate) e got.is_seen) comes.folder comes.is_folder in
+      record {
+        folder = j.both;
+        is_folder = j.is_folder;
+        is_found =
+            ap (λ f. and_then f (λ text. and_then (gathered j.both [] names) (λ files. Whole (record { certificate = text; files = files }))))
+            (ap (fetching certificate) (j.is_seen ∙ sym e) ∙ got.comes_to)
+            ∙ ap (λ f. and_then f (λ files. Whole (record { certificate = bytes; files = files })))
+            (same_gathered comes.folder j.both names all j.same [] ∙ comes.is_found);
+      }
+
+-- nothing comes of the certificate
+folder_showing : (told : Option FileMap) (certificate : List ℕ) (seen : Option (List ℕ)) → IsSeen told certificate seen
+    → (folder : FileMap) × IsFolder told folder × (file_of folder certificate ≡ seen)
+folder_showing (Some files) certificate seen is = (files, refl, is)
+folder_showing None certificate None is = ([], tt, refl)
+folder_showing None certificate (Some bytes) is =
+    ((certificate, bytes) ∷ [], tt, ap (λ b. cond b (Some bytes) None) (nat_list_eq_equiv.refl certificate))
+
+no_evidence : (told : Option FileMap) (certificate : List ℕ) (names : List (List ℕ)) (found : Gathered (List ℕ)) (ends : Gathered Evidence)
+    → Fetches told certificate found → ((next : List ℕ → Gathered Evidence) → and_then found next ≡ ends) → EvidenceFor told certificate names ends
+no_evidence told certificate names found ends got stops =
+    let f = folder_showing told certificate got.seen got.is_seen in
+    let next : List ℕ → Gathered Evidence = λ text. and_then (gathered f.0 [] names) (λ files. Whole (record { certificate = text; files = files })) in
+    record {
+      folder = f.0;
+      is_folder = f.1;
+      is_found = ap (λ g. and_then g next) (ap (fetching certificate) f.2 ∙ got.comes_to) ∙ stops next;
+    }
+
+pub absent_evidence : (told : Option FileMap) (certificate : List ℕ) (names : List (List ℕ)) (name : List ℕ) → Fetches told certificate (Absent name)
+    → EvidenceFor told certificate names (Absent name)
+absent_evidence told certificate names name got = no_evidence told certificate names (Absent name) (Absent name) got (λ next. refl)
+
+pub large_evidence : (told : Option FileMap) (certificate : List ℕ) (names : List (List ℕ)) → Fetches told certificate TooLarge
+    → EvidenceFor told certificate names TooLarge
+large_evidence told certificate names got = no_evidence told certificate names TooLarge TooLarge got (λ next. refl)

@@ -1,0 +1,22 @@
+-- What the folder gave under the name of a certificate.
+use Rattle.std.proofs.Common.{rules, ◌≤◌, length, subst, sym}
+use Rattle.larch_base.specs.declared.limits.TheConstants.{MAX_FILE_BYTES}
+use Rattle.larch_io.specs.Folder.{IsFile}
+use Rattle.larch_io.specs.Refusals.{FileRefused}
+use Rattle.larch_io.specs.declared.refusal.FolderRefusal.TheVariants.{TooLong}
+use Rattle.larch_main.specs.Look.{Fetches}
+use Rattle.larch_main.specs.declared.gather.Gathered.TheVariants.{Whole}
+use Rattle.larch_main.proofs.Evidence.{fetched, fetched_long}
+use Rattle.larch_main.proofs.gather.fetch.Goals as goal
+
+pub returns-in-Ok-clause-found : goal.returns-in-Ok-clause-found
+returns-in-Ok-clause-found g c =
+    let is : IsFile (g.F.Folder.files c.args.folder.now) c.args.name.now c.in-Ok.bytes.items = search rules in
+    let short : length c.in-Ok.bytes.items ≤ MAX_FILE_BYTES = search rules in
+    subst (λ bytes. Fetches (g.F.Folder.files c.args.folder.now) c.args.name.now (Whole bytes)) (sym c.from_vec.ensures)
+    (fetched (g.F.Folder.files c.args.folder.now) c.args.name.now c.in-Ok.bytes.items is short)
+
+pub returns-in-Err-TooLong-clause-found : goal.returns-in-Err-TooLong-clause-found
+returns-in-Err-TooLong-clause-found g c =
+    let why : FileRefused TooLong (g.F.Folder.files c.args.folder.now) c.args.name.now = search rules in
+    fetched_long (g.F.Folder.files c.args.folder.now) c.args.name.now why

@@ -1,0 +1,42 @@
+-- What is answered to a call that names files: a text and a status.
+use Rattle.std.specs.Prelude.{◌≡◌, if◌then◌else◌, ℕ, Bool, List, ◌++◌, codes, Result, Ok, Err, Option}
+use Rattle.larch_main.specs.Say.{Says}
+use Rattle.larch_main.specs.declared.answer.Answer.{Answer}
+use Rattle.larch_main.specs.declared.gather.Gathered.{Gathered}
+use Rattle.larch_main.specs.declared.gather.Gathered.TheVariants.{Whole, Absent, TooLarge}
+use Rattle.larch_main.specs.declared.progress.Halt.{Halt}
+use Rattle.larch_main.specs.declared.progress.Halt.TheVariants.{ReadFault, Memory}
+use Rattle.larch_main.specs.declared.status.Status.{Status}
+use Rattle.larch_main.specs.declared.status.Status.TheVariants as status_
+
+-- this text, and this status beside it
+abbrev pub said : List ℕ → Status → Answer
+said text status = record { text = text; status = status }
+
+-- whether all is good, as a status
+abbrev pub good_or_remains : Bool → Status
+good_or_remains good = if good then status_.Good else status_.Remains
+
+-- there is no file of this name
+abbrev pub no_file : List ℕ → Answer
+no_file name = said (codes "no file " ++ (name ++ codes "\n")) status_.NoFile
+
+-- a limit is passed
+abbrev pub size_passed : Answer
+size_passed = said (codes "too large\n") status_.Size
+
+-- by what was found: the answer to that, or why it wasn't
+abbrev pub answer_by : {A : Type 0} → (A → Answer) → Gathered A → Answer
+answer_by told (Whole found) = told found
+answer_by told (Absent name) = no_file name
+answer_by told TooLarge = size_passed
+
+-- this text and this status are an answer's
+abbrev pub IsAnswer : Answer → List ℕ → Status → Type 0
+IsAnswer answer text status = (text ≡ answer.text) × (status ≡ answer.status)
+
+-- what becomes of what is answered: it is written as the last text; or nothing is, where there was no answer
+abbrev pub Tells : Option (List ℕ) → Option (List ℕ) → ℕ → ℕ → Result Answer Halt → Status → Type 0
+Tells held holds before now (Ok answer) result = Says held holds before now answer.text answer.status result
+Tells held holds before now (Err ReadFault) result = (result ≡ status_.ReadFault) × (holds ≡ held) × (now ≡ before)
+Tells held holds before now (Err Memory) result = (result ≡ status_.Memory) × (holds ≡ held) × (now ≡ before)

@@ -1,0 +1,65 @@
+ghost use Rattle.std.specs.Prelude.{◌≡◌, IfOk};
+ghost use Rattle.larch_main.specs.Answer.{Tells, good_or_remains, no_file, said, size_passed};
+
+use crate::progress::Halt;
+use crate::say::say;
+use crate::status::Status;
+use larch_base::{Bytes, Memory, Name};
+use larch_io::Sink;
+use std::alloc::Global;
+
+/// A text that is to be written at the end, and the status beside it.
+#[derive(Drop)]
+pub struct Answer {
+    pub text: Bytes,
+    pub status: Status,
+}
+
+/// This text, and this status beside it.
+pub fn said(alloc: Global, words: &[u8], status: Status) -> Result<Answer, Memory>
+    ensures { IfOk result (λ answer. answer ≡ said words.now status) }
+{
+    let mut text = Bytes::new(alloc);
+    text.append(words)?;
+    Ok(Answer { text, status })
+}
+
+/// There is no file of this name.
+pub fn no_file(alloc: Global, name: &Name) -> Result<Answer, Memory>
+    ensures { IfOk result (λ answer. answer ≡ no_file name.now) }
+{
+    let mut text = Bytes::new(alloc);
+    text.append(b"no file ")?;
+    text.append(name.bytes())?;
+    text.append(b"\n")?;
+    Ok(Answer {
+        text,
+        status: Status::NoFile,
+    })
+}
+
+/// A limit is passed.
+pub fn size_passed(alloc: Global) -> Result<Answer, Memory>
+    ensures { IfOk result (λ answer. answer ≡ size_passed) }
+{
+    let answer = said(alloc, b"too large\n", Status::Size)?;
+    Ok(answer)
+}
+
+/// Whether all is good, as a status.
+pub fn good_or_remains(good: bool) -> Status
+    ensures { result ≡ good_or_remains good }
+{
+    if good { Status::Good } else { Status::Remains }
+}
+
+/// Writes what is answered and gives its status, or that there was nothing to write, or that it could not be written.
+pub fn tell<K: Sink>(sink: &mut K, answered: Result<Answer, Halt>) -> Status
+    ensures { Tells (K.held sink.old) (K.held sink.new) (K.faults sink.old) (K.faults sink.new) answered result }
+{
+    match answered {
+        Ok(answer) => say(sink, answer.text.bytes(), answer.status),
+        Err(Halt::ReadFault) => Status::ReadFault,
+        Err(Halt::Memory) => Status::Memory,
+    }
+}

@@ -1,0 +1,163 @@
+ghost use Rattle.std.specs.Prelude.{◌≡◌, List, None, Some, IfErr, IfOk, OnOk, option_map, true};
+ghost use Rattle.std.specs.List.{list_all};
+ghost use Rattle.larch_base.specs.FileNames.{is_file_name};
+ghost use Rattle.larch_base.specs.Labels.{label_text};
+ghost use Rattle.larch_certificate.specs.declared.line.Line.{Line};
+ghost use Rattle.larch_claims.specs.Duties.{all_duties};
+ghost use Rattle.larch_words.specs.Call.{is_certificate};
+ghost use Rattle.larch_words.specs.declared.call.Call.TheVariants.{Verify as call_verify};
+ghost use Rattle.larch_main.specs.Answer.{answer_by, said};
+ghost use Rattle.larch_main.specs.Program.{Answered};
+ghost use Rattle.larch_main.specs.Progress.{HaltFaults};
+ghost use Rattle.larch_main.specs.Verify.{duty_in, duty_with, judged, malformed, verdict_told, verified};
+ghost use Rattle.larch_verify.specs.Verdict.{refusal};
+
+use crate::answer::{Answer, no_file, said, size_passed};
+use crate::gather::{Evidence, Gathered, gather_evidence};
+use crate::progress::Halt;
+use crate::status::Status;
+use larch_base::{Label, Memory, Name};
+use larch_certificate::Line;
+use larch_certificate_reader::{FormRefusal, read_certificate};
+use larch_duties::{Duties, duties_of, find_duty};
+use larch_flatten::flatten;
+use larch_io::Folder;
+use larch_items::TraitRefusal;
+use larch_term::{Statement, Theory};
+use larch_traits::{Files, read_files};
+use larch_verify::{Verdict, verify as check_certificate};
+use larch_words::Verification;
+use std::alloc::Global;
+
+/// What is answered where this is to be verified.
+pub fn verify<F: Folder>(
+    alloc: Global,
+    asked: &Verification,
+    folder: &mut F,
+) -> Result<Answer, Halt>
+    requires names { list_all is_file_name asked.now.files ≡ true }
+    requires other { is_certificate asked.now.certificate ≡ true }
+    ensures answer { IfOk result (λ answer. Answered (call_verify asked.now) (F.files folder.old) answer) }
+    ensures same { F.files folder.new ≡ F.files folder.old }
+    ensures fine { OnOk result (F.faults folder.new ≡ F.faults folder.old) }
+    ensures faults { IfErr result (λ halt. HaltFaults halt (F.faults folder.old) (F.faults folder.new)) }
+{
+    let found = gather_evidence(alloc, &asked.certificate, asked.files.as_slice(), folder)?;
+    let answer = answer_to(alloc, &asked.stem, asked.label, &found)?;
+    Ok(answer)
+}
+
+// What is answered to what was found.
+fn answer_to(
+    alloc: Global,
+    stem: &Name,
+    label: Label,
+    found: &Gathered<Evidence>,
+) -> Result<Answer, Memory>
+    ensures { IfOk result (λ answer. answer ≡ answer_by (verified stem.now label) found.now) }
+{
+    match found {
+        Gathered::Whole(evidence) => verified(alloc, stem, label, evidence),
+        Gathered::Absent(name) => no_file(alloc, name),
+        Gathered::TooLarge => size_passed(alloc),
+    }
+}
+
+// The verdict on a certificate and files. That the certificate is malformed comes first.
+fn verified(alloc: Global, stem: &Name, label: Label, evidence: &Evidence) -> Result<Answer, Memory>
+    ensures { IfOk result (λ answer. answer ≡ verified stem.now label evidence.now) }
+{
+    match read_certificate(alloc, evidence.certificate.bytes()) {
+        Ok(lines) => judged(alloc, &evidence.files, stem, label, lines.as_slice()),
+        Err(FormRefusal::Form(number)) => malformed(alloc, number),
+        Err(FormRefusal::Memory) => Err(Memory),
+    }
+}
+
+// The verdict on the lines of a certificate, for the duty of a trait with a label.
+fn judged(
+    alloc: Global,
+    files: &Files,
+    stem: &Name,
+    label: Label,
+    lines: &[Line],
+) -> Result<Answer, Memory>
+    ensures { IfOk result (λ answer. answer ≡ judged (duty_in files.now stem.now label) lines.now) }
+{
+    let sources = read_files(alloc, files)?;
+    let flat_traits = flatten(alloc, &sources)?;
+    let Some(number) = sources.number_of(stem) else {
+        return no_duty(alloc);
+    };
+    match duties_of(alloc, &sources, &flat_traits, number) {
+        Ok(duties) => judged_among(alloc, &duties, label, lines),
+        Err(TraitRefusal::Wrong(_, _)) => no_duty(alloc),
+        Err(TraitRefusal::Memory) => Err(Memory),
+    }
+}
+
+// The same for the duty with a label among these.
+fn judged_among(
+    alloc: Global,
+    duties: &Duties<'_>,
+    label: Label,
+    lines: &[Line],
+) -> Result<Answer, Memory>
+    ensures { IfOk result (λ answer. answer
+        ≡ judged (duty_with (label_text label) (all_duties duties.now)) lines.now) }
+{
+    match labelled(alloc, duties, label)? {
+        Some((theory, statement)) => {
+            let verdict = check_certificate(alloc, &theory, &statement, lines)?;
+            verdict_told(alloc, verdict)
+        }
+        None => no_duty(alloc),
+    }
+}
+
+// The theory and the statement of the duty with a label among these.
+fn labelled(
+    alloc: Global,
+    duties: &Duties<'_>,
+    label: Label,
+) -> Result<Option<(Theory, Statement)>, Memory>
+    ensures { IfOk result (λ found. found ≡ option_map (λ d. (d.theory, d.statement))
+        (duty_with (label_text label) (all_duties duties.now))) }
+{
+    let text = format!(in alloc; "{label}")?;
+    let found = find_duty(alloc, duties, text.as_bytes())?;
+    Ok(found)
+}
+
+// There is no such duty.
+fn no_duty(alloc: Global) -> Result<Answer, Memory>
+    ensures { (lines : List Line) → IfOk result (λ answer. answer ≡ judged None lines) }
+{
+    said(alloc, b"no duty\n", Status::Remains)
+}
+
+// A verdict as it is told.
+fn verdict_told(alloc: Global, verdict: Verdict) -> Result<Answer, Memory>
+    ensures { IfOk result (λ answer. answer ≡ verdict_told (refusal verdict)) }
+{
+    match verdict {
+        Verdict::Accepted => said(alloc, b"accepted\n", Status::Good),
+        Verdict::Refused(number) => refused(alloc, number),
+    }
+}
+
+// A certificate is refused with this number.
+fn refused(alloc: Global, number: u64) -> Result<Answer, Memory>
+    ensures { IfOk result (λ answer. answer ≡ verdict_told (Some number)) }
+{
+    let text = format!(in alloc; "refused {number}\n")?;
+    said(alloc, text.as_bytes(), Status::Remains)
+}
+
+// A text is no certificate from this line on.
+fn malformed(alloc: Global, number: u64) -> Result<Answer, Memory>
+    ensures { IfOk result (λ answer. answer ≡ malformed number) }
+{
+    let text = format!(in alloc; "malformed at line {number}\n")?;
+    said(alloc, text.as_bytes(), Status::Malformed)
+}
