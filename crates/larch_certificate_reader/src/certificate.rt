@@ -7,6 +7,7 @@ ghost use Rattle.larch_certificate_text.specs.CertificateText.{version_of};
 ghost use Rattle.larch_certificate_text.specs.ListText.{split_at};
 
 use crate::line::read_line;
+use crate::names::Names;
 use crate::parts::cut_at;
 use larch_base::{Memory, Sequence};
 use larch_certificate::Certificate;
@@ -101,6 +102,7 @@ fn read_lines(alloc: Global, relative: bool, text: &[u8]) -> Result<Certificate,
     ensures ok { IfOk result (λ lines. read_lines relative 1 (split_at 10 text.now) ≡ Ok lines) }
     ensures err { IfErr result (λ refusal. IfForm refusal (λ n. read_lines relative 1 (split_at 10 text.now) ≡ Err n)) }
 {
+    let mut names = Names::new(alloc)?;
     let mut lines = Sequence::new(alloc);
     let mut number: u64 = 1;
     let mut rest = text;
@@ -109,7 +111,7 @@ fn read_lines(alloc: Global, relative: bool, text: &[u8]) -> Result<Certificate,
             relative,
             line: number,
         };
-        let Some(line) = read_line(alloc, here, first)? else {
+        let Some(line) = read_line(&mut names, here, first)? else {
             return Err(FormRefusal::Form(number + 1));
         };
         lines.push(line)?;

@@ -8,16 +8,16 @@ ghost use Rattle.larch_certificate_reader.specs.Views.{pair_view};
 
 use crate::leaf::read_leaf;
 use crate::machine::read_front;
+use crate::names::Names;
 use larch_base::Memory;
 use larch_certificate::{Coded, CodedEquation};
 use larch_certificate_text::Here;
-use std::alloc::Global;
 
 /// The term that the text is.
-pub fn read_term(alloc: Global, here: Here, text: &[u8]) -> Result<Option<Coded>, Memory>
+pub fn read_term(names: &mut Names, here: Here, text: &[u8]) -> Result<Option<Coded>, Memory>
     ensures { IfOk result (λ term. term ≡ read_term here text.now) }
 {
-    match read_front(alloc, here, text)? {
+    match read_front(names, here, text)? {
         Some((term, rest)) => {
             if rest.is_empty() {
                 Ok(Some(term))
@@ -98,14 +98,14 @@ fn bare_cut(text: &[u8]) -> Option<(&[u8], &[u8])>
 }
 
 fn with_right(
-    alloc: Global,
+    names: &mut Names,
     here: Here,
     text: &[u8],
     left: Coded,
 ) -> Result<Option<CodedEquation>, Memory>
     ensures { IfOk result (λ e. e ≡ with_right here text.now left) }
 {
-    match read_term(alloc, here, text)? {
+    match read_term(names, here, text)? {
         Some(right) => Ok(Some(CodedEquation { left, right })),
         None => Ok(None),
     }
@@ -113,38 +113,42 @@ fn with_right(
 
 /// The equation that the text is.
 pub fn read_equation(
-    alloc: Global,
+    names: &mut Names,
     here: Here,
     text: &[u8],
 ) -> Result<Option<CodedEquation>, Memory>
     ensures { IfOk result (λ e. e ≡ read_equation here text.now) }
 {
     match bare_cut(text) {
-        Some((left, right)) => bare_equation(alloc, here, left, right),
-        None => long_equation(alloc, here, text),
+        Some((left, right)) => bare_equation(names, here, left, right),
+        None => long_equation(names, here, text),
     }
 }
 
 fn bare_equation(
-    alloc: Global,
+    names: &mut Names,
     here: Here,
     left: &[u8],
     right: &[u8],
 ) -> Result<Option<CodedEquation>, Memory>
     ensures { IfOk result (λ e. e ≡ option_and_then (with_right here right.now) (read_leaf here left.now)) }
 {
-    match read_leaf(alloc, here, left)? {
-        Some(left) => with_right(alloc, here, right, left),
+    match read_leaf(names, here, left)? {
+        Some(left) => with_right(names, here, right, left),
         None => Ok(None),
     }
 }
 
-fn long_equation(alloc: Global, here: Here, text: &[u8]) -> Result<Option<CodedEquation>, Memory>
+fn long_equation(
+    names: &mut Names,
+    here: Here,
+    text: &[u8],
+) -> Result<Option<CodedEquation>, Memory>
     ensures { IfOk result (λ e. e ≡ option_and_then (behind_left here) (run here (fresh []) text.now)) }
 {
-    match read_front(alloc, here, text)? {
+    match read_front(names, here, text)? {
         Some((left, rest)) => match behind_equals(rest) {
-            Some(right) => with_right(alloc, here, right, left),
+            Some(right) => with_right(names, here, right, left),
             None => Ok(None),
         },
         None => Ok(None),

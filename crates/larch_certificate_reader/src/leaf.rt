@@ -2,12 +2,12 @@ ghost use Rattle.std.specs.Prelude.{◌≡◌, IfOk};
 ghost use Rattle.larch_certificate_text.specs.SymbolText.{read_built_in, read_symbol, read_leaf, variable_of, leaf_by};
 ghost use Rattle.larch_certificate_reader.specs.Views.{pair_view};
 
+use crate::names::Names;
 use crate::parts::{cut_at, read_number, read_ref};
-use larch_base::{Memory, Name, is_word};
+use larch_base::{Memory, is_word};
 use larch_certificate::{Coded, CodedTerms, Symbol};
 use larch_certificate_text::Here;
 use larch_term::BuiltIn;
-use std::alloc::Global;
 
 fn read_built_in(text: &[u8]) -> Option<BuiltIn>
     ensures { result ≡ read_built_in text.now }
@@ -49,25 +49,25 @@ pub fn read_symbol(here: Here, text: &[u8]) -> Option<Symbol>
 }
 
 /// The variable, or the symbol without arguments, that the text is.
-pub fn read_leaf(alloc: Global, here: Here, text: &[u8]) -> Result<Option<Coded>, Memory>
+pub fn read_leaf(names: &mut Names, here: Here, text: &[u8]) -> Result<Option<Coded>, Memory>
     ensures { IfOk result (λ leaf. leaf ≡ read_leaf here text.now) }
 {
     if let Some((name, sort)) = cut_at(b':', text) {
-        return read_variable(alloc, name, sort);
+        return read_variable(names, name, sort);
     }
     match read_symbol(here, text) {
-        Some(symbol) => Ok(Some(Coded::app(symbol, CodedTerms::from_vec(Vec::new(alloc))))),
+        Some(symbol) => Ok(Some(Coded::app(symbol, CodedTerms::from_vec(Vec::new(names.alloc))))),
         None => Ok(None),
     }
 }
 
-fn read_variable(alloc: Global, name: &[u8], sort: &[u8]) -> Result<Option<Coded>, Memory>
+fn read_variable(names: &mut Names, name: &[u8], sort: &[u8]) -> Result<Option<Coded>, Memory>
     ensures { IfOk result (λ leaf. leaf ≡ variable_of (name.now, sort.now)) }
 {
     if !is_word(name) || !is_word(sort) {
         return Ok(None);
     }
-    let name = Name::new(alloc, name)?;
-    let sort = Name::new(alloc, sort)?;
+    let name = names.name(name)?;
+    let sort = names.name(sort)?;
     Ok(Some(Coded::var(name, sort)))
 }

@@ -9,6 +9,7 @@ mod line;
 mod list;
 mod machine;
 mod named;
+mod names;
 mod parts;
 mod rule;
 

@@ -8,24 +8,24 @@ ghost use Rattle.larch_certificate_text.specs.ListText.{read_each, read_listed, 
 ghost use Rattle.larch_certificate_text.specs.declared.here.Here.{Here};
 
 use crate::equation::{read_equation, read_term};
+use crate::names::Names;
 use crate::parts::{cut_at, read_number, read_ref};
 use larch_base::{Memory, Name, Sequence, is_word};
 use larch_certificate::{Binding, BoxPart, CodedEquation, CodedVar, Numbers};
 use larch_certificate_text::Here;
-use std::alloc::Global;
 
 /// What stands in a list.
 pub trait Item {
     ghost reads: { Here → List ℕ → Option Self };
 
     /// The item that the text is.
-    fn read(alloc: Global, here: Here, text: &[u8]) -> Result<Option<Self>, Memory>
+    fn read(names: &mut Names, here: Here, text: &[u8]) -> Result<Option<Self>, Memory>
         ensures { IfOk result (λ item. item ≡ reads here text.now) };
 }
 
 /// The items between separators, or none for `-`.
 pub fn read_list<T: Item + Drop>(
-    alloc: Global,
+    names: &mut Names,
     here: Here,
     separator: u8,
     text: &[u8],
@@ -33,29 +33,29 @@ pub fn read_list<T: Item + Drop>(
     ensures { IfOk result (λ items. items ≡ read_listed (T.reads here) separator text.now) }
 {
     if text == b"-".as_slice() {
-        return Ok(Some(Sequence::new(alloc)));
+        return Ok(Some(Sequence::new(names.alloc)));
     }
-    read_items(alloc, here, separator, text)
+    read_items(names, here, separator, text)
 }
 
 fn read_items<T: Item + Drop>(
-    alloc: Global,
+    names: &mut Names,
     here: Here,
     separator: u8,
     text: &[u8],
 ) -> Result<Option<Sequence<T>>, Memory>
     ensures { IfOk result (λ items. items ≡ read_each (T.reads here) (split_at separator text.now)) }
 {
-    let mut items = Sequence::new(alloc);
+    let mut items = Sequence::new(names.alloc);
     let mut rest = text;
     'items: while let Some((first, others)) = cut_at(separator, rest) {
-        let Some(item) = T::read(alloc, here, first)? else {
+        let Some(item) = T::read(names, here, first)? else {
             return Ok(None);
         };
         items.push(item)?;
         rest = others;
     }
-    let Some(last) = T::read(alloc, here, rest)? else {
+    let Some(last) = T::read(names, here, rest)? else {
         return Ok(None);
     };
     items.push(last)?;
@@ -75,7 +75,7 @@ pub enum Counted {
 
 /// The numbers between separators, or none for `-`.
 pub fn read_numbers(
-    alloc: Global,
+    names: &mut Names,
     here: Here,
     kind: Counted,
     separator: u8,
@@ -84,13 +84,13 @@ pub fn read_numbers(
     ensures { IfOk result (λ items. items ≡ read_listed (counted here kind) separator text.now) }
 {
     if text == b"-".as_slice() {
-        return Ok(Some(Sequence::new(alloc)));
+        return Ok(Some(Sequence::new(names.alloc)));
     }
-    read_counts(alloc, here, kind, separator, text)
+    read_counts(names, here, kind, separator, text)
 }
 
 fn read_counts(
-    alloc: Global,
+    names: &mut Names,
     here: Here,
     kind: Counted,
     separator: u8,
@@ -98,7 +98,7 @@ fn read_counts(
 ) -> Result<Option<Numbers>, Memory>
     ensures { IfOk result (λ items. items ≡ read_each (counted here kind) (split_at separator text.now)) }
 {
-    let mut items = Sequence::new(alloc);
+    let mut items = Sequence::new(names.alloc);
     let mut rest = text;
     'items: while let Some((first, others)) = cut_at(separator, rest) {
         let Some(item) = read_counted(here, kind, first) else {
@@ -151,55 +151,55 @@ fn positive(number: u64) -> Option<u64>
 }
 
 /// The word that the text is.
-pub fn read_word(alloc: Global, text: &[u8]) -> Result<Option<Name>, Memory>
+pub fn read_word(names: &mut Names, text: &[u8]) -> Result<Option<Name>, Memory>
     ensures { IfOk result (λ word. word ≡ read_word text.now) }
 {
     if !is_word(text) {
         return Ok(None);
     }
-    let word = Name::new(alloc, text)?;
+    let word = names.name(text)?;
     Ok(Some(word))
 }
 
 impl Item for CodedEquation {
     ghost reads = { read_equation };
 
-    fn read(alloc: Global, here: Here, text: &[u8]) -> Result<Option<CodedEquation>, Memory> {
-        read_equation(alloc, here, text)
+    fn read(names: &mut Names, here: Here, text: &[u8]) -> Result<Option<CodedEquation>, Memory> {
+        read_equation(names, here, text)
     }
 }
 
 impl Item for BoxPart {
     ghost reads = { λ here text. read_box_part text };
 
-    fn read(alloc: Global, _here: Here, text: &[u8]) -> Result<Option<BoxPart>, Memory> {
-        read_box_part(alloc, text)
+    fn read(names: &mut Names, _here: Here, text: &[u8]) -> Result<Option<BoxPart>, Memory> {
+        read_box_part(names, text)
     }
 }
 
-fn read_box_part(alloc: Global, text: &[u8]) -> Result<Option<BoxPart>, Memory>
+fn read_box_part(names: &mut Names, text: &[u8]) -> Result<Option<BoxPart>, Memory>
     ensures { IfOk result (λ part. part ≡ read_box_part text.now) }
 {
     match cut_at(b'>', text) {
-        Some((sort, answer)) => predicate_of(alloc, sort, answer),
-        None => sort_as(alloc, false, text),
+        Some((sort, answer)) => predicate_of(names, sort, answer),
+        None => sort_as(names, false, text),
     }
 }
 
-fn predicate_of(alloc: Global, sort: &[u8], answer: &[u8]) -> Result<Option<BoxPart>, Memory>
+fn predicate_of(names: &mut Names, sort: &[u8], answer: &[u8]) -> Result<Option<BoxPart>, Memory>
     ensures { IfOk result (λ part. part ≡ predicate_of (sort.now, answer.now)) }
 {
     if answer == b"Bool".as_slice() {
-        sort_as(alloc, true, sort)
+        sort_as(names, true, sort)
     } else {
         Ok(None)
     }
 }
 
-fn sort_as(alloc: Global, predicate: bool, text: &[u8]) -> Result<Option<BoxPart>, Memory>
+fn sort_as(names: &mut Names, predicate: bool, text: &[u8]) -> Result<Option<BoxPart>, Memory>
     ensures { IfOk result (λ part. part ≡ sort_as predicate text.now) }
 {
-    match read_word(alloc, text)? {
+    match read_word(names, text)? {
         Some(sort) => Ok(Some(BoxPart { sort, predicate })),
         None => Ok(None),
     }
@@ -208,28 +208,28 @@ fn sort_as(alloc: Global, predicate: bool, text: &[u8]) -> Result<Option<BoxPart
 impl Item for CodedVar {
     ghost reads = { λ here text. read_variable text };
 
-    fn read(alloc: Global, _here: Here, text: &[u8]) -> Result<Option<CodedVar>, Memory> {
-        read_variable(alloc, text)
+    fn read(names: &mut Names, _here: Here, text: &[u8]) -> Result<Option<CodedVar>, Memory> {
+        read_variable(names, text)
     }
 }
 
 /// The variable that the text is.
-pub fn read_variable(alloc: Global, text: &[u8]) -> Result<Option<CodedVar>, Memory>
+pub fn read_variable(names: &mut Names, text: &[u8]) -> Result<Option<CodedVar>, Memory>
     ensures { IfOk result (λ variable. variable ≡ read_variable text.now) }
 {
     match cut_at(b':', text) {
-        Some((name, sort)) => words_of(alloc, name, sort),
+        Some((name, sort)) => words_of(names, name, sort),
         None => Ok(None),
     }
 }
 
-fn words_of(alloc: Global, name: &[u8], sort: &[u8]) -> Result<Option<CodedVar>, Memory>
+fn words_of(names: &mut Names, name: &[u8], sort: &[u8]) -> Result<Option<CodedVar>, Memory>
     ensures { IfOk result (λ variable. variable ≡ words_of (name.now, sort.now)) }
 {
-    let Some(name) = read_word(alloc, name)? else {
+    let Some(name) = read_word(names, name)? else {
         return Ok(None);
     };
-    match read_word(alloc, sort)? {
+    match read_word(names, sort)? {
         Some(sort) => Ok(Some(CodedVar { name, sort })),
         None => Ok(None),
     }
@@ -238,32 +238,32 @@ fn words_of(alloc: Global, name: &[u8], sort: &[u8]) -> Result<Option<CodedVar>,
 impl Item for Binding {
     ghost reads = { read_binding };
 
-    fn read(alloc: Global, here: Here, text: &[u8]) -> Result<Option<Binding>, Memory> {
-        read_binding(alloc, here, text)
+    fn read(names: &mut Names, here: Here, text: &[u8]) -> Result<Option<Binding>, Memory> {
+        read_binding(names, here, text)
     }
 }
 
-fn read_binding(alloc: Global, here: Here, text: &[u8]) -> Result<Option<Binding>, Memory>
+fn read_binding(names: &mut Names, here: Here, text: &[u8]) -> Result<Option<Binding>, Memory>
     ensures { IfOk result (λ item. item ≡ read_binding here text.now) }
 {
     match cut_at(b'=', text) {
-        Some((variable, image)) => binding_of(alloc, here, variable, image),
+        Some((variable, image)) => binding_of(names, here, variable, image),
         None => Ok(None),
     }
 }
 
 fn binding_of(
-    alloc: Global,
+    names: &mut Names,
     here: Here,
     variable: &[u8],
     image: &[u8],
 ) -> Result<Option<Binding>, Memory>
     ensures { IfOk result (λ item. item ≡ binding_of here (variable.now, image.now)) }
 {
-    let Some(CodedVar { name, sort }) = read_variable(alloc, variable)? else {
+    let Some(CodedVar { name, sort }) = read_variable(names, variable)? else {
         return Ok(None);
     };
-    match read_term(alloc, here, image)? {
+    match read_term(names, here, image)? {
         Some(term) => Ok(Some(Binding { name, sort, term })),
         None => Ok(None),
     }

@@ -1,16 +1,35 @@
-ghost use Rattle.std.specs.Prelude.{◌≡◌, ◌++◌, ◌∷◌, [], IfOk, OnOk, Some, None, option_map};
-ghost use Rattle.larch_certificate_text.specs.SymbolText.{read_symbol};
-ghost use Rattle.larch_certificate_reader.specs.MachineViews.{progress, front_view};
-ghost use Rattle.larch_certificate_text.specs.TermText.{fresh, value_of, open_by, comma_by, close_by, settle, step, run, at_end, byte_by};
+ghost use Rattle.std.specs.Prelude.{◌≡◌, ◌++◌, ◌∷◌, [], IfOk, IfSome, IfNone, Some, None, option_map};
 ghost use Rattle.larch_certificate.specs.Coded.{coded_app, coded_forest_of};
+ghost use Rattle.larch_certificate_reader.specs.MachineViews.{ended_behind, FirstMark, front_view, machine_of};
+ghost use Rattle.larch_certificate_reader.specs.MachineViews.{mark_of, marked, marked_behind, progress, Unmarked};
+ghost use Rattle.larch_certificate_text.specs.SymbolText.{read_symbol};
+ghost use Rattle.larch_certificate_text.specs.TermText.{close_by, comma_by, fresh, open_by, run, settle, value_by};
 
 use crate::leaf::{read_leaf, read_symbol};
+use crate::names::Names;
 use larch_base::{Memory, Sequence};
 use larch_certificate::{Coded, CodedTerms};
-use larch_certificate_text::{Frame, Here, Machine, Stack, Text};
-use std::alloc::Global;
+use larch_certificate_text::{Frame, Here, Stack};
 
-/// What a byte leads to.
+/// What ends the bytes of a leaf.
+#[derive(Clone, Copy)]
+pub enum Mark {
+    /// The parenthesis in front of the arguments.
+    Open,
+    /// The comma between two arguments.
+    Comma,
+    /// The parenthesis behind the arguments.
+    Close,
+}
+
+/// What was read of a term up to a mark: the symbols that wait for arguments, and the term that was closed last.
+#[derive(Drop)]
+pub struct Reading {
+    pub stack: Stack<Frame>,
+    pub closed: Option<Coded>,
+}
+
+/// What a mark leads to.
 #[derive(Drop)]
 pub enum Step {
     /// No term goes on so.
@@ -21,70 +40,89 @@ pub enum Step {
     Ends(Coded),
 }
 
-fn start(alloc: Global) -> Machine
-    ensures { result ≡ fresh [] }
+fn mark_of(byte: u8) -> Option<Mark>
+    ensures { result ≡ mark_of byte }
 {
-    Machine {
-        stack: Stack::new(alloc),
-        atom: Text::new(alloc),
-        closed: None,
+    match byte {
+        b'(' => Some(Mark::Open),
+        b',' => Some(Mark::Comma),
+        b')' => Some(Mark::Close),
+        _ => None,
     }
 }
 
-fn value(alloc: Global, here: Here, machine: &mut Machine) -> Result<Option<Coded>, Memory>
-    ensures value { IfOk result (λ term. term ≡ value_of here machine.old) }
-    ensures stack { machine.new.stack ≡ machine.old.stack }
-    ensures closed { machine.new.closed ≡ None }
+// The bytes before the first mark, the mark, and what stands behind it.
+#[tactic(auto, using(crate::proofs::Feeding::mark_found, crate::proofs::Feeding::mark_missing))]
+fn cut_at_mark(text: &[u8]) -> Option<(&[u8], Mark, &[u8])>
+    ensures some { IfSome result (λ cut. FirstMark text.now cut.0.now cut.1 cut.2.now) }
+    ensures none { IfNone result (Unmarked text.now) }
 {
-    match machine.closed.take() {
+    for i in 0..text.len() {
+        if let Some(mark) = mark_of(text[i]) {
+            return Some((&text[..i], mark, &text[i + 1..]));
+        }
+    }
+    None
+}
+
+fn value(
+    names: &mut Names,
+    here: Here,
+    closed: Option<Coded>,
+    atom: &[u8],
+) -> Result<Option<Coded>, Memory>
+    ensures { IfOk result (λ term. term ≡ value_by here closed atom.now) }
+{
+    match closed {
         Some(term) => Ok(Some(term)),
-        None => read_leaf(alloc, here, machine.atom.bytes()),
+        None => read_leaf(names, here, atom),
     }
 }
 
-fn open(alloc: Global, here: Here, machine: &mut Machine) -> Result<Step, Memory>
-    ensures { IfOk result (λ s. progress s machine.new ≡ open_by machine.old.closed (read_symbol here machine.old.atom) machine.old.stack) }
+fn open(names: &mut Names, here: Here, reading: &mut Reading, atom: &[u8]) -> Result<Step, Memory>
+    ensures { IfOk result (λ s. progress s reading.new
+        ≡ open_by reading.old.closed (read_symbol here atom.now) reading.old.stack) }
 {
-    if machine.closed.is_some() {
+    if reading.closed.is_some() {
         return Ok(Step::Stuck);
     }
-    let Some(symbol) = read_symbol(here, machine.atom.bytes()) else {
+    let Some(symbol) = read_symbol(here, atom) else {
         return Ok(Step::Stuck);
     };
-    machine.stack.push(Frame {
+    reading.stack.push(Frame {
         symbol,
-        done: Sequence::new(alloc),
+        done: Sequence::new(names.alloc),
     })?;
-    machine.atom.clear();
     Ok(Step::Goes)
 }
 
-fn comma(alloc: Global, here: Here, machine: &mut Machine) -> Result<Step, Memory>
-    ensures { IfOk result (λ s. progress s machine.new ≡ comma_by (value_of here machine.old) machine.old.stack) }
+fn comma(names: &mut Names, here: Here, reading: &mut Reading, atom: &[u8]) -> Result<Step, Memory>
+    ensures { IfOk result (λ s. progress s reading.new
+        ≡ comma_by (value_by here reading.old.closed atom.now) reading.old.stack) }
 {
-    let Some(term) = value(alloc, here, machine)? else {
+    let Some(term) = value(names, here, reading.closed.take(), atom)? else {
         return Ok(Step::Stuck);
     };
-    let Some(mut frame) = machine.stack.pop() else {
+    let Some(mut frame) = reading.stack.pop() else {
         return Ok(Step::Stuck);
     };
     frame.done.push(term)?;
-    machine.stack.push(frame)?;
-    machine.atom.clear();
+    reading.stack.push(frame)?;
     Ok(Step::Goes)
 }
 
-fn close(alloc: Global, here: Here, machine: &mut Machine) -> Result<Step, Memory>
-    ensures { IfOk result (λ s. progress s machine.new ≡ close_by (value_of here machine.old) machine.old.stack) }
+fn close(names: &mut Names, here: Here, reading: &mut Reading, atom: &[u8]) -> Result<Step, Memory>
+    ensures { IfOk result (λ s. progress s reading.new
+        ≡ close_by (value_by here reading.old.closed atom.now) reading.old.stack) }
 {
-    let Some(term) = value(alloc, here, machine)? else {
+    let Some(term) = value(names, here, reading.closed.take(), atom)? else {
         return Ok(Step::Stuck);
     };
-    let Some(frame) = machine.stack.pop() else {
+    let Some(frame) = reading.stack.pop() else {
         return Ok(Step::Stuck);
     };
     let whole = closed_frame(frame, term)?;
-    settle(machine, whole)
+    Ok(settle(reading, whole))
 }
 
 fn closed_frame(frame: Frame, last: Coded) -> Result<Coded, Memory>
@@ -95,85 +133,103 @@ fn closed_frame(frame: Frame, last: Coded) -> Result<Coded, Memory>
     Ok(Coded::app(symbol, CodedTerms::from_vec(done.into_vec())))
 }
 
-fn settle(machine: &mut Machine, term: Coded) -> Result<Step, Memory>
-    ensures { IfOk result (λ s. progress s machine.new ≡ settle term machine.old.stack) }
+fn settle(reading: &mut Reading, term: Coded) -> Step
+    ensures { progress result reading.new ≡ settle term reading.old.stack }
 {
-    if machine.stack.is_empty() {
-        return Ok(Step::Ends(term));
+    if reading.stack.is_empty() {
+        return Step::Ends(term);
     }
-    machine.atom.clear();
-    machine.closed = Some(term);
-    Ok(Step::Goes)
+    reading.closed = Some(term);
+    Step::Goes
 }
 
-fn put(machine: &mut Machine, byte: u8) -> Result<Step, Memory>
-    ensures { IfOk result (λ s. progress s machine.new ≡ byte_by machine.old.closed machine.old byte) }
+fn take_mark(
+    names: &mut Names,
+    here: Here,
+    reading: &mut Reading,
+    atom: &[u8],
+    mark: Mark,
+) -> Result<Step, Memory>
+    ensures { IfOk result (λ s. progress s reading.new
+        ≡ marked_behind here mark reading.old.closed atom.now reading.old.stack) }
 {
-    if machine.closed.is_some() {
+    if reading.closed.is_some() && !atom.is_empty() {
         return Ok(Step::Stuck);
     }
-    machine.atom.push(byte)?;
-    Ok(Step::Goes)
+    take_first(names, here, reading, atom, mark)
 }
 
-fn take_byte(alloc: Global, here: Here, machine: &mut Machine, byte: u8) -> Result<Step, Memory>
-    ensures { IfOk result (λ s. progress s machine.new ≡ step here machine.old byte) }
+fn take_first(
+    names: &mut Names,
+    here: Here,
+    reading: &mut Reading,
+    atom: &[u8],
+    mark: Mark,
+) -> Result<Step, Memory>
+    ensures { IfOk result (λ s. progress s reading.new
+        ≡ marked here mark reading.old.closed atom.now reading.old.stack) }
 {
-    if byte == b'(' {
-        return open(alloc, here, machine);
+    match mark {
+        Mark::Open => open(names, here, reading, atom),
+        Mark::Comma => comma(names, here, reading, atom),
+        Mark::Close => close(names, here, reading, atom),
     }
-    if byte == b',' {
-        return comma(alloc, here, machine);
-    }
-    if byte == b')' {
-        return close(alloc, here, machine);
-    }
-    put(machine, byte)
 }
 
-/// The term at the front of the text, up to the parenthesis that closes it, and what stands behind.
+/// The term at the front of the text, up to the parenthesis that closes it, and what stands behind it.
 pub fn read_front<'a>(
-    alloc: Global,
+    names: &mut Names,
     here: Here,
     text: &'a [u8],
 ) -> Result<Option<(Coded, &'a [u8])>, Memory>
     ensures { IfOk result (λ front. front_view front ≡ run here (fresh []) text.now) }
 {
-    let mut machine = start(alloc);
-    let front = feed(alloc, here, &mut machine, text)?;
+    let mut reading = Reading {
+        stack: Stack::new(names.alloc),
+        closed: None,
+    };
+    let front = feed(names, here, &mut reading, text)?;
     Ok(front)
 }
 
-// What the machine makes of the text.
+// What is made of the text behind what was read.
 #[tactic(auto, using(crate::proofs::Feeding::feed_goes, crate::proofs::Feeding::feed_stuck, crate::proofs::Feeding::feed_ends, crate::proofs::Feeding::feed_end))]
 fn feed<'a>(
-    alloc: Global,
+    names: &mut Names,
     here: Here,
-    machine: &mut Machine,
+    reading: &mut Reading,
     text: &'a [u8],
 ) -> Result<Option<(Coded, &'a [u8])>, Memory>
-    ensures { IfOk result (λ front. front_view front ≡ run here machine.old text.now) }
+    ensures { IfOk result (λ front. front_view front ≡ run here (machine_of reading.old) text.now) }
 {
     let mut rest = text;
-    while let [byte, others @ ..] = rest {
-        match take_byte(alloc, here, machine, *byte)? {
+    'marks: while let Some((atom, mark, others)) = cut_at_mark(rest) {
+        match take_mark(names, here, reading, atom, mark)? {
             Step::Stuck => return Ok(None),
             Step::Goes => rest = others,
             Step::Ends(term) => return Ok(Some((term, others))),
         }
     }
-    let leaf = at_end(alloc, here, machine)?;
-    match leaf {
-        Some(term) => Ok(Some((term, rest))),
+    match at_end(names, here, reading, rest)? {
+        Some(term) => Ok(Some((term, b""))),
         None => Ok(None),
     }
 }
 
-fn at_end(alloc: Global, here: Here, machine: &mut Machine) -> Result<Option<Coded>, Memory>
-    ensures { IfOk result (λ term. option_map (λ t. (t, [])) term ≡ at_end (value_of here machine.old) machine.old.stack) }
+fn at_end(
+    names: &mut Names,
+    here: Here,
+    reading: &mut Reading,
+    rest: &[u8],
+) -> Result<Option<Coded>, Memory>
+    ensures { IfOk result (λ term. option_map (λ t. (t, [])) term
+        ≡ ended_behind here reading.old.closed rest.now reading.old.stack) }
 {
-    if !machine.stack.is_empty() {
+    if !reading.stack.is_empty() {
         return Ok(None);
     }
-    value(alloc, here, machine)
+    if reading.closed.is_some() && !rest.is_empty() {
+        return Ok(None);
+    }
+    value(names, here, reading.closed.take(), rest)
 }

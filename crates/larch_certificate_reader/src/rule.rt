@@ -11,14 +11,14 @@ use crate::named::{
     by_part, goal_part, hyps_part, number_part, operators_part, place_part, ref_part, refs_part,
     sort_part, sorts_part, term_part, variable_part, variables_part,
 };
+use crate::names::Names;
 use larch_base::Memory;
 use larch_certificate::Line;
 use larch_certificate_text::{Here, RuleWord};
-use std::alloc::Global;
 
 /// What the parts behind the word of a rule say.
 pub fn read_by_word(
-    alloc: Global,
+    names: &mut Names,
     here: Here,
     parts: Option<&[u8]>,
     word: RuleWord,
@@ -28,20 +28,20 @@ pub fn read_by_word(
     match word {
         RuleWord::Axiom => Ok(read_axiom(here, parts)),
         RuleWord::Hyp => Ok(read_hyp(here, parts)),
-        RuleWord::Row => read_row(alloc, here, parts),
-        RuleWord::Refl => read_refl(alloc, here, parts),
+        RuleWord::Row => read_row(names, here, parts),
+        RuleWord::Refl => read_refl(names, here, parts),
         RuleWord::Sym => Ok(read_sym(here, parts)),
-        RuleWord::Inst => read_inst(alloc, here, parts),
-        RuleWord::Repl => read_repl(alloc, here, parts),
+        RuleWord::Inst => read_inst(names, here, parts),
+        RuleWord::Repl => read_repl(names, here, parts),
         RuleWord::Equal => Ok(read_equal(here, parts)),
-        RuleWord::BoxLine => read_box(alloc, here, parts),
+        RuleWord::BoxLine => read_box(names, here, parts),
         RuleWord::Done => Ok(read_done(parts)),
-        RuleWord::Fresh => read_fresh(alloc, here, parts),
+        RuleWord::Fresh => read_fresh(names, here, parts),
         RuleWord::Cases => Ok(read_cases(here, parts)),
-        RuleWord::Induct => read_induct(alloc, here, parts),
-        RuleWord::Observe => read_observe(alloc, here, parts),
-        RuleWord::Generated => read_generated(alloc, here, parts),
-        RuleWord::Partitioned => read_partitioned(alloc, here, parts),
+        RuleWord::Induct => read_induct(names, here, parts),
+        RuleWord::Observe => read_observe(names, here, parts),
+        RuleWord::Generated => read_generated(names, here, parts),
+        RuleWord::Partitioned => read_partitioned(names, here, parts),
     }
 }
 
@@ -103,26 +103,26 @@ fn cases_of(here: Here, yes: &[u8], no: &[u8]) -> Option<Line>
     Some(Line::Cases(yes, no))
 }
 
-fn read_refl(alloc: Global, here: Here, parts: Option<&[u8]>) -> Result<Option<Line>, Memory>
+fn read_refl(names: &mut Names, here: Here, parts: Option<&[u8]>) -> Result<Option<Line>, Memory>
     ensures { IfOk result (λ line. line ≡ option_and_then (refl_of here) (one_of (parts_of parts.entry))) }
 {
     let Some(part) = one(parts) else {
         return Ok(None);
     };
-    match term_part(alloc, here, part)? {
+    match term_part(names, here, part)? {
         Some(term) => Ok(Some(Line::Refl(term))),
         None => Ok(None),
     }
 }
 
-fn read_row(alloc: Global, here: Here, parts: Option<&[u8]>) -> Result<Option<Line>, Memory>
+fn read_row(names: &mut Names, here: Here, parts: Option<&[u8]>) -> Result<Option<Line>, Memory>
     ensures { IfOk result (λ line. line ≡ row_by here (one_of (parts_of parts.entry)) (two_of (parts_of parts.entry))) }
 {
     if let Some(number) = one(parts) {
         return Ok(row_of(here, number));
     }
     match two(parts) {
-        Some((number, sort)) => row_at_of(alloc, here, number, sort),
+        Some((number, sort)) => row_at_of(names, here, number, sort),
         None => Ok(None),
     }
 }
@@ -134,13 +134,18 @@ fn row_of(here: Here, number: &[u8]) -> Option<Line>
     Some(Line::Row(number, None))
 }
 
-fn row_at_of(alloc: Global, here: Here, number: &[u8], sort: &[u8]) -> Result<Option<Line>, Memory>
+fn row_at_of(
+    names: &mut Names,
+    here: Here,
+    number: &[u8],
+    sort: &[u8],
+) -> Result<Option<Line>, Memory>
     ensures { IfOk result (λ line. line ≡ row_at_of here (number.now, sort.now)) }
 {
     let Some(number) = number_part(here, b"number", number) else {
         return Ok(None);
     };
-    match sort_part(alloc, here, sort)? {
+    match sort_part(names, here, sort)? {
         Some(sort) => Ok(Some(Line::Row(number, Some(sort)))),
         None => Ok(None),
     }
@@ -156,80 +161,80 @@ fn read_done(parts: Option<&[u8]>) -> Option<Line>
     }
 }
 
-fn read_box(alloc: Global, here: Here, parts: Option<&[u8]>) -> Result<Option<Line>, Memory>
+fn read_box(names: &mut Names, here: Here, parts: Option<&[u8]>) -> Result<Option<Line>, Memory>
     ensures { IfOk result (λ line. line ≡ option_and_then (box_of here) (box_by here.relative (parts_of parts.entry))) }
 {
     match box_by(here.relative, parts) {
-        Some((sorts, hyps)) => box_of(alloc, here, sorts, hyps),
+        Some((sorts, hyps)) => box_of(names, here, sorts, hyps),
         None => Ok(None),
     }
 }
 
-fn box_of(alloc: Global, here: Here, sorts: &[u8], hyps: &[u8]) -> Result<Option<Line>, Memory>
+fn box_of(names: &mut Names, here: Here, sorts: &[u8], hyps: &[u8]) -> Result<Option<Line>, Memory>
     ensures { IfOk result (λ line. line ≡ box_of here (sorts.now, hyps.now)) }
 {
-    let Some(sorts) = sorts_part(alloc, here, sorts)? else {
+    let Some(sorts) = sorts_part(names, here, sorts)? else {
         return Ok(None);
     };
-    match hyps_part(alloc, here, hyps)? {
+    match hyps_part(names, here, hyps)? {
         Some(hyps) => Ok(Some(Line::BoxLine(sorts, hyps))),
         None => Ok(None),
     }
 }
 
-fn read_inst(alloc: Global, here: Here, parts: Option<&[u8]>) -> Result<Option<Line>, Memory>
+fn read_inst(names: &mut Names, here: Here, parts: Option<&[u8]>) -> Result<Option<Line>, Memory>
     ensures { IfOk result (λ line. line ≡ option_and_then (inst_of here) (two_of (parts_of parts.entry))) }
 {
     match two(parts) {
-        Some((line, by)) => inst_of(alloc, here, line, by),
+        Some((line, by)) => inst_of(names, here, line, by),
         None => Ok(None),
     }
 }
 
-fn inst_of(alloc: Global, here: Here, line: &[u8], by: &[u8]) -> Result<Option<Line>, Memory>
+fn inst_of(names: &mut Names, here: Here, line: &[u8], by: &[u8]) -> Result<Option<Line>, Memory>
     ensures { IfOk result (λ found. found ≡ inst_of here (line.now, by.now)) }
 {
     let Some(line) = ref_part(here, b"line", line) else {
         return Ok(None);
     };
-    match by_part(alloc, here, by)? {
+    match by_part(names, here, by)? {
         Some(by) => Ok(Some(Line::Inst(line, by))),
         None => Ok(None),
     }
 }
 
-fn read_fresh(alloc: Global, here: Here, parts: Option<&[u8]>) -> Result<Option<Line>, Memory>
+fn read_fresh(names: &mut Names, here: Here, parts: Option<&[u8]>) -> Result<Option<Line>, Memory>
     ensures { IfOk result (λ line. line ≡ option_and_then (fresh_of here) (two_of (parts_of parts.entry))) }
 {
     match two(parts) {
-        Some((closed, by)) => fresh_of(alloc, here, closed, by),
+        Some((closed, by)) => fresh_of(names, here, closed, by),
         None => Ok(None),
     }
 }
 
-fn fresh_of(alloc: Global, here: Here, closed: &[u8], by: &[u8]) -> Result<Option<Line>, Memory>
+fn fresh_of(names: &mut Names, here: Here, closed: &[u8], by: &[u8]) -> Result<Option<Line>, Memory>
     ensures { IfOk result (λ line. line ≡ fresh_of here (closed.now, by.now)) }
 {
     let Some(closed) = ref_part(here, b"box", closed) else {
         return Ok(None);
     };
-    match variables_part(alloc, here, by)? {
+    match variables_part(names, here, by)? {
         Some(by) => Ok(Some(Line::Fresh(closed, by))),
         None => Ok(None),
     }
 }
 
-fn read_repl(alloc: Global, here: Here, parts: Option<&[u8]>) -> Result<Option<Line>, Memory>
+fn read_repl(names: &mut Names, here: Here, parts: Option<&[u8]>) -> Result<Option<Line>, Memory>
     ensures { IfOk result (λ line. line ≡ option_and_then (repl_of here) (three_of (parts_of parts.entry))) }
 {
     match three(parts) {
-        Some((line, (place, other))) => repl_of(alloc, here, line, place, other),
+        Some((line, (place, other))) => repl_of(names, here, line, place, other),
         None => Ok(None),
     }
 }
 
 fn repl_of(
-    alloc: Global,
+    names: &mut Names,
     here: Here,
     line: &[u8],
     place: &[u8],
@@ -240,7 +245,7 @@ fn repl_of(
     let Some(line) = ref_part(here, b"line", line) else {
         return Ok(None);
     };
-    let Some(place) = place_part(alloc, here, place)? else {
+    let Some(place) = place_part(names, here, place)? else {
         return Ok(None);
     };
     match ref_part(here, b"with", other) {
@@ -249,19 +254,19 @@ fn repl_of(
     }
 }
 
-fn read_induct(alloc: Global, here: Here, parts: Option<&[u8]>) -> Result<Option<Line>, Memory>
+fn read_induct(names: &mut Names, here: Here, parts: Option<&[u8]>) -> Result<Option<Line>, Memory>
     ensures { IfOk result (λ line. line ≡ option_and_then (induct_of here) (four_of (parts_of parts.entry))) }
 {
     match four(parts) {
         Some((line, (variable, (goal, boxes)))) => {
-            induct_of(alloc, here, line, variable, goal, boxes)
+            induct_of(names, here, line, variable, goal, boxes)
         }
         None => Ok(None),
     }
 }
 
 fn induct_of(
-    alloc: Global,
+    names: &mut Names,
     here: Here,
     line: &[u8],
     variable: &[u8],
@@ -274,29 +279,29 @@ fn induct_of(
     let Some(line) = ref_part(here, b"line", line) else {
         return Ok(None);
     };
-    let Some(variable) = variable_part(alloc, here, variable)? else {
+    let Some(variable) = variable_part(names, here, variable)? else {
         return Ok(None);
     };
-    let Some(goal) = goal_part(alloc, here, goal)? else {
+    let Some(goal) = goal_part(names, here, goal)? else {
         return Ok(None);
     };
-    match refs_part(alloc, here, b"boxes", boxes)? {
+    match refs_part(names, here, b"boxes", boxes)? {
         Some(boxes) => Ok(Some(Line::Induct(line, variable, goal, boxes))),
         None => Ok(None),
     }
 }
 
-fn read_observe(alloc: Global, here: Here, parts: Option<&[u8]>) -> Result<Option<Line>, Memory>
+fn read_observe(names: &mut Names, here: Here, parts: Option<&[u8]>) -> Result<Option<Line>, Memory>
     ensures { IfOk result (λ line. line ≡ option_and_then (observe_of here) (three_of (parts_of parts.entry))) }
 {
     match three(parts) {
-        Some((line, (goal, lines))) => observe_of(alloc, here, line, goal, lines),
+        Some((line, (goal, lines))) => observe_of(names, here, line, goal, lines),
         None => Ok(None),
     }
 }
 
 fn observe_of(
-    alloc: Global,
+    names: &mut Names,
     here: Here,
     line: &[u8],
     goal: &[u8],
@@ -307,26 +312,30 @@ fn observe_of(
     let Some(line) = ref_part(here, b"line", line) else {
         return Ok(None);
     };
-    let Some(goal) = goal_part(alloc, here, goal)? else {
+    let Some(goal) = goal_part(names, here, goal)? else {
         return Ok(None);
     };
-    match refs_part(alloc, here, b"lines", lines)? {
+    match refs_part(names, here, b"lines", lines)? {
         Some(lines) => Ok(Some(Line::Observe(line, goal, lines))),
         None => Ok(None),
     }
 }
 
-fn read_generated(alloc: Global, here: Here, parts: Option<&[u8]>) -> Result<Option<Line>, Memory>
+fn read_generated(
+    names: &mut Names,
+    here: Here,
+    parts: Option<&[u8]>,
+) -> Result<Option<Line>, Memory>
     ensures { IfOk result (λ line. line ≡ option_and_then (generated_of here) (three_of (parts_of parts.entry))) }
 {
     match three(parts) {
-        Some((closed, (sort, operators))) => generated_of(alloc, here, closed, sort, operators),
+        Some((closed, (sort, operators))) => generated_of(names, here, closed, sort, operators),
         None => Ok(None),
     }
 }
 
 fn generated_of(
-    alloc: Global,
+    names: &mut Names,
     here: Here,
     closed: &[u8],
     sort: &[u8],
@@ -337,26 +346,30 @@ fn generated_of(
     let Some(closed) = ref_part(here, b"box", closed) else {
         return Ok(None);
     };
-    let Some(sort) = sort_part(alloc, here, sort)? else {
+    let Some(sort) = sort_part(names, here, sort)? else {
         return Ok(None);
     };
-    match operators_part(alloc, here, operators)? {
+    match operators_part(names, here, operators)? {
         Some(operators) => Ok(Some(Line::Generated(closed, sort, operators))),
         None => Ok(None),
     }
 }
 
-fn read_partitioned(alloc: Global, here: Here, parts: Option<&[u8]>) -> Result<Option<Line>, Memory>
+fn read_partitioned(
+    names: &mut Names,
+    here: Here,
+    parts: Option<&[u8]>,
+) -> Result<Option<Line>, Memory>
     ensures { IfOk result (λ line. line ≡ option_and_then (partitioned_of here) (three_of (parts_of parts.entry))) }
 {
     match three(parts) {
-        Some((closed, (sort, operators))) => partitioned_of(alloc, here, closed, sort, operators),
+        Some((closed, (sort, operators))) => partitioned_of(names, here, closed, sort, operators),
         None => Ok(None),
     }
 }
 
 fn partitioned_of(
-    alloc: Global,
+    names: &mut Names,
     here: Here,
     closed: &[u8],
     sort: &[u8],
@@ -367,10 +380,10 @@ fn partitioned_of(
     let Some(closed) = ref_part(here, b"box", closed) else {
         return Ok(None);
     };
-    let Some(sort) = sort_part(alloc, here, sort)? else {
+    let Some(sort) = sort_part(names, here, sort)? else {
         return Ok(None);
     };
-    match operators_part(alloc, here, operators)? {
+    match operators_part(names, here, operators)? {
         Some(operators) => Ok(Some(Line::Partitioned(closed, sort, operators))),
         None => Ok(None),
     }

@@ -1,10 +1,11 @@
 use Rattle.std.proofs.Common.{◌≡◌, length}
 use Rattle.larch_certificate_text.specs.TermText.{run}
+use Rattle.larch_certificate_reader.specs.MachineViews.{machine_of}
 use Rattle.larch_certificate_reader.proofs.machine.feed.Given as goal
 
 -- the machine makes of what is left what it makes of the whole text from the start
-abbrev pub invariant-loop-rest : goal.invariant-loop-rest
-invariant-loop-rest l = run l.here l.machine l.rest ≡ run l.here l.fn.machine l.text
+abbrev pub invariant-marks : goal.invariant-marks
+invariant-marks l = run l.here (machine_of l.reading) l.rest ≡ run l.here (machine_of l.fn.reading) l.text
 
-abbrev pub decreases-loop-rest : goal.decreases-loop-rest
-decreases-loop-rest l = length l.rest
+abbrev pub decreases-marks : goal.decreases-marks
+decreases-marks l = length l.rest
