@@ -3,8 +3,6 @@
 #![tactic(auto)]
 
 mod table;
-mod term;
-mod theory;
 
 use std::io;
 use std::io::{Read, Write};

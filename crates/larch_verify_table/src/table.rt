@@ -1,7 +1,7 @@
-use crate::theory::{read_operators, read_statements};
 use larch_base::{Bytes, Memory, Sequence};
 use larch_certificate_reader::{FormRefusal, read_either};
 use larch_term::{Operators, Statement, Theory};
+use larch_theory_text::{read_operators, read_statements};
 use larch_verify::{Verdict, verify};
 use std::alloc::Global;
 

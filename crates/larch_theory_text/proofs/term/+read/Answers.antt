@@ -1,7 +1,7 @@
 use Rattle.std.proofs.Common.{◌≡◌, ℕ, ◌<◌, ◌≤◌, sum_by, length, get_or, ap, arith}
 use Rattle.std.proofs.lemmas.List.Sums.{get_or-le-sum_by}
 use Rattle.larch_certificate.specs.Coded.{coded_nodes}
-use Rattle.larch_verify_table.proofs.term.+read.Goals as goal
+use Rattle.larch_theory_text.proofs.term.+read.Goals as goal
 
 pub read_terms-read_term-requires : goal.read_terms-read_term-requires
 read_terms-read_term-requires t c =

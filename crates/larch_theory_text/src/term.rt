@@ -42,10 +42,14 @@ pub fn read_equation(
     Ok(Some(Statement::Equation(left, right)))
 }
 
-// The term that a coded one means. Whether it is well sorted isn't looked at.
+/// The term that a coded one means. Whether it is well sorted isn't looked at.
 #[cycle(read)]
 #[tactic(auto, using(larch_certificate::specs::Coded::coded_nodes_all_is_sum))]
-fn read_term(alloc: Global, operators: &[Operator], term: &Coded) -> Result<Option<Term>, Memory> {
+pub fn read_term(
+    alloc: Global,
+    operators: &[Operator],
+    term: &Coded,
+) -> Result<Option<Term>, Memory> {
     match term.node() {
         CodedNode::Var(name, sort) => {
             let name = name.copy()?;

@@ -1,6 +1,6 @@
 use Rattle.std.proofs.Common.{◌+◌, ◌*◌, sum_by}
 use Rattle.larch_certificate.specs.Coded.{coded_nodes}
-use Rattle.larch_verify_table.proofs.term.+read.Given as goal
+use Rattle.larch_theory_text.proofs.term.+read.Given as goal
 
 abbrev pub decreases-read_term : goal.decreases-read_term
 decreases-read_term l = 2 * coded_nodes l.term.now

@@ -1,0 +1,153 @@
+-- Rules as contracts see them.
+use Rattle.std.specs.Prelude.{◌≡◌, ◌+◌, ℕ, true, List, [], ◌∷◌, ◌++◌, All, Some, map, length, slice_get, take, drop, refl}
+use Rattle.std.proofs.Common.{arith, ap, ap₂, sym, subst, ◌∙◌}
+use Rattle.std.proofs.Math.Seq.{take-append_seam}
+use Rattle.std.proofs.lemmas.List.{length-map, length_push, map-append, take-map, drop-map}
+use Rattle.std.proofs.lemmas.List.Elements.{All-append, All-cons, All-drop, All-head, All-nil, All-push, All-tail, All-take, All-weaker}
+use Rattle.larch_applying.specs.Holding.{RuleHolds, RulesHold, Says as ReasonSays}
+use Rattle.larch_base.specs.declared.fact_name.FactName.{FactName}
+use Rattle.larch_derive.specs.Predicates.{Extends, HasEquation, Known}
+use Rattle.larch_derive.specs.declared.builder.Builder.{Builder}
+use Rattle.larch_derive.proofs.Growth.{stays_said}
+use Rattle.larch_normal_forms.specs.NormalForm.{normal}
+use Rattle.larch_redexes.specs.Rule.{IsRule, all_sides, left_of, right_of, reason_of, sides_of_rule}
+use Rattle.larch_redexes.specs.declared.rule.Reason.{Reason}
+use Rattle.larch_redexes.specs.declared.rule.Reason.TheVariants.{Row, Line}
+use Rattle.larch_redexes.specs.declared.rule.Rule.{Rule}
+use Rattle.larch_term.specs.Tree.{Tree}
+use Rattle.larch_rewrite.specs.Kept.{IsForm, IsFront, IsLed}
+use Rattle.larch_rewrite.specs.Refusals.{IsMade, Tells}
+use Rattle.larch_rewrite.specs.RuleSet.{AreRules, Carries, IsByLine, IsLineRule, IsRemoved, Lined, RuleSet, line_of, lined, sides_in, sides_of_lined, without_at}
+use Rattle.larch_rewrite.specs.Ways.{MayBegin}
+use Rattle.larch_rewrite.specs.declared.kept.KeptForm.{KeptForm}
+use Rattle.larch_rewrite.specs.declared.refusal.RewriteRefusal.{RewriteRefusal}
+
+pub sides_same : (rules : List Rule) → map sides_of_lined (map lined rules) ≡ all_sides rules
+sides_same [] = refl
+sides_same (r ∷ rs) = ap (λ xs. sides_of_rule r ∷ xs) (sides_same rs)
+
+pub are_rules : (rules : List Rule) → All IsLineRule rules → All IsRule rules
+are_rules [] h = All-nil IsRule
+are_rules (r ∷ rs) h =
+    All-cons IsRule r rs (All-head IsLineRule r rs h).0 (are_rules rs (All-tail IsLineRule r rs h))
+
+-- a rule holds where its line says it
+by_line : (b : Builder) (w : Reason) (l r : Tree) → IsByLine w → HasEquation b (line_of w) l r → ReasonSays b w l r
+by_line b (Line n) l r i h = h
+by_line b (Row k z) l r i h = absurd i
+
+abbrev IsSaid : Builder → Lined → Type 0
+IsSaid b r = HasEquation b r.line r.left r.right
+
+pub rules_carried : (b : Builder) (rules : List Rule) → All IsLineRule rules → All (IsSaid b) (map lined rules)
+    → RulesHold b rules
+rules_carried b [] h g = All-nil (RuleHolds b)
+rules_carried b (r ∷ rs) h g =
+    All-cons (RuleHolds b) r rs
+    (by_line b (reason_of r) (left_of r) (right_of r) (All-head IsLineRule r rs h).1
+    (All-head (IsSaid b) (lined r) (map lined rs) g))
+    (rules_carried b rs (All-tail IsLineRule r rs h) (All-tail (IsSaid b) (lined r) (map lined rs) g))
+
+-- with a rule behind the others
+pub rules_pushed : (names more : List FactName) (rules further : List Rule) (kept : List KeptForm) (n : FactName) (r : Rule)
+    → more ≡ names ++ n ∷ [] → further ≡ rules ++ r ∷ [] → kept ≡ [] → IsLineRule r
+    → (length names ≡ length rules) → All IsLineRule rules → AreRules more further kept
+rules_pushed names more rules further kept n r p q e i l h = (
+  ap length p ∙ length_push names n ∙ ap (λ k. k + 1) l ∙ sym (length_push rules r) ∙ sym (ap length q),
+  subst (All IsLineRule) (sym q) (All-push IsLineRule rules r h i),
+  subst (All (IsForm (all_sides further))) (sym e) (All-nil (IsForm (all_sides further))),
+)
+
+-- equal parts make equal sets
+abbrev set_of : List FactName → List Lined → List KeptForm → RuleSet
+set_of names rules kept = record { names = names; rules = rules; kept = kept }
+
+same_set : (ns ms : List FactName) (rs qs : List Lined) (ks js : List KeptForm) → ns ≡ ms → rs ≡ qs → ks ≡ js
+    → set_of ns rs ks ≡ set_of ms qs js
+same_set ns ms rs qs ks js p q r = λ i. record { names = p i; rules = q i; kept = r i }
+
+none_kept : (kept : List KeptForm) → take 0 kept ≡ []
+none_kept [] = refl
+none_kept (k ∷ ks) = refl
+
+-- without the rule at a place
+pub rules_removed : (names fewer : List FactName) (rules others : List Rule) (kept : List KeptForm) (i : ℕ)
+    → others ≡ take i rules ++ drop (i + 1) rules → length fewer + 1 ≡ length names → length others + 1 ≡ length rules
+    → kept ≡ [] → (length names ≡ length rules) → All IsLineRule rules → AreRules fewer others kept
+rules_removed names fewer rules others kept i q m n e l h = (
+  omega (arith, l, m, n),
+  subst (All IsLineRule) (sym q)
+      (All-append IsLineRule (take i rules) (drop (i + 1) rules) (All-take IsLineRule i rules h)
+      (All-drop IsLineRule (i + 1) rules h)),
+  subst (All (IsForm (all_sides others))) (sym e) (All-nil (IsForm (all_sides others))),
+)
+
+pub lined_removed : (rules others : List Rule) (i : ℕ) → others ≡ take i rules ++ drop (i + 1) rules
+    → map lined others ≡ take i (map lined rules) ++ drop (i + 1) (map lined rules)
+lined_removed rules others i q =
+    ap (map lined) q ∙ map-append lined (take i rules) (drop (i + 1) rules)
+    ∙ ap₂ (λ xs ys. xs ++ ys) (sym (take-map lined i rules)) (sym (drop-map lined (i + 1) rules))
+
+-- the same rules once more
+pub rules_copied : (names more : List FactName) (rules copied : List Rule) (kept : List KeptForm) → more ≡ names
+    → map lined copied ≡ map lined rules → kept ≡ [] → All IsLineRule copied → (length names ≡ length rules)
+    → AreRules more copied kept
+rules_copied names more rules copied kept p q e h l = (
+  ap length p ∙ l ∙ sym (length-map rules lined) ∙ sym (ap length q) ∙ length-map copied lined,
+  h,
+  subst (All (IsForm (all_sides copied))) (sym e) (All-nil (IsForm (all_sides copied))),
+)
+
+-- what is kept, without what was kept behind it
+pub front_cut : (kept mid : List KeptForm) → IsFront kept mid → take (length kept) mid ≡ kept
+front_cut kept mid (xs, e) = ap (take (length kept)) e ∙ take-append_seam kept xs
+
+-- the sides of the rules as contracts see them
+pub sides_now : (set : RuleSet) (names : List FactName) (rules slice : List Rule) (kept : List KeptForm)
+    → record { names = names; rules = map lined rules; kept = kept } ≡ set → slice ≡ rules
+    → sides_in set ≡ all_sides slice
+sides_now set names rules slice kept e q = ap sides_in (sym e) ∙ sides_same rules ∙ ap all_sides (sym q)
+
+-- what the machine makes by them, or tells
+pub made_now : (set : RuleSet) (names : List FactName) (rules slice : List Rule) (kept : List KeptForm) (budget k : ℕ)
+    (u t : Tree) → record { names = names; rules = map lined rules; kept = kept } ≡ set → slice ≡ rules
+    → IsMade budget k u (normal (all_sides slice) t budget) → IsMade budget k u (normal (sides_in set) t budget)
+made_now set names rules slice kept budget k u t e q h =
+    subst (λ ss. IsMade budget k u (normal ss t budget)) (sym (sides_now set names rules slice kept e q)) h
+
+pub tells_now : (set : RuleSet) (names : List FactName) (rules slice : List Rule) (kept : List KeptForm) (budget : ℕ)
+    (t : Tree) (x : RewriteRefusal) → record { names = names; rules = map lined rules; kept = kept } ≡ set → slice ≡ rules
+    → Tells (normal (all_sides slice) t budget) x → Tells (normal (sides_in set) t budget) x
+tells_now set names rules slice kept budget t x e q h =
+    subst (λ ss. Tells (normal ss t budget) x) (sym (sides_now set names rules slice kept e q)) h
+
+-- where all that the rules carry is said the machine may begin
+pub may_begin : (b : Builder) (set : RuleSet) (names : List FactName) (rules slice : List Rule) (kept : List KeptForm)
+    (t : Tree) → record { names = names; rules = map lined rules; kept = kept } ≡ set → slice ≡ rules
+    → All IsLineRule rules → Known b t → Carries b set → MayBegin b slice kept t
+may_begin b set names rules slice kept t e q i k h =
+    let g : Carries b (record { names = names; rules = map lined rules; kept = kept }) = subst (Carries b) (sym e) h in
+    (k, subst (RulesHold b) (sym q) (rules_carried b rules i g.0), g.1)
+
+-- the rules' own lines still say them, and what is kept is led to
+pub carried_on : (a b : Builder) (set : RuleSet) (names : List FactName) (rules : List Rule) (kept more : List KeptForm)
+    → record { names = names; rules = map lined rules; kept = kept } ≡ set → Extends a b → Carries a set
+    → All (IsLed b) more → Carries b (record { names = names; rules = map lined rules; kept = more })
+carried_on a b set names rules kept more e x h m =
+    let g : Carries a (record { names = names; rules = map lined rules; kept = kept }) = subst (Carries a) (sym e) h in
+    (All-weaker (IsSaid a) (IsSaid b) (λ r p. stays_said a b r.line _ x p) (map lined rules) g.0, m)
+
+-- the rule at a place is taken out, and has the name
+pub removed_now : (name : FactName) (set : RuleSet) (names slice fewer : List FactName) (rules others : List Rule)
+    (kept left : List KeptForm) (i : ℕ) → record { names = names; rules = map lined rules; kept = kept } ≡ set
+    → slice ≡ names → slice_get slice i ≡ Some name → fewer ≡ take i names ++ drop (i + 1) names
+    → others ≡ take i rules ++ drop (i + 1) rules → left ≡ take 0 kept
+    → IsRemoved name set (record { names = fewer; rules = map lined others; kept = left }) true
+removed_now name set names slice fewer rules others kept left i e n g p q k = (
+  i,
+  subst (λ (s : RuleSet). slice_get s.names i ≡ Some name) e (subst (λ ns. slice_get ns i ≡ Some name) n g),
+  same_set fewer (take i names ++ drop (i + 1) names) (map lined others)
+      (take i (map lined rules) ++ drop (i + 1) (map lined rules)) left [] p (lined_removed rules others i q)
+      (k ∙ none_kept kept)
+      ∙ ap (without_at i) e,
+)

@@ -1,0 +1,61 @@
+use Rattle.std.specs.Prelude.{All, Some}
+use Rattle.std.proofs.Common.{sym, subst}
+use Rattle.std.proofs.lemmas.List.Elements.{All-nil}
+use Rattle.larch_applying.specs.Holding.{RuleHolds}
+use Rattle.larch_derive.specs.Predicates.{Known}
+use Rattle.larch_derive.proofs.Growth.{stays_known}
+use Rattle.larch_redexes.specs.Rule.{IsSaidByRow}
+use Rattle.larch_redexes.specs.Search.{IsBy, IsRedex}
+use Rattle.larch_store.specs.Numbered.{term_of}
+use Rattle.larch_store.specs.Stored.{Belongs}
+use Rattle.larch_store.proofs.Growth.{belongs_stays}
+use Rattle.larch_ways.proofs.Ways.{leads_known}
+use Rattle.larch_rewrite.proofs.Roots.{found_holds}
+use Rattle.larch_rewrite.proofs.applying.rewrite.Goals as goal
+
+pub returns-clause-turn : goal.returns-clause-turn
+returns-clause-turn c = (
+  subst (Belongs _) (sym c.in_ok-level.ensures.level.0)
+      (belongs_stays _ _ _ c.in_ok-level.ensures.grows c.requires.turn.0),
+  c.in_ok-level.ensures.belongs,
+  All-nil _,
+)
+
+pub returns-clause-says : goal.returns-clause-says
+returns-clause-says c x r w =
+    let m : IsRedex c.as_slice.result.now c.args.rules.now c.in_ok-term.term (Some c.in-Some.found) =
+    subst (IsRedex c.as_slice.result.now c.args.rules.now c.in_ok-term.term) c.in-Some.is c.in_ok-found.ensures in
+    let k : Known c.args.builder.now (term_of c.args.level.term) =
+    leads_known c.args.builder.now c.args.level.way x (term_of c.args.level.term) w.0 w.1 in
+    let h : RuleHolds c.args.builder.now c.in-Some.found.rule.now =
+    found_holds c.args.builder.now c.as_slice.result.now c.args.rules.now c.in-Some.found.rule.now m.0
+    (subst (All IsSaidByRow) (sym c.as_slice.ensures) c.in_ok-rows.ensures.reasons) r in
+    let b : IsBy c.in-Some.found.rule.now c.in-Some.found.exchanged (term_of c.args.level.term) c.in-Some.found.by =
+    subst (λ t. IsBy c.in-Some.found.rule.now c.in-Some.found.exchanged t c.in-Some.found.by) c.in_ok-term.ensures m.1 in
+    (stays_known _ _ _ (c.in_ok-level.ensures.extends _ _ k h b w.1) w.0, c.in_ok-level.ensures.says _ _ k h b w.1)
+
+pub returns-clause-extends : goal.returns-clause-extends
+returns-clause-extends c x r w =
+    let m : IsRedex c.as_slice.result.now c.args.rules.now c.in_ok-term.term (Some c.in-Some.found) =
+    subst (IsRedex c.as_slice.result.now c.args.rules.now c.in_ok-term.term) c.in-Some.is c.in_ok-found.ensures in
+    let k : Known c.args.builder.now (term_of c.args.level.term) =
+    leads_known c.args.builder.now c.args.level.way x (term_of c.args.level.term) w.0 w.1 in
+    let h : RuleHolds c.args.builder.now c.in-Some.found.rule.now =
+    found_holds c.args.builder.now c.as_slice.result.now c.args.rules.now c.in-Some.found.rule.now m.0
+    (subst (All IsSaidByRow) (sym c.as_slice.ensures) c.in_ok-rows.ensures.reasons) r in
+    let b : IsBy c.in-Some.found.rule.now c.in-Some.found.exchanged (term_of c.args.level.term) c.in-Some.found.by =
+    subst (λ t. IsBy c.in-Some.found.rule.now c.in-Some.found.exchanged t c.in-Some.found.by) c.in_ok-term.ensures m.1 in
+    c.in_ok-level.ensures.extends _ _ k h b w.1
+
+pub returns-in_err-level-clause-extends : goal.returns-in_err-level-clause-extends
+returns-in_err-level-clause-extends c x r w =
+    let m : IsRedex c.as_slice.result.now c.args.rules.now c.in_ok-term.term (Some c.in-Some.found) =
+    subst (IsRedex c.as_slice.result.now c.args.rules.now c.in_ok-term.term) c.in-Some.is c.in_ok-found.ensures in
+    let k : Known c.args.builder.now (term_of c.args.level.term) =
+    leads_known c.args.builder.now c.args.level.way x (term_of c.args.level.term) w.0 w.1 in
+    let h : RuleHolds c.args.builder.now c.in-Some.found.rule.now =
+    found_holds c.args.builder.now c.as_slice.result.now c.args.rules.now c.in-Some.found.rule.now m.0
+    (subst (All IsSaidByRow) (sym c.as_slice.ensures) c.in_ok-rows.ensures.reasons) r in
+    let b : IsBy c.in-Some.found.rule.now c.in-Some.found.exchanged (term_of c.args.level.term) c.in-Some.found.by =
+    subst (λ t. IsBy c.in-Some.found.rule.now c.in-Some.found.exchanged t c.in-Some.found.by) c.in_ok-term.ensures m.1 in
+    c.in_err-level.ensures.extends _ _ k h b w.1

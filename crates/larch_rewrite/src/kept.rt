@@ -1,0 +1,91 @@
+ghost use Rattle.std.specs.Prelude.{◌≡◌, ◌++◌, ◌∷◌, [], All, Contains, IfOk, IfSome, OnOk, OnErr, length, take};
+ghost use Rattle.larch_rewrite.specs.Kept.{IsOfStore};
+ghost use Rattle.larch_store.specs.Numbered.{term_of};
+ghost use Rattle.larch_store.specs.Stored.{Belongs};
+
+use indexmap::IndexMap;
+use larch_base::Memory;
+use larch_store::{Shared, Store};
+use std::alloc::Global;
+use std::marker::Model;
+
+/// The normal form of a term: what it costs, and the line that says that the term equals it, where it is another one.
+#[derive(Drop)]
+pub struct KeptForm {
+    pub start: Shared,
+    pub form: Shared,
+    pub cost: u32,
+    pub way: Option<u64>,
+}
+
+/// Normal forms that are kept, found by the numbers of their terms. Contracts see them as a list.
+#[derive(Drop)]
+pub(crate) struct Kept {
+    forms: Vec<KeptForm>,
+    places: IndexMap<u64, usize>,
+}
+
+impl Model for Kept {
+    ghost use Rattle.std.specs.Prelude.{List};
+    ghost use Rattle.larch_rewrite.specs.declared.kept.KeptForm.{KeptForm};
+
+    ghost Value = { List KeptForm };
+
+    ghost use Rattle.std.specs.Coded.{codes};
+    ghost use Rattle.larch_store.specs.NumberedCode.{coded_numbered};
+
+    ghost coded = { Prim.hlevel (codes, coded_numbered) };
+
+    ghost view = { λ kept. kept.forms.items };
+}
+
+impl Kept {
+    // Nothing is kept. It takes no memory.
+    pub(crate) fn new(alloc: Global) -> Kept
+        ensures { result ≡ [] }
+    {
+        Kept {
+            forms: Vec::new(alloc),
+            places: IndexMap::new(alloc),
+        }
+    }
+
+    // How many there are.
+    pub(crate) fn len(&self) -> usize
+        ensures { result ≡ length self.now }
+    {
+        self.forms.len()
+    }
+
+    // What is kept of a term, if something is.
+    pub(crate) fn find<'a>(&'a self, store: &Store, term: &Shared) -> Option<&'a KeptForm>
+        requires term { Belongs store.now term.now }
+        requires kept { All (IsOfStore store.now) self.now }
+        ensures { IfSome result (λ k. Contains self.now k.now × (term_of k.now.start ≡ term_of term.now)) }
+    {
+        let place = *self.places.get(&store.number(term))?;
+        let kept = self.forms.get(place)?;
+        if store.same(&kept.start, term) {
+            return Some(kept);
+        }
+        None
+    }
+
+    // Keeps one more. Where memory runs out nothing changes.
+    pub(crate) fn push(&mut self, store: &Store, form: KeptForm) -> Result<(), Memory>
+        ensures ok { OnOk result (self.new ≡ self.old ++ form ∷ []) }
+        ensures err { OnErr result (self.new ≡ self.old) }
+    {
+        self.places
+            .insert(store.number(&form.start), self.forms.len())?;
+        self.forms.push(form)?;
+        Ok(())
+    }
+
+    // Forgets all but the first ones.
+    pub(crate) fn cut(&mut self, count: usize)
+        ensures { self.new ≡ take count self.old }
+    {
+        self.forms.truncate(count);
+    }
+}

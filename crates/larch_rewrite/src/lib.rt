@@ -1,0 +1,17 @@
+//! Rules and the normal forms of terms, each with a line that says that the term equals it.
+#![tactic(auto)]
+
+mod applying;
+mod finishing;
+mod heads;
+mod kept;
+mod level;
+mod machine;
+mod refusal;
+mod rules;
+mod turning;
+
+pub use kept::KeptForm;
+pub use machine::Normal;
+pub use refusal::RewriteRefusal;
+pub use rules::Rules;

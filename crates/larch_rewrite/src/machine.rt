@@ -1,0 +1,229 @@
+ghost use Rattle.std.specs.Prelude.{◌≡◌, ℕ, List, All, true, IfOk, IfErr, OnOk};
+ghost use Rattle.larch_derive.specs.Predicates.{Extends, HasEquation, Known};
+ghost use Rattle.larch_derive.specs.declared.builder.Builder.{Builder as is_builder};
+ghost use Rattle.larch_normal_forms.specs.NormalForm.{normal};
+ghost use Rattle.larch_normal_forms.specs.Sides.{Sides};
+ghost use Rattle.larch_redexes.specs.Rule.{IsRule, all_sides};
+ghost use Rattle.larch_redexes.specs.declared.rule.Rule.{Rule as is_rule};
+ghost use Rattle.larch_rewrite.specs.Kept.{IsForm, IsFront, IsLed, IsOfStore};
+ghost use Rattle.larch_rewrite.specs.Levels.{IsFrameOf, IsLast, IsStored, IsTurnOf, Works, level_of, start_of};
+ghost use Rattle.larch_rewrite.specs.Refusals.{IsMade, Tells};
+ghost use Rattle.larch_rewrite.specs.Ways.{MayBegin, Says};
+ghost use Rattle.larch_rewrite.specs.declared.kept.KeptForm.{KeptForm};
+ghost use Rattle.larch_rewrite.specs.declared.level.Turn.TheVariants.{Arguments as among_arguments, Finish as finished};
+ghost use Rattle.larch_store.specs.Numbered.{term_of};
+ghost use Rattle.larch_store.specs.Stored.{Belongs, Grows};
+ghost use Rattle.larch_term.specs.Tree.{Tree};
+ghost use Rattle.larch_ways.specs.Way.{Leads};
+
+use crate::applying::rewrite;
+use crate::finishing::{keep, resume, whole_line};
+use crate::kept::Kept;
+use crate::level::{Frame, Level, Turn};
+use crate::refusal::RewriteRefusal;
+use crate::turning::{argument, begin, first_level, form};
+use larch_base::Memory;
+use larch_derive::Builder;
+use larch_redexes::Rule;
+use larch_store::{Shared, Store};
+use std::alloc::Global;
+
+/// A normal form, what it costs, and the number of a line that says that the term equals it.
+#[derive(Drop)]
+pub struct Normal {
+    pub form: Shared,
+    pub cost: u32,
+    pub line: u64,
+}
+
+// What waits while the machine runs: terms whose arguments are being normalised, the innermost last; and what is left of
+// the budget.
+#[derive(Drop)]
+pub(crate) struct Pending {
+    pub(crate) frames: Vec<Frame>,
+    pub(crate) left: u32,
+}
+
+// One turn, to the next one. Where nothing waits any longer for a normal form, that is the last turn, and stays.
+#[tactic(auto, using(larch_derive::proofs::Growth::extends_same, larch_store::proofs::Growth::grows_refl))]
+fn step(
+    alloc: Global,
+    store: &mut Store,
+    builder: &mut Builder,
+    rules: &[Rule],
+    kept: &mut Kept,
+    pending: &mut Pending,
+    turn: Turn,
+) -> Result<Turn, RewriteRefusal>
+    requires rules { All IsRule rules.now }
+    requires stored { IsStored store.old kept.old pending.old.frames.items turn }
+    ensures stored { IfOk result (IsStored store.new kept.new pending.new.frames.items) }
+    ensures grows { Grows store.old store.new }
+    ensures front { IsFront kept.old kept.new }
+    ensures works { IfOk result (λ t. (whole : Tree) (budget : ℕ)
+        → Works (all_sides rules.now) whole budget kept.old pending.old.frames.items turn pending.old.left
+        → Works (all_sides rules.now) whole budget kept.new pending.new.frames.items t pending.new.left) }
+    ensures refused { IfErr result (λ e. (whole : Tree) (budget : ℕ)
+        → Works (all_sides rules.now) whole budget kept.old pending.old.frames.items turn pending.old.left
+        → Tells (normal (all_sides rules.now) whole budget) e) }
+    ensures says { IfOk result (λ t. Says builder.old rules.now kept.old pending.old.frames.items turn
+        → Says builder.new rules.now kept.new pending.new.frames.items t) }
+    ensures extends { Says builder.old rules.now kept.old pending.old.frames.items turn
+        → Extends builder.old builder.new }
+{
+    match turn {
+        Turn::Begin(level) => {
+            let turn = begin(alloc, store, builder, kept, level, &mut pending.left)?;
+            keep(store, kept, &turn, pending.left);
+            Ok(turn)
+        }
+        Turn::Arguments(frame) => {
+            let turn = go_on(store, pending, frame)?;
+            Ok(turn)
+        }
+        Turn::Root(level) => {
+            let turn = rewrite(alloc, store, builder, rules, level, &mut pending.left)?;
+            keep(store, kept, &turn, pending.left);
+            Ok(turn)
+        }
+        Turn::Finish(level) => {
+            let turn = go_up(alloc, store, builder, pending, level)?;
+            Ok(turn)
+        }
+    }
+}
+
+// The turn behind one among a frame's arguments: the next one begins and the frame waits, or all are done.
+#[tactic(auto, using(larch_derive::proofs::Growth::extends_same, larch_store::proofs::Growth::grows_refl))]
+fn go_on(store: &mut Store, pending: &mut Pending, frame: Frame) -> Result<Turn, RewriteRefusal>
+    requires frames { All (IsFrameOf store.old) pending.old.frames.items }
+    requires turn { IsTurnOf store.old (among_arguments frame) }
+    ensures frames { OnOk result (All (IsFrameOf store.new) pending.new.frames.items) }
+    ensures turn { IfOk result (IsTurnOf store.new) }
+    ensures grows { Grows store.old store.new }
+    ensures works { IfOk result (λ t. (rs : List Sides) (whole : Tree) (budget : ℕ) (kept : List KeptForm)
+        → Works rs whole budget kept pending.old.frames.items (among_arguments frame) pending.old.left
+        → Works rs whole budget kept pending.new.frames.items t pending.new.left) }
+    ensures refused { IfErr result (λ e. (rs : List Sides) (whole : Tree) (budget : ℕ) (kept : List KeptForm)
+        → Works rs whole budget kept pending.old.frames.items (among_arguments frame) pending.old.left
+        → Tells (normal rs whole budget) e) }
+    ensures says { IfOk result (λ t. (b : is_builder) (rules : List is_rule) (kept : List KeptForm)
+        → Says b rules kept pending.old.frames.items (among_arguments frame)
+        → Says b rules kept pending.new.frames.items t) }
+{
+    store.children_belong();
+    match argument(&frame, pending.left)? {
+        Some(level) => {
+            pending.frames.push(frame)?;
+            Ok(Turn::Begin(level))
+        }
+        None => {
+            let turn = form(store, frame)?;
+            Ok(turn)
+        }
+    }
+}
+
+// The turn behind a normal form: what waited for it innermost goes on. Where nothing waits the turn stays.
+#[tactic(auto, using(larch_derive::proofs::Growth::extends_same, larch_store::proofs::Growth::grows_refl))]
+fn go_up(
+    alloc: Global,
+    store: &Store,
+    builder: &mut Builder,
+    pending: &mut Pending,
+    level: Level,
+) -> Result<Turn, Memory>
+    requires frames { All (IsFrameOf store.now) pending.old.frames.items }
+    requires turn { IsTurnOf store.now (finished level) }
+    ensures frames { OnOk result (All (IsFrameOf store.now) pending.new.frames.items) }
+    ensures turn { IfOk result (IsTurnOf store.now) }
+    ensures works { IfOk result (λ t. (rs : List Sides) (whole : Tree) (budget : ℕ) (kept : List KeptForm)
+        → Works rs whole budget kept pending.old.frames.items (finished level) pending.old.left
+        → Works rs whole budget kept pending.new.frames.items t pending.new.left) }
+    ensures says { IfOk result (λ t. (rules : List is_rule) (kept : List KeptForm)
+        → Says builder.old rules kept pending.old.frames.items (finished level)
+        → Says builder.new rules kept pending.new.frames.items t) }
+    ensures extends { (rules : List is_rule) (kept : List KeptForm)
+        → Says builder.old rules kept pending.old.frames.items (finished level) → Extends builder.old builder.new }
+{
+    let Some(frame) = pending.frames.pop() else {
+        return Ok(Turn::Finish(level));
+    };
+    let frame = resume(alloc, store, builder, frame, level)?;
+    Ok(Turn::Arguments(frame))
+}
+
+// Whether a turn is the last one: a normal form for which nothing waits.
+fn is_last(turn: &Turn, pending: &Pending) -> bool
+    ensures { result ≡ true → IsLast pending.now.frames.items turn.now }
+{
+    match turn {
+        Turn::Finish(_) => pending.frames.is_empty(),
+        _ => false,
+    }
+}
+
+// The normal form to which the last turn has come.
+fn normal_of(store: &Store, builder: &mut Builder, turn: Turn, cost: u32) -> Result<Normal, Memory>
+    ensures form { IfOk result (λ n. n.form ≡ (level_of turn).term) }
+    ensures cost { IfOk result (λ n. n.cost ≡ cost) }
+    ensures says { IfOk result (λ n. (t : Tree) → Known builder.old (start_of turn)
+        → Leads builder.old (level_of turn).way (start_of turn) t → HasEquation builder.new n.line (start_of turn) t) }
+    ensures extends { (t : Tree) → Known builder.old (start_of turn)
+        → Leads builder.old (level_of turn).way (start_of turn) t → Extends builder.old builder.new }
+{
+    let level = turn.into_level();
+    let line = whole_line(store, builder, &level.start, level.way)?;
+    Ok(Normal {
+        form: level.term,
+        cost,
+        line,
+    })
+}
+
+/// The normal form of a term by rules under a budget, or the first event.
+#[tactic(auto, using(larch_derive::proofs::Growth::extends_same, larch_store::proofs::Growth::grows_refl))]
+pub(crate) fn run(
+    alloc: Global,
+    store: &mut Store,
+    builder: &mut Builder,
+    rules: &[Rule],
+    kept: &mut Kept,
+    term: &Shared,
+    budget: u32,
+) -> Result<Normal, RewriteRefusal>
+    requires rules { All IsRule rules.now }
+    requires term { Belongs store.old term.now }
+    requires kept { All (IsOfStore store.old) kept.old }
+    requires forms { All (IsForm (all_sides rules.now)) kept.old }
+    ensures belongs { IfOk result (λ n. Belongs store.new n.form) }
+    ensures made { IfOk result (λ n. IsMade budget n.cost (term_of n.form)
+        (normal (all_sides rules.now) (term_of term.now) budget)) }
+    ensures refused { IfErr result (Tells (normal (all_sides rules.now) (term_of term.now) budget)) }
+    ensures grows { Grows store.old store.new }
+    ensures front { IsFront kept.old kept.new }
+    ensures kept { OnOk result (All (IsOfStore store.new) kept.new) }
+    ensures forms { OnOk result (All (IsForm (all_sides rules.now)) kept.new) }
+    ensures says { IfOk result (λ n. MayBegin builder.old rules.now kept.old (term_of term.now)
+        → HasEquation builder.new n.line (term_of term.now) (term_of n.form)) }
+    ensures led { OnOk result (MayBegin builder.old rules.now kept.old (term_of term.now)
+        → All (IsLed builder.new) kept.new) }
+    ensures extends { MayBegin builder.old rules.now kept.old (term_of term.now) → Extends builder.old builder.new }
+{
+    let mut pending = Pending {
+        frames: Vec::new(alloc),
+        left: budget,
+    };
+    let first = first_level(term, budget)?;
+    let mut turn = Turn::Begin(first);
+    for _ in 0..u64::MAX {
+        if is_last(&turn, &pending) {
+            let cost = budget.saturating_sub(pending.left);
+            let normal = normal_of(store, builder, turn, cost)?;
+            return Ok(normal);
+        }
+        turn = step(alloc, store, builder, rules, kept, &mut pending, turn)?;
+    }
+    // There are never so many turns.
+    Err(RewriteRefusal::Memory)
+}

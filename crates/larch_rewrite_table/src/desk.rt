@@ -1,0 +1,183 @@
+ghost use Rattle.std.specs.Prelude.{◌≡◌, IfOk};
+ghost use Rattle.larch_rewrite.specs.RuleSet.{BelongsTo};
+ghost use Rattle.larch_store.specs.Stored.{Belongs};
+
+use crate::problem::{Problem, Task};
+use larch_base::{Bytes, FactLetter, FactName, Memory, Sequence};
+use larch_certificate::{Certificate, Line};
+use larch_certificate_printer::print_certificate;
+use larch_derive::Builder;
+use larch_derive_lines::axiom_line;
+use larch_rewrite::{Normal, RewriteRefusal, Rules};
+use larch_store::{Shared, Store, StoreRefusal};
+use larch_term::{Statement, Term, Theory};
+use std::alloc::Global;
+
+/// What the tasks are done with, and what they came to.
+#[derive(Drop)]
+pub struct Desk {
+    alloc: Global,
+    store: Store,
+    builder: Builder,
+    rules: Rules,
+    told: Bytes,
+    forms: Certificate,
+}
+
+impl Desk {
+    /// No rules, and nothing done.
+    #[tactic(auto, using(crate::proofs::Fitting::fits_at_first))]
+    pub fn new(alloc: Global, theory: &Theory) -> Result<Desk, Memory>
+        ensures { IfOk result (λ desk. BelongsTo desk.store desk.rules) }
+    {
+        let store = Store::new(alloc)?;
+        let builder = Builder::new(alloc, theory)?;
+        let rules = Rules::new(alloc)?;
+        Ok(Desk {
+            alloc,
+            store,
+            builder,
+            rules,
+            told: Bytes::new(alloc),
+            forms: Sequence::new(alloc),
+        })
+    }
+
+    /// A line for each task.
+    pub fn told(&self) -> &[u8] {
+        self.told.bytes()
+    }
+
+    /// The normal forms, as the terms of lines `refl` of a certificate.
+    pub fn forms(&self, alloc: Global) -> Result<Bytes, Memory> {
+        print_certificate(alloc, &self.forms)
+    }
+
+    /// All lines, as a certificate.
+    pub fn lines(&self, alloc: Global) -> Result<Bytes, Memory> {
+        let lines = self.builder.certificate()?;
+        print_certificate(alloc, &lines)
+    }
+
+    /// Does all tasks, one after the other. A term has the next budget, or the last where none is left.
+    pub fn work(&mut self, problem: &Problem, budgets: &[u32]) -> Result<(), Memory>
+        requires { BelongsTo self.old.store self.old.rules }
+    {
+        let mut stated: u32 = 0;
+        let mut brought: usize = 0;
+        for task in problem.tasks.as_slice() {
+            match task {
+                Task::Put => {
+                    let statement = problem.theory.statements.as_slice().get(stated as usize);
+                    stated = stated.saturating_add(1);
+                    self.put(statement, stated)?;
+                }
+                Task::Take(number) => self.take(*number)?,
+                Task::Bring(term) => {
+                    let budget = budget_at(budgets, brought);
+                    brought = brought.saturating_add(1);
+                    self.bring(term, budget)?;
+                }
+            }
+        }
+        Ok(())
+    }
+
+    // Puts a statement of the theory, by its number, behind the rules.
+    #[tactic(auto, using(crate::proofs::Fitting::fits_with, crate::proofs::Fitting::fits_still))]
+    fn put(&mut self, statement: Option<&Statement>, number: u32) -> Result<(), Memory>
+        requires { BelongsTo self.old.store self.old.rules }
+        ensures { BelongsTo self.new.store self.new.rules }
+    {
+        let Some(Statement::Equation(left, right)) = statement else {
+            return Ok(());
+        };
+        let line = axiom_line(&mut self.builder, u64::from(number))?;
+        let name = name_of(number);
+        match self
+            .rules
+            .add_rule(&mut self.store, name, left, right, line)
+        {
+            Ok(()) => self.told.append(b"rule\n"),
+            Err(StoreRefusal::TooLarge) => self.told.append(b"SIZE\n"),
+            Err(StoreRefusal::Memory) => Err(Memory),
+        }
+    }
+
+    // Takes out the rule of a statement.
+    #[tactic(auto, using(crate::proofs::Fitting::fits_without))]
+    fn take(&mut self, number: u32) -> Result<(), Memory>
+        requires { BelongsTo self.old.store self.old.rules }
+        ensures { BelongsTo self.new.store self.new.rules }
+    {
+        if self.rules.remove(&name_of(number))? {
+            self.told.append(b"removed\n")
+        } else {
+            self.told.append(b"none\n")
+        }
+    }
+
+    // Brings a term to its normal form.
+    #[tactic(auto, using(larch_rewrite::proofs::Stored::kept_stay))]
+    fn bring(&mut self, term: &Term, budget: u32) -> Result<(), Memory>
+        requires { BelongsTo self.old.store self.old.rules }
+        ensures { BelongsTo self.new.store self.new.rules }
+    {
+        match self.store.intern(term) {
+            Ok(shared) => self.bring_shared(&shared, budget),
+            Err(StoreRefusal::TooLarge) => self.told.append(b"SIZE\n"),
+            Err(StoreRefusal::Memory) => Err(Memory),
+        }
+    }
+
+    // Brings a shared term to its normal form.
+    #[tactic(auto, using(crate::proofs::Fitting::fits_still))]
+    fn bring_shared(&mut self, term: &Shared, budget: u32) -> Result<(), Memory>
+        requires term { Belongs self.old.store term.now }
+        requires kept { BelongsTo self.old.store self.old.rules }
+        ensures { BelongsTo self.new.store self.new.rules }
+    {
+        match self
+            .rules
+            .normalise(&mut self.store, &mut self.builder, term, budget)
+        {
+            Ok(normal) => self.tell(&normal),
+            Err(RewriteRefusal::Limit) => self.told.append(b"LIMIT\n"),
+            Err(RewriteRefusal::TooLarge) => self.told.append(b"SIZE\n"),
+            Err(RewriteRefusal::Memory) => Err(Memory),
+        }
+    }
+
+    // Tells a cost and a line, and puts the form behind the others.
+    fn tell(&mut self, normal: &Normal) -> Result<(), Memory>
+        ensures { (self.new.store ≡ self.old.store) × (self.new.rules ≡ self.old.rules) }
+    {
+        let cost = normal.cost;
+        let line = normal.line;
+        let form = self.store.to_term(&normal.form)?;
+        let form = self.builder.code(&form)?;
+        self.forms.push(Line::Refl(form))?;
+        let line = format!(in self.alloc; "cost {cost} line {line}\n")?;
+        self.told.append(line.as_bytes())
+    }
+}
+
+// The name of the rule that the statement with a number is.
+fn name_of(number: u32) -> FactName {
+    FactName {
+        letter: FactLetter::Axiom,
+        number,
+        part: 1,
+    }
+}
+
+// The budget of the term with an index: the last one where there are fewer.
+fn budget_at(budgets: &[u32], index: usize) -> u32 {
+    match budgets.get(index) {
+        Some(budget) => *budget,
+        None => match budgets {
+            [.., last] => *last,
+            [] => 0,
+        },
+    }
+}

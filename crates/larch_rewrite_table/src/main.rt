@@ -1,0 +1,20 @@
+//! Reads rules and terms from standard input, with a byte 0 between any two problems, and prints for each the normal
+//! forms, with a byte 0 behind it: a table to compare with another reading.
+#![tactic(auto)]
+
+mod desk;
+mod problem;
+mod table;
+
+use std::io;
+use std::io::{Read, Write};
+use table::answers;
+
+fn main(rt: HostRuntime) -> io::Result<()> {
+    let mut texts = Vec::new(rt.alloc());
+    rt.stdin().read_to_end(&mut texts)?;
+    if let Ok(answer) = answers(rt.alloc(), &texts) {
+        rt.stdout().write_all(answer.bytes())?;
+    }
+    Ok(())
+}

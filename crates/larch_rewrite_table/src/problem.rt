@@ -1,0 +1,139 @@
+use larch_base::{Memory, Sequence};
+use larch_certificate::{CodedEquation, Line};
+use larch_certificate_reader::{FormRefusal, read_either};
+use larch_term::{Operator, Term, Theory};
+use larch_theory_text::{read_equation, read_operators, read_term};
+use std::alloc::Global;
+
+/// One thing to do.
+#[derive(Drop)]
+pub enum Task {
+    /// The next statement of the theory is put behind the rules.
+    Put,
+    /// The rule of the statement with this number is taken out.
+    Take(u32),
+    /// A term is brought to its normal form.
+    Bring(Term),
+}
+
+/// Operators, with the rules as statements, and what is to be done.
+#[derive(Drop)]
+pub struct Problem {
+    pub theory: Theory,
+    pub tasks: Vec<Task>,
+}
+
+/// The budgets, and whether lines are wanted.
+#[derive(Drop)]
+pub struct Words {
+    pub budgets: Vec<u32>,
+    pub lines: bool,
+}
+
+/// The budgets with blanks between them, and perhaps the word `lines`.
+pub fn read_words(alloc: Global, text: &[u8]) -> Result<Option<Words>, Memory> {
+    let mut budgets = Vec::new(alloc);
+    let mut lines = false;
+    for word in text.split(|byte| *byte == b' ') {
+        match word {
+            b"lines" => lines = true,
+            _ => {
+                let Some(budget) = read_number(word) else {
+                    return Ok(None);
+                };
+                budgets.push(budget)?;
+            }
+        }
+    }
+    Ok(Some(Words { budgets, lines }))
+}
+
+fn read_number(word: &[u8]) -> Option<u32> {
+    if word.is_empty() {
+        return None;
+    }
+    let mut number: u32 = 0;
+    for byte in word {
+        if !byte.is_ascii_digit() {
+            return None;
+        }
+        number = number
+            .checked_mul(10)?
+            .checked_add(u32::from(*byte - b'0'))?;
+    }
+    Some(number)
+}
+
+/// The operators, and the tasks that lines of a certificate write.
+pub fn read_problem(
+    alloc: Global,
+    operators: &[u8],
+    lines: &[u8],
+) -> Result<Option<Problem>, Memory> {
+    let Some(operators) = read_operators(alloc, operators)? else {
+        return Ok(None);
+    };
+    let lines = match read_either(alloc, lines) {
+        Ok(read) => read.lines,
+        Err(FormRefusal::Form(_)) => return Ok(None),
+        Err(FormRefusal::Memory) => return Err(Memory),
+    };
+    let theory = Theory {
+        operators,
+        statements: Sequence::new(alloc),
+    };
+    read_tasks(alloc, theory, lines.as_slice())
+}
+
+fn read_tasks(alloc: Global, theory: Theory, lines: &[Line]) -> Result<Option<Problem>, Memory> {
+    let mut problem = Problem {
+        theory,
+        tasks: Vec::new(alloc),
+    };
+    for line in lines {
+        if !add_task(alloc, &mut problem, line)? {
+            return Ok(None);
+        }
+    }
+    Ok(Some(problem))
+}
+
+// Puts a line's task behind the others; `false` where it has none.
+fn add_task(alloc: Global, problem: &mut Problem, line: &Line) -> Result<bool, Memory> {
+    match line {
+        Line::BoxLine(_, equations) => match equations.as_slice() {
+            [equation] => add_rule(alloc, problem, equation),
+            _ => Ok(false),
+        },
+        Line::Axiom(number) => {
+            let Ok(number) = u32::try_from(*number) else {
+                return Ok(false);
+            };
+            problem.tasks.push(Task::Take(number))?;
+            Ok(true)
+        }
+        Line::Refl(term) => {
+            let operators = problem.theory.operators.as_slice();
+            let Some(term) = read_term(alloc, operators, term)? else {
+                return Ok(false);
+            };
+            problem.tasks.push(Task::Bring(term))?;
+            Ok(true)
+        }
+        _ => Ok(false),
+    }
+}
+
+fn add_rule(
+    alloc: Global,
+    problem: &mut Problem,
+    equation: &CodedEquation,
+) -> Result<bool, Memory> {
+    let operators = problem.theory.operators.as_slice();
+    let Some(statement) = read_equation(alloc, operators, equation)? else {
+        return Ok(false);
+    };
+    problem.theory.statements.push(statement)?;
+    problem.tasks.push(Task::Put)?;
+    Ok(true)
+}
