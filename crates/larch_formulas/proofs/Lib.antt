@@ -1,3 +1,4 @@
 pub mod Rows
 pub mod Truths
 pub mod Deduced
+pub mod Followed

@@ -1,15 +1,14 @@
 -- Rows with known terms in the places of their variables.
-use Rattle.std.specs.Prelude.{◌≡◌, ℕ, true, cond, All, List, [], ◌∷◌, map, codes, bytes_eq, Option, None, Some, refl}
+use Rattle.std.specs.Prelude.{◌≡◌, ℕ, true, cond, List, [], ◌∷◌, map, codes, bytes_eq, None, Some, refl}
 use Rattle.std.proofs.Common.{ap, ap₂, sym, subst, ◌∙◌}
 use Rattle.std.proofs.lemmas.List.Elements.{All-cons, All-nil, All-weaker}
 use Rattle.std.proofs.lemmas.Slice.Eq.{bytes_eq-Decides}
-use Rattle.larch_term.specs.BuiltIn.{bool_sort, built_in}
+use Rattle.larch_term.specs.BuiltIn.{bool_sort}
 use Rattle.larch_term.specs.Operator.{PlainOperator}
 use Rattle.larch_term.specs.Sorts.{sort_of}
 use Rattle.larch_term.specs.Substitution.{image, substituted}
-use Rattle.larch_term.specs.Tree.{Tree, var, app, none, more}
+use Rattle.larch_term.specs.Tree.{Tree, var, app}
 use Rattle.larch_term.specs.Truth.{truth}
-use Rattle.larch_term.specs.declared.built_in.BuiltIn.TheVariants.{Iff, Equal, If}
 use Rattle.larch_term.specs.declared.statement.Statement.{Statement}
 use Rattle.larch_term.specs.declared.statement.Statement.TheVariants.{Equation}
 use Rattle.larch_term.specs.declared.substitution.Entry.{Entry}
@@ -17,7 +16,6 @@ use Rattle.larch_calculus.specs.Formula.{applied, choice, equality, equivalence,
 use Rattle.larch_tables.specs.Spelling.{x, y, a, b}
 use Rattle.larch_lines.specs.Matching.{all_different}
 use Rattle.larch_lines.specs.Rules.{row_says}
-use Rattle.larch_derive.specs.OpenBox.{naming}
 use Rattle.larch_derive.specs.Predicates.{written, Known, Stands, HasEquation, HasStatement, Extends}
 use Rattle.larch_derive.specs.declared.builder.Builder.{Builder}
 use Rattle.larch_derive.specs.declared.open_box.OpenBox.{OpenBox}
@@ -152,11 +150,11 @@ known_one m f p t d k = (known_part m f t k, one (sort_of t) p (sort_of_one m f 
 itself : (z : List ℕ) → bytes_eq z z ≡ true
 itself z = (bytes_eq-Decides z z).1 refl
 
-image_a : (s : List ℕ) (t u : Tree) → image (values s t u) (codes "a") s ≡ t
+pub image_a : (s : List ℕ) (t u : Tree) → image (values s t u) (codes "a") s ≡ t
 image_a s t u =
     ap (λ c. cond c t (image (record { name = codes "b"; sort = s; term = u } ∷ []) (codes "a") s)) (itself s)
 
-image_b : (s : List ℕ) (t u : Tree) → image (values s t u) (codes "b") s ≡ u
+pub image_b : (s : List ℕ) (t u : Tree) → image (values s t u) (codes "b") s ≡ u
 image_b s t u = ap (λ c. cond c u (var (codes "b") s)) (itself s)
 
 -- a row of truth values

@@ -1,9 +1,8 @@
 -- Formulas of equations.
-use Rattle.std.specs.Prelude.{◌≡◌, ℕ, Bool, true, false, cond, if◌then◌else◌, List, bytes_eq, refl}
+use Rattle.std.specs.Prelude.{◌≡◌, ℕ, Bool, true, false, cond, List, bytes_eq, refl}
 use Rattle.std.proofs.Common.{ap, sym, subst, ◌∙◌}
 use Rattle.std.proofs.lemmas.Slice.Eq.{bytes_eq-Decides}
 use Rattle.larch_term.specs.BuiltIn.{bool_sort, built_in}
-use Rattle.larch_term.specs.Operator.{PlainOperator}
 use Rattle.larch_term.specs.Sorts.{sort_of}
 use Rattle.larch_term.specs.Tree.{Tree}
 use Rattle.larch_term.specs.Truth.{truth, is_truth}

@@ -1,5 +1,5 @@
 -- Rows with terms in the places of their variables.
-use Rattle.std.specs.Prelude.{◌≡◌, ℕ, true, List, [], ◌∷◌, map, codes, Option, Some, None}
+use Rattle.std.specs.Prelude.{◌≡◌, ℕ, true, List, [], ◌∷◌, map, codes, Some, None}
 use Rattle.larch_term.specs.BuiltIn.{bool_sort}
 use Rattle.larch_term.specs.Sorts.{sort_of}
 use Rattle.larch_term.specs.Substitution.{substituted}

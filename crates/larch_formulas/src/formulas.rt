@@ -47,9 +47,9 @@ pub fn formula_line(
     Ok(number)
 }
 
-/// A line that says that the equality of both sides of an equation is true, or at Bool their equivalence, also where one
-/// of them is true; from a line that says the equation. It is the rule of an equation that isn't oriented. A refused
-/// line may leave lines behind, none of them bad.
+/// A line that says that the equality of both sides of an equation is true, or at Bool their equivalence, also where
+/// one of them is true; from a line that says the equation. It is the rule of an equation that isn't oriented. A
+/// refused line may leave lines behind, none of them bad.
 #[tactic(auto, using(larch_derive::proofs::Growth::extends_same))]
 pub fn equated_line(
     alloc: Global,

@@ -2,11 +2,13 @@
 #![tactic(auto)]
 
 mod absurdity;
+mod consequences;
 mod deductions;
 mod formulas;
 mod instances;
 
 pub use absurdity::absurd;
+pub use consequences::{Consequences, deduce};
 pub use deductions::{
     BothLines, conjunct_lines, disjunct_lines, false_line, implication_lines, true_line,
 };

@@ -1,4 +1,4 @@
-use Rattle.std.specs.Prelude.{[], ◌∷◌, refl}
+use Rattle.std.specs.Prelude.{[], refl}
 use Rattle.larch_calculus.specs.Formula.{negation}
 use Rattle.larch_term.specs.BuiltIn.{bool_sort, built_in}
 use Rattle.larch_term.specs.declared.built_in.BuiltIn.TheVariants.{Not}

@@ -1,0 +1,6 @@
+pub mod Closed
+pub mod Constants
+pub mod Defined
+pub mod Pairs
+pub mod Planned
+pub mod Steps
