@@ -1,0 +1,264 @@
+#!/usr/bin/env python3
+"""Tests that what is said of the commands agrees: python3 tools/check_commands.py PROGRAM
+
+PROGRAM is a command, in quotes where it has words of its own. docs/COMMANDS.md, the definitions, the program, the man
+page and both files of completion have the same commands; the man page is the one that tools/make_manual.py makes, and
+nothing is wrong with it as far as `mandoc` is there to say so. Each status of the page's table, but those of faults
+and of memory, comes in each command that the table has it for, with the last line that it says. The completions are
+tried: in bash, and in zsh where that is installed. Ends with 'N passed, N failed', and status 1 where one failed."""
+import os
+import pathlib
+import pty
+import re
+import select
+import shlex
+import shutil
+import subprocess
+import sys
+import tempfile
+import time
+
+import compare_calls
+import make_manual
+
+TOP = pathlib.Path(__file__).resolve().parent.parent
+BASH, ZSH = TOP / "completion/larch.bash", TOP / "completion/_larch"
+PUT = b"put One.lsl %d\n" % len(compare_calls.TEXTS["One.lsl"]) + compare_calls.TEXTS["One.lsl"]
+WRONG = b"put Two.lsl %d\n" % len(compare_calls.TEXTS["Two.lsl"]) + compare_calls.TEXTS["Two.lsl"]
+# Calls for each status and command: the words, the input, and the last line, of which nothing is said by None.
+FILES = {0: [("One.lsl Nat.lsl", None)], 1: [("Two.lsl One.lsl", None)], 2: [("", "USAGE"), ("a/One.lsl", "USAGE")],
+         7: [("Big.lsl", "too large"), (" ".join(f"F{number}.lsl" for number in range(257)), "too large")],
+         8: [("One.lsl Nope.lsl", "no file Nope.lsl")]}
+CALLS = {
+    "session": {0: [("", PUT + b"report\n", "end"), ("", b"", None)], 1: [("", WRONG + b"report\n", "end")],
+                2: [("One.lsl", b"", "USAGE")], 6: [("", b"\nbad\n", "malformed at byte 1")],
+                7: [("", b"put One.lsl 1048577\n", "too large")]},
+    "check": {status: [(words, b"", last) for words, last in calls] for status, calls in FILES.items()},
+    "obligations": {status: [(words, b"", last) for words, last in calls] for status, calls in FILES.items()},
+    "verify": {0: [("Nat imply.1 Nat.cert Nat.lsl", b"", "accepted")],
+               1: [("Nat imply.1 Place.cert Nat.lsl", b"", "refused 10"),
+                   ("Nat imply.9 Nat.cert Nat.lsl", b"", "no duty"), ("Two imply.1 Nat.cert Two.lsl", b"", "no duty")],
+               2: [("Nat imply.1 Nat.cert", b"", "USAGE"), ("Nat imply.0 Nat.cert Nat.lsl", b"", "USAGE")],
+               6: [("Nat imply.9 Form.cert Nat.lsl", b"", "malformed at line 2")],
+               7: [("Nat imply.1 Big.cert Nat.lsl", b"", "too large")],
+               8: [("Nat imply.1 Nope.cert Nat.lsl", b"", "no file Nope.cert"),
+                   ("Nat imply.1 Nat.cert Nope.lsl", b"", "no file Nope.lsl")]},
+}
+# Words before the cursor, the last of which is begun, and what may stand there.
+COMPLETED = [
+    ([""], ["check", "obligations", "session", "verify"]), (["ob"], ["obligations"]), (["Frob"], []),
+    (["check", "On"], ["One.lp", "One.lsl"]), (["check", "One.lp", "On"], ["One.lsl"]),
+    (["--", "obligations", "Na"], ["Nat.lsl"]), (["session", ""], []), (["frobnicate", ""], []),
+    (["verify", "Na"], ["Nat"]), (["verify", "Nat", "i"], ["imply.1", "imply.2"]),
+    (["verify", "Nat", "c"], ["convert.1"]), (["verify", "One", ""], []),
+    (["verify", "Nat", "imply.1", "F"], ["Form.cert"]), (["check", "a"], []),
+    (["verify", "Nat", "imply.1", "Nat.cert", "Na"], ["Nat.lsl"])]
+WITHOUT = (["verify", "Nat", ""], ["assume.1", "convert.1", "imply.1"])
+
+# A shell that writes what may stand behind words, and says when it has written all.
+CAPTURE = r"""
+fpath=({folder} $fpath)
+autoload -Uz compinit && compinit -u -D
+zstyle ':completion:*' list-prompt ''
+compadd() {{
+    [[ " $* " == *' -'[OAD]' '* ]] && {{ builtin compadd "$@"; return }}
+    local -a hits
+    builtin compadd -A hits "$@"
+    (( $#hits )) && print -rl -- $hits >> $SHOWN
+    builtin compadd "$@"
+}}
+said() {{ print -r -- . >> $SHOWN; BUFFER= }}
+zle -N said
+bindkey '^I' list-choices '^T' said
+print -r -- . >> $SHOWN
+"""
+
+
+class Tests:
+    """What was seen, and how much of it is as wanted."""
+
+    def __init__(self):
+        self.passed = self.failed = 0
+
+    def see(self, title, found, wanted):
+        if found == wanted:
+            self.passed += 1
+        else:
+            self.failed += 1
+            print(f"{title}: saw {found!r} and wanted {wanted!r}")
+
+
+def run(program, words, given, folder):
+    """The output and the status of a call."""
+    done = subprocess.run([*program, *words], input=given, cwd=folder, stdout=subprocess.PIPE, check=False)
+    return done.stdout.decode("latin-1"), done.returncode
+
+
+# The same commands everywhere --------------------------------------------------------------------
+
+def agreement(tests, program, folder):
+    """What has commands has the same, and usage lines and the man page are the same."""
+    documented = [words.split()[0] for words, _ in make_manual.commands()]
+    definitions = (TOP / "crates/larch_words/specs/Call.antt").read_text()
+    defined = re.findall(r'bytes_eq command \(codes "(\w+)"\)', definitions)
+    tests.see("commands in the definitions", defined, documented)
+    tests.see("commands of the man page", re.findall(r"^\.TP\n\\fB(\w+)", made("COMMANDS"), re.M), documented)
+    tests.see("commands in completion/_larch", re.findall(r"^ +['\"](\w+):", ZSH.read_text(), re.M), documented)
+    tests.see("commands in completion/larch.bash", by_bash(folder, [""]), sorted(documented))
+    tests.see("commands that are tried here", list(CALLS), documented)
+    tests.see("the usage line", run(program, [], b"", folder), (make_manual.usage() + "\n", 2))
+    same = make_manual.MADE.read_text() == make_manual.manual()
+    tests.see("manual/larch.1 is what tools/make_manual.py makes", same, True)
+    if shutil.which("mandoc"):
+        lint = ["mandoc", "-Tlint", "-W", "warning", make_manual.MADE]
+        found = subprocess.run(lint, capture_output=True, check=False)
+        tests.see("mandoc on manual/larch.1", (found.stdout.decode(), found.returncode), ("", 0))
+    else:
+        print("mandoc is not installed: nothing was asked of it")
+
+
+def made(heading):
+    """The section of the man page with this heading."""
+    return re.search(rf"^\.SH {heading}\n(.*?)(?=^\.S[HS] )", make_manual.MADE.read_text(), re.M | re.S)[1]
+
+
+# The table of statuses ---------------------------------------------------------------------------
+
+def statuses():
+    """The page's table: for each status the commands that it comes in, and what is written last."""
+    titles, *rows = re.search(r"^\| Status \|.*\n((?:\|.*\n)+)", make_manual.PAGE.read_text(), re.M)[0].splitlines()
+    commands = [re.findall(r"`(\w+)`", title) for title in make_manual.cells(titles)[1:-1]]
+    for status, *cells, last in map(make_manual.cells, rows[1:]):
+        ends = [command for cell, names in zip(cells, commands) if cell or status == "2" for command in names]
+        yield int(status), ends, last
+
+
+def answers(tests, program, folder):
+    """Each status of the table by each command that has it, and of no other."""
+    for status, commands, last in statuses():
+        if status in (3, 4, 5):
+            continue
+        tried = [command for command, calls in CALLS.items() if status in calls]
+        tests.see(f"commands with status {status}", tried, [name for name in CALLS if name in commands])
+        for command in tried:
+            for words, given, line in CALLS[command][status]:
+                output, found = run(program, [command, *words.split()], given, folder)
+                title = f"larch {command} {words[:60]}"
+                tests.see(title, found, status)
+                line = make_manual.usage() if line == "USAGE" else line
+                tests.see(f"{title}: the last line", (output.splitlines() or [None])[-1] if line else line, line)
+                if line and status in (2, 6, 7, 8):
+                    tests.see(f"{title}: the page has the line", is_told(line, last), True)
+
+
+def is_told(line, cell):
+    """Whether a line is one that a cell of the table shows, with something for N and NAME."""
+    patterns = [re.sub("N(AME)?$", "\0", shown) for shown in re.findall(r"`([^`]*)`", cell)]
+    return any(re.fullmatch(re.escape(pattern).replace("\0", r"\S+"), line) for pattern in patterns)
+
+
+# The completions ---------------------------------------------------------------------------------
+
+def by_bash(folder, words, path=None):
+    """What bash completes the last of these words to."""
+    script = ('source "$1"; COMP_WORDS=(larch "${@:2}"); COMP_CWORD=$(($# - 1)); function=$(complete -p larch); '
+              'function=${function#*-F }; ${function% larch}; printf "%s\\n" "${COMPREPLY[@]}"')
+    done = subprocess.run(["bash", "--norc", "-c", script, "bash", BASH, *words], cwd=folder, capture_output=True,
+                          env={**os.environ, "PATH": path or os.environ["PATH"]}, timeout=600, check=False)
+    return sorted(line for line in done.stdout.decode().splitlines() if line)
+
+
+class Zsh:
+    """A shell on a terminal, in a folder, that is asked what completes words."""
+
+    def __init__(self, folder, path):
+        self.shown = folder / ".shown"
+        self.shown.write_text("")
+        (folder / ".capture").write_text(CAPTURE.format(folder=shlex.quote(str(TOP / "completion"))))
+        self.process, self.terminal = pty.fork()
+        if self.process == 0:
+            os.chdir(folder)
+            os.execvpe("zsh", ["zsh", "-f", "-i"],
+                       {**os.environ, "PATH": path, "SHOWN": str(self.shown), "TERM": "dumb", "HOME": str(folder)})
+        self.ready = self.written("source .capture\n") is not None
+
+    def written(self, keys):
+        """What was written after these keys; None where the shell doesn't answer."""
+        self.shown.write_text("")
+        end = time.monotonic() + 60
+        os.write(self.terminal, keys.encode())
+        while time.monotonic() < end:
+            self.read()
+            lines = self.shown.read_text().splitlines()
+            if lines[-1:] == ["."]:
+                return sorted(set(lines[:-1]))
+            time.sleep(0.02)
+        return None
+
+    def read(self):
+        """Takes what stands on the terminal, so that the shell can go on."""
+        try:
+            while select.select([self.terminal], [], [], 0)[0]:
+                os.read(self.terminal, 100000)
+        except OSError:  # the shell has ended
+            pass
+
+    def asked(self, words):
+        return self.written(" ".join(["larch", *words]) + "\t\x14")
+
+    def end(self):
+        os.close(self.terminal)
+        os.waitpid(self.process, 0)
+
+
+def completions(tests, program, folder):
+    """What each shell completes, with the program on the path and without it."""
+    with tempfile.TemporaryDirectory() as place:
+        larch = pathlib.Path(place, "larch")
+        larch.write_text(f'#!/bin/sh\nexec {shlex.join(program)} "$@"\n')
+        larch.chmod(0o755)
+        path, bare = f"{place}:{os.environ['PATH']}", without_larch()
+        for words, wanted in COMPLETED:
+            tests.see(f"bash completes larch {' '.join(words)}", by_bash(folder, words, path), wanted)
+        tests.see("bash completes a label without the program", by_bash(folder, WITHOUT[0], bare), WITHOUT[1])
+        if not shutil.which("zsh"):
+            print("zsh is not installed: nothing was completed by it")
+            return
+        for here, asked in ((path, COMPLETED), (bare, [WITHOUT])):
+            shell = Zsh(folder, here)
+            tests.see("zsh takes completion/_larch", shell.ready, True)
+            for words, wanted in asked if shell.ready else ():
+                tests.see(f"zsh completes larch {' '.join(words)}", shell.asked(words), wanted)
+            shell.end()
+
+
+def without_larch():
+    """The path without the folders that have a program of this name."""
+    return ":".join(folder for folder in os.environ["PATH"].split(":") if not os.path.exists(f"{folder}/larch"))
+
+
+def main():
+    if len(sys.argv) != 2:
+        sys.exit(__doc__)
+    program = shlex.split(sys.argv[1])
+    program[0] = str(pathlib.Path(shutil.which(program[0]) or program[0]).resolve())
+    tests = Tests()
+    with tempfile.TemporaryDirectory() as place:
+        folder = pathlib.Path(place)
+        for name, text in compare_calls.fixed_folder().items():
+            (folder / name).write_bytes(text)
+        (folder / "a-b.lsl").write_text("")
+        agreement(tests, program, folder)
+        answers(tests, program, folder)
+    with tempfile.TemporaryDirectory() as place:
+        folder = pathlib.Path(place)
+        for name in ("One.lsl", "One.lp", "Nat.lsl", "Nat.cert", "Form.cert"):
+            (folder / name).write_bytes({**compare_calls.TEXTS, **compare_calls.CERTIFICATES}[name])
+        (folder / "a-b.lsl").write_text("")
+        completions(tests, program, folder)
+    print(f"{tests.passed} passed, {tests.failed} failed")
+    return 1 if tests.failed else 0
+
+
+if __name__ == "__main__":
+    sys.exit(main())
