@@ -48,7 +48,8 @@ fn write_head<'a>(
 ) -> Result<Option<&'a Coded>, Memory>
     ensures text { IfOk result (λ next. text.new ++ (next_text here next ++ pending here waiting.new) ≡ text.old
         ++ (term_text here term.now ++ pending here waiting.old)) }
-    ensures waits { IfOk result (λ next. next_waits next + waits waiting.new < 3 * coded_nodes term.now - 1 + waits waiting.old) }
+    ensures waits { IfOk result (λ next. next_waits next + waits waiting.new
+        < 3 * coded_nodes term.now - 1 + waits waiting.old) }
 {
     match term.node() {
         CodedNode::Var(name, sort) => {

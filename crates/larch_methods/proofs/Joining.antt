@@ -124,6 +124,17 @@ only_behind b f g lines n ns those behind e q c = (only_line b f g lines n ns th
 
 -- ---- the arguments of a conjunction, one after the other
 
+-- what was written for the first argument
+pub first_joined : (a b : Builder) (f : PlainOperator) (g first second : Tree) (lines left those behind : List ℕ)
+    (P : Type 0) → is_headed_by f g ≡ true → HasArguments g first second → HasConjuncts a f g lines those behind
+    → ((ms ks : List ℕ) → HasConjuncts a f first lines ms ks → left ≡ ks)
+    → ((ms ks : List ℕ) → HasConjuncts a f first lines ms ks → Extends a b)
+    → (Extends a b → (ks : List ℕ) → HasConjuncts b f second left ks behind → P) → P
+first_joined a b f g first second lines left those behind P e h k rest extends go =
+    by_arguments a f g first second lines those behind P e h k (λ ms ks p q r.
+    let x = extends ms (ks ++ behind) p in
+    go x ks (second_has a b f second left ks behind x k.operator_is (rest ms (ks ++ behind) p) q r))
+
 -- what was written for the first argument, and then for the second
 pub both_joined : (a b c : Builder) (f : PlainOperator) (g first second : Tree) (lines left right those behind : List ℕ)
     (line further : ℕ) (P : Type 0) → is_headed_by f g ≡ true → HasArguments g first second

@@ -8,4 +8,5 @@ pub mod Places
 pub mod Settled
 pub mod Sharing
 pub mod Shown
+pub mod Undoing
 pub mod Words

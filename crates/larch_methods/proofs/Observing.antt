@@ -143,6 +143,20 @@ observed_next a b c l r ws x xs ns n h says extends = next h.rest h.all h.waitin
           extends = extends_trans a b c h.extends k;
         }
 
+-- where the next line was refused nothing bad was pushed
+pub observed_refused : (a b c : Builder) (l r : Tree) (ws : List Observation) (xs : List OpenBox) (i : ℕ) (x : OpenBox)
+    (ns : List ℕ) → i < length xs → x ≡ get_or xs i x → ObservedSoFar a b l r ws (drop i xs) ns
+    → ((w : Observation) → ShowsObservation b l r w x → Extends b c)
+    → Extends a c
+observed_refused a b c l r ws xs i x ns lt q h extends =
+    next h.rest
+    (subst (AllZip (ShowsObservation b l r) h.rest) (drop_more xs i x lt ∙ ap (λ y. y ∷ drop (i + 1) xs) (sym q))
+    h.waiting)
+  where
+    next : (rest : List Observation) → AllZip (ShowsObservation b l r) rest (x ∷ drop (i + 1) xs) → Extends a c
+    next [] o = absurd o
+    next (w ∷ rest) o = extends_trans a b c h.extends (extends w o.0)
+
 -- the same in a list of boxes
 pub observed_at : (a b c : Builder) (l r : Tree) (ws : List Observation) (xs : List OpenBox) (i : ℕ) (x : OpenBox)
     (ns ms : List ℕ) (n : ℕ) → i < length xs → x ≡ get_or xs i x → ms ≡ ns ++ n ∷ []

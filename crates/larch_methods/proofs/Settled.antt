@@ -64,6 +64,30 @@ row_extends b c m es f l r e k h go =
 
 -- ---- a term that a row settles
 
+-- what the line of the changed argument takes
+pub settled_begun : (a b : Builder) (whole : Tree) (number line row : ℕ) (formula v : Tree) (same : ℕ) (P : Type 0)
+    (h : IsSettledBy a whole number line row formula v) → (Known a whole → HasEquation b same whole whole)
+    → (Known a whole → Extends a b)
+    → (Extends a b → HasEquation b same whole (app h.operator (forest_of (h.before ++ h.argument ∷ h.behind)))
+    → HasEquation b line h.argument h.now → P) → P
+settled_begun a b whole number line row formula v same P h s0 e0 go =
+    let first = e0 h.known in
+    go first (subst (HasEquation b same whole) h.whole_is (s0 h.known))
+    (stays_said a b line (Equation h.argument h.now) first h.says)
+
+-- and what the row takes behind it
+pub settled_changed : (a b c : Builder) (whole : Tree) (number line row : ℕ) (formula v : Tree) (same : ℕ) (P : Type 0)
+    (h : IsSettledBy a whole number line row formula v) → (Known a whole → HasEquation b same whole whole)
+    → (Known a whole → Extends a b)
+    → ((s t u : Tree) (f : PlainOperator) (done rest : List Tree) → number ≡ length done + 1
+    → HasEquation b same s (app f (forest_of (done ++ t ∷ rest))) → HasEquation b line t u → Extends b c)
+    → (Extends a c → IsKnownFormula c formula → P) → P
+settled_changed a b c whole number line row formula v same P h s0 e0 e1 go =
+    settled_begun a b whole number line row formula v same P h s0 e0 (λ first begun changing.
+    let second = e1 whole h.argument h.now h.operator h.before h.behind h.number_is begun changing in
+    go (extends_trans a b c first second)
+    (formula_stays b c formula second (formula_stays a b formula first h.formula_known)))
+
 pub settles : (a b c d : Builder) (whole : Tree) (number line row : ℕ) (formula v : Tree) (same changed settled : ℕ)
     (P : Type 0) → IsSettledBy a whole number line row formula v
     → (Known a whole → HasEquation b same whole whole) → (Known a whole → Extends a b)

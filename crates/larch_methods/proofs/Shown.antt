@@ -1,5 +1,5 @@
 -- What is shown in the box of a clause, and the rule that takes it.
-use Rattle.std.specs.Prelude.{◌≡◌, ℕ, List, [], ◌∷◌, map, Some}
+use Rattle.std.specs.Prelude.{◌≡◌, ℕ, All, Contains, List, [], ◌∷◌, map, Some}
 use Rattle.std.proofs.Common.{ap, sym, subst, ◌∙◌}
 use Rattle.larch_term.specs.Operator.{PlainOperator}
 use Rattle.larch_term.specs.Tree.{var}
@@ -24,12 +24,22 @@ use Rattle.larch_methods.proofs.Numbered.{each_found}
 use Rattle.larch_methods.proofs.Sharing.{own_still}
 
 -- the operators have these numbers in the builder's theory
-pub numbers_own : (a b : Builder) (t : Theory) (own : List PlainOperator) (ks : List ℕ) (fs : List PlainOperator)
-    → Grows a b → theory_in a ≡ t → own ≡ t.operators → map (numbered own) ks ≡ map Some fs
-    → own_operators (theory_in b) ks ≡ Some fs
-numbers_own a b t own ks fs g e o h =
-    ap (λ u. own_operators u ks) ((grows_alike a b g).0 ∙ e)
+pub numbers_own : (a : Builder) (t : Theory) (own : List PlainOperator) (ks : List ℕ) (fs : List PlainOperator)
+    → theory_in a ≡ t → own ≡ t.operators → map (numbered own) ks ≡ map Some fs
+    → own_operators (theory_in a) ks ≡ Some fs
+numbers_own a t own ks fs e o h =
+    ap (λ u. own_operators u ks) e
     ∙ each_found (numbered t.operators) ks fs (subst (λ gs. map (numbered gs) ks ≡ map Some fs) o h)
+
+-- and still where it has grown
+pub numbers_still : (a b : Builder) (ks : List ℕ) (fs : List PlainOperator) → Grows a b
+    → own_operators (theory_in a) ks ≡ Some fs → own_operators (theory_in b) ks ≡ Some fs
+numbers_still a b ks fs g e = ap (λ u. own_operators u ks) (grows_alike a b g).0 ∙ e
+
+-- not all operators are the theory's where they aren't all among its operators
+pub others_among : (own own_in : List PlainOperator) (fs : List PlainOperator) → own ≡ own_in
+    → (All (Contains own) fs → ⊥) → All (Contains own_in) fs → ⊥
+others_among own own_in fs e h k = h (subst (λ gs. All (Contains gs) fs) (sym e) k)
 
 -- the sort is written once more
 pub predicate_for : (a b : Builder) (z s : List ℕ) (fs : List PlainOperator) (number line : ℕ) → z ≡ s

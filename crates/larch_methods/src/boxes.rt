@@ -1,4 +1,4 @@
-ghost use Rattle.std.specs.Prelude.{◌≡◌, [], ◌∷◌, map, true, IfOk, OnOk};
+ghost use Rattle.std.specs.Prelude.{◌≡◌, [], ◌∷◌, map, true, IfOk, OnOk, OnErr};
 ghost use Rattle.larch_derive.specs.Predicates.{Grows, HasEquation, Known};
 ghost use Rattle.larch_derive.specs.declared.builder.Builder.{Builder as Built};
 ghost use Rattle.larch_derive.specs.declared.open_box.OpenBox.{OpenBox};
@@ -9,6 +9,7 @@ ghost use Rattle.larch_term.specs.Sorts.{sort_of};
 ghost use Rattle.larch_term.specs.Tree.{Tree};
 ghost use Rattle.larch_term.specs.declared.statement.Statement.TheVariants.{Equation as equation};
 
+use crate::refusals::undo_refused;
 use larch_base::{Memory, Sequence};
 use larch_certificate::{CodedVar, CodedVars};
 use larch_derive::Builder;
@@ -17,8 +18,32 @@ use larch_term::{BuiltIn, Statement, Statements, Term, Terms, Variable, bool_sor
 use std::alloc::Global;
 
 /// Closes the innermost box, which supposes nothing, with the equation that a line says, and says it with variables in
-/// the places of the box's constants.
+/// the places of the box's constants. A refused call changes nothing, so the box is open still.
 pub fn freed_line(
+    alloc: Global,
+    builder: &mut Builder,
+    number: u64,
+    line: u64,
+    variables: &[Variable],
+) -> Result<u64, Memory>
+    ensures says { IfOk result (λ n. (a : Built) (x : OpenBox) (l r : Tree) → x.number ≡ number
+        → IsInside a builder.old x variables.now
+        → HasEquation builder.old line (closed_in variables.now x l) (closed_in variables.now x r)
+        → Known a l → Known a r → sort_of l ≡ sort_of r → HasEquation builder.new n l r) }
+    ensures grows { OnOk result ((a : Built) (x : OpenBox) (l r : Tree) → x.number ≡ number
+        → IsInside a builder.old x variables.now
+        → HasEquation builder.old line (closed_in variables.now x l) (closed_in variables.now x r)
+        → Known a l → Known a r → Grows a builder.new) }
+    ensures err { OnErr result (builder.new ≡ builder.old) }
+{
+    let kept = builder.copy()?;
+    let made = write_freed(alloc, builder, number, line, variables);
+    let freed = undo_refused(builder, kept, made)?;
+    Ok(freed)
+}
+
+// The same, but a refused call may leave the box closed.
+pub(crate) fn write_freed(
     alloc: Global,
     builder: &mut Builder,
     number: u64,
@@ -61,16 +86,18 @@ pub(crate) fn coded_variable(variable: &Variable) -> Result<CodedVar, Memory>
     Ok(CodedVar { name, sort })
 }
 
-/// Opens a box without constants that supposes that a formula is true, or that it is false, and answers its number.
+/// Opens a box without constants that supposes that a formula is true, or that it is false, and answers its number. A
+/// refused call changes nothing.
 pub fn supposing_box(
     alloc: Global,
     builder: &mut Builder,
     formula: &Term,
     value: bool,
 ) -> Result<u64, Memory>
-    ensures { IfOk result (λ n. IsKnownFormula builder.old formula.now
+    ensures opens { IfOk result (λ n. IsKnownFormula builder.old formula.now
         → Opens builder.old builder.new (record { number = n; constants = [] })
         (equation formula.now (value_term value) ∷ [])) }
+    ensures err { OnErr result (builder.new ≡ builder.old) }
 {
     let hypotheses = supposed(alloc, formula, value)?;
     let number = builder.open_box(&Sequence::new(alloc), &hypotheses)?;
@@ -98,7 +125,8 @@ pub(crate) fn value_term(alloc: Global, value: bool) -> Result<Term, Memory>
     Ok(Term::app(operator, Terms::from_vec(Vec::new(alloc))))
 }
 
-// A closed box without constants, which supposes that a formula is true and shows just that: its number.
+// A closed box without constants, which supposes that a formula is true and shows just that: its number. A refused call
+// may leave it open.
 pub(crate) fn trivial_box(
     alloc: Global,
     builder: &mut Builder,

@@ -1,12 +1,16 @@
-ghost use Rattle.std.specs.Prelude.{◌≡◌, IfOk, OnOk};
+ghost use Rattle.std.specs.Prelude.{◌≡◌, List, Some, All, Contains, IfOk, IfSome, IfNone, OnOk, OnErr};
 ghost use Rattle.larch_derive.specs.Builder.{theory_in};
 ghost use Rattle.larch_derive.specs.Predicates.{Grows, HasStatement};
 ghost use Rattle.larch_derive.specs.declared.builder.Builder.{Builder as Built};
+ghost use Rattle.larch_lines.specs.ClauseRules.{own_operators};
 ghost use Rattle.larch_methods.specs.Clauses.{ByConstants, ByPredicate};
+ghost use Rattle.larch_term.specs.Operator.{PlainOperator};
 ghost use Rattle.larch_term.specs.declared.statement.Statement.TheVariants.{Generated, Partitioned};
 
 use crate::numbers::numbers_of;
+use crate::refusals::undo_refused;
 use larch_base::Memory;
+use larch_certificate::Numbers;
 use larch_derive::Builder;
 use larch_derive_boxes::close_box;
 use larch_derive_clauses::{generated_line, partitioned_line};
@@ -14,7 +18,8 @@ use larch_derive_lines::equal_line;
 use larch_term::{Operator, Sort, Theory};
 use std::alloc::Global;
 
-/// A line that says that operators generate a sort, by a line in the box of a new predicate: the box is closed.
+/// A line that says that operators generate a sort, by a line in the box of a new predicate: the box is closed. None
+/// where one of them isn't the theory's. Then, and where the call is refused, nothing changes: the box is open still.
 pub fn finish_generated(
     alloc: Global,
     builder: &mut Builder,
@@ -23,21 +28,50 @@ pub fn finish_generated(
     operators: &[Operator],
     number: u64,
     line: u64,
-) -> Result<u64, Memory>
-    ensures says { IfOk result (λ n. (a : Built) → theory_in a ≡ theory.now
+) -> Result<Option<u64>, Memory>
+    ensures says { IfOk result (λ said. IfSome said (λ n. (a : Built) → theory_in a ≡ theory.now
         → ByPredicate a builder.old sort.now operators.now number line
-        → HasStatement builder.new n (Generated sort.now operators.now)) }
-    ensures grows { OnOk result ((a : Built) → theory_in a ≡ theory.now
-        → ByPredicate a builder.old sort.now operators.now number line → Grows a builder.new) }
+        → HasStatement builder.new n (Generated sort.now operators.now))) }
+    ensures grows { IfOk result (λ said. IfSome said (λ n. (a : Built) → theory_in a ≡ theory.now
+        → ByPredicate a builder.old sort.now operators.now number line → Grows a builder.new)) }
+    ensures none { IfOk result (λ said. IfNone said (All (Contains theory.now.operators) operators.now → ⊥)) }
+    ensures same { IfOk result (λ said. IfNone said (builder.new ≡ builder.old)) }
+    ensures err { OnErr result (builder.new ≡ builder.old) }
 {
-    let numbers = numbers_of(alloc, theory.operators.as_slice(), operators)?;
+    let found = numbers_of(alloc, theory.operators.as_slice(), operators)?;
+    let Some(numbers) = found else {
+        return Ok(None);
+    };
     let sort = sort.copy()?;
+    let kept = builder.copy()?;
+    let made = write_generated(alloc, builder, sort, numbers, number, line);
+    let said = undo_refused(builder, kept, made)?;
+    Ok(Some(said))
+}
+
+// The same, by the operators' numbers, but a refused call may leave the box closed.
+fn write_generated(
+    alloc: Global,
+    builder: &mut Builder,
+    sort: Sort,
+    operators: Numbers,
+    number: u64,
+    line: u64,
+) -> Result<u64, Memory>
+    ensures says { IfOk result (λ n. (a : Built) (fs : List PlainOperator)
+        → own_operators (theory_in a) operators ≡ Some fs → ByPredicate a builder.old sort fs number line
+        → HasStatement builder.new n (Generated sort fs)) }
+    ensures grows { OnOk result ((a : Built) (fs : List PlainOperator)
+        → own_operators (theory_in a) operators ≡ Some fs → ByPredicate a builder.old sort fs number line
+        → Grows a builder.new) }
+{
     close_box(alloc, builder, line)?;
-    let said = generated_line(builder, number, sort, numbers)?;
+    let said = generated_line(builder, number, sort, operators)?;
     Ok(said)
 }
 
-/// A line that says that operators partition a sort, by a line in the box of two new constants: the box is closed.
+/// A line that says that operators partition a sort, by a line in the box of two new constants: the box is closed. None
+/// where one of them isn't the theory's. Then, and where the call is refused, nothing changes: the box is open still.
 pub fn finish_partitioned(
     alloc: Global,
     builder: &mut Builder,
@@ -46,17 +80,45 @@ pub fn finish_partitioned(
     operators: &[Operator],
     number: u64,
     line: u64,
-) -> Result<u64, Memory>
-    ensures says { IfOk result (λ n. (a : Built) → theory_in a ≡ theory.now
+) -> Result<Option<u64>, Memory>
+    ensures says { IfOk result (λ said. IfSome said (λ n. (a : Built) → theory_in a ≡ theory.now
         → ByConstants a builder.old sort.now operators.now number line
-        → HasStatement builder.new n (Partitioned sort.now operators.now)) }
-    ensures grows { OnOk result ((a : Built) → theory_in a ≡ theory.now
-        → ByConstants a builder.old sort.now operators.now number line → Grows a builder.new) }
+        → HasStatement builder.new n (Partitioned sort.now operators.now))) }
+    ensures grows { IfOk result (λ said. IfSome said (λ n. (a : Built) → theory_in a ≡ theory.now
+        → ByConstants a builder.old sort.now operators.now number line → Grows a builder.new)) }
+    ensures none { IfOk result (λ said. IfNone said (All (Contains theory.now.operators) operators.now → ⊥)) }
+    ensures same { IfOk result (λ said. IfNone said (builder.new ≡ builder.old)) }
+    ensures err { OnErr result (builder.new ≡ builder.old) }
 {
-    let numbers = numbers_of(alloc, theory.operators.as_slice(), operators)?;
+    let found = numbers_of(alloc, theory.operators.as_slice(), operators)?;
+    let Some(numbers) = found else {
+        return Ok(None);
+    };
     let sort = sort.copy()?;
+    let kept = builder.copy()?;
+    let made = write_partitioned(alloc, builder, sort, numbers, number, line);
+    let said = undo_refused(builder, kept, made)?;
+    Ok(Some(said))
+}
+
+// The same, by the operators' numbers, but a refused call may leave the box closed.
+fn write_partitioned(
+    alloc: Global,
+    builder: &mut Builder,
+    sort: Sort,
+    operators: Numbers,
+    number: u64,
+    line: u64,
+) -> Result<u64, Memory>
+    ensures says { IfOk result (λ n. (a : Built) (os : List PlainOperator)
+        → own_operators (theory_in a) operators ≡ Some os → ByConstants a builder.old sort os number line
+        → HasStatement builder.new n (Partitioned sort os)) }
+    ensures grows { OnOk result ((a : Built) (os : List PlainOperator)
+        → own_operators (theory_in a) operators ≡ Some os → ByConstants a builder.old sort os number line
+        → Grows a builder.new) }
+{
     let same = equal_line(builder, line)?;
     close_box(alloc, builder, same)?;
-    let said = partitioned_line(builder, number, sort, numbers)?;
+    let said = partitioned_line(builder, number, sort, operators)?;
     Ok(said)
 }

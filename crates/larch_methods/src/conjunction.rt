@@ -1,4 +1,4 @@
-ghost use Rattle.std.specs.Prelude.{◌≡◌, ◌<◌, ◌∷◌, ℕ, List, true, IfOk, OnOk};
+ghost use Rattle.std.specs.Prelude.{◌≡◌, ◌<◌, ◌∷◌, ℕ, List, true, IfOk};
 ghost use Rattle.larch_calculus.specs.Formula.{conjunction};
 ghost use Rattle.larch_derive.specs.Predicates.{Extends, HasEquation};
 ghost use Rattle.larch_methods.specs.Conjuncts.{AreTrue, HasConjuncts, is_headed_by};
@@ -26,7 +26,9 @@ struct Joined<'a> {
     behind: &'a [u64],
 }
 
-/// A line that says that the goal is true, by the lines of its conjuncts, in order.
+/// A line that says that the goal is true, by the lines of its conjuncts, in order. A refused call may leave lines
+/// behind, none of them bad.
+#[tactic(auto, using(larch_derive::proofs::Growth::extends_same))]
 pub fn finish_conjunction(
     alloc: Global,
     builder: &mut Builder,
@@ -35,8 +37,8 @@ pub fn finish_conjunction(
 ) -> Result<u64, Memory>
     ensures says { IfOk result (λ n. IsKnownFormula builder.old goal.now
         → AreTrue builder.old (conjuncts goal.now) lines.now → HasEquation builder.new n goal.now truth) }
-    ensures extends { OnOk result (IsKnownFormula builder.old goal.now
-        → AreTrue builder.old (conjuncts goal.now) lines.now → Extends builder.old builder.new) }
+    ensures extends { IsKnownFormula builder.old goal.now
+        → AreTrue builder.old (conjuncts goal.now) lines.now → Extends builder.old builder.new }
 {
     let sort = bool_sort(alloc)?;
     let operator = BuiltIn::And.operator(alloc, &sort)?;
@@ -59,8 +61,8 @@ fn join<'a>(
         → HasEquation builder.new joined.line goal.now truth) }
     ensures behind { IfOk result (λ joined. (those behind : List ℕ)
         → HasConjuncts builder.old operator.now goal.now lines.now those behind → joined.behind.now ≡ behind) }
-    ensures extends { OnOk result ((those behind : List ℕ)
-        → HasConjuncts builder.old operator.now goal.now lines.now those behind → Extends builder.old builder.new) }
+    ensures extends { (those behind : List ℕ)
+        → HasConjuncts builder.old operator.now goal.now lines.now those behind → Extends builder.old builder.new }
 {
     if is_headed_by(operator, goal) {
         let joined = join_both(alloc, builder, operator, goal, lines)?;
@@ -86,6 +88,7 @@ fn first_of<'a>(lines: &'a [u64]) -> Result<Joined<'a>, Memory>
 
 // The lines of a conjunction are those of its first argument, and then those of its second.
 #[cycle(join)]
+#[tactic(auto, using(larch_derive::proofs::Growth::extends_same))]
 fn join_both<'a>(
     alloc: Global,
     builder: &mut Builder,
@@ -98,8 +101,8 @@ fn join_both<'a>(
         → HasEquation builder.new joined.line goal.now truth) }
     ensures behind { IfOk result (λ joined. (those behind : List ℕ) → is_headed_by operator.now goal.now ≡ true
         → HasConjuncts builder.old operator.now goal.now lines.now those behind → joined.behind.now ≡ behind) }
-    ensures extends { OnOk result ((those behind : List ℕ) → is_headed_by operator.now goal.now ≡ true
-        → HasConjuncts builder.old operator.now goal.now lines.now those behind → Extends builder.old builder.new) }
+    ensures extends { (those behind : List ℕ) → is_headed_by operator.now goal.now ≡ true
+        → HasConjuncts builder.old operator.now goal.now lines.now those behind → Extends builder.old builder.new }
 {
     let two = parts_of(goal)?;
     let first = join(alloc, builder, operator, two.first, lines)?;
@@ -133,6 +136,7 @@ fn is_headed_by(operator: &Operator, term: &Term) -> bool
 }
 
 // A line that says that a conjunction is true, by lines that say that both of its arguments are.
+#[tactic(auto, using(larch_derive::proofs::Growth::extends_same))]
 fn both_line(
     alloc: Global,
     builder: &mut Builder,
@@ -144,9 +148,9 @@ fn both_line(
     ensures says { IfOk result (λ n. (t u : Tree) → whole.now ≡ conjunction t u → first.now ≡ t
         → IsKnownFormula builder.old whole.now → HasEquation builder.old line t truth
         → HasEquation builder.old further u truth → HasEquation builder.new n whole.now truth) }
-    ensures extends { OnOk result ((t u : Tree) → whole.now ≡ conjunction t u → first.now ≡ t
+    ensures extends { (t u : Tree) → whole.now ≡ conjunction t u → first.now ≡ t
         → IsKnownFormula builder.old whole.now → HasEquation builder.old line t truth
-        → HasEquation builder.old further u truth → Extends builder.old builder.new) }
+        → HasEquation builder.old further u truth → Extends builder.old builder.new }
 {
     let same = settled_line(alloc, builder, whole, 2, further, AND_TRUE, first)?;
     let shown = trans_line(alloc, builder, same, line)?;

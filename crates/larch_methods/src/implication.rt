@@ -1,4 +1,4 @@
-ghost use Rattle.std.specs.Prelude.{◌≡◌, [], ◌∷◌, false, IfOk, OnOk};
+ghost use Rattle.std.specs.Prelude.{◌≡◌, [], ◌∷◌, false, IfOk, OnOk, OnErr};
 ghost use Rattle.larch_calculus.specs.Formula.{implication};
 ghost use Rattle.larch_derive.specs.Predicates.{Extends, Grows, HasEquation};
 ghost use Rattle.larch_derive.specs.declared.builder.Builder.{Builder as Built};
@@ -9,7 +9,8 @@ ghost use Rattle.larch_term.specs.Truth.{truth};
 ghost use Rattle.larch_term.specs.Variable.{variables_of};
 
 use crate::arguments::arguments_of;
-use crate::boxes::{freed_line, supposing_box};
+use crate::boxes::{supposing_box, write_freed};
+use crate::refusals::undo_refused;
 use crate::rows::settled_line;
 use larch_base::Memory;
 use larch_derive::Builder;
@@ -22,7 +23,9 @@ const FROM_FALSE: u64 = 15;
 
 const TO_TRUE: u64 = 16;
 
-/// A line that says that an implication is true, by a line that says that its conclusion is.
+/// A line that says that an implication is true, by a line that says that its conclusion is. A refused call may leave
+/// lines behind, none of them bad.
+#[tactic(auto, using(larch_derive::proofs::Growth::extends_same))]
 pub fn implied_line(
     alloc: Global,
     builder: &mut Builder,
@@ -32,9 +35,9 @@ pub fn implied_line(
     ensures says { IfOk result (λ n. (p q : Tree) → whole.now ≡ implication p q
         → IsKnownFormula builder.old whole.now → HasEquation builder.old line q truth
         → HasEquation builder.new n whole.now truth) }
-    ensures extends { OnOk result ((p q : Tree) → whole.now ≡ implication p q
+    ensures extends { (p q : Tree) → whole.now ≡ implication p q
         → IsKnownFormula builder.old whole.now → HasEquation builder.old line q truth
-        → Extends builder.old builder.new) }
+        → Extends builder.old builder.new }
 {
     let two = arguments_of(whole)?;
     let implied = settled_line(alloc, builder, whole, 2, line, TO_TRUE, two.first)?;
@@ -42,7 +45,7 @@ pub fn implied_line(
 }
 
 // A closed box without constants, which supposes that the premise of an implication is false, and shows that the whole
-// is true: its number.
+// is true: its number. A refused call may leave it open.
 fn vacuous_box(alloc: Global, builder: &mut Builder, whole: &Term) -> Result<u64, Memory>
     ensures shows { IfOk result (λ n. (p q : Tree) → whole.now ≡ implication p q
         → IsKnownFormula builder.old whole.now → ShowsUnder builder.new p false whole.now n) }
@@ -58,8 +61,30 @@ fn vacuous_box(alloc: Global, builder: &mut Builder, whole: &Term) -> Result<u64
 }
 
 /// A line that says that an implication is true: by the same with constants in the places of its premise's variables,
-/// the box of these constants, which is closed, and the closed box in which the premise is supposed to be true.
+/// the box of these constants, which is closed, and the closed box in which the premise is supposed to be true. A
+/// refused call changes nothing, so the box of the constants is open still.
 pub fn finish_implication(
+    alloc: Global,
+    builder: &mut Builder,
+    goal: &Term,
+    closed: &Term,
+    shared: u64,
+    number: u64,
+) -> Result<u64, Memory>
+    ensures says { IfOk result (λ n. (a : Built) (p q : Tree) → goal.now ≡ implication p q
+        → ByImplication a builder.old p q closed.now shared number → HasEquation builder.new n goal.now truth) }
+    ensures grows { OnOk result ((a : Built) (p q : Tree) → goal.now ≡ implication p q
+        → ByImplication a builder.old p q closed.now shared number → Grows a builder.new) }
+    ensures err { OnErr result (builder.new ≡ builder.old) }
+{
+    let kept = builder.copy()?;
+    let made = write_implication(alloc, builder, goal, closed, shared, number);
+    let shown = undo_refused(builder, kept, made)?;
+    Ok(shown)
+}
+
+// The same, but a refused call may leave boxes open that weren't, and the box of the constants closed.
+fn write_implication(
     alloc: Global,
     builder: &mut Builder,
     goal: &Term,
@@ -75,7 +100,7 @@ pub fn finish_implication(
     let variables = premise_variables(alloc, goal)?;
     let otherwise = vacuous_box(alloc, builder, closed)?;
     let line = cases_line(builder, number, otherwise)?;
-    let freed = freed_line(alloc, builder, shared, line, variables.as_slice())?;
+    let freed = write_freed(alloc, builder, shared, line, variables.as_slice())?;
     Ok(freed)
 }
 

@@ -1,4 +1,4 @@
-ghost use Rattle.std.specs.Prelude.{IfOk, OnOk};
+ghost use Rattle.std.specs.Prelude.{IfOk};
 ghost use Rattle.larch_derive.specs.Predicates.{Extends, HasEquation};
 ghost use Rattle.larch_methods.specs.Methods.{ByInduction};
 ghost use Rattle.larch_term.specs.Truth.{truth};
@@ -13,7 +13,8 @@ use larch_term::{Term, Variable};
 use std::alloc::Global;
 
 /// A line that says that the goal is true, by induction on a variable: by the number of the clause that generates its
-/// sort, and the closed boxes of its generators, in order.
+/// sort, and the closed boxes of its generators, in order. A refused call may leave a line behind that isn't bad.
+#[tactic(auto, using(larch_derive::proofs::Growth::extends_same))]
 pub fn finish_induction(
     alloc: Global,
     builder: &mut Builder,
@@ -24,12 +25,12 @@ pub fn finish_induction(
 ) -> Result<u64, Memory>
     ensures says { IfOk result (λ n. ByInduction builder.old clause variable.now goal.now boxes
         → HasEquation builder.new n goal.now truth) }
-    ensures extends { OnOk result (ByInduction builder.old clause variable.now goal.now boxes
-        → Extends builder.old builder.new) }
+    ensures extends { ByInduction builder.old clause variable.now goal.now boxes
+        → Extends builder.old builder.new }
 {
-    let stated = axiom_line(builder, clause)?;
     let variable = coded_variable(variable)?;
     let truth = value_term(alloc, true)?;
+    let stated = axiom_line(builder, clause)?;
     let line = induct_line(builder, stated, variable, goal, &truth, boxes)?;
     Ok(line)
 }

@@ -12,6 +12,7 @@ mod induction;
 mod naming;
 mod numbers;
 mod partition;
+mod refusals;
 mod rows;
 
 pub use boxes::{freed_line, supposing_box};

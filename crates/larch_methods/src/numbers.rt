@@ -1,4 +1,4 @@
-ghost use Rattle.std.specs.Prelude.{◌≡◌, map, Some, IfOk};
+ghost use Rattle.std.specs.Prelude.{◌≡◌, map, Some, All, Contains, IfOk, IfSome, IfNone};
 ghost use Rattle.larch_tables.specs.Row.{numbered};
 
 use larch_base::{Memory, Sequence};
@@ -6,32 +6,37 @@ use larch_certificate::Numbers;
 use larch_term::Operator;
 use std::alloc::Global;
 
-// The numbers of operators among those of a theory, counted from 1. Of others no one asks.
+// The numbers of operators among those of a theory, counted from 1. None where one of them isn't among those.
 pub(crate) fn numbers_of(
     alloc: Global,
     own: &[Operator],
     operators: &[Operator],
-) -> Result<Numbers, Memory>
-    ensures { IfOk result (λ ks. map (numbered own.now) ks ≡ map Some operators.now) }
+) -> Result<Option<Numbers>, Memory>
+    ensures some { IfOk result (λ found. IfSome found (λ ks. map (numbered own.now) ks ≡ map Some operators.now)) }
+    ensures none { IfOk result (λ found. IfNone found (All (Contains own.now) operators.now → ⊥)) }
 {
     let mut numbers = Sequence::new(alloc);
     for operator in operators {
-        let number = number_of(own, operator)?;
+        let found = number_of(own, operator);
+        let Some(number) = found else {
+            return Ok(None);
+        };
         numbers.push(number)?;
     }
-    Ok(numbers)
+    Ok(Some(numbers))
 }
 
-// The number of an operator.
-fn number_of(own: &[Operator], operator: &Operator) -> Result<u64, Memory>
-    ensures { IfOk result (λ k. numbered own.now k ≡ Some operator.now) }
+// The number of an operator. None where it isn't among the theory's.
+fn number_of(own: &[Operator], operator: &Operator) -> Option<u64>
+    ensures some { IfSome result (λ k. numbered own.now k ≡ Some operator.now) }
+    ensures none { IfNone result (Contains own.now operator.now → ⊥) }
 {
     let mut number = 1;
     for candidate in own {
         if *candidate == *operator {
-            return Ok(number);
+            return Some(number);
         }
         number += 1;
     }
-    Err(Memory)
+    None
 }

@@ -1,4 +1,4 @@
-ghost use Rattle.std.specs.Prelude.{IfOk, OnOk, List};
+ghost use Rattle.std.specs.Prelude.{IfOk, List};
 ghost use Rattle.std.specs.List.{AllZip};
 ghost use Rattle.larch_calculus.specs.Observation.{Observation};
 ghost use Rattle.larch_derive.specs.Predicates.{Extends, HasEquation};
@@ -17,7 +17,9 @@ use larch_term::Term;
 use std::alloc::Global;
 
 /// A line that says that two terms are equal, by observers: by the number of the clause that partitions their sort, and
-/// the closed boxes of the observations, in order, with their constants.
+/// the closed boxes of the observations, in order, with their constants. A refused call may leave lines behind, none of
+/// them bad.
+#[tactic(auto, using(larch_derive::proofs::Growth::extends_same))]
 pub fn finish_partition(
     alloc: Global,
     builder: &mut Builder,
@@ -28,8 +30,8 @@ pub fn finish_partition(
 ) -> Result<u64, Memory>
     ensures says { IfOk result (λ n. ByObservers builder.old clause left.now right.now boxes.now
         → HasEquation builder.new n left.now right.now) }
-    ensures extends { OnOk result (ByObservers builder.old clause left.now right.now boxes.now
-        → Extends builder.old builder.new) }
+    ensures extends { ByObservers builder.old clause left.now right.now boxes.now
+        → Extends builder.old builder.new }
 {
     let letters = letters_above(alloc, left, right)?;
     let lines = observed_lines(alloc, builder, letters, boxes)?;
@@ -40,6 +42,7 @@ pub fn finish_partition(
 
 // A line for each of the boxes. In the places of its constants stand variables whose names have at least so many
 // letters.
+#[tactic(auto, using(larch_derive::proofs::Growth::extends_same))]
 fn observed_lines(
     alloc: Global,
     builder: &mut Builder,
@@ -49,9 +52,9 @@ fn observed_lines(
     ensures shows { IfOk result (λ ns. (l r : Tree) (ws : List Observation) → HasShorterNames letters l
         → HasShorterNames letters r → AllZip (ShowsObservation builder.old l r) ws boxes.now
         → ShowSame builder.new l r ws ns) }
-    ensures extends { OnOk result ((l r : Tree) (ws : List Observation) → HasShorterNames letters l
+    ensures extends { (l r : Tree) (ws : List Observation) → HasShorterNames letters l
         → HasShorterNames letters r → AllZip (ShowsObservation builder.old l r) ws boxes.now
-        → Extends builder.old builder.new) }
+        → Extends builder.old builder.new }
 {
     let mut lines = Sequence::new(alloc);
     for observed in boxes {
@@ -62,6 +65,7 @@ fn observed_lines(
 }
 
 // The line of one box.
+#[tactic(auto, using(larch_derive::proofs::Growth::extends_same))]
 fn observed_line(
     alloc: Global,
     builder: &mut Builder,
@@ -71,9 +75,9 @@ fn observed_line(
     ensures shows { IfOk result (λ n. (l r : Tree) (w : Observation) → HasShorterNames letters l
         → HasShorterNames letters r → ShowsObservation builder.old l r w observed.now
         → ShowsSame builder.new l r w n) }
-    ensures extends { OnOk result ((l r : Tree) (w : Observation) → HasShorterNames letters l
+    ensures extends { (l r : Tree) (w : Observation) → HasShorterNames letters l
         → HasShorterNames letters r → ShowsObservation builder.old l r w observed.now
-        → Extends builder.old builder.new) }
+        → Extends builder.old builder.new }
 {
     let variables = variables_for(alloc, letters, observed.constants.as_slice())?;
     let line = fresh_line(builder, observed.number, variables)?;

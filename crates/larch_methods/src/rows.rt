@@ -1,4 +1,4 @@
-ghost use Rattle.std.specs.Prelude.{◌≡◌, None, Some, codes, IfOk, OnOk};
+ghost use Rattle.std.specs.Prelude.{◌≡◌, None, Some, codes, IfOk};
 ghost use Rattle.larch_calculus.specs.Generation.{only};
 ghost use Rattle.larch_derive.specs.Predicates.{Extends, HasEquation, Known};
 ghost use Rattle.larch_lines.specs.Rules.{row_says};
@@ -16,12 +16,13 @@ use larch_ways::argument_line;
 use std::alloc::Global;
 
 // A line that says a row of truth values with a formula in the place of its variable.
+#[tactic(auto, using(larch_derive::proofs::Growth::extends_same))]
 fn row_at(alloc: Global, builder: &mut Builder, row: u64, formula: &Term) -> Result<u64, Memory>
     ensures says { IfOk result (λ n. (l r : Tree) → row_says row None ≡ Some (equation l r)
         → IsKnownFormula builder.old formula.now
         → HasEquation builder.new n (of_formula formula.now l) (of_formula formula.now r)) }
-    ensures extends { OnOk result ((l r : Tree) → row_says row None ≡ Some (equation l r)
-        → IsKnownFormula builder.old formula.now → Extends builder.old builder.new) }
+    ensures extends { (l r : Tree) → row_says row None ≡ Some (equation l r)
+        → IsKnownFormula builder.old formula.now → Extends builder.old builder.new }
 {
     let by = for_x(alloc, formula)?;
     let stated = row_line(builder, row, None)?;
@@ -43,6 +44,7 @@ fn for_x(alloc: Global, formula: &Term) -> Result<Substitution, Memory>
 
 // A line that says what a connective comes to, one argument of which is a truth value by a line: by a row, with a
 // formula in the place of its variable.
+#[tactic(auto, using(larch_derive::proofs::Growth::extends_same))]
 pub(crate) fn settled_line(
     alloc: Global,
     builder: &mut Builder,
@@ -54,8 +56,8 @@ pub(crate) fn settled_line(
 ) -> Result<u64, Memory>
     ensures says { IfOk result (λ n. (v : Tree) → IsSettledBy builder.old whole.now argument line row formula.now v
         → HasEquation builder.new n whole.now v) }
-    ensures extends { OnOk result ((v : Tree) → IsSettledBy builder.old whole.now argument line row formula.now v
-        → Extends builder.old builder.new) }
+    ensures extends { (v : Tree) → IsSettledBy builder.old whole.now argument line row formula.now v
+        → Extends builder.old builder.new }
 {
     let same = refl_line(builder, whole)?;
     let changed = argument_line(alloc, builder, same, argument, line)?;

@@ -1,5 +1,6 @@
 -- What a builder of certificates holds of a proof's levels while commands are carried out.
-use Rattle.std.specs.Prelude.{◌≡◌, ◌≢◌, ℕ, IsTrue, true, false, List, [], ◌∷◌, ◌++◌, map, codes, All, AllPairs, Contains, Option, None, Some, Ok}
+use Rattle.std.specs.Prelude.{◌≡◌, ◌≢◌, ℕ, IsTrue, true, false, List, [], ◌∷◌, ◌++◌, map, codes, All, AllPairs}
+use Rattle.std.specs.Prelude.{Contains, Option, None, Some, Ok}
 use Rattle.std.specs.List.{AllZip, flat_map}
 use Rattle.larch_term.specs.Operator.{PlainOperator}
 use Rattle.larch_term.specs.Tree.{Tree, var, app, none, more}
@@ -20,7 +21,8 @@ use Rattle.larch_derive_boxes.specs.Boxes.{AreOwnConstants, HasResult, IsOpen, I
 use Rattle.larch_normal_forms.specs.Sides.{Sides}
 use Rattle.larch_replay.specs.Facts.{Fact}
 use Rattle.larch_replay.specs.Levels.{Level, OfDuty, OfProof, OfSubgoal, Proof, Purpose}
-use Rattle.larch_replay.specs.Plans.{Cases, Conjunction, Contradiction, Implication, Induction, Method, Partition, Plan, Subgoal, holds, plan}
+use Rattle.larch_replay.specs.Plans.{Cases, Conjunction, Contradiction, Implication, Induction, Method, Partition}
+use Rattle.larch_replay.specs.Plans.{Plan, Subgoal, holds, plan}
 use Rattle.larch_prove_invariant.specs.Book.{AtLine, Book, InBox, Kept, Left, Running, SupposingBox, boxes_of}
 
 -- ---- boxes

@@ -17,8 +17,11 @@ ghost use Rattle.larch_replay.specs.Facts.{Fact};
 ghost use Rattle.larch_replay.specs.Levels.{Level, OfProof, OfSubgoal, Proof};
 ghost use Rattle.larch_replay.specs.Plans.{Method, Plan, Setting, Subgoal, plan};
 ghost use Rattle.larch_replay.specs.Steps.{setting_of};
-ghost use Rattle.larch_prove_invariant.specs.Book.{Done, Kept, Left, Running, SupposingBox, all_boxes, boxes_of, next_running, with_extra, with_method, with_next};
-ghost use Rattle.larch_prove_invariant.specs.Holding.{EntersProof, EntersSubgoal, HasFacts, HasLeft, HasOwnConstants, Holds, HoldsOf, HoldsProof, IsThere, Runs, Through, open_constants, shape_of, shared_shapes};
+ghost use Rattle.larch_prove_invariant.specs.Book.{Done, Kept, Left, Running, SupposingBox, all_boxes, boxes_of};
+ghost use Rattle.larch_prove_invariant.specs.Book.{next_running, with_extra, with_method, with_next};
+ghost use Rattle.larch_prove_invariant.specs.Holding.{EntersProof, EntersSubgoal, HasFacts, HasLeft, HasOwnConstants};
+ghost use Rattle.larch_prove_invariant.specs.Holding.{Holds, HoldsOf, HoldsProof, IsThere, Runs, Through};
+ghost use Rattle.larch_prove_invariant.specs.Holding.{open_constants, shape_of, shared_shapes};
 ghost use Rattle.larch_prove_invariant.specs.Leaving.{IsClosedWith, Leaving};
 
 /// What is held of levels, and of a proof, is held still where the builder has grown; and no line is bad there.
@@ -101,8 +104,8 @@ pub fn methods_run()
         × All (λ (d : Done). HasLeft b r.method d.subgoal d.left) all) }
 {}
 
-/// Where each constant of the open boxes stands once, the innermost of them may be closed and freed. The constants that a
-/// method makes for its subgoals stand for none of an open box, its shared box included.
+/// Where each constant of the open boxes stands once, the innermost of them may be closed and freed. The constants
+/// that a method makes for its subgoals stand for none of an open box, its shared box included.
 pub fn constants_are_apart()
     ensures innermost { (bs : List OpenBox) (x : OpenBox)
         → AllPairs (λ f g. f ≢ g) (flat_map (λ y. y.constants) (bs ++ x ∷ [])) → AreConstants x.constants

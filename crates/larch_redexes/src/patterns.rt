@@ -73,7 +73,8 @@ fn matches<'a>(
     term: &'a Term,
     bound: &mut Vec<Bound<'a>>,
 ) -> Result<bool, Memory>
-    ensures { IfOk result (λ yes. matched pattern.now term.now bound.old.items ≡ (if yes then Some bound.new.items else None)) }
+    ensures { IfOk result (λ yes. matched pattern.now term.now bound.old.items
+        ≡ (if yes then Some bound.new.items else None)) }
 {
     match (pattern.node(), term.node()) {
         (Node::Var(name, sort), _) => {
@@ -104,7 +105,8 @@ fn match_all<'a>(
     bound: &mut Vec<Bound<'a>>,
 ) -> Result<bool, Memory>
     requires { length patterns.now ≡ length terms.now }
-    ensures { IfOk result (λ yes. matched_all (forest_of patterns.now) (forest_of terms.now) bound.old.items ≡ (if yes then Some bound.new.items else None)) }
+    ensures { IfOk result (λ yes. matched_all (forest_of patterns.now) (forest_of terms.now) bound.old.items
+        ≡ (if yes then Some bound.new.items else None)) }
 {
     for i in 0..patterns.len() {
         if !matches(&patterns[i], &terms[i], bound)? {
@@ -121,7 +123,8 @@ fn bind<'a>(
     term: &'a Term,
     bound: &mut Vec<Bound<'a>>,
 ) -> Result<bool, Memory>
-    ensures { IfOk result (λ yes. binding bound.old.items name.now sort.now term.now bound.old.items ≡ (if yes then Some bound.new.items else None)) }
+    ensures { IfOk result (λ yes. binding bound.old.items name.now sort.now term.now bound.old.items
+        ≡ (if yes then Some bound.new.items else None)) }
 {
     for entry in bound.as_slice() {
         if *entry.name == *name && *entry.sort == *sort {

@@ -58,7 +58,8 @@ pub fn rows_at(alloc: Global, sort: &Sort) -> Result<RuleList, Memory>
 #[tactic(auto, using(crate::proofs::RowSteps::row_given, crate::proofs::RowSteps::row_said))]
 fn row_at(alloc: Global, number: u32, sort: &Sort) -> Result<Rule, Memory>
     ensures sides { IfOk result (λ rule.
-        option_map (λ row. sides_of row.given) (numbered (built_in_rows sort.now) number) ≡ Some (sides_of_rule rule ∷ [])) }
+        option_map (λ row. sides_of row.given) (numbered (built_in_rows sort.now) number)
+        ≡ Some (sides_of_rule rule ∷ [])) }
     ensures reason { IfOk result IsSaidByRow }
     ensures rule { IfOk result IsRule }
 {

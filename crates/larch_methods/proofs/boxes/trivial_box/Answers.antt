@@ -7,7 +7,7 @@ use Rattle.larch_methods.proofs.boxes.trivial_box.Goals as goal
 
 pub returns-clause-shows : goal.returns-clause-shows
 returns-clause-shows c k =
-    let o = c.in_ok-number.ensures k in
+    let o = c.in_ok-number.ensures.opens k in
     let there = opens_is_open _ _ _ _ o in
     record {
       box = record { number = c.in_ok-number.number; constants = [] };
@@ -20,7 +20,7 @@ returns-clause-shows c k =
 
 pub returns-clause-grows : goal.returns-clause-grows
 returns-clause-grows c k =
-    let o = c.in_ok-number.ensures k in
+    let o = c.in_ok-number.ensures.opens k in
     let there = opens_is_open _ _ _ _ o in
     c.in_ok-close_box.ensures.grows _ _ _ _ _ truth o
     (extends_grows _ _ (c.in_ok-line.ensures.extends _ _ _ refl there refl))

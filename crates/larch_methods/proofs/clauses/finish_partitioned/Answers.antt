@@ -1,31 +1,24 @@
-use Rattle.larch_derive.proofs.Growth.{extends_grows, grows_trans}
-use Rattle.larch_methods.proofs.Shown.{constants_for_sort, partitioned_for, numbers_own, shows_partitioned}
+use Rattle.larch_methods.proofs.Undoing.{found_so, grows_as, made_so, made_then, missing_so, says_as}
+use Rattle.larch_methods.proofs.Shown.{constants_for_sort, numbers_own, others_among, partitioned_for}
 use Rattle.larch_methods.proofs.clauses.finish_partitioned.Goals as goal
+
+pub returns-in_default-clause-none : goal.returns-in_default-clause-none
+returns-in_default-clause-none c =
+    others_among _ _ _ c.as_slice.ensures (missing_so _ _ c.in_ok-found.ensures.none c.in_default.is)
 
 pub returns-clause-says : goal.returns-clause-says
 returns-clause-says c a e h =
     let z = c.in_ok-sort.ensures in
-    let k = constants_for_sort a _ _ _ _ _ _ z h in
-    let i = k.inside in
-    let x = c.in_ok-same.ensures.extends _ _ _ k.says in
-    let j = grows_trans i.opened _ _ i.grows (extends_grows _ _ x) in
-    let q = c.in_ok-same.ensures.says _ _ _ k.says in
-    let g = c.in_ok-close_box.ensures.grows a i.opened k.box _ _ _ i.opens j q in
-    let r = c.in_ok-close_box.ensures.result a i.opened k.box _ _ _ i.opens j q in
-    let o = numbers_own a _ _ _ _ _ g e c.as_slice.ensures c.in_ok-numbers.ensures in
+    let k = found_so _ _ _ c.in_ok-found.ensures.some c.in-Some.is in
     partitioned_for _ _ _ _ _ z
-    (c.in_ok-said.ensures.says _ o k.domains (shows_partitioned a _ _ _ _ _ _ k g r))
+    (says_as _ _ _ _ c.in_ok-said.ensures.ok
+    (made_so _ _ _ c.write_partitioned-made.ensures.says c.in_ok-said.ensures.made a _
+    (numbers_own a _ _ _ _ e c.as_slice.ensures k) (constants_for_sort a _ _ _ _ _ _ z h)))
 
 pub returns-clause-grows : goal.returns-clause-grows
 returns-clause-grows c a e h =
     let z = c.in_ok-sort.ensures in
-    let k = constants_for_sort a _ _ _ _ _ _ z h in
-    let i = k.inside in
-    let x = c.in_ok-same.ensures.extends _ _ _ k.says in
-    let j = grows_trans i.opened _ _ i.grows (extends_grows _ _ x) in
-    let q = c.in_ok-same.ensures.says _ _ _ k.says in
-    let g = c.in_ok-close_box.ensures.grows a i.opened k.box _ _ _ i.opens j q in
-    let r = c.in_ok-close_box.ensures.result a i.opened k.box _ _ _ i.opens j q in
-    let o = numbers_own a _ _ _ _ _ g e c.as_slice.ensures c.in_ok-numbers.ensures in
-    grows_trans a _ _ g (extends_grows _ _ (c.in_ok-said.ensures.extends _ o k.domains
-    (shows_partitioned a _ _ _ _ _ _ k g r)))
+    let k = found_so _ _ _ c.in_ok-found.ensures.some c.in-Some.is in
+    grows_as a _ _ c.in_ok-said.ensures.ok
+    (made_then _ _ _ c.write_partitioned-made.ensures.grows c.in_ok-said.ensures.made a _
+    (numbers_own a _ _ _ _ e c.as_slice.ensures k) (constants_for_sort a _ _ _ _ _ _ z h))

@@ -12,7 +12,7 @@ use Rattle.larch_methods.proofs.implication.vacuous_box.Goals as goal
 pub returns-clause-shows : goal.returns-clause-shows
 returns-clause-shows c p q e k =
     let two = only_arguments _ _ _ (built_in Implies bool_sort) p q c.in_ok-two.ensures e in
-    let o = c.in_ok-number.ensures (premise_known _ _ p q _ e two.0 k) in
+    let o = c.in_ok-number.ensures.opens (premise_known _ _ p q _ e two.0 k) in
     let there = opens_is_open _ _ _ _ o in
     let x = c.in_ok-denied.ensures.extends _ _ _ refl there refl in
     let d = c.in_ok-denied.ensures.says _ _ _ refl there refl in
@@ -24,7 +24,7 @@ returns-clause-shows c p q e k =
 pub returns-clause-grows : goal.returns-clause-grows
 returns-clause-grows c p q e k =
     let two = only_arguments _ _ _ (built_in Implies bool_sort) p q c.in_ok-two.ensures e in
-    let o = c.in_ok-number.ensures (premise_known _ _ p q _ e two.0 k) in
+    let o = c.in_ok-number.ensures.opens (premise_known _ _ p q _ e two.0 k) in
     let there = opens_is_open _ _ _ _ o in
     let x = c.in_ok-denied.ensures.extends _ _ _ refl there refl in
     let d = c.in_ok-denied.ensures.says _ _ _ refl there refl in

@@ -1,8 +1,13 @@
 use Rattle.larch_term.specs.Truth.{truth}
-use Rattle.larch_derive.proofs.Growth.{extends_trans}
+use Rattle.larch_derive.proofs.Growth.{extends_same, extends_trans, known_stands}
 use Rattle.larch_methods.proofs.Inductions.{induced}
 use Rattle.larch_methods.proofs.Sharing.{said_right}
 use Rattle.larch_methods.proofs.induction.finish_induction.Goals as goal
+
+pub returns-in_err-line-clause-extends : goal.returns-in_err-line-clause-extends
+returns-in_err-line-clause-extends c h =
+    extends_trans _ _ _ (c.in_ok-stated.ensures.extends _ (known_stands _ _ h.formula.known) h.stated.found)
+    (extends_same _ _ c.in_err-line.ensures.err)
 
 pub returns-clause-says : goal.returns-clause-says
 returns-clause-says c h =

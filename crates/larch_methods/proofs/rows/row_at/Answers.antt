@@ -1,6 +1,11 @@
-use Rattle.larch_derive.proofs.Growth.{extends_trans, known_stands}
+use Rattle.larch_derive.proofs.Growth.{extends_same, extends_trans, known_stands}
 use Rattle.larch_methods.proofs.Settled.{formula_stays, row_extends, row_said}
 use Rattle.larch_methods.proofs.rows.row_at.Goals as goal
+
+pub returns-in_err-line-clause-extends : goal.returns-in_err-line-clause-extends
+returns-in_err-line-clause-extends c l r e k =
+    extends_trans _ _ _ (c.in_ok-stated.ensures.extends _ (known_stands _ _ k.known) e)
+    (extends_same _ _ c.in_err-line.ensures.err)
 
 pub returns-clause-says : goal.returns-clause-says
 returns-clause-says c l r e k =
