@@ -15,5 +15,6 @@ pub mod Law
 pub mod Markers
 pub mod Places
 pub mod Readings
+pub mod Reserved
 pub mod Stands
 pub mod Words

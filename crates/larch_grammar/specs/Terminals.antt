@@ -1,5 +1,6 @@
 -- Tokens as the grammar knows them.
-use Rattle.std.specs.Prelude.{ℕ, List, Bool, true, false, cond, codes, ◌||◌}
+use Rattle.std.specs.Prelude.{ℕ, List, ◌∷◌, Bool, true, false, cond, codes, ◌&&◌, ◌||◌}
+use Rattle.std.specs.Char.{is_ascii_lowercase}
 use Rattle.std.specs.Str.{bytes_eq}
 use Rattle.larch_base.specs.Position.{start_of_text}
 use Rattle.larch_base.specs.declared.position.Pos.{Pos}
@@ -9,6 +10,11 @@ use Rattle.larch_lexer.specs.declared.token.Token.{Token}
 use Rattle.larch_grammar.specs.declared.terminal.Bracket.TheVariants.{Square, Curly}
 use Rattle.larch_grammar.specs.declared.terminal.Terminal.{Terminal}
 use Rattle.larch_grammar.specs.declared.terminal.Terminal.TheVariants.{Word, Symbol, Not, Connective, Equality, Equates, Arrow, Colon, Comma, Semicolon, Dot, Marker, Open, Close, OpenBracket, CloseBracket, ForAll, Trait, Introduces, Asserts, Implies, Converts, Exempting, Generated, Partitioned, By, Includes, Assumes, For, Enumeration, Tuple, Union, Of, If, Then, Else, Other}
+
+-- the text begins with two small letters, as each reserved word does
+abbrev pub begins_reserved : List ℕ → Bool
+begins_reserved (first ∷ second ∷ bytes) = is_ascii_lowercase first && is_ascii_lowercase second
+begins_reserved _ = false
 
 -- a word of terms, or one that isn't reserved
 abbrev pub term_word : List ℕ → Pos → Terminal

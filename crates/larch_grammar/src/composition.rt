@@ -149,7 +149,9 @@ fn with_ref(raw: Draft, kind: RefKind, target: RawRef) -> Result<Draft, Memory>
 
 // The trait with a reference more that is included or assumed.
 fn with_reference(raw: Draft, assumed: bool, target: RawRef) -> Result<Draft, Memory>
-    ensures { IfOk result (λ more. more ≡ record raw { references = raw.references ++ record { assumed = assumed; target = target } ∷ [] }) }
+    ensures { IfOk result (λ more. more ≡ record raw {
+      references = raw.references ++ record { assumed = assumed; target = target } ∷ [];
+    }) }
 {
     let mut draft = raw;
     draft.raw.references.push(RawReference { assumed, target })?;

@@ -40,8 +40,8 @@ pub fn front_of_references_is_grammar()
         ↔ MeansFront References position_of_token tokens.end (drop from tokens.tokens) answer }
 {}
 
-/// A flaw of tokens in order stands where the whole grammar has it, whether references follow `implies` or an item does:
-/// SYNTAX at the first token with which the tokens before it begin no trait.
+/// A flaw of tokens in order stands where the whole grammar has it, whether references follow `implies` or an item
+/// does: SYNTAX at the first token with which the tokens before it begin no trait.
 pub fn flaw_stands_in_any_trait()
     ensures { (tokens : TokenList) (flaw : Flaw × Pos) → Rising tokens.tokens
         → All (λ token. Precedes token.pos tokens.end) tokens.tokens → trait_answer tokens ≡ Err flaw

@@ -1,5 +1,6 @@
-ghost use Rattle.std.specs.Prelude.{◌≡◌, ◌+◌, ◌∷◌, [], nat_lt, IfOk, OnOk};
+ghost use Rattle.std.specs.Prelude.{◌≡◌, ◌+◌, ◌∷◌, [], nat_lt, IfOk, None, OnOk};
 ghost use Rattle.larch_grammar.specs.Depth.{depth_of, top, rest};
+ghost use Rattle.larch_grammar.specs.declared.machine.Frame.TheVariants.{InConnectives, InEqualities, InInfixes};
 ghost use Rattle.larch_base.specs.declared.limits.TheConstants.{MAX_NESTING};
 
 use crate::machine::Frame;
@@ -44,6 +45,14 @@ impl Stack {
         }
     }
 
+    /// No frames, with room for those of most equations.
+    pub fn with_room(alloc: Global) -> Result<Stack, Memory>
+        ensures { IfOk result (λ stack. stack ≡ []) }
+    {
+        let items = Vec::with_capacity(alloc, 16)?;
+        Ok(Stack { items, depth: 0 })
+    }
+
     /// Puts a frame in front.
     pub fn push(&mut self, frame: Frame) -> Result<(), Memory>
         ensures { OnOk result (self.new ≡ frame ∷ self.old) }
@@ -56,6 +65,18 @@ impl Stack {
         self.items.push(frame)?;
         self.depth = depth;
         Ok(())
+    }
+
+    /// These frames, and in front of them the three chains that a term begins, without symbols yet.
+    pub fn with_chains(self) -> Result<Stack, Memory>
+        ensures { IfOk result (λ stack. stack ≡
+            InInfixes None ∷ (InEqualities None ∷ (InConnectives None ∷ self))) }
+    {
+        let mut stack = self;
+        stack.items.push(Frame::InConnectives(None))?;
+        stack.items.push(Frame::InEqualities(None))?;
+        stack.items.push(Frame::InInfixes(None))?;
+        Ok(stack)
     }
 
     /// These frames and one in front of them.

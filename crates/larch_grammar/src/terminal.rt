@@ -1,5 +1,5 @@
-ghost use Rattle.std.specs.Prelude.{◌≡◌, false, IfOk};
-ghost use Rattle.larch_grammar.specs.Terminals.{bracket_terminal, claim_word, terminal_by, terminal_of, position_of, punctuation_terminal, run_terminal, head_word, term_word, word_terminal, ends_reference};
+ghost use Rattle.std.specs.Prelude.{◌≡◌, ◌∷◌, [], false, IfOk};
+ghost use Rattle.larch_grammar.specs.Terminals.{begins_reserved, bracket_terminal, claim_word, terminal_by, terminal_of, position_of, punctuation_terminal, run_terminal, head_word, term_word, word_terminal, ends_reference};
 ghost use Rattle.larch_lexer.specs.declared.token.Kind.TheVariants.{Backslash};
 
 use larch_base::{Memory, Name, Pos};
@@ -107,7 +107,10 @@ pub fn terminal_of(lists: bool, token: &Token) -> Result<Terminal, Memory>
             Ok(Terminal::Connective(word))
         }
         Kind::Run => run_terminal(&token.text, token.pos),
-        Kind::Punctuation => Ok(punctuation_terminal(token.text.bytes(), token.pos)),
+        Kind::Punctuation => Ok(match token.text.bytes() {
+            [byte] => mark_terminal(*byte, token.pos),
+            other => punctuation_terminal(other, token.pos),
+        }),
     }
 }
 
@@ -121,7 +124,29 @@ fn raw_word(text: &Name, pos: Pos) -> Result<RawWord, Memory>
 }
 
 // A token of kind word.
+#[tactic(auto, using(crate::proofs::Reserved::plain_word))]
 fn word_terminal(lists: bool, text: &Name, pos: Pos) -> Result<Terminal, Memory>
+    ensures { IfOk result (λ terminal. terminal ≡ word_terminal lists text.now pos) }
+{
+    if !begins_reserved(text.bytes()) {
+        let word = raw_word(text, pos)?;
+        return Ok(Terminal::Word(word));
+    }
+    reserved_word(lists, text, pos)
+}
+
+// Whether a text begins with two small letters, as each reserved word does.
+fn begins_reserved(text: &[u8]) -> bool
+    ensures { result ≡ begins_reserved text.now }
+{
+    match text {
+        [first, second, ..] => first.is_ascii_lowercase() && second.is_ascii_lowercase(),
+        _ => false,
+    }
+}
+
+// A word of the parts of a trait, or one of those below.
+fn reserved_word(lists: bool, text: &Name, pos: Pos) -> Result<Terminal, Memory>
     ensures { IfOk result (λ terminal. terminal ≡ word_terminal lists text.now pos) }
 {
     let bytes = text.bytes();
@@ -252,6 +277,25 @@ fn bracket_terminal(text: &[u8], pos: Pos) -> Terminal
         Terminal::CloseBracket(Bracket::Curly)
     } else {
         Terminal::Other
+    }
+}
+
+// One byte of punctuation.
+fn mark_terminal(byte: u8, pos: Pos) -> Terminal
+    ensures { result ≡ punctuation_terminal (byte ∷ []) pos }
+{
+    match byte {
+        b':' => Terminal::Colon(pos),
+        b',' => Terminal::Comma,
+        b';' => Terminal::Semicolon,
+        b'.' => Terminal::Dot(pos),
+        b'(' => Terminal::Open(pos),
+        b')' => Terminal::Close,
+        b'[' => Terminal::OpenBracket(Bracket::Square, pos),
+        b']' => Terminal::CloseBracket(Bracket::Square),
+        b'{' => Terminal::OpenBracket(Bracket::Curly, pos),
+        b'}' => Terminal::CloseBracket(Bracket::Curly),
+        _ => Terminal::Other,
     }
 }
 

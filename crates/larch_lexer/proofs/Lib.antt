@@ -6,5 +6,6 @@ pub mod Positions
 pub mod Rises
 pub mod Slices
 pub mod Steps
+pub mod Straight
 pub mod Stretches
 pub mod Table

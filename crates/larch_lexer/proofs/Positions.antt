@@ -1,6 +1,6 @@
 -- How far lines and columns go.
 use Rattle.std.proofs.Common.{ℕ, zero, suc, ◌≡◌, ◌≢◌, ◌+◌, ◌≤◌, ◌==◌, List, [], ◌∷◌, take, drop, length, refl, arith, All}
-use Rattle.std.proofs.lemmas.Bool.{cond_both, cond-false, ne_eqb}
+use Rattle.std.proofs.lemmas.Bool.{cond_both, ne_eqb}
 use Rattle.std.proofs.lemmas.List.Elements.{All-head, All-tail}
 use Rattle.larch_base.specs.Position.{advance, position_behind}
 use Rattle.larch_base.specs.declared.position.Pos.{Pos}

@@ -59,7 +59,7 @@ pub nothing_there : (tokens : List Token) (position : Pos) (text : List ℕ) →
 nothing_there tokens position [] h e = absurd (omega arith)
 nothing_there tokens position (byte ∷ rest) h e = ap (with_tokens tokens) (nowhere (piece_at byte rest) position (byte ∷ rest) (λ inside. lexed_within inside (advance position byte) rest) e)
 
-others_are : (text : List ℕ) → take (length text - 1) (drop 1 text) ≡ drop 1 text
+pub others_are : (text : List ℕ) → take (length text - 1) (drop 1 text) ≡ drop 1 text
 others_are text = take_all (length text - 1) (drop 1 text) (omega (arith, length-drop 1 text))
 
 -- what a turn of the lexer keeps

@@ -1,15 +1,16 @@
 ghost use Rattle.std.specs.Prelude.{◌≡◌, ◌≢◌, ◌≤◌, ◌+◌, ◌<◌, ◌^◌, length, ◌++◌, All, OnOk};
-ghost use Rattle.larch_base.specs.Position.{position_behind};
+ghost use Rattle.larch_base.specs.Position.{advance};
 ghost use Rattle.larch_base.specs.declared.limits.TheConstants.{MAX_FILE_BYTES};
 ghost use Rattle.larch_base.specs.Answering.{Answers};
 ghost use Rattle.larch_lexer.specs.Lexing.{lexed, lexed_line, lexed_within, line_ends, tokens_of};
 ghost use Rattle.larch_lexer.specs.Refusals.{told};
 
+use crate::names::Names;
 use crate::piece::{Piece, piece_at};
 use crate::refusal::LexRefusal;
 use crate::token::Token;
 use crate::tokens::Tokens;
-use larch_base::{Memory, Name, Pos, Sequence};
+use larch_base::{Memory, Pos, Sequence};
 use std::alloc::Global;
 
 /// The tokens of a text, or the position of the first byte that begins none. The law `one_lexing` says that this is
@@ -38,22 +39,29 @@ pub fn lex_lp(alloc: Global, line: &[u8], number: u32) -> Result<Tokens, LexRefu
 }
 
 /// The tokens of a text that begins at a position.
+#[inline(never)]
 fn lex_from(alloc: Global, start: Pos, text: &[u8]) -> Result<Tokens, LexRefusal>
     requires line { start.line + line_ends text.now < 2 ^ 32 }
     requires column { start.column + length text.now < 2 ^ 32 }
     ensures { Answers told result (lexed_within 0 start text.now) }
 {
+    let mut names = Names::new(alloc, text.len())?;
     let mut tokens = Sequence::new(alloc);
     let mut pos = start;
     let mut rest = text;
     while let [byte, others @ ..] = rest {
+        if *byte == b' ' {
+            pos = pos.advance(b' ');
+            rest = others;
+            continue;
+        }
         let piece = piece_at(*byte, others);
         let Some(further) = piece.further() else {
             return Err(LexRefusal::Lex(pos));
         };
         let (taken, left) = rest.split_at(further + 1);
-        push_token(alloc, &mut tokens, piece, taken, pos)?;
-        pos = pos_behind(pos, taken);
+        push_token(&mut names, &mut tokens, piece, taken, pos)?;
+        pos = pos_behind(pos, *byte, further);
         rest = left;
     }
     Ok(Tokens::new(tokens, pos))
@@ -61,7 +69,7 @@ fn lex_from(alloc: Global, start: Pos, text: &[u8]) -> Result<Tokens, LexRefusal
 
 /// Adds the piece to the tokens, if it is a token and not passed over.
 fn push_token(
-    alloc: Global,
+    names: &mut Names,
     tokens: &mut Sequence<Token>,
     piece: Piece,
     taken: &[u8],
@@ -70,21 +78,22 @@ fn push_token(
     ensures { OnOk result (tokens.new ≡ tokens.old ++ tokens_of piece taken.now pos) }
 {
     if let Piece::Kept(kind, _further) = piece {
-        let text = Name::new(alloc, taken)?;
+        let text = names.name(taken)?;
         tokens.push(Token { kind, text, pos })?;
     }
     Ok(())
 }
 
-/// The position behind these bytes, which begin at a position.
-fn pos_behind(pos: Pos, bytes: &[u8]) -> Pos
-    requires line { pos.line + line_ends bytes.now < 2 ^ 32 }
-    requires column { pos.column + length bytes.now < 2 ^ 32 }
-    ensures { result ≡ position_behind pos bytes.now }
+/// The position behind a piece that begins at a position, by its first byte and how many bytes it has behind that one.
+/// None of these ends a line.
+fn pos_behind(pos: Pos, byte: u8, further: usize) -> Pos
+    requires line { byte ≡ 10 → pos.line + 1 < 2 ^ 32 }
+    requires column { pos.column + (further + 1) < 2 ^ 32 }
+    ensures { result ≡ record { line = (advance pos byte).line; column = (advance pos byte).column + further } }
 {
-    let mut position = pos;
-    for byte in bytes {
-        position = position.advance(*byte);
+    let next = pos.advance(byte);
+    Pos {
+        line: next.line,
+        column: next.column + further as u32,
     }
-    position
 }

@@ -3,6 +3,7 @@
 
 mod laws;
 mod lex;
+mod names;
 mod piece;
 mod refusal;
 mod token;
@@ -13,6 +14,3 @@ pub use lex::{lex_lp, lex_lsl};
 pub use refusal::LexRefusal;
 pub use token::{Kind, Token};
 pub use tokens::Tokens;
-
-#[cfg(test)]
-mod tests;

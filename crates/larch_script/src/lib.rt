@@ -13,6 +13,3 @@ mod terms;
 mod tokens;
 
 pub use read::read_script;
-
-#[cfg(test)]
-mod tests;

@@ -13,7 +13,10 @@ use Rattle.larch_fronts.specs.Mark.{admitted}
 use Rattle.larch_fronts.specs.declared.mark.Flaw.{Flaw}
 use Rattle.larch_fronts.specs.declared.mark.Flaw.TheVariants as flaw
 use Rattle.larch_raw.specs.declared.equation.RawTrait.{RawTrait}
-use Rattle.larch_heads.specs.Outcome.{outcome}
+use Rattle.larch_grammar.specs.Terminals.{terminal_of}
+use Rattle.larch_grammar.specs.declared.terminal.Terminal.{Terminal}
+use Rattle.larch_heads.specs.Outcome.{outcome, stepped}
+use Rattle.larch_heads.specs.declared.outcome.Outcome.{Outcome}
 use Rattle.larch_syntax.specs.Read.{counted, fault_at, leads_to, taken_at, with_fault}
 use Rattle.larch_syntax.specs.Refusals.{fault_of, told}
 use Rattle.larch_syntax.specs.declared.read.Taken.{Taken}
@@ -65,6 +68,17 @@ pub trait_counted : (g : Bool) (end : Pos) (heads : ℕ) (state : State) (refusa
 trait_counted g end heads state refusal token rest ts answer e l h =
     told_on (told refusal) (λ fault. taken_at g heads state token ≡ Err fault) (λ fault. answer ≡ Err fault)
     (λ fault q. sym h ∙ ap (λ x. with_fault (trait_from g end heads state x)) l ∙ trait_step g end heads state token rest (Err fault) q) e
+
+-- what is found in a state says what the token does
+pub taken_by : (g : Bool) (heads : ℕ) (state : State) (token : Token) (terminal : Terminal) (found now : Outcome) → terminal ≡ terminal_of g token → found ≡ stepped state terminal → found ≡ now
+    → taken_at g heads state token ≡ counted token.pos heads now
+taken_by g heads state token terminal found now t s n = ap (λ x. counted token.pos heads (stepped state x)) (sym t) ∙ ap (counted token.pos heads) (sym s ∙ n)
+
+-- what is counted at a token that would be taken is what the token does
+pub flaw_taken : (g : Bool) (heads : ℕ) (state after : State) (token : Token) (r : Result ℕ Fault) (refusal : SyntaxRefusal) → taken_at g heads state token ≡ leads_to after r
+    → IfSome (told refusal) (λ fault. r ≡ Err fault) → IfSome (told refusal) (λ fault. taken_at g heads state token ≡ Err fault)
+flaw_taken g heads state after token r refusal e h =
+    told_on (told refusal) (λ fault. r ≡ Err fault) (λ fault. taken_at g heads state token ≡ Err fault) (λ fault q. e ∙ ap (leads_to after) q) h
 
 -- the tree at the longest front of these tokens from a state on, which is a part of the whole that ends there
 abbrev pub front_by : {T : Type 0} → (Option Whole → Option T) → Pos → ℕ → ℕ → State → List Token → Result (T × ℕ) (Flaw × Pos)

@@ -5,6 +5,7 @@ pub mod Either
 pub mod Forgotten
 pub mod FormDefaults
 pub mod Fronts
+pub mod Passing
 pub mod Stacks
 pub mod Told
 pub mod Which

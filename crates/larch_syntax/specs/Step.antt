@@ -1,5 +1,9 @@
--- Outcomes where no whole ends.
-use Rattle.std.specs.Prelude.{None}
+-- Outcomes where no whole ends, and frames that hand on what they get.
+use Rattle.std.specs.Prelude.{Bool, true, false, None}
+use Rattle.larch_grammar.specs.declared.machine.Frame.{Frame}
+use Rattle.larch_grammar.specs.declared.machine.Frame.TheVariants.{InConnectives, InEqualities, InFields, InInfixes}
+use Rattle.larch_grammar.specs.declared.terminal.Terminal.{Terminal}
+use Rattle.larch_grammar.specs.declared.terminal.Terminal.TheVariants.{Colon, Connective, Dot, Equality, OpenBracket, Symbol}
 use Rattle.larch_heads.specs.declared.outcome.Outcome.{Outcome}
 use Rattle.larch_heads.specs.declared.outcome.Outcome.TheVariants.{Handed, Stops, Taken}
 
@@ -8,3 +12,17 @@ abbrev pub without_whole : Outcome → Outcome
 without_whole (Taken mark after) = Taken mark after
 without_whole (Handed term frames terminal) = Handed term frames terminal
 without_whole (Stops whole) = Stops None
+
+-- a frame hands on the term and the token as they are
+abbrev pub hands_on : Frame → Terminal → Bool
+hands_on InFields (Dot p) = false
+hands_on InFields (Colon p) = false
+hands_on InFields (OpenBracket b p) = false
+hands_on InFields t = true
+hands_on (InInfixes None) (Symbol x) = false
+hands_on (InInfixes None) t = true
+hands_on (InEqualities None) (Equality x) = false
+hands_on (InEqualities None) t = true
+hands_on (InConnectives None) (Connective x) = false
+hands_on (InConnectives None) t = true
+hands_on f t = false

@@ -118,7 +118,7 @@ pub(crate) fn begin_equation(
     ensures { Settles result (stepped (State.NeedEquation waiting) terminal) }
 {
     let left = Frame::InLeft(position_of(&terminal), waiting);
-    let stack = Stack::new(alloc).with(left)?;
+    let stack = Stack::with_room(alloc)?.with(left)?;
     begin_term(terminal, stack)
 }
 
@@ -187,7 +187,7 @@ fn begin_first(
 pub(crate) fn word_frames(alloc: Global, word: &RawWord, waiting: Waiting) -> Result<Stack, Memory>
     ensures { IfOk result (λ stack. stack ≡ word_frames word.now waiting) }
 {
-    let frames = Stack::new(alloc)
+    let frames = Stack::with_room(alloc)?
         .with(Frame::InLeft(word.pos, waiting))?
         .with(Frame::InConnectives(None))?
         .with(Frame::InEqualities(None))?

@@ -2,6 +2,7 @@ ghost use Rattle.std.specs.Prelude.{◌≡◌, ◌∷◌, IfOk};
 ghost use Rattle.larch_grammar.specs.declared.machine.Frame.TheVariants.{InFields, InIf, InLeft, InList};
 ghost use Rattle.larch_grammar.specs.declared.machine.Frame.TheVariants.{InParentheses, InThen};
 ghost use Rattle.larch_heads.specs.Outcome.{Leaves, Settles, handed, settled, stepped};
+ghost use Rattle.larch_syntax.specs.Step.{hands_on};
 
 use crate::begin::{begin_post, open_bracket, opens};
 use crate::chains::{in_connectives, in_equalities, in_infixes, in_postfixes, in_strays};
@@ -19,7 +20,7 @@ use std::alloc::Global;
 
 // A term is read, and a token stands behind it: the innermost frame takes the token, or hands on what it makes of
 // the term.
-#[tactic(auto, using(crate::proofs::Stacks::stack_of_top, crate::proofs::Stacks::stack_of_none))]
+#[tactic(auto, using(crate::proofs::Stacks::stack_of_top, crate::proofs::Stacks::stack_of_none, crate::proofs::Passing::handed_on, crate::proofs::Passing::not_handed))]
 pub(crate) fn hand(
     alloc: Global,
     term: RawTerm,
@@ -32,20 +33,43 @@ pub(crate) fn hand(
     let mut stack = stack;
     let mut terminal = terminal;
     while let Some(frame) = stack.pop() {
-        match pass(alloc, frame, term, stack, terminal)? {
-            Outcome::Handed(whole, frames, token) => {
+        if hands_on(&frame, &terminal) {
+            continue;
+        }
+        match pass(alloc, frame, term, stack, terminal) {
+            Ok(Outcome::Handed(whole, frames, token)) => {
                 term = whole;
                 stack = frames;
                 terminal = token;
             }
-            Outcome::Taken(mark, after) => return Ok(Outcome::Taken(mark, after)),
-            Outcome::Stops(whole) => return Ok(Outcome::Stops(whole)),
+            found => return found,
         }
     }
     Ok(stops())
 }
 
+// Whether a frame hands on the term and the token as they are, as most frames do.
+fn hands_on(frame: &Frame, terminal: &Terminal) -> bool
+    ensures { result ≡ hands_on frame.now terminal.now }
+{
+    match (frame, terminal) {
+        (Frame::InFields, Terminal::Dot(_) | Terminal::Colon(_) | Terminal::OpenBracket(_, _))
+        | (Frame::InInfixes(None), Terminal::Symbol(_))
+        | (Frame::InEqualities(None), Terminal::Equality(_))
+        | (Frame::InConnectives(None), Terminal::Connective(_)) => false,
+        (
+            Frame::InFields
+            | Frame::InInfixes(None)
+            | Frame::InEqualities(None)
+            | Frame::InConnectives(None),
+            _,
+        ) => true,
+        _ => false,
+    }
+}
+
 // The same for one frame.
+#[inline(never)]
 fn pass(
     alloc: Global,
     frame: Frame,

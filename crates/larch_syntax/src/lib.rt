@@ -23,6 +23,3 @@ pub use larch_raw::{
 };
 pub use read::{read_reference, read_term, read_trait};
 pub use refusal::SyntaxRefusal;
-
-#[cfg(test)]
-mod tests;

@@ -68,13 +68,20 @@ fn trait_by_steps(alloc: Global, lists: bool, tokens: &Tokens) -> Result<RawTrai
     let mut state = State::Start;
     let mut heads: u32 = 0;
     for token in tokens.as_slice() {
-        match take(alloc, lists, heads, state, token) {
-            Ok(Taken::On(more, after)) => {
-                heads = more;
-                state = after;
+        let terminal = terminal_of(lists, token)?;
+        match step(alloc, state, terminal) {
+            Ok(Outcome::Taken(mark, after)) => match count(heads, mark, token.pos) {
+                Ok(more) => {
+                    heads = more;
+                    state = after;
+                }
+                Err(refusal) => return Err(refusal),
+            },
+            Ok(Outcome::Stops(_whole)) => return Err(SyntaxRefusal::Syntax(token.pos)),
+            Ok(Outcome::Handed(_term, _stack, _terminal)) => {
+                return Err(SyntaxRefusal::Syntax(token.pos));
             }
-            Ok(Taken::Stops(_whole)) => return Err(SyntaxRefusal::Syntax(token.pos)),
-            Err(refusal) => return Err(refusal),
+            Err(Memory) => return Err(SyntaxRefusal::Memory),
         }
     }
     let whole = last(alloc, state)?;

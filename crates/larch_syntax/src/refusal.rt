@@ -9,8 +9,8 @@ use thiserror::Error;
 /// Why tokens are no trait, and where.
 #[derive(Clone, Copy, Debug, PartialEq, Eq, Error)]
 pub enum SyntaxRefusal {
-    /// The tokens before this position begin a text of the grammar and those up to it begin none; or the text ends here,
-    /// begins one and is none.
+    /// The tokens before this position begin a text of the grammar and those up to it begin none; or the text ends
+    /// here, begins one and is none.
     #[error("no text of the grammar goes on so")]
     Syntax(Pos),
     /// The symbol here stands behind another symbol of its level, without parentheses between them.

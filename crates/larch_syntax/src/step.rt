@@ -19,22 +19,71 @@ use crate::items::{
     need_by, need_further_variable, need_variable, need_variable_sort, word_behind,
 };
 use larch_base::Memory;
-use larch_grammar::{State, Terminal, Whole};
+use larch_grammar::{Stack, State, Terminal, Whole, call_tree, no_terms};
 use larch_heads::{
     Outcome, after_constant, after_field, after_formals, after_head, after_name, after_names,
-    after_rename, at_start, need_constant, need_constants, need_fields, need_further_name,
+    after_rename, at_head, at_start, need_constant, need_constants, need_fields, need_further_name,
     need_name, need_names_sort, need_ref, need_trait, short_word,
 };
+use larch_raw::RawWord;
 use std::alloc::Global;
 
 // What a token does in a state: it is taken, or the whole ends before it, if there is one.
 pub(crate) fn step(alloc: Global, state: State, terminal: Terminal) -> Result<Outcome, Memory>
     ensures { IfOk result (λ answer. answer ≡ stepped state terminal) }
 {
-    match begin_step(alloc, state, terminal)? {
-        Outcome::Handed(term, stack, terminal) => hand(alloc, term, stack, terminal),
-        Outcome::Taken(mark, after) => Ok(Outcome::Taken(mark, after)),
-        Outcome::Stops(whole) => Ok(Outcome::Stops(whole)),
+    match state {
+        State::NeedTerm(stack) => need_term(alloc, stack, terminal),
+        State::AfterWord(word, stack) => behind_word(alloc, word, stack, terminal),
+        State::Have(term, stack) => hand(alloc, term, stack, terminal),
+        other => step_elsewhere(alloc, other, terminal),
+    }
+}
+
+// The same where a term is needed.
+#[tactic(auto, using(crate::proofs::Passing::not_handed))]
+fn need_term(alloc: Global, stack: Stack, terminal: Terminal) -> Result<Outcome, Memory>
+    ensures { IfOk result (λ answer. answer ≡ stepped (State.NeedTerm stack) terminal) }
+{
+    match terminal {
+        Terminal::Word(word) => Ok(at_head(State::AfterWord(word, stack.with_chains()?))),
+        other => match begin_term(other, stack) {
+            Ok(Outcome::Handed(term, stack, terminal)) => hand(alloc, term, stack, terminal),
+            found => found,
+        },
+    }
+}
+
+// The same behind a word.
+#[tactic(auto, using(crate::proofs::Passing::not_handed))]
+fn behind_word(
+    alloc: Global,
+    word: RawWord,
+    stack: Stack,
+    terminal: Terminal,
+) -> Result<Outcome, Memory>
+    ensures { IfOk result (λ answer. answer ≡ stepped (State.AfterWord word stack) terminal) }
+{
+    match terminal {
+        Terminal::Comma | Terminal::Close | Terminal::Equates(_) => {
+            hand(alloc, call_tree(word, no_terms(alloc)), stack, terminal)
+        }
+        other => match after_word(alloc, word, stack, other) {
+            Ok(Outcome::Handed(term, stack, terminal)) => hand(alloc, term, stack, terminal),
+            found => found,
+        },
+    }
+}
+
+// The same in all other states.
+#[inline(never)]
+#[tactic(auto, using(crate::proofs::Passing::not_handed))]
+fn step_elsewhere(alloc: Global, state: State, terminal: Terminal) -> Result<Outcome, Memory>
+    ensures { IfOk result (λ answer. answer ≡ stepped state terminal) }
+{
+    match step_in_variables(alloc, state, terminal) {
+        Ok(Outcome::Handed(term, stack, terminal)) => hand(alloc, term, stack, terminal),
+        found => found,
     }
 }
 
@@ -65,8 +114,47 @@ fn no_whole<T: Drop>(_after: T) -> Option<Whole>
     None
 }
 
-// The same, until a term is handed on.
-fn begin_step(alloc: Global, state: State, terminal: Terminal) -> Result<Outcome, Memory>
+// The same, until a term is handed on, first in the states of variables. What a function may hold takes time at its
+// start, so the states of most tokens have functions of their own.
+#[inline(never)]
+fn step_in_variables(alloc: Global, state: State, terminal: Terminal) -> Result<Outcome, Memory>
+    ensures { Settles result (stepped state terminal) }
+{
+    match state {
+        State::NeedVariable(scope, variables) => need_variable(alloc, scope, variables, terminal),
+        State::AfterVariable(scope, variables, names) => Ok(after_variable(
+            scope, variables, names, terminal,
+        )),
+        State::NeedFurtherVariable(scope, variables, names) => need_further_variable(
+            scope, variables, names, terminal,
+        ),
+        State::NeedVariableSort(scope, variables, names) => need_variable_sort(
+            scope, variables, names, terminal,
+        ),
+        State::AfterGroup(scope, variables) => after_group(alloc, scope, variables, terminal),
+        other => step_in_declarations(alloc, other, terminal),
+    }
+}
+
+// The same, first of the states of declarations.
+#[inline(never)]
+fn step_in_declarations(alloc: Global, state: State, terminal: Terminal) -> Result<Outcome, Memory>
+    ensures { Settles result (stepped state terminal) }
+{
+    match state {
+        State::InPart(raw) => Ok(in_part(alloc, raw, terminal)),
+        State::AfterForm(naming, form) => after_form(alloc, naming, form, terminal),
+        State::NeedSig(signing) => need_sig(alloc, signing, terminal),
+        State::AfterSort(signing, sorts) => Ok(after_sort(signing, sorts, terminal)),
+        State::NeedSort(signing, sorts) => need_sort(signing, sorts, terminal),
+        State::NeedRange(signing, sorts) => need_range(signing, sorts, terminal),
+        other => step_anywhere(alloc, other, terminal),
+    }
+}
+
+// The same, of all states.
+#[inline(never)]
+fn step_anywhere(alloc: Global, state: State, terminal: Terminal) -> Result<Outcome, Memory>
     ensures { Settles result (stepped state terminal) }
 {
     match state {
