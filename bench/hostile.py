@@ -64,6 +64,12 @@ def meeting(size):
     return halves(size, (["c:->Z\n", "d:->Z\n"], lambda i: f"{'cd'[i % 2]}:->A{i}\n"), lambda i: "c==d;\n")
 
 
+def applied(size):
+    """Two functions of two names at many sorts that have one sort in common."""
+    return halves(size, (["c:->Z\n", "d:->Z\n", "f:Z->Z\n", "g:Z->Z\n"],
+                         lambda i: f"{'cd'[i % 2]}:->A{i}\n{'fg'[i % 2]}:A{i}->A{i}\n"), lambda i: "f(c)==g(d);\n")
+
+
 def functions(size):
     """One function at many sorts, of one that is known."""
     return halves(size, ([], lambda i: f"f:A{i}->A{i}\nk{i}:->A{i}\n"), lambda i: f"f(k{i})==k{i};\n")
@@ -125,6 +131,7 @@ def qualified(size):
 
 SHAPES = {
     "operators": operators, "constants": constants, "equalities": equalities, "choices": choices, "meeting": meeting,
+    "applied": applied,
     "functions": functions, "arguments": arguments, "crossing": crossing, "crossing twice": crossing_twice,
     "long arguments": long_arguments, "qualified": qualified, "references": references, "names": names, "made": made,
     "chain": lambda size: chain(2400, 1000), "ifs": lambda size: ifs(150, 10_000),

@@ -1,4 +1,5 @@
 pub mod Declarations
+pub mod Index
 pub mod Items
 pub mod Laws
 pub mod Presentation

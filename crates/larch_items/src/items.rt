@@ -1,19 +1,24 @@
-ghost use Rattle.std.specs.Prelude.{◌≡◌};
+ghost use Rattle.std.specs.Prelude.{◌≡◌, IfOk, IfSome};
 ghost use Rattle.larch_base.specs.Answering.{Answers};
 ghost use Rattle.larch_sorts.specs.Read.{read_equation};
+ghost use Rattle.larch_items.specs.Index.{IsIndex};
 ghost use Rattle.larch_items.specs.Items.{clause_statement, clause_states, equations_state, item_states, items_state};
 ghost use Rattle.larch_items.specs.Refusals.{told};
 ghost use Rattle.larch_items.specs.Steps.{each};
 
 use crate::append::append;
+use crate::index::Index;
 use crate::references::find_operators;
 use crate::refusal::TraitRefusal;
 use crate::variables::declare_variables;
-use larch_base::{Code, Sequence};
+use larch_base::{Code, Memory, Sequence};
 use larch_raw::{ClauseKind, RawEquation, RawItem, RawOpRef, RawVar, RawWord};
 use larch_sorts::{ReadRefusal, Scope, Signature, read_in};
 use larch_term::{Operators, Sort, Statement, Statements};
 use std::alloc::Global;
+
+// So many references of clauses go through all operators, more find theirs by an index.
+const FEW: usize = 8;
 
 /// What items state over the operators of a signature, in order, or what is wrong with them first.
 pub fn state_items(
@@ -23,9 +28,31 @@ pub fn state_items(
 ) -> Result<Statements, TraitRefusal>
     ensures { Answers told result (items_state signature.now items.now) }
 {
+    match index_for(alloc, signature, items)? {
+        None => {
+            let statements = state_items_by(alloc, signature, None, items)?;
+            Ok(statements)
+        }
+        Some(index) => {
+            let statements = state_items_by(alloc, signature, Some(&index), items)?;
+            Ok(statements)
+        }
+    }
+}
+
+// The same by an index of the signature where there is one.
+fn state_items_by(
+    alloc: Global,
+    signature: &Signature,
+    index: Option<&Index>,
+    items: &[RawItem],
+) -> Result<Statements, TraitRefusal>
+    requires { IfSome index (λ i. IsIndex i.now signature.now) }
+    ensures { Answers told result (items_state signature.now items.now) }
+{
     let mut statements = Sequence::new(alloc);
     for item in items {
-        let more = state_item(alloc, signature, item)?;
+        let more = state_item_by(alloc, signature, index, item)?;
         statements = append(statements, more)?;
     }
     Ok(statements)
@@ -41,9 +68,49 @@ pub fn state_item(
 ) -> Result<Statements, TraitRefusal>
     ensures { Answers told result (item_states signature.now item.now) }
 {
+    let statements = state_item_by(alloc, signature, None, item)?;
+    Ok(statements)
+}
+
+// An index of a signature, where items have many references.
+fn index_for(
+    alloc: Global,
+    signature: &Signature,
+    items: &[RawItem],
+) -> Result<Option<Index>, Memory>
+    ensures { IfOk result (λ index. IfSome index (λ i. IsIndex i signature.now)) }
+{
+    if references_in(items) <= FEW {
+        return Ok(None);
+    }
+    let index = Index::of(alloc, signature.operators())?;
+    Ok(Some(index))
+}
+
+// How many references the clauses among items have.
+fn references_in(items: &[RawItem]) -> usize {
+    let mut count = 0usize;
+    for item in items {
+        if let RawItem::Clause(_, _, refs) = item {
+            count = count.saturating_add(refs.as_slice().len());
+        }
+    }
+    count
+}
+
+// What an item states, by an index of the signature where there is one.
+fn state_item_by(
+    alloc: Global,
+    signature: &Signature,
+    index: Option<&Index>,
+    item: &RawItem,
+) -> Result<Statements, TraitRefusal>
+    requires { IfSome index (λ i. IsIndex i.now signature.now) }
+    ensures { Answers told result (item_states signature.now item.now) }
+{
     match item {
         RawItem::Clause(kind, sort, refs) => {
-            let statement = state_clause(alloc, signature, *kind, sort, refs.as_slice())?;
+            let statement = state_clause(alloc, signature, index, *kind, sort, refs.as_slice())?;
             let mut statements = Sequence::new(alloc);
             statements.push(statement)?;
             Ok(statements)
@@ -61,16 +128,18 @@ pub fn state_item(
 fn state_clause(
     alloc: Global,
     signature: &Signature,
+    index: Option<&Index>,
     kind: ClauseKind,
     sort: &RawWord,
     refs: &[RawOpRef],
 ) -> Result<Statement, TraitRefusal>
+    requires { IfSome index (λ i. IsIndex i.now signature.now) }
     ensures { Answers told result (clause_states signature.now kind sort.now refs.now) }
 {
     if !signature.knows(&sort.name) {
         return Err(TraitRefusal::Wrong(sort.pos, Code::UnknownSort));
     }
-    let named = find_operators(alloc, signature, kind, &sort.name, refs)?;
+    let named = find_operators(alloc, signature, index, kind, &sort.name, refs)?;
     let sort = sort.name.copy()?;
     Ok(statement_of(kind, sort, named))
 }

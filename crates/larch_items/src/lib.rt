@@ -3,6 +3,7 @@
 
 mod append;
 mod declarations;
+mod index;
 mod items;
 pub mod laws;
 mod presentation;
@@ -16,6 +17,3 @@ pub use presentation::present;
 pub use references::find_operator;
 pub use refusal::TraitRefusal;
 pub use variables::declare_variables;
-
-#[cfg(test)]
-mod tests;

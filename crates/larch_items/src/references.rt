@@ -1,12 +1,15 @@
-ghost use Rattle.std.specs.Prelude.{◌≡◌, IfOk, find};
+ghost use Rattle.std.specs.Prelude.{◌≡◌, List, IfOk, IfSome, find};
 ghost use Rattle.std.specs.Option.{option_copied};
 ghost use Rattle.larch_base.specs.Answering.{Answers};
 ghost use Rattle.larch_term.specs.Equality.{same_operator};
+ghost use Rattle.larch_term.specs.Operator.{PlainOperator};
+ghost use Rattle.larch_items.specs.Index.{IsIndex};
 ghost use Rattle.larch_items.specs.References.{all_same, clause_code, is_meant, is_wanted, only_operator};
 ghost use Rattle.larch_items.specs.References.{operator_named, operators_named, suits, takes, wanted_of};
 ghost use Rattle.larch_items.specs.Refusals.{told};
 
 use crate::declarations::operator_of;
+use crate::index::{Index, key_of, only_seen};
 use crate::refusal::TraitRefusal;
 use larch_base::{Code, Memory, Name, Sequence};
 use larch_raw::{ClauseKind, RawOpRef};
@@ -24,19 +27,21 @@ pub(crate) struct Wanted {
     exact: Option<Operator>,
 }
 
-// The operators that the references of a clause name, in order.
+// The operators that the references of a clause name, in order, by an index of the signature where there is one.
 pub(crate) fn find_operators(
     alloc: Global,
     signature: &Signature,
+    index: Option<&Index>,
     kind: ClauseKind,
     sort: &Sort,
     refs: &[RawOpRef],
 ) -> Result<Operators, TraitRefusal>
+    requires { IfSome index (λ i. IsIndex i.now signature.now) }
     ensures { Answers told result (operators_named signature.now kind sort.now refs.now) }
 {
     let mut named = Sequence::new(alloc);
     for reference in refs {
-        let operator = find_operator(alloc, signature, kind, sort, reference)?;
+        let operator = find_operator_by(alloc, signature, index, kind, sort, reference)?;
         named.push(operator)?;
     }
     Ok(named)
@@ -54,13 +59,70 @@ pub fn find_operator(
 ) -> Result<Operator, TraitRefusal>
     ensures { Answers told result (operator_named signature.now kind sort.now reference.now) }
 {
+    let operator = find_operator_by(alloc, signature, None, kind, sort, reference)?;
+    Ok(operator)
+}
+
+// The same by an index of the signature where there is one.
+fn find_operator_by(
+    alloc: Global,
+    signature: &Signature,
+    index: Option<&Index>,
+    kind: ClauseKind,
+    sort: &Sort,
+    reference: &RawOpRef,
+) -> Result<Operator, TraitRefusal>
+    requires { IfSome index (λ i. IsIndex i.now signature.now) }
+    ensures { Answers told result (operator_named signature.now kind sort.now reference.now) }
+{
     let wanted = wanted_of(alloc, kind, sort, reference)?;
-    match only_operator(signature.operators(), &wanted) {
+    match only_of(alloc, signature, index, &wanted)? {
         Some(operator) => {
             let operator = operator.copy()?;
             Ok(operator)
         }
         None => Err(TraitRefusal::Wrong(reference.form.pos, code_of(kind))),
+    }
+}
+
+// The one operator of a signature that is wanted, by an index of it where there is one.
+fn only_of<'a>(
+    alloc: Global,
+    signature: &'a Signature,
+    index: Option<&'a Index>,
+    wanted: &Wanted,
+) -> Result<Option<&'a Operator>, Memory>
+    requires { IfSome index (λ i. IsIndex i.now signature.now) }
+    ensures { IfOk result (λ found. option_copied found ≡ only_operator (is_wanted wanted.now) signature.now) }
+{
+    match index {
+        Some(index) => {
+            let found = only_indexed(alloc, index, wanted)?;
+            Ok(found)
+        }
+        None => Ok(only_operator(signature.operators(), wanted)),
+    }
+}
+
+// The one operator in an index that is wanted.
+fn only_indexed<'a>(
+    alloc: Global,
+    index: &'a Index,
+    wanted: &Wanted,
+) -> Result<Option<&'a Operator>, Memory>
+    ensures { (fs : List PlainOperator) → IsIndex index.now fs
+        → IfOk result (λ found. option_copied found ≡ only_operator (is_wanted wanted.now) fs) }
+{
+    if let Some(exact) = &wanted.exact {
+        if suits(wanted.kind, &wanted.sort, exact) {
+            return Ok(only_seen(index.themselves.get(exact)));
+        }
+        return Ok(None);
+    }
+    let key = key_of(alloc, &wanted.name, &wanted.sort)?;
+    match wanted.kind {
+        ClauseKind::Generated => Ok(only_seen(index.made.get(&key))),
+        ClauseKind::Partitioned => Ok(only_seen(index.taking.get(&key))),
     }
 }
 
@@ -171,7 +233,7 @@ fn takes(sort: &Sort, operator: &Operator) -> bool
 }
 
 // Whether two operators are equal, as the definitions test it.
-fn is_same(left: &Operator, right: &Operator) -> bool
+pub(crate) fn is_same(left: &Operator, right: &Operator) -> bool
     ensures { result ≡ same_operator left.now right.now }
 {
     same_operator(left, right)

@@ -3,9 +3,13 @@ pub mod Arguments
 pub mod ByDomain
 pub mod Converse
 pub mod Enough
+pub mod Exact
 pub mod Existing
 pub mod Kept
 pub mod Listed
+pub mod MakersTold
+pub mod Marked
+pub mod OnlyReadings
 pub mod Parts
 pub mod ReadAnswers
 pub mod Refusals

@@ -30,7 +30,7 @@ use Rattle.larch_term.proofs.Decided.{tree_Decides}
 use Rattle.larch_sorts.proofs.Telling.{tells_same, tells_at_all}
 use Rattle.larch_sorts.proofs.Unread.{read_first, unread_first}
 
-equal_sides : (p q : Sides) → p.left ≡ q.left → p.right ≡ q.right → p ≡ q
+pub equal_sides : (p q : Sides) → p.left ≡ q.left → p.right ≡ q.right → p ≡ q
 equal_sides p q l r = λ i. record { left = l i; right = r i }
 
 sides_Decides : (p q : Sides) → Decides (same_sides p q) (p ≡ q)

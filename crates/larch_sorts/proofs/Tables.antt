@@ -16,6 +16,7 @@ use Rattle.larch_term.specs.Equality.{same_name, same_tree}
 use Rattle.larch_sorts.specs.Table.{Entries, reading_at, application}
 use Rattle.larch_sorts.specs.Found.{Tells}
 use Rattle.larch_sorts.specs.Tabulate.{TableTells, AllTell}
+use Rattle.larch_sorts.specs.Narrow.{ReadAt}
 use Rattle.larch_sorts.specs.Operators.{with_argument, arguments_at, extended, with_operator, operators_at}
 use Rattle.larch_sorts.specs.Overloads.{AreEnough, IsMade}
 use Rattle.larch_sorts.specs.Signature.{named}
@@ -38,10 +39,6 @@ tells_with_argument P Q (Some Several) (Some Several) h k = (h.0 ∷ k.0, h.1 �
 tells_with_argument P Q (Some (One t)) (Some Several) h k = (t ∷ k.0, t ∷ k.1, (t, k.0, refl, h.0, k.2), (t, k.1, refl, h.0, k.3), λ e. k.4 cc)
 tells_with_argument P Q (Some (One t)) (Some (One ts)) h k = ((t, ts, refl, h.0, k.0), λ us w. w.2 ∙ ap₂ (λ u us. u ∷ us) (h.1 w.0 w.3) (k.1 w.1 w.4))
 
--- arguments that are read at sorts
-abbrev pub ReadAt : List PlainOperator → Variables → List RawTree → List (List ℕ) → List Tree → Type 0
-ReadAt fs vs raws ss ts = AllRead fs vs (raw_forest raws) (forest_of ts) × (sorts_of (forest_of ts) ≡ ss)
-
 none_at_sorts : (fs : List PlainOperator) (vs : Variables) (s : List ℕ) (ss : List (List ℕ)) (ts : List Tree) → ReadAt fs vs [] (s ∷ ss) ts → ⊥
 none_at_sorts fs vs s ss [] (all_read, e) = cc
 none_at_sorts fs vs s ss (t ∷ ts) r = elim r.0 [ ]
@@ -50,16 +47,16 @@ some_at_none : (fs : List PlainOperator) (vs : Variables) (raw : RawTree) (raws 
 some_at_none fs vs raw raws [] r = elim r.0 [ ]
 some_at_none fs vs raw raws (t ∷ ts) (one_read r all, e) = cc
 
-only_empty : (fs : List PlainOperator) (vs : Variables) (ts : List Tree) → ReadAt fs vs [] [] ts → ts ≡ []
+pub only_empty : (fs : List PlainOperator) (vs : Variables) (ts : List Tree) → ReadAt fs vs [] [] ts → ts ≡ []
 only_empty fs vs [] r = refl
 only_empty fs vs (t ∷ ts) r = elim r.0 [ ]
 
-put_together : (fs : List PlainOperator) (vs : Variables) (raw : RawTree) (raws : List RawTree) (s : List ℕ) (ss : List (List ℕ)) (us : List Tree)
+pub put_together : (fs : List PlainOperator) (vs : Variables) (raw : RawTree) (raws : List RawTree) (s : List ℕ) (ss : List (List ℕ)) (us : List Tree)
     → FirstAndRest (λ t. Reads fs vs raw t × (sort_of t ≡ s)) (ReadAt fs vs raws ss) us → ReadAt fs vs (raw ∷ raws) (s ∷ ss) us
 put_together fs vs raw raws s ss us w =
     subst (ReadAt fs vs (raw ∷ raws) (s ∷ ss)) (sym w.2) (one_read w.3.0 w.4.0, ap₂ (λ z zs. z ∷ zs) w.3.1 w.4.1)
 
-taken_apart : (fs : List PlainOperator) (vs : Variables) (raw : RawTree) (raws : List RawTree) (s : List ℕ) (ss : List (List ℕ)) (us : List Tree)
+pub taken_apart : (fs : List PlainOperator) (vs : Variables) (raw : RawTree) (raws : List RawTree) (s : List ℕ) (ss : List (List ℕ)) (us : List Tree)
     → ReadAt fs vs (raw ∷ raws) (s ∷ ss) us → FirstAndRest (λ t. Reads fs vs raw t × (sort_of t ≡ s)) (ReadAt fs vs raws ss) us
 taken_apart fs vs raw raws s ss [] r = elim r.0 [ ]
 taken_apart fs vs raw raws s ss (t ∷ ts) (one_read r all, e) =
@@ -136,7 +133,7 @@ module _ (fs : List PlainOperator) (vs : Variables) (tables : List Entries) (raw
       tells_same (λ t. ⊥ ⊎ (ByOperators fs vs raws gs t × (sort_of t ≡ s))) (λ t. ByOperators fs vs raws gs t × (sort_of t ≡ s))
       (λ t p. elim p [ inl a ↦ absurd a | inr b ↦ b ]) (λ t p. inr p) (operators_at tables gs s) (folded (λ t. ⊥) None gs (λ t p. p))
 
-from_reads : (fs : List PlainOperator) (vs : Variables) (n : List ℕ) (raws : List RawTree) (rs : RawForest) (p : Pos) (t : Tree) → rs ≡ raw_forest raws → variable_sort vs n rs ≡ None
+pub from_reads : (fs : List PlainOperator) (vs : Variables) (n : List ℕ) (raws : List RawTree) (rs : RawForest) (p : Pos) (t : Tree) → rs ≡ raw_forest raws → variable_sort vs n rs ≡ None
     → Reads fs vs (apply n rs p) t → ByOperators fs vs raws (named n (taking_part fs)) t
 from_reads fs vs n raws rs p (var m s) i unbound (a_variable e) = cc
 from_reads fs vs n raws rs p (app f ts) i unbound (an_operator e c d all sorts) =
@@ -146,7 +143,7 @@ from_reads fs vs n raws rs p (app f ts) i unbound (an_operator e c d all sorts) 
       (list_of ts, (subst (λ us. AllRead fs vs (raw_forest raws) us) (sym back) (subst (λ us. AllRead fs vs us ts) i all), ap sorts_of back ∙ sorts), ap (app f) (sym back)),
     )
 
-to_reads : (fs : List PlainOperator) (vs : Variables) (n : List ℕ) (raws : List RawTree) (p : Pos) (t : Tree) → variable_sort vs n (raw_forest raws) ≡ None
+pub to_reads : (fs : List PlainOperator) (vs : Variables) (n : List ℕ) (raws : List RawTree) (p : Pos) (t : Tree) → variable_sort vs n (raw_forest raws) ≡ None
     → ByOperators fs vs raws (named n (taking_part fs)) t → Reads fs vs (apply n (raw_forest raws) p) t
 to_reads fs vs n raws p t unbound b =
     let c = contained_in_filter (λ g. same_name g.name (plain n)) (taking_part fs) b.0 b.1 in
@@ -174,11 +171,11 @@ application_tells fs vs n raws p es tables unbound told made = λ s.
     (λ t q. (all_made fs vs raws tables (named n (taking_part fs)) made.0 t told made.1 (from_reads fs vs n raws (raw_forest raws) p t refl unbound q.0), q.1)) (reading_at es s)
     (subst (λ x. Tells x (λ t. ByOperators fs vs raws made.0 t × (sort_of t ≡ s))) (sym (made.2 s)) (operators_tell fs vs tables raws told s made.0))
 
-only_variable : (fs : List PlainOperator) (vs : Variables) (n z : List ℕ) (rs : RawForest) (p : Pos) (t : Tree) → variable_sort vs n rs ≡ Some z → Reads fs vs (apply n rs p) t → t ≡ var n z
+pub only_variable : (fs : List PlainOperator) (vs : Variables) (n z : List ℕ) (rs : RawForest) (p : Pos) (t : Tree) → variable_sort vs n rs ≡ Some z → Reads fs vs (apply n rs p) t → t ≡ var n z
 only_variable fs vs n z rs p (var m s) some (a_variable e) = ap (var n) (let q : Some s ≡ Some z = sym e ∙ some in cc)
 only_variable fs vs n z rs p (app f ts) some (an_operator e c d all sorts) = absurd (let q : None ≡ Some z = sym e ∙ some in cc)
 
-variable_at : (fs : List PlainOperator) (vs : Variables) (n z : List ℕ) (rs : RawForest) (p : Pos) (s : List ℕ) (b : Bool) → variable_sort vs n rs ≡ Some z → bytes_eq z s ≡ b
+pub variable_at : (fs : List PlainOperator) (vs : Variables) (n z : List ℕ) (rs : RawForest) (p : Pos) (s : List ℕ) (b : Bool) → variable_sort vs n rs ≡ Some z → bytes_eq z s ≡ b
     → Tells (cond b (Some (One (var n z))) None) (λ t. Reads fs vs (apply n rs p) t × (sort_of t ≡ s))
 variable_at fs vs n z rs p s true some e = ((a_variable some, (bytes_eq-Decides z s).0 e), λ t q. only_variable fs vs n z rs p t some q.0)
 variable_at fs vs n z rs p s false some e = λ t q.
@@ -191,7 +188,7 @@ pub variable_tells : (fs : List PlainOperator) (vs : Variables) (n z : List ℕ)
 variable_tells fs vs n z rs p es some is = λ s.
     subst (λ x. Tells x (λ t. Reads fs vs (apply n rs p) t × (sort_of t ≡ s))) (sym (is s)) (variable_at fs vs n z rs p s (bytes_eq z s) some refl)
 
-inside : (fs : List PlainOperator) (vs : Variables) (raw : RawTree) (w : RawWord) (p : Pos) (t : Tree) → Reads fs vs (qualified raw w p) t → Reads fs vs raw t × (sort_of t ≡ w.name)
+pub inside : (fs : List PlainOperator) (vs : Variables) (raw : RawTree) (w : RawWord) (p : Pos) (t : Tree) → Reads fs vs (qualified raw w p) t → Reads fs vs raw t × (sort_of t ≡ w.name)
 inside fs vs raw w p t (of_sort r e) = (r, e)
 
 narrowed_at : (fs : List PlainOperator) (vs : Variables) (raw : RawTree) (w : RawWord) (p : Pos) (old : Entries) (s : List ℕ) (b : Bool) → bytes_eq w.name s ≡ b → TableTells old (Reads fs vs raw)

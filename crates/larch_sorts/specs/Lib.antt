@@ -3,6 +3,9 @@ pub mod Domains
 pub mod Faults
 pub mod Found
 pub mod Laws
+pub mod Makers
+pub mod Marks
+pub mod Narrow
 pub mod Operators
 pub mod Overloads
 pub mod Parts

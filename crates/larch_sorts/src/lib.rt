@@ -7,6 +7,10 @@ mod domains;
 mod found;
 pub mod laws;
 mod lone;
+mod makers;
+mod marks;
+mod narrow;
+mod numbers;
 mod operators;
 mod overloads;
 mod place;
@@ -19,13 +23,12 @@ mod sides;
 mod signature;
 mod table;
 mod tabulate;
+mod told;
 mod unknown;
+mod words;
 
 pub use lone::read_lone;
 pub use read::read_in;
 pub use refusal::ReadRefusal;
 pub use scope::Scope;
 pub use signature::Signature;
-
-#[cfg(test)]
-mod tests;

@@ -1,10 +1,14 @@
-ghost use Rattle.std.specs.Prelude.{◌≡◌, IfOk, IfSome};
+ghost use Rattle.std.specs.Prelude.{◌≡◌, ◌∷◌, [], IfOk, IfSome};
+ghost use Rattle.std.specs.Option.{option_copied};
 ghost use Rattle.larch_sorts.specs.Domains.{IsByDomain};
+ghost use Rattle.larch_sorts.specs.Makers.{AreMakers, maker_among};
 ghost use Rattle.larch_sorts.specs.Overloads.{IsOfConstants};
 ghost use Rattle.larch_sorts.specs.Places.{IsPlaced};
 
-use crate::found::Table;
+use crate::found::{Found, Table};
+use crate::makers::{Makers, maker_among};
 use crate::operators::by_operators;
+use crate::place::Place;
 use crate::places::Places;
 use larch_base::Memory;
 use larch_term::{Operator, Operators};
@@ -20,12 +24,14 @@ pub(crate) struct Overloads {
     operators: Operators,
     constants: Table,
     places: Option<Places>,
+    makers: Option<Makers>,
 }
 
 impl Model for Overloads {
     ghost use Rattle.std.specs.Prelude.{List, IfSome};
     ghost use Rattle.larch_term.specs.Operator.{PlainOperator};
     ghost use Rattle.larch_sorts.specs.Domains.{IsByDomain};
+    ghost use Rattle.larch_sorts.specs.Makers.{AreMakers};
     ghost use Rattle.larch_sorts.specs.Overloads.{IsOfConstants};
     ghost use Rattle.larch_sorts.specs.Places.{IsPlaced};
 
@@ -35,7 +41,8 @@ impl Model for Overloads {
 
     ghost invariant = { λ overloads. IsOfConstants overloads.constants.found.value.entries overloads.operators
         × IfSome overloads.places (λ places. IsPlaced places.kept.entries overloads.operators
-        × IsByDomain places.domains.kept.entries overloads.operators) };
+        × IsByDomain places.domains.kept.entries overloads.operators)
+        × IfSome overloads.makers (λ makers. AreMakers makers.kept.entries overloads.operators) };
 }
 
 impl Overloads {
@@ -45,10 +52,12 @@ impl Overloads {
     {
         let constants = by_operators(alloc, &[], operators.as_slice())?;
         let places = places_of(alloc, operators.as_slice())?;
+        let makers = makers_of(alloc, operators.as_slice())?;
         Ok(Overloads {
             operators,
             constants,
             places,
+            makers,
         })
     }
 
@@ -73,6 +82,32 @@ impl Overloads {
     {
         self.places.as_ref()
     }
+
+    // What makes the sort of a place.
+    pub(crate) fn maker(&self, place: &Place) -> Result<Option<Found<Operator>>, Memory>
+        ensures { IfOk result (λ found. found ≡ maker_among place.now self.now) }
+    {
+        match &self.makers {
+            None => {
+                let found = maker_among(self.operators.as_slice(), place)?;
+                Ok(found)
+            }
+            Some(makers) => {
+                let found = makers.at(place)?;
+                Ok(found)
+            }
+        }
+    }
+
+    // The operator, if there is only one.
+    pub(crate) fn only(&self) -> Option<&Operator>
+        ensures { IfSome (option_copied result) (λ f. self.now ≡ f ∷ []) }
+    {
+        match self.operators.as_slice() {
+            [operator] => Some(operator),
+            _ => None,
+        }
+    }
 }
 
 // Operators at their places, where there are many.
@@ -85,4 +120,15 @@ fn places_of(alloc: Global, operators: &[Operator]) -> Result<Option<Places>, Me
     }
     let places = Places::of(alloc, operators)?;
     Ok(Some(places))
+}
+
+// What makes each sort among operators, where there are many.
+fn makers_of(alloc: Global, operators: &[Operator]) -> Result<Option<Makers>, Memory>
+    ensures { IfOk result (λ found. IfSome found (λ makers. AreMakers makers.kept.entries operators.now)) }
+{
+    if operators.len() <= FEW {
+        return Ok(None);
+    }
+    let makers = Makers::of(alloc, operators)?;
+    Ok(Some(makers))
 }

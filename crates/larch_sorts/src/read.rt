@@ -19,6 +19,7 @@ use crate::scope::Scope;
 use crate::sides::{formula, sides};
 use crate::signature::Signature;
 use crate::tabulate::{equation_head, table_of};
+use crate::told::{met_sides, only_sides};
 use crate::unknown::unknown_sort;
 use larch_base::Memory;
 use larch_raw::RawEquation;
@@ -47,7 +48,7 @@ pub fn read_in(
     statement(alloc, signature, scope, raw)
 }
 
-// The same, by the sides that were found.
+// The same, by the only sides where the head of one tells their sort, else by the sorts that both have.
 fn statement(
     alloc: Global,
     signature: &Signature,
@@ -59,6 +60,51 @@ fn statement(
     if let Some(pos) = unknown_sort(signature, raw) {
         return Err(ReadRefusal::UnknownSort(pos));
     }
+    match only_sides(alloc, signature, scope, raw)? {
+        Some(sides) => {
+            let statement = equation(alloc, &sides)?;
+            Ok(statement)
+        }
+        None => {
+            let statement = by_meeting(alloc, signature, scope, raw)?;
+            Ok(statement)
+        }
+    }
+}
+
+// The same by the only sort that both sides have, or that they have several, where it can be told, else by tables.
+fn by_meeting(
+    alloc: Global,
+    signature: &Signature,
+    scope: &Scope,
+    raw: &RawEquation,
+) -> Result<Statement, ReadRefusal>
+    requires { unknown_sort signature.now raw.now ≡ None }
+    ensures { Answers told result (read_equation signature.now scope.now raw.now) }
+{
+    let Some(met) = met_sides(alloc, signature, scope, raw)? else {
+        let statement = by_tables(alloc, signature, scope, raw)?;
+        return Ok(statement);
+    };
+    match met {
+        Found::Several => Err(ReadRefusal::Ambiguous(raw.first)),
+        Found::One(sides) => {
+            let statement = equation(alloc, &sides)?;
+            Ok(statement)
+        }
+    }
+}
+
+// The same by the tables of the sides, where all sorts are known.
+fn by_tables(
+    alloc: Global,
+    signature: &Signature,
+    scope: &Scope,
+    raw: &RawEquation,
+) -> Result<Statement, ReadRefusal>
+    requires { unknown_sort signature.now raw.now ≡ None }
+    ensures { Answers told result (read_equation signature.now scope.now raw.now) }
+{
     match sides_of(alloc, signature, scope, raw)? {
         None => Err(ReadRefusal::NoReading(equation_head(raw))),
         Some(Found::Several) => Err(ReadRefusal::Ambiguous(raw.first)),

@@ -140,7 +140,7 @@ pub(crate) fn formula(alloc: Global, left: &Table) -> Result<Option<Found<Sides>
 }
 
 // The built-in constant true.
-fn truth(alloc: Global, sort: &Sort) -> Result<Reading, Memory>
+pub(crate) fn truth(alloc: Global, sort: &Sort) -> Result<Reading, Memory>
     ensures { IfOk result (λ reading. reading ≡ truth) }
 {
     let operator = BuiltIn::True.operator(alloc, sort)?;

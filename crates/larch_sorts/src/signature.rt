@@ -1,10 +1,13 @@
-ghost use Rattle.std.specs.Prelude.{◌≡◌, ℕ, List, ◌++◌, ◌∷◌, [], IfOk, OnOk};
+ghost use Rattle.std.specs.Prelude.{◌≡◌, ℕ, List, ◌++◌, ◌∷◌, [], IfOk, IfSome, OnOk, bytes_eq, length, map};
+ghost use Rattle.std.specs.Map.{lookup};
 ghost use Rattle.std.specs.Option.{option_copied};
 ghost use Rattle.larch_sorts.specs.Signature.{kept, kept_under};
 ghost use Rattle.larch_operators.specs.Sorts.{exists_sort};
+ghost use Rattle.larch_sorts.specs.Marks.{AreNumbers, AreWords, numbered};
 ghost use Rattle.larch_sorts.specs.Signature.{taking_part};
 ghost use Rattle.larch_sorts.specs.Signature.{named};
 
+use crate::numbers::Numbers;
 use crate::overloads::Overloads;
 use indexmap::IndexMap;
 use larch_base::{Memory, Name, Sequence};
@@ -13,17 +16,22 @@ use larch_term::{Operator, Operators, Sort, copy_operators};
 use std::alloc::Global;
 use std::marker::Model;
 
+// Beside so many sorts, and no more, the operators of names aren't kept as numbers.
+const FEW: usize = 64;
+
 /// Operators that terms are read over. Contracts see them as a list; the built-in operators take part by themselves.
 #[derive(Drop)]
 pub struct Signature {
     operators: Operators,
     sorts: SortSet,
     index: IndexMap<Name, Overloads>,
+    numbers: Option<Numbers>,
 }
 
 impl Model for Signature {
-    ghost use Rattle.std.specs.Prelude.{List, ◌≡◌};
+    ghost use Rattle.std.specs.Prelude.{List, IfSome, ◌≡◌};
     ghost use Rattle.larch_term.specs.Operator.{PlainOperator};
+    ghost use Rattle.larch_sorts.specs.Marks.{AreNumbers};
     ghost use Rattle.larch_sorts.specs.Signature.{IsIndex};
     ghost use Rattle.larch_operators.specs.Sorts.{existing_sorts};
     ghost use Rattle.larch_sorts.specs.Signature.{taking_part};
@@ -33,7 +41,8 @@ impl Model for Signature {
     ghost view = { λ signature. signature.operators };
 
     ghost invariant = { λ signature. (signature.sorts ≡ existing_sorts signature.operators)
-        × IsIndex signature.index.entries (taking_part signature.operators) };
+        × IsIndex signature.index.entries (taking_part signature.operators)
+        × IfSome signature.numbers (λ numbers. AreNumbers numbers (taking_part signature.operators)) };
 }
 
 impl Signature {
@@ -45,10 +54,12 @@ impl Signature {
         let mut all = copy_operators(alloc, operators.as_slice())?;
         push_built_ins(alloc, &mut all, sorts.as_slice())?;
         let index = index_of(alloc, all.as_slice())?;
+        let numbers = numbers_of(alloc, sorts.as_slice(), &index)?;
         Ok(Signature {
             operators,
             sorts,
             index,
+            numbers,
         })
     }
 
@@ -80,6 +91,34 @@ impl Signature {
     {
         self.index.get(name)
     }
+
+    // The operators that take part as numbers, where there are many sorts.
+    pub(crate) fn numbers(&self) -> Option<&Numbers>
+        ensures { IfSome result (λ numbers. AreNumbers numbers.now (taking_part self.now)) }
+    {
+        match &self.numbers {
+            Some(numbers) => Some(numbers),
+            None => None,
+        }
+    }
+}
+
+// The operators of each name as numbers, where there are many sorts.
+fn numbers_of(
+    alloc: Global,
+    sorts: &[Sort],
+    index: &IndexMap<Name, Overloads>,
+) -> Result<Option<Numbers>, Memory>
+    ensures { IfOk result (λ found. IfSome found (λ numbers. ((n : List ℕ)
+        → IfSome (lookup (bytes_eq n) numbers.names.entries)
+        (λ gs. gs ≡ map (numbered numbers.sorts.keys) (kept_under index.now.entries n)))
+        × AreWords (length numbers.sorts.keys) numbers.names.entries numbers.words.entries)) }
+{
+    if sorts.len() <= FEW {
+        return Ok(None);
+    }
+    let numbers = Numbers::of(alloc, sorts, index)?;
+    Ok(Some(numbers))
 }
 
 // Each operator under its name, ready to be read.

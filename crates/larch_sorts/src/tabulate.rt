@@ -101,7 +101,11 @@ fn tables_of(
 }
 
 // The sort of the variable that a name with these arguments means.
-fn variable_sort<'a>(scope: &'a Scope, name: &Name, arguments: &RawTerms) -> Option<&'a Sort>
+pub(crate) fn variable_sort<'a>(
+    scope: &'a Scope,
+    name: &Name,
+    arguments: &RawTerms,
+) -> Option<&'a Sort>
     ensures { option_copied result ≡ variable_sort scope.now name.now (raw_forest arguments.now) }
 {
     if !arguments.as_slice().is_empty() {

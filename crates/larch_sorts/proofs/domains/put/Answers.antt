@@ -1,4 +1,4 @@
-use Rattle.std.proofs.Common.{◌≡◌, ◌∙◌, ◌∷◌, ◌++◌, [], ap, sym}
+use Rattle.std.proofs.Common.{◌∙◌, ◌∷◌, ◌++◌, [], ap, sym}
 use Rattle.larch_sorts.specs.Signature.{kept}
 use Rattle.larch_sorts.proofs.ByDomain.{put_behind}
 use Rattle.larch_sorts.proofs.domains.put.Goals as goal

@@ -1,0 +1,186 @@
+ghost use Rattle.std.specs.Prelude.{◌≡◌, IfOk, IfSome, Some, None, cond, bytes_eq};
+ghost use Rattle.std.specs.Option.{option_copied};
+ghost use Rattle.larch_term.specs.Tree.{var};
+ghost use Rattle.larch_sorts.specs.Makers.{maker_among, making};
+ghost use Rattle.larch_sorts.specs.Narrow.{ReadAt, ReadsAt, application_of, the_one};
+ghost use Rattle.larch_sorts.specs.Readings.{IsOnly};
+ghost use Rattle.larch_sorts.specs.Signature.{named, taking_part};
+
+use crate::found::Found;
+use crate::place::Place;
+use crate::reading::Reading;
+use crate::refusal::ReadRefusal;
+use crate::scope::Scope;
+use crate::signature::Signature;
+use crate::table::at;
+use crate::tabulate::{table_of, variable_sort};
+use larch_base::{Memory, Name, Sequence};
+use larch_raw::{RawNode, RawTerm, RawTerms};
+use larch_term::{Operator, Sort};
+use std::alloc::Global;
+
+// What a term reads as at a sort, if that is one thing. It goes down where one operator makes the sort, and asks the
+// table of a term where several do.
+#[cycle(narrow)]
+#[tactic(auto, using(larch_raw::specs::RawTree::raw_nodes_all_is_sum))]
+pub(crate) fn only_at(
+    alloc: Global,
+    signature: &Signature,
+    scope: &Scope,
+    raw: &RawTerm,
+    sort: &Sort,
+) -> Result<Option<Reading>, Memory>
+    ensures { IfOk result (λ found. IfSome found
+        (IsOnly (ReadsAt signature.now scope.now raw.now sort.now))) }
+{
+    match raw.node() {
+        RawNode::Apply(name, arguments, _) => {
+            if let Some(own) = variable_sort(scope, name, arguments) {
+                let found = variable_at(alloc, name, own, sort)?;
+                return Ok(found);
+            }
+            match maker_of(signature, name, arguments.as_slice().len(), sort)? {
+                None => Ok(None),
+                Some(Found::Several) => {
+                    let found = only_in_table(alloc, signature, scope, raw, sort)?;
+                    Ok(found)
+                }
+                Some(Found::One(operator)) => {
+                    let found = only_arguments(
+                        alloc,
+                        signature,
+                        scope,
+                        arguments,
+                        operator.domain(),
+                    )?;
+                    let found = applied(alloc, operator, found)?;
+                    Ok(found)
+                }
+            }
+        }
+        RawNode::Qualified(term, own, _) => {
+            if own.name != *sort {
+                return Ok(None);
+            }
+            let found = only_at(alloc, signature, scope, term, sort)?;
+            Ok(found)
+        }
+    }
+}
+
+// What arguments read as at sorts, if each is one thing.
+#[cycle(narrow)]
+#[tactic(auto, using(larch_raw::specs::RawTree::raw_nodes_all_is_sum))]
+fn only_arguments(
+    alloc: Global,
+    signature: &Signature,
+    scope: &Scope,
+    arguments: &RawTerms,
+    sorts: &[Sort],
+) -> Result<Option<Sequence<Reading>>, Memory>
+    ensures { IfOk result (λ found. IfSome found
+        (IsOnly (ReadAt signature.now scope.now arguments.now sorts.now))) }
+{
+    let arguments = arguments.as_slice();
+    if arguments.len() != sorts.len() {
+        return Ok(None);
+    }
+    let mut readings = Sequence::new(alloc);
+    for i in 0..sorts.len() {
+        let Some(reading) = only_at(alloc, signature, scope, &arguments[i], &sorts[i])? else {
+            return Ok(None);
+        };
+        readings.push(reading)?;
+    }
+    Ok(Some(readings))
+}
+
+// What a variable reads as at a sort.
+fn variable_at(
+    alloc: Global,
+    name: &Name,
+    own: &Sort,
+    sort: &Sort,
+) -> Result<Option<Reading>, Memory>
+    ensures { IfOk result (λ found. found ≡ cond (bytes_eq own.now sort.now) (Some (var name.now own.now)) None) }
+{
+    if *own != *sort {
+        return Ok(None);
+    }
+    let copied = own.copy()?;
+    let name = name.copy()?;
+    let reading = Reading::var(alloc, name, copied)?;
+    Ok(Some(reading))
+}
+
+// An operator with the arguments that were found.
+fn applied(
+    alloc: Global,
+    operator: Operator,
+    found: Option<Sequence<Reading>>,
+) -> Result<Option<Reading>, Memory>
+    ensures { IfOk result (λ reading. reading ≡ application_of operator found) }
+{
+    let Some(arguments) = found else {
+        return Ok(None);
+    };
+    let reading = Reading::app(alloc, operator, arguments.into_vec())?;
+    Ok(Some(reading))
+}
+
+// The operator of a name that makes a sort of so many arguments, or that there are several.
+fn maker_of(
+    signature: &Signature,
+    name: &Name,
+    arity: usize,
+    sort: &Sort,
+) -> Result<Option<Found<Operator>>, Memory>
+    ensures { IfOk result (λ found. found
+        ≡ maker_among (making arity sort.now) (named name.now (taking_part signature.now))) }
+{
+    let Some(overloads) = signature.named(name) else {
+        return Ok(None);
+    };
+    let sort = sort.copy()?;
+    let place = Place {
+        arity,
+        position: 0,
+        sort,
+    };
+    let found = overloads.maker(&place)?;
+    Ok(found)
+}
+
+// What the table of a term has at a sort, if that is one thing.
+fn only_in_table(
+    alloc: Global,
+    signature: &Signature,
+    scope: &Scope,
+    raw: &RawTerm,
+    sort: &Sort,
+) -> Result<Option<Reading>, Memory>
+    ensures { IfOk result (λ found. IfSome found
+        (IsOnly (ReadsAt signature.now scope.now raw.now sort.now))) }
+{
+    match table_of(alloc, signature, scope, raw) {
+        Err(ReadRefusal::Memory) => Err(Memory),
+        Err(_) => Ok(None),
+        Ok(table) => {
+            let found = the_one(at(&table, sort))?;
+            Ok(found)
+        }
+    }
+}
+
+// The one thing that was found, if there is one.
+fn the_one(found: Option<&Found<Reading>>) -> Result<Option<Reading>, Memory>
+    ensures { IfOk result (λ one. one ≡ the_one (option_copied found.entry)) }
+{
+    match found {
+        Some(Found::One(reading)) => {
+            let reading = reading.copy()?;
+            Ok(Some(reading))
+        }
+        _ => Ok(None),
+    }
+}
