@@ -10,6 +10,3 @@ mod marked;
 
 pub use known::new_among;
 pub use marked::MarkedStatements;
-
-#[cfg(test)]
-mod tests;

@@ -12,10 +12,19 @@ use std::alloc::Global;
 use std::marker::Model;
 
 /// Statements in the order in which they came, each once, with the mark that says whether a statement is only assumed.
-#[derive(Drop)]
 pub struct MarkedStatements {
     entries: IndexMap<StatementKey, bool>,
     nodes: u64,
+}
+
+// By a call, so that a proof takes the statements apart in one place alone.
+impl Drop for MarkedStatements {
+    fn drop(self) {
+        let MarkedStatements {
+            entries: _entries,
+            nodes: _nodes,
+        } = self;
+    }
 }
 
 impl Model for MarkedStatements {
@@ -92,7 +101,10 @@ impl MarkedStatements {
     pub fn into_statements(self, alloc: Global) -> Result<Statements, Memory>
         ensures { IfOk result (λ statements. statements ≡ statements_in self) }
     {
-        let MarkedStatements { entries, .. } = self;
+        let MarkedStatements {
+            entries,
+            nodes: _nodes,
+        } = self;
         let statements = statements_of(alloc, entries)?;
         Ok(statements)
     }

@@ -12,6 +12,3 @@ mod unifier;
 pub use refusal::PairRefusal;
 pub use replacing::substitute_within;
 pub use unifier::{Entries, substitution_of, unify, variables_of_both};
-
-#[cfg(test)]
-mod tests;

@@ -10,6 +10,3 @@ mod stated;
 pub use event::{EquatedList, Happened, KnownBox};
 pub use past::Past;
 pub use stated::{Equated, Stated, copy_stated, intern_statement, same_equated, same_stated};
-
-#[cfg(test)]
-mod tests;

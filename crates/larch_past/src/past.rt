@@ -13,12 +13,23 @@ use crate::stated::Stated;
 /// What the lines before leave: what has happened, the oldest first; for each line the place of its event there; for
 /// each open box the number of events when it had been opened, the outermost first; and the numbers of the theory's
 /// operators in the pool. What stood in a closed box is gone, so a place may be that of an event of another line.
-#[derive(Drop)]
 pub struct Past {
     pub own: Vec<u32>,
     pub events: Vec<Happened>,
     pub places: Vec<usize>,
     pub levels: Vec<usize>,
+}
+
+// By a call, so that a proof takes the past apart in one place alone.
+impl Drop for Past {
+    fn drop(self) {
+        let Past {
+            own: _own,
+            events: _events,
+            places: _places,
+            levels: _levels,
+        } = self;
+    }
 }
 
 impl Past {

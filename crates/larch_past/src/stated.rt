@@ -15,11 +15,21 @@ pub struct Equated {
 }
 
 /// A statement by numbers of a pool.
-#[derive(Drop)]
 pub enum Stated {
     Equal(Equated),
     Generates(Sort, Operators),
     Partitions(Sort, Operators),
+}
+
+// By a call, so that a proof takes a statement apart in one place alone.
+impl Drop for Stated {
+    fn drop(self) {
+        match self {
+            Stated::Equal(_it) => {}
+            Stated::Generates(_first, _second) => {}
+            Stated::Partitions(_first, _second) => {}
+        }
+    }
 }
 
 // The same statement once more.

@@ -19,6 +19,3 @@ pub use placing::{at, replace_at};
 pub use pool::Pool;
 pub use substitution::{Binding, are_bindings, is_variable, substitute};
 pub use symbol::{SortList, Symbol, SymbolName};
-
-#[cfg(test)]
-mod tests;

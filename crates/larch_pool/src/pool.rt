@@ -17,11 +17,21 @@ use std::marker::Model;
 /// Terms, each a number: a node is kept once, whatever terms it stands in, so that equal terms have one number.
 /// Contracts see a pool as its operators and the trees of its nodes, in the order of their numbers. A pool only
 /// grows. Numbers have 32 bits: more of them counts as out of memory.
-#[derive(Drop)]
 pub struct Pool {
     symbols: IndexSet<Symbol>,
     nodes: IndexSet<Node>,
     marks: Vec<Marks>,
+}
+
+// By a call, so that a proof takes a pool apart in one place alone.
+impl Drop for Pool {
+    fn drop(self) {
+        let Pool {
+            symbols: _symbols,
+            nodes: _nodes,
+            marks: _marks,
+        } = self;
+    }
 }
 
 impl Model for Pool {

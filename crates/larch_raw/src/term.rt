@@ -8,9 +8,16 @@ use std::marker::Model;
 
 /// A term as it is written. Contracts see it as a plain tree.
 #[cycle(raw)]
-#[derive(Drop)]
 pub struct RawTerm {
     node: RawNode,
+}
+
+// By a call, so that a proof takes a term apart in one place alone.
+impl Drop for RawTerm {
+    #[cycle(drops)]
+    fn drop(self) {
+        let RawTerm { node: _node } = self;
+    }
 }
 
 /// What a term is at its root.

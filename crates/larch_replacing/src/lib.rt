@@ -12,6 +12,3 @@ mod replacing;
 pub use new_names::NewNames;
 pub use replacements::Replacements;
 pub use replacing::replacements_of;
-
-#[cfg(test)]
-mod tests;

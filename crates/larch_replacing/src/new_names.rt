@@ -10,10 +10,19 @@ use std::alloc::Global;
 use std::marker::Model;
 
 /// Replacements, with the new operators of a trait, each of which is made once. Contracts see the replacements.
-#[derive(Drop)]
 pub struct NewNames {
     by: Replacements,
     operators: IndexMap<Operator, Operator>,
+}
+
+// By a call, so that a proof takes new names apart in one place alone.
+impl Drop for NewNames {
+    fn drop(self) {
+        let NewNames {
+            by: _by,
+            operators: _operators,
+        } = self;
+    }
 }
 
 impl Model for NewNames {

@@ -14,11 +14,21 @@ use std::marker::Model;
 
 /// What old names are looked for among: the operators of a trait, their sorts, and the truth values. Contracts see the
 /// operators of the trait.
-#[derive(Drop)]
 pub(crate) struct OldNames<'a> {
     operators: &'a [Operator],
     truth_values: Operators,
     sorts: SortSet,
+}
+
+// By a call, so that a proof takes old names apart in one place alone.
+impl Drop for OldNames<'_> {
+    fn drop(self) {
+        let OldNames {
+            operators: _operators,
+            truth_values: _truth_values,
+            sorts: _sorts,
+        } = self;
+    }
 }
 
 impl<'a> Model for OldNames<'a> {

@@ -13,11 +13,21 @@ use std::marker::Model;
 
 /// What a reference puts in place of the names of its trait: other sorts, and other names for operators, all at once.
 /// Contracts see both lists, in the order of replacement.
-#[derive(Drop)]
 pub struct Replacements {
     sorts: IndexMap<Sort, Sort>,
     operators: Sequence<(Operator, Name)>,
     names: IndexMap<Operator, Name>,
+}
+
+// By a call, so that a proof takes replacements apart in one place alone.
+impl Drop for Replacements {
+    fn drop(self) {
+        let Replacements {
+            sorts: _sorts,
+            operators: _operators,
+            names: _names,
+        } = self;
+    }
 }
 
 impl Model for Replacements {

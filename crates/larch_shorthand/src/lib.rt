@@ -14,6 +14,3 @@ mod union_;
 pub use expansion::Expansion;
 pub use refusal::ExpandRefusal;
 pub use shorthand::{expand, expand_operators};
-
-#[cfg(test)]
-mod tests;

@@ -14,12 +14,23 @@ use larch_term::{Operator, Operators, Sort, Sorts, Statement, Statements, Term, 
 use std::alloc::Global;
 
 /// What belongs to a field of a tuple: its operators, the variable for its value and that for another value.
-#[derive(Drop)]
 pub(crate) struct Component {
     getter: Operator,
     setter: Operator,
     value: Term,
     other: Term,
+}
+
+// By a call, so that a proof takes a component apart in one place alone.
+impl Drop for Component {
+    fn drop(self) {
+        let Component {
+            getter: _getter,
+            setter: _setter,
+            value: _value,
+            other: _other,
+        } = self;
+    }
 }
 
 // What a tuple stands for.

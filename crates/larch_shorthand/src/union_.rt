@@ -19,12 +19,23 @@ use larch_term::{Operator, Operators, Sort, Statement, Statements, Term, copy};
 use std::alloc::Global;
 
 /// What belongs to a field of a union: its operators, its tag, and the variable for its value.
-#[derive(Drop)]
 pub(crate) struct Case {
     injection: Operator,
     getter: Operator,
     tag: Operator,
     value: Term,
+}
+
+// By a call, so that a proof takes a case apart in one place alone.
+impl Drop for Case {
+    fn drop(self) {
+        let Case {
+            injection: _injection,
+            getter: _getter,
+            tag: _tag,
+            value: _value,
+        } = self;
+    }
 }
 
 // What a union stands for.

@@ -14,6 +14,3 @@ mod table;
 pub use refusal::StoreRefusal;
 pub use shared::{Shared, SharedList, SharedNode};
 pub use store::Store;
-
-#[cfg(test)]
-mod tests;

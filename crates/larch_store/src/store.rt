@@ -21,10 +21,19 @@ use std::marker::Model;
 
 /// Terms whose subterms are shared: each different node stands in a store once, under a number, so that equal terms
 /// are one shared term. Contracts see a store as its shared terms, in the order of their numbers. A store only grows.
-#[derive(Drop)]
 pub struct Store {
     keys: IndexSet<Key>,
     shared: Vec<Shared>,
+}
+
+// By a call, so that a proof takes a store apart in one place alone.
+impl Drop for Store {
+    fn drop(self) {
+        let Store {
+            keys: _keys,
+            shared: _shared,
+        } = self;
+    }
 }
 
 impl Model for Store {

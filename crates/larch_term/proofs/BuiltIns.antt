@@ -1,15 +1,14 @@
 -- Built-in operators and the sorts that they are at.
-use Rattle.std.proofs.Common.{◌≡◌, ℕ, ◌-◌, ◌<◌, ◌||◌, Bool, true, false, IsTrue, ◌↔◌, List, [], ◌∷◌, length, Contains, get_or, refl, sym, ◌∙◌, ap, subst, arith}
+use Rattle.std.proofs.Common.{◌≡◌, ℕ, ◌-◌, ◌<◌, ◌||◌, Bool, true, false, IsTrue, ◌↔◌, Some, List, [], ◌∷◌, length, get_or, refl, sym, ◌∙◌, ap, arith}
 use Rattle.std.specs.Bool.{Decides}
 use Rattle.std.specs.List.{list_any}
-use Rattle.std.proofs.lemmas.List.Elements.{Contains-get_or}
 use Rattle.std.proofs.lemmas.List.Folds.{list_any_at}
 use Rattle.std.proofs.lemmas.Bool.Decides.{same_from_decides}
-use Rattle.larch_term.specs.Operator.{PlainOperator}
-use Rattle.larch_term.specs.BuiltIn.{built_in, IsBuiltIn, IsBuiltInAs, built_ins, is_built_in, is_built_in_as}
+use Rattle.larch_term.specs.Operator.{PlainOperator, plain}
+use Rattle.larch_term.specs.BuiltInNames.{built_in_named}
+use Rattle.larch_term.specs.BuiltIn.{built_in, built_in_name, IsBuiltIn, IsBuiltInAs, built_ins, is_built_in, is_built_in_as}
 use Rattle.larch_term.specs.declared.built_in.BuiltIn.{BuiltIn}
 use Rattle.larch_term.specs.declared.built_in.BuiltIn.TheVariants.{True, False, Not, And, Or, Implies, Iff, Equal, Unequal, If}
-use Rattle.larch_term.specs.declared.built_in.TheConstants.{ALL}
 use Rattle.larch_term.proofs.Decided.{operator_Decides}
 
 -- the last sort of the domain
@@ -29,8 +28,23 @@ place_of_each Equal = (7, omega arith, refl)
 place_of_each Unequal = (8, omega arith, refl)
 place_of_each If = (9, omega arith, refl)
 
-pub all_is_all : (b : BuiltIn) → Contains ALL b
-all_is_all b = let p = place_of_each b in subst (Contains ALL) p.2 (Contains-get_or ALL p.0 If p.1)
+named_built_in : (b : BuiltIn) → built_in_named (built_in_name b) ≡ Some b
+named_built_in True = refl
+named_built_in False = refl
+named_built_in Not = refl
+named_built_in And = refl
+named_built_in Or = refl
+named_built_in Implies = refl
+named_built_in Iff = refl
+named_built_in Equal = refl
+named_built_in Unequal = refl
+named_built_in If = refl
+
+-- a built-in operator is found by its name
+pub is_named : (b : BuiltIn) (f : PlainOperator) (n : List ℕ) → IsBuiltInAs b f → plain n ≡ f.name → built_in_named n ≡ Some b
+is_named b f n h e =
+    let same : n ≡ built_in_name b = cc (h.1, e) in
+    ap built_in_named same ∙ named_built_in b
 
 built_in_at_last : (b : BuiltIn) (s : List ℕ) → built_in b s ≡ built_in b (last_sort (built_in b s))
 built_in_at_last True s = refl

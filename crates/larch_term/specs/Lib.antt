@@ -1,4 +1,5 @@
 pub mod BuiltIn
+pub mod BuiltInNames
 pub mod Equality
 pub mod Operator
 pub mod OperatorKey

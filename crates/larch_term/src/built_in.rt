@@ -1,6 +1,7 @@
 ghost use Rattle.std.specs.Prelude.{◌≡◌, ◌↔◌, ◌-◌, ◌∷◌, [], IsTrue, IfOk, IfSome, IfNone, length, map};
 ghost use Rattle.std.specs.List.{slice_index_or};
 ghost use Rattle.larch_term.specs.BuiltIn.{IsBuiltIn, IsBuiltInAs, built_in_domain, built_in_range, bool_sort};
+ghost use Rattle.larch_term.specs.BuiltInNames.{built_in_named, built_in_between, built_in_at_each_sort};
 
 use crate::operator::{Operator, Sort, Sorts};
 use larch_base::{Memory, Name, Sequence};
@@ -20,19 +21,6 @@ pub enum BuiltIn {
     Unequal,
     If,
 }
-
-const ALL: [BuiltIn; 10] = [
-    BuiltIn::True,
-    BuiltIn::False,
-    BuiltIn::Not,
-    BuiltIn::And,
-    BuiltIn::Or,
-    BuiltIn::Implies,
-    BuiltIn::Iff,
-    BuiltIn::Equal,
-    BuiltIn::Unequal,
-    BuiltIn::If,
-];
 
 impl BuiltIn {
     ghost use Rattle.std.specs.Prelude.{◌≡◌, IfOk};
@@ -112,16 +100,65 @@ impl BuiltIn {
 }
 
 /// Which built-in operator it is, if it is one. It takes no memory.
+#[tactic(auto, using(crate::proofs::BuiltIns::is_named))]
 pub fn built_in_of(operator: &Operator) -> Option<BuiltIn>
     ensures some { IfSome result (λ b. IsBuiltInAs b operator.now) }
     ensures none { IfNone result (IsBuiltIn operator.now → ⊥) }
 {
-    for candidate in &ALL {
-        if is_built_in_as(*candidate, operator) {
-            return Some(*candidate);
-        }
+    let Some(candidate) = built_in_named(operator.name().bytes()) else {
+        return None;
+    };
+    if is_built_in_as(candidate, operator) {
+        return Some(candidate);
     }
     None
+}
+
+// Which built-in operators have this name.
+fn built_in_named(name: &[u8]) -> Option<BuiltIn>
+    ensures { result ≡ built_in_named name.now }
+{
+    if name == BuiltIn::True.name() {
+        Some(BuiltIn::True)
+    } else if name == BuiltIn::False.name() {
+        Some(BuiltIn::False)
+    } else if name == BuiltIn::Not.name() {
+        Some(BuiltIn::Not)
+    } else {
+        built_in_between(name)
+    }
+}
+
+// Which built-in operators that stand between their arguments, or among them, have this name.
+fn built_in_between(name: &[u8]) -> Option<BuiltIn>
+    ensures { result ≡ built_in_between name.now }
+{
+    if name == BuiltIn::And.name() {
+        Some(BuiltIn::And)
+    } else if name == BuiltIn::Or.name() {
+        Some(BuiltIn::Or)
+    } else if name == BuiltIn::Implies.name() {
+        Some(BuiltIn::Implies)
+    } else if name == BuiltIn::Iff.name() {
+        Some(BuiltIn::Iff)
+    } else {
+        built_in_at_each_sort(name)
+    }
+}
+
+// Which of the built-in operators that are there for each sort have this name.
+fn built_in_at_each_sort(name: &[u8]) -> Option<BuiltIn>
+    ensures { result ≡ built_in_at_each_sort name.now }
+{
+    if name == BuiltIn::Equal.name() {
+        Some(BuiltIn::Equal)
+    } else if name == BuiltIn::Unequal.name() {
+        Some(BuiltIn::Unequal)
+    } else if name == BuiltIn::If.name() {
+        Some(BuiltIn::If)
+    } else {
+        None
+    }
 }
 
 /// Whether the operator is a built-in one. It takes no memory.

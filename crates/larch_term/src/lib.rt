@@ -32,6 +32,3 @@ pub use substitution::{Entry, Substitution, substitute};
 pub use term::{Node, Term, Terms};
 pub use truth::is_truth;
 pub use variable::{Variable, Variables, add_variables, variables};
-
-#[cfg(test)]
-mod tests;

@@ -10,7 +10,6 @@ use std::marker::Model;
 
 /// A term: a variable, or an operator with its arguments. Contracts see it as a plain tree.
 #[cycle(term)]
-#[derive(Drop)]
 pub struct Term {
     pub(crate) node: Node,
 }
@@ -95,6 +94,14 @@ impl Term {
     {
         &self.node
     }
+
+    // What the term was at its root.
+    fn into_node(self) -> Node
+        ensures { view_node result ≡ self }
+    {
+        let Term { node } = self;
+        node
+    }
 }
 
 impl Terms {
@@ -121,6 +128,14 @@ impl Terms {
     }
 }
 
+// A call wherever a term is dropped, so that no function's proof takes terms apart.
+impl Drop for Term {
+    #[cycle(drops)]
+    fn drop(self) {
+        let Term { node: _node } = self;
+    }
+}
+
 // Takes the terms apart one by one, so that a term of any depth can be dropped. Only out of memory
 // are the arguments of a term dropped by recursion.
 impl Drop for Terms {
@@ -143,7 +158,7 @@ impl Drop for Terms {
 fn arguments_of(term: Term) -> Option<Vec<Term>>
     ensures { IfSome result (λ ts. most size_Term ts.items < size_Term term) }
 {
-    match term.node {
+    match term.into_node() {
         Node::Var(_name, _sort) => None,
         Node::App(_operator, arguments) => Some(arguments.into_vec()),
     }

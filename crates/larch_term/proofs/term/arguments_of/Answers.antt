@@ -7,4 +7,4 @@ use Rattle.larch_term.proofs.term.arguments_of.Goals as goal
 pub returns-in-App : goal.returns-in-App
 returns-in-App c =
     arguments_fall c.in-App._operator c.in-App.arguments c.into_vec.result.items c.args.term
-    (rw c.in-App.is at c.into_vec.ensures) (sym (ap view_node c.in-App.is) ∙ c.term.view_is)
+    c.into_vec.ensures (sym (ap view_node c.in-App.is) ∙ c.into_node.ensures)

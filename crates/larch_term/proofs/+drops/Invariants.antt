@@ -1,8 +1,0 @@
-use Rattle.std.proofs.Common.{◌<◌}
-use denote.Param.Weighed.{most}
-use Rattle.larch_term.specs.declared.term.Term.TheDeep.{size-Term, size-Terms}
-use Rattle.larch_term.proofs.+drops.Given as goal
-
--- each pending term is smaller than the terms that are dropped
-abbrev pub invariant-term::Terms::drop-loop : goal.invariant-term::Terms::drop-loop
-invariant-term::Terms::drop-loop l = most size-Term l.work.items < size-Terms l.fn.self
