@@ -1,9 +1,8 @@
 -- The operators and the terms of a clause `converts` are the trait's.
-use Rattle.std.proofs.Common.{◌≡◌, refl, ℕ, Bool, not, List, [], ◌∷◌, ◌++◌, All, Contains, Option, Some, None, Result, Ok, Err, subst}
+use Rattle.std.proofs.Common.{◌≡◌, refl, Bool, not, List, [], ◌∷◌, ◌++◌, All, Contains, Option, Some, None, Ok, subst}
 use Rattle.std.specs.Prelude.{find, is_some}
 use Rattle.std.proofs.lemmas.List.Elements.{All-nil, All-push}
 use Rattle.larch_base.specs.declared.code.Code.TheVariants.{Converted, Exempt}
-use Rattle.larch_base.specs.declared.fault.Fault.{Fault}
 use Rattle.larch_base.specs.declared.position.Pos.{Pos}
 use Rattle.larch_raw.specs.declared.declared.RawOpRef.{RawOpRef}
 use Rattle.larch_raw.specs.declared.equation.RawConversion.{RawConversion}

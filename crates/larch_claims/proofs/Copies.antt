@@ -1,5 +1,5 @@
 -- Copies differ from all that is there, and a clause's theory is a theory.
-use Rattle.std.proofs.Common.{◌≡◌, ◌≢◌, refl, ℕ, suc, Bool, true, false, cond, ◌||◌, List, [], ◌∷◌, ◌++◌, map, All, Contains, Option, Some, None, ap, sym, subst, ◌∙◌, inl, inr}
+use Rattle.std.proofs.Common.{◌≡◌, ◌≢◌, refl, ℕ, suc, Bool, true, false, cond, ◌||◌, List, [], ◌∷◌, ◌++◌, map, All, Contains, Option, Some, ap, sym, subst, ◌∙◌}
 use Rattle.std.specs.Prelude.{AllPairs, bytes_eq, filter, option_map, unwrap_or}
 use Rattle.std.specs.List.{list_any}
 use Rattle.std.specs.Map.{lookup}
@@ -7,14 +7,13 @@ use Rattle.std.proofs.lemmas.List.{append_assoc, append-nil, map-id}
 use Rattle.std.proofs.lemmas.List.Elements.{All-nil, All-cons, All-append, All-contains, All-head, All-map, All-push, All-tail, All-weaker}
 use Rattle.std.proofs.lemmas.List.Quantifiers.{all_pairs_push}
 use Rattle.std.proofs.lemmas.Slice.Eq.{bytes_eq-Decides}
-use Rattle.larch_base.proofs.Lists.{all_from}
-use Rattle.larch_base.proofs.Members.{contains_cases, contains_here, contains_later, contains_left, contains_map, contains_none, contains_one, contains_either, contains_right}
+use Rattle.larch_base.proofs.Members.{contains_here, contains_later, contains_left, contains_map, contains_right}
 use Rattle.larch_renaming.specs.Renaming.{KeepsBuiltIns, renamed, renamed_statement}
 use Rattle.larch_term.specs.BuiltIn.{IsBuiltIn, bool_sort}
 use Rattle.larch_term.specs.Equality.{same_operator}
 use Rattle.larch_term.specs.Operator.{OperatorName, PlainOperator, plain}
 use Rattle.larch_term.specs.Sorts.{sort_of}
-use Rattle.larch_term.specs.Statement.{IsStatementOver, IsTheory}
+use Rattle.larch_term.specs.Statement.{IsStatementOver}
 use Rattle.larch_term.specs.Tree.{Tree, var, app}
 use Rattle.larch_term.specs.declared.statement.Statement.{Statement}
 use Rattle.larch_term.specs.declared.statement.Statement.TheVariants.{Equation}
@@ -25,7 +24,7 @@ use Rattle.larch_flat.specs.Replacements.{Replacements, new_name, new_operator, 
 use Rattle.larch_flat.proofs.Proper.{proper_keeps, renaming_fits}
 use Rattle.larch_flat.proofs.Stated.{stated_more, stated_renamed}
 use Rattle.larch_flat.proofs.Theory.{all_left}
-use Rattle.larch_claims.specs.Conversions.{Clause, Conversion, Copied, by_copies, bytes_of, clause_over, clause_theory, copies, copy_of, free_word, names_one_of, word_tried}
+use Rattle.larch_claims.specs.Conversions.{Conversion, Copied, by_copies, bytes_of, clause_over, clause_theory, copies, copy_of, free_word, names_one_of, word_tried}
 use Rattle.larch_claims.specs.Laws.{IsSoundTheory}
 use Rattle.larch_claims.proofs.Conversions.{IsConversionOf, IsTermOf}
 use Rattle.larch_claims.proofs.Fresh.{free_ends_primed, free_is_free, not_built_in, tried_ends_primed}

@@ -1,7 +1,6 @@
 -- What a trait implies is stated over its operators.
-use Rattle.std.proofs.Common.{◌≡◌, refl, ℕ, Bool, true, false, not, ◌&&◌, List, [], ◌∷◌, ◌++◌, map, All, Contains, Result, Ok, Err, inl, inr, sym, subst}
+use Rattle.std.proofs.Common.{◌≡◌, refl, ℕ, Bool, true, false, not, ◌&&◌, List, [], ◌∷◌, ◌++◌, map, All, Contains, Result, Ok, inl, inr, sym, subst}
 use Rattle.std.specs.Prelude.{filter, is_none}
-use Rattle.std.specs.List.{list_all}
 use Rattle.std.proofs.lemmas.List.Elements.{All-nil, All-append, All-map, All-weaker}
 use Rattle.larch_base.specs.declared.code.Code.TheVariants.{ImpliedOperator, UnknownTrait}
 use Rattle.larch_base.specs.declared.position.Pos.{Pos}
@@ -17,13 +16,14 @@ use Rattle.larch_items.proofs.Stated.{items_are}
 use Rattle.larch_flat.specs.Files.{Files}
 use Rattle.larch_flat.specs.Flat.{FlatTrait, flat, referred, renamed_mark, renamed_marked}
 use Rattle.larch_flat.specs.Gathered.{Marked, stands_in, statements_in}
-use Rattle.larch_flat.specs.Laws.{AreWorded, IsStatedOver, gathered_in}
+use Rattle.larch_flat.specs.Laws.{AreWorded, IsStatedOver}
 use Rattle.larch_flat.specs.Replacements.{Replacements, new_operator, renaming, replacements_of}
 use Rattle.larch_flat.specs.Stops.{Stop, surely}
+use Rattle.larch_flat.proofs.Gathering.{referred_was, stopped_if_was, surely_was}
 use Rattle.larch_flat.proofs.Proper.{proper_keeps, refused_if_was, renaming_fits, replacements_proper}
 use Rattle.larch_flat.proofs.Sound.{found, marks_from}
 use Rattle.larch_flat.proofs.Stated.{stated_renamed}
-use Rattle.larch_flat.proofs.Theory.{all_left, flat_sound, referred_was, stopped_if_was, surely_was}
+use Rattle.larch_flat.proofs.Theory.{all_left, flat_sound}
 use Rattle.larch_claims.specs.Implied.{are_among, implied, implied_by, is_among, take_implied, take_reference}
 
 not_false : (b : Bool) → not b ≡ false → b ≡ true

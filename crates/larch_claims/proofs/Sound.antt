@@ -1,5 +1,5 @@
 -- Duties are sound.
-use Rattle.std.proofs.Common.{◌≡◌, refl, ℕ, suc, ◌+◌, List, [], ◌∷◌, ◌++◌, map, All, Contains, Result, Ok, sym, subst, ap₂, inl, inr}
+use Rattle.std.proofs.Common.{◌≡◌, refl, ℕ, suc, ◌+◌, List, [], ◌∷◌, map, All, Contains, Ok, subst, ap₂, inl, inr}
 use Rattle.std.specs.Prelude.{flat_map, length, nat_lt}
 use Rattle.std.proofs.lemmas.List.Elements.{All-nil, All-cons, All-append, All-contains, All-head, All-map, All-tail, All-weaker}
 use Rattle.larch_base.specs.declared.code.Code.TheVariants.{Size}
@@ -8,26 +8,25 @@ use Rattle.larch_base.specs.declared.label.Label.TheVariants.{Assume, Imply, Con
 use Rattle.larch_base.specs.declared.limits.TheConstants.{MAX_DUTIES}
 use Rattle.larch_base.proofs.Lists.{all_from}
 use Rattle.larch_base.proofs.Members.{contains_left, contains_map, contains_right}
-use Rattle.larch_raw.specs.declared.equation.RawConversion.{RawConversion}
-use Rattle.larch_term.specs.BuiltIn.{IsBuiltIn}
 use Rattle.larch_term.specs.Operator.{PlainOperator}
 use Rattle.larch_term.specs.Sorts.{AllOver, AllWellSorted, sorts_of}
-use Rattle.larch_term.specs.Tree.{Tree, forest_of}
+use Rattle.larch_term.specs.Tree.{forest_of}
 use Rattle.larch_term.specs.declared.statement.Statement.{Statement}
 use Rattle.larch_term.specs.declared.statement.Theory.{Theory}
-use Rattle.larch_sorts.specs.Laws.{ForestSorts, IsSortOf, OperatorSorts, sorts_of_operator}
+use Rattle.larch_sorts.specs.Laws.{ForestSorts, IsSortOf}
 use Rattle.larch_sorts.proofs.SortsRead.{own_sorts}
-use Rattle.larch_items.specs.Steps.{after, each}
+use Rattle.larch_items.specs.Steps.{each}
 use Rattle.larch_items.proofs.Kept.{Any, after_was, all_any, each_kept, ok_inj}
 use Rattle.larch_flat.specs.Files.{Files}
 use Rattle.larch_flat.specs.Flat.{FlatTrait, flat, theory_of}
-use Rattle.larch_flat.specs.Gathered.{new_among, stands_in}
+use Rattle.larch_flat.specs.Gathered.{new_among}
 use Rattle.larch_flat.specs.Laws.{AreWorded, IsStatedOver}
 use Rattle.larch_flat.specs.Stops.{surely}
+use Rattle.larch_flat.proofs.Gathering.{surely_was}
 use Rattle.larch_flat.proofs.Proper.{refused_if_was}
-use Rattle.larch_flat.proofs.Theory.{all_left, all_new, flat_discharge, flat_stated, flat_theory, surely_was}
+use Rattle.larch_flat.proofs.Theory.{all_left, all_new, flat_discharge, flat_stated, flat_theory}
 use Rattle.larch_claims.specs.Conversions.{Clause, Conversion, Copied, clause_over, clause_theory, conversion_of, copy_of}
-use Rattle.larch_claims.specs.Duties.{ClauseDuties, Duties, Duty, all_duties, arguments, clause_duties, duties, duties_of, is_its_copy, labelled, not_too_many, of_variables, with_clauses}
+use Rattle.larch_claims.specs.Duties.{Duties, all_duties, arguments, clause_duties, duties, duties_of, is_its_copy, labelled, not_too_many, with_clauses}
 use Rattle.larch_claims.specs.Implied.{implied}
 use Rattle.larch_claims.specs.Laws.{IsSoundDuty, IsSoundTheory}
 use Rattle.larch_claims.proofs.Conversions.{IsConversionOf, conversion_is}

@@ -1,5 +1,5 @@
 -- Duties are told, where references are followed deep enough.
-use Rattle.std.proofs.Common.{◌≡◌, ◌≤◌, refl, ℕ, Bool, true, false, List, [], ◌∷◌, ◌++◌, Result, Ok, Err}
+use Rattle.std.proofs.Common.{◌≤◌, ℕ, Bool, true, false, List, [], ◌∷◌, ◌++◌, Result, Ok, Err}
 use Rattle.std.specs.Prelude.{is_none, length}
 use Rattle.larch_base.specs.declared.code.Code.{Code}
 use Rattle.larch_base.specs.declared.code.Code.TheVariants.{UnknownTrait}

@@ -1,5 +1,5 @@
 -- What a clause `converts` claims: that its operators are the only ones of which the trait's statements hold.
-use Rattle.std.specs.Prelude.{ℕ, zero, suc, if◌then◌else◌, ◌||◌, Bool, true, false, not, bytes_eq, codes, Option}
+use Rattle.std.specs.Prelude.{ℕ, zero, suc, if◌then◌else◌, ◌||◌, Bool, false, not, bytes_eq, codes, Option}
 use Rattle.std.specs.Prelude.{Some, None, is_some, unwrap_or}
 use Rattle.std.specs.Prelude.{List, [], ◌∷◌, ◌++◌, map, filter, find, length, decimal, Result, Ok, Err}
 use Rattle.std.specs.List.{list_any}
@@ -11,7 +11,6 @@ use Rattle.larch_raw.specs.declared.declared.RawOpRef.{RawOpRef}
 use Rattle.larch_raw.specs.declared.equation.RawConversion.{RawConversion}
 use Rattle.larch_raw.specs.declared.equation.RawEquation.{RawEquation}
 use Rattle.larch_renaming.specs.Renaming.{renamed, renamed_statement}
-use Rattle.larch_term.specs.Equality.{same_operator}
 use Rattle.larch_term.specs.Operator.{OperatorName, PlainOperator, plain, boxed}
 use Rattle.larch_term.specs.Tree.{Tree, Forest, var, app, none, more}
 use Rattle.larch_term.specs.declared.statement.Statement.{Statement}

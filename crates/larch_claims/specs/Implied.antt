@@ -1,5 +1,5 @@
 -- What a trait implies: the statements of implied traits, then those of implied items.
-use Rattle.std.specs.Prelude.{ℕ, Bool, not, is_none, List, [], ◌++◌, map, filter, Result, Ok}
+use Rattle.std.specs.Prelude.{ℕ, Bool, not, is_none, List, [], ◌++◌, filter, Result, Ok}
 use Rattle.std.specs.List.{list_any, list_all}
 use Rattle.larch_base.specs.declared.code.Code.TheVariants.{ImpliedOperator, UnknownTrait}
 use Rattle.larch_base.specs.declared.fault.Fault.{Fault}

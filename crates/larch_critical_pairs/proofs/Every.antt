@@ -8,7 +8,7 @@ use Rattle.larch_term.specs.Place.{at}
 use Rattle.larch_term.specs.Tree.{Tree}
 use Rattle.larch_term.specs.declared.substitution.Entry.{Entry}
 use Rattle.larch_pairs.specs.Unify.{Oversize, a_term_is_too_large, is_large, unify}
-use Rattle.larch_critical_pairs.proofs.Pairing.{after_pair, after_pair_is, from_unifier, named_within, no_place, no_unifier, pairs_of_one, pairs_of_two, too_large}
+use Rattle.larch_critical_pairs.proofs.Pairing.{after_pair, after_pair_is, from_unifier, named_within, no_place, no_unifier, of_apart, pairs_of_one, pairs_of_two, too_large}
 use Rattle.larch_critical_pairs.specs.Pairs.{apart, critical_pairs, inner_places, named, pair_at, raw_pair, with_pair, with_pairs_at}
 use Rattle.larch_critical_pairs.specs.declared.pair.Pair.{Pair}
 use Rattle.larch_critical_pairs.specs.declared.pair.Rule.{Rule}
@@ -90,7 +90,8 @@ pub all_pairs : (P : Pair → Type 0) (r q : Rule) (b : Bool) (ys : List Pair)
 all_pairs P r q true ys h e =
     let ps = inner_places (apart 1 r).rule.left in
     all_at P (apart 1 r) (apart 2 q) (drop 1 ps) [] ys (but_first (HoldsAt P (apart 1 r) (apart 2 q)) ps (all_from (HoldsAt P (apart 1 r) (apart 2 q)) ps h))
-    (All-nil P) (sym (pairs_of_one r q true refl) ∙ e)
+    (All-nil P) (sym (of_apart r q true ∙ pairs_of_one (apart 1 r) (apart 2 q) true refl) ∙ e)
 all_pairs P r q false ys h e =
     let ps = inner_places (apart 1 r).rule.left in
-    all_at P (apart 1 r) (apart 2 q) ps [] ys (all_from (HoldsAt P (apart 1 r) (apart 2 q)) ps h) (All-nil P) (sym (pairs_of_two r q false refl) ∙ e)
+    all_at P (apart 1 r) (apart 2 q) ps [] ys (all_from (HoldsAt P (apart 1 r) (apart 2 q)) ps h) (All-nil P)
+    (sym (of_apart r q false ∙ pairs_of_two (apart 1 r) (apart 2 q) false refl) ∙ e)

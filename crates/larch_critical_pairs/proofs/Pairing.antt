@@ -3,23 +3,25 @@ use Rattle.std.proofs.Common.{◌≡◌, ℕ, Bool, true, false, List, [], ◌�
 use Rattle.larch_term.specs.Place.{at}
 use Rattle.larch_term.specs.Tree.{Tree}
 use Rattle.larch_term.specs.declared.substitution.Entry.{Entry}
-use Rattle.larch_critical_pairs.specs.Pairs.{apart, critical_pairs, inner_places, named, pair_at, pair_within, raw_pair, with_pair, with_pairs_at}
+use Rattle.larch_critical_pairs.specs.Pairs.{apart, critical_pairs, inner_places, named, pair_at, pair_within, pairs_of, raw_pair, with_pair, with_pairs_at}
 use Rattle.larch_pairs.specs.Unify.{Oversize, unify}
 use Rattle.larch_critical_pairs.specs.declared.pair.Pair.{Pair}
 use Rattle.larch_critical_pairs.specs.declared.pair.Rule.{Rule}
 use Rattle.larch_critical_pairs.specs.declared.pair.Apart.{Apart}
 
-pub pairs_of_one : (r q : Rule) (b : Bool) → b ≡ true
-    → critical_pairs r q b ≡ with_pairs_at (apart 1 r) (apart 2 q) [] (drop 1 (inner_places (apart 1 r).rule.left))
+pub of_apart : (r q : Rule) (b : Bool) → critical_pairs r q b ≡ pairs_of (apart 1 r) (apart 2 q) b
 unfolding critical_pairs
-pairs_of_one r q true e = refl
-pairs_of_one r q false e = cc
+of_apart r q b = refl
 
-pub pairs_of_two : (r q : Rule) (b : Bool) → b ≡ false
-    → critical_pairs r q b ≡ with_pairs_at (apart 1 r) (apart 2 q) [] (inner_places (apart 1 r).rule.left)
-unfolding critical_pairs
-pairs_of_two r q true e = cc
-pairs_of_two r q false e = refl
+pub pairs_of_one : (one two : Apart) (b : Bool) → b ≡ true
+    → pairs_of one two b ≡ with_pairs_at one two [] (drop 1 (inner_places one.rule.left))
+pairs_of_one one two true e = refl
+pairs_of_one one two false e = cc
+
+pub pairs_of_two : (one two : Apart) (b : Bool) → b ≡ false
+    → pairs_of one two b ≡ with_pairs_at one two [] (inner_places one.rule.left)
+pairs_of_two one two true e = cc
+pairs_of_two one two false e = refl
 
 -- what a pair within the size becomes
 abbrev pub named_within : Result Pair Oversize → Result (Option Pair) Oversize

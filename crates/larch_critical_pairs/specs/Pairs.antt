@@ -101,9 +101,12 @@ with_pairs_at one two found (p ∷ ps) = elim (pair_at one two p) [
   | Ok q ↦ with_pairs_at one two (with_pair found q) ps
 ]
 
--- the critical pairs of the second rule's left side in the first one's, the root left out where both are one rule
-unfoldable pub critical_pairs : Rule → Rule → Bool → Result (List Pair) Oversize
-critical_pairs r q are_one =
-    let one = apart 1 r in
+-- the pairs of rules whose variables are marked, the root left out where both are one rule
+abbrev pub pairs_of : Apart → Apart → Bool → Result (List Pair) Oversize
+pairs_of one two are_one =
     let places = inner_places one.rule.left in
-    with_pairs_at one (apart 2 q) [] (if are_one then drop 1 places else places)
+    with_pairs_at one two [] (if are_one then drop 1 places else places)
+
+-- the critical pairs of the second rule's left side in the first one's
+unfoldable pub critical_pairs : Rule → Rule → Bool → Result (List Pair) Oversize
+critical_pairs r q are_one = pairs_of (apart 1 r) (apart 2 q) are_one

@@ -12,6 +12,3 @@ mod pairs;
 
 pub use pair::{Pair, Pairs, Place, Rule};
 pub use pairs::critical_pairs;
-
-#[cfg(test)]
-mod tests;

@@ -4,9 +4,10 @@ ghost use Rattle.std.specs.List.{flat_map};
 ghost use Rattle.larch_term.specs.Substitution.{is_entry_of};
 ghost use Rattle.larch_term.specs.Tree.{var};
 ghost use Rattle.larch_term.specs.Variable.{occurrences, with_variable};
-ghost use Rattle.larch_critical_pairs.specs.Pairs.{named, numbered, pair_variables};
+ghost use Rattle.larch_critical_pairs.specs.Pairs.{named, numbered, pair_under, pair_variables};
 ghost use Rattle.larch_pairs.specs.Unify.{entries_under};
 
+use crate::inner::copy_place;
 use crate::pair::Pair;
 use larch_base::{Memory, Name, Sequence};
 use larch_pairs::{Entries, substitution_of, variables_of_both};
@@ -20,14 +21,25 @@ pub(crate) fn named(alloc: Global, pair: Pair) -> Result<Pair, Memory>
     ensures { IfOk result (λ q. q ≡ named pair) }
 {
     let names = names_for(alloc, &pair)?;
-    let left = substitute(alloc, &pair.left, &names)?;
-    let right = substitute(alloc, &pair.right, &names)?;
-    let first = entries_under(alloc, &pair.first, &names)?;
-    let second = entries_under(alloc, &pair.second, &names)?;
+    let named = pair_under(alloc, &pair, &names)?;
+    Ok(named)
+}
+
+// The pair with other variables.
+fn pair_under(alloc: Global, pair: &Pair, by: &Substitution) -> Result<Pair, Memory>
+    requires first { AllPairs (λ d e. is_entry_of e.name e.sort d ≡ false) pair.now.first }
+    requires second { AllPairs (λ d e. is_entry_of e.name e.sort d ≡ false) pair.now.second }
+    ensures { IfOk result (λ q. q ≡ pair_under by.now pair.now) }
+{
+    let left = substitute(alloc, &pair.left, by)?;
+    let right = substitute(alloc, &pair.right, by)?;
+    let first = entries_under(alloc, &pair.first, by)?;
+    let second = entries_under(alloc, &pair.second, by)?;
+    let place = copy_place(alloc, pair.place.as_slice())?;
     Ok(Pair {
         left,
         right,
-        place: pair.place,
+        place,
         first,
         second,
     })

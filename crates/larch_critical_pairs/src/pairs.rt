@@ -2,7 +2,7 @@ ghost use Rattle.std.specs.Prelude.{◌≡◌, ◌++◌, AllPairs, IfOk, [], ◌
 ghost use Rattle.larch_base.specs.Answering.{Answers};
 ghost use Rattle.larch_term.specs.Substitution.{is_entry_of};
 ghost use Rattle.larch_critical_pairs.specs.Pairs.{apart, critical_pairs, marking, pair_at, pair_within, raw_pair};
-ghost use Rattle.larch_critical_pairs.specs.Pairs.{with_pairs_at};
+ghost use Rattle.larch_critical_pairs.specs.Pairs.{pairs_of, with_pairs_at};
 ghost use Rattle.larch_pairs.specs.Refusals.{told};
 ghost use Rattle.larch_term.specs.Tree.{var};
 
@@ -22,7 +22,7 @@ use std::alloc::Global;
 /// side, in the right side, and then in the terms of the two substitutions. `TooLarge` where at some place a
 /// unification answers that, or a side of the pair has more than 5,000 nodes. Its time grows with the places, and at
 /// each one at which the heads agree with that of a unification.
-#[tactic(auto, using(crate::proofs::Pairing::pairs_of_one, crate::proofs::Pairing::pairs_of_two))]
+#[tactic(auto, using(crate::proofs::Pairing::of_apart))]
 pub fn critical_pairs(
     alloc: Global,
     first: &Rule,
@@ -33,12 +33,23 @@ pub fn critical_pairs(
 {
     let first = set_apart(alloc, 1, first)?;
     let second = set_apart(alloc, 2, second)?;
+    let pairs = pairs_of(alloc, &first, &second, one)?;
+    Ok(pairs)
+}
+
+// The pairs of two rules whose variables are marked.
+#[tactic(auto, using(crate::proofs::Pairing::pairs_of_one, crate::proofs::Pairing::pairs_of_two))]
+fn pairs_of(alloc: Global, first: &Apart, second: &Apart, one: bool) -> Result<Pairs, PairRefusal>
+    requires first { AllPairs (λ d e. is_entry_of e.name e.sort d ≡ false) first.now.by }
+    requires second { AllPairs (λ d e. is_entry_of e.name e.sort d ≡ false) second.now.by }
+    ensures { Answers told result (pairs_of first.now second.now one) }
+{
     let places = inner_places(alloc, &first.rule.left)?;
     if one {
-        let pairs = pairs_at(alloc, &first, &second, below_root(places.as_slice()))?;
+        let pairs = pairs_at(alloc, first, second, below_root(places.as_slice()))?;
         return Ok(pairs);
     }
-    let pairs = pairs_at(alloc, &first, &second, places.as_slice())?;
+    let pairs = pairs_at(alloc, first, second, places.as_slice())?;
     Ok(pairs)
 }
 

@@ -9,10 +9,19 @@ use std::alloc::Global;
 use std::marker::Model;
 
 // Operators, each of which is found at once. Contracts see them as a list.
-#[derive(Drop)]
 pub(crate) struct Among<'a> {
     operators: &'a [Operator],
     index: IndexSet<Operator>,
+}
+
+// By a call, so that a proof takes it apart in one place alone.
+impl Drop for Among<'_> {
+    fn drop(self) {
+        let Among {
+            operators: _operators,
+            index: _index,
+        } = self;
+    }
 }
 
 impl<'a> Model for Among<'a> {

@@ -23,10 +23,19 @@ use std::alloc::Global;
 use std::marker::Model;
 
 // A converted operator, with the word that its copy has as a name.
-#[derive(Drop)]
 pub(crate) struct Copied {
     pub(crate) operator: Operator,
     pub(crate) word: Name,
+}
+
+// By a call, so that a proof takes one apart in one place alone.
+impl Drop for Copied {
+    fn drop(self) {
+        let Copied {
+            operator: _operator,
+            word: _word,
+        } = self;
+    }
 }
 
 impl Model for Copied {

@@ -20,10 +20,19 @@ use std::alloc::Global;
 use std::marker::Model;
 
 // The converted operators and the exempted terms of a clause `converts`.
-#[derive(Drop)]
 pub(crate) struct Conversion {
     pub(crate) converted: Operators,
     pub(crate) exempted: Sequence<Term>,
+}
+
+// By a call, so that a proof takes a clause apart in one place alone.
+impl Drop for Conversion {
+    fn drop(self) {
+        let Conversion {
+            converted: _converted,
+            exempted: _exempted,
+        } = self;
+    }
 }
 
 impl Model for Conversion {

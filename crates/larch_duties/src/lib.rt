@@ -19,6 +19,3 @@ mod words;
 pub use finding::find_duty;
 pub use printing::{list_trait, print_duties};
 pub use trait_duties::{Duties, duties_of};
-
-#[cfg(test)]
-mod tests;

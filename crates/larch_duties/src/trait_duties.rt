@@ -24,11 +24,21 @@ use std::marker::Model;
 
 /// The duties of a trait whose flat trait is borrowed. Contracts see them as `larch_claims` defines them; copies and
 /// theories aren't kept.
-#[derive(Drop)]
 pub struct Duties<'a> {
     pub(crate) flat: &'a Flat,
     pub(crate) implied: Statements,
     pub(crate) conversions: Sequence<Conversion>,
+}
+
+// By a call, so that a proof takes duties apart in one place alone.
+impl Drop for Duties<'_> {
+    fn drop(self) {
+        let Duties {
+            flat: _flat,
+            implied: _implied,
+            conversions: _conversions,
+        } = self;
+    }
 }
 
 impl<'a> Model for Duties<'a> {

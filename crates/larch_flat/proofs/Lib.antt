@@ -4,7 +4,9 @@ pub mod Closures
 pub mod Counting
 pub mod DeepEnough
 pub mod Depth
+pub mod EachOperator
 pub mod Every
+pub mod Gathering
 pub mod Proper
 pub mod Sizes
 pub mod Sound

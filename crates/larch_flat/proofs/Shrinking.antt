@@ -1,17 +1,16 @@
 -- A file that doesn't lead back to one that refers to it leads to fewer files than that.
-use Rattle.std.proofs.Common.{◌≡◌, refl, ℕ, zero, suc, ◌≤◌, ◌<◌, Bool, true, false, length, ap, sym, subst, ◌∙◌, arith, inl, inr}
+use Rattle.std.proofs.Common.{◌≡◌, refl, ℕ, ◌≤◌, ◌<◌, Bool, true, false, length, ap, sym, subst, arith}
 use Rattle.std.proofs.Common.{List, [], ◌∷◌, Contains, Result, Ok, Err}
 use Rattle.std.specs.Prelude.{bytes_eq}
 use Rattle.std.specs.List.{list_any}
-use Rattle.larch_base.proofs.Bools.{true_or_false}
 use Rattle.larch_flat.specs.Files.{Files, Reaches, closure, is_there, targets_in}
 use Rattle.larch_flat.specs.Laws.{AreAmong}
 use Rattle.larch_flat.specs.Reach.{count_told, reach_count}
 use Rattle.larch_flat.specs.Stops.{Stop}
-use Rattle.larch_flat.proofs.Closures.{Names, Within, closure_tells, has_text}
+use Rattle.larch_flat.proofs.Closures.{Names, closure_tells, has_text}
 use Rattle.larch_flat.proofs.Counting.{every_within, pigeon, rounds_tell}
 use Rattle.larch_flat.proofs.DeepEnough.{closure_distinct, closure_there, names_of, shorter}
-use Rattle.larch_flat.proofs.Every.{Every, every_weaker}
+use Rattle.larch_flat.proofs.Every.{every_weaker}
 
 -- as many rounds as there are files tell what a file leads to
 pub told_closure : (files : Files) (all : Names) → AreAmong files all → (limit : ℕ) → length all ≤ limit → (name : List ℕ) → is_there files name ≡ true

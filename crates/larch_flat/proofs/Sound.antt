@@ -108,7 +108,7 @@ same_by : (m : Marked) (g : Gathered) (b : Bool) → (cond b (with_discharge m.s
 same_by m g true = refl
 same_by m g false = refl
 
-taken_operators : (assumes : Bool) (m : Marked) (g : Gathered) → (with_taken assumes m g).operators ≡ g.operators
+pub taken_operators : (assumes : Bool) (m : Marked) (g : Gathered) → (with_taken assumes m g).operators ≡ g.operators
 taken_operators true m g = refl
 taken_operators false m g = same_by m g m.assumed
 

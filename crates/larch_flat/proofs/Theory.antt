@@ -1,12 +1,8 @@
 -- A flat trait is sound.
-use Rattle.std.proofs.Common.{◌≡◌, refl, ℕ, zero, suc, Bool, true, false, not, List, [], ◌∷◌, ◌++◌, All, Option, Some, None, Result, Ok, Err, ap, subst}
-use Rattle.std.specs.Prelude.{bytes_eq, filter, fold, if◌then◌else◌, is_none}
-use Rattle.std.specs.List.{list_any}
+use Rattle.std.proofs.Common.{◌≡◌, refl, ℕ, Bool, true, false, not, List, [], ◌∷◌, ◌++◌, All, Ok, subst}
+use Rattle.std.specs.Prelude.{filter, fold, if◌then◌else◌}
 use Rattle.std.proofs.lemmas.List.Elements.{All-nil, All-cons, All-head, All-map, All-push, All-tail, All-weaker}
-use Rattle.larch_base.specs.declared.code.Code.{Code}
-use Rattle.larch_base.specs.declared.code.Code.TheVariants.{Cycle, Size, TraitName, UnknownTrait}
-use Rattle.larch_base.specs.declared.fault.Fault.{Fault}
-use Rattle.larch_base.specs.declared.position.Pos.{Pos}
+use Rattle.larch_base.specs.declared.code.Code.TheVariants.{Size}
 use Rattle.larch_raw.specs.Worded.{WordedShorthand, WordedTrait}
 use Rattle.larch_raw.specs.declared.equation.RawTrait.{RawTrait}
 use Rattle.larch_raw.specs.declared.reference.RawReference.{RawReference}
@@ -16,34 +12,20 @@ use Rattle.larch_term.specs.Statement.{IsStatementOver, IsTheory}
 use Rattle.larch_term.specs.declared.statement.Statement.{Statement}
 use Rattle.larch_items.specs.Declarations.{declared}
 use Rattle.larch_items.specs.Items.{items_state}
-use Rattle.larch_items.specs.Steps.{after, all_taken}
-use Rattle.larch_items.proofs.Kept.{Any, after_was, all_any, kept, ok_inj}
+use Rattle.larch_items.proofs.Kept.{Any, after_was, all_any, ok_inj}
 use Rattle.larch_items.proofs.Stated.{declared_own, items_are}
 use Rattle.larch_shorthand.specs.Shorthand.{expand}
 use Rattle.larch_shorthand.specs.declared.expansion.Expansion.{Expansion}
-use Rattle.larch_flat.specs.Files.{Files, closure, target}
-use Rattle.larch_flat.specs.Flat.{FlatTrait, finished, flat, flat_by, flat_file, referred, take_flat, take_items, take_new, take_own, take_reference, take_rest, take_shorthand, take_told, theory_of, with_renamed, within}
-use Rattle.larch_flat.specs.Gathered.{Gathered, is_too_large, nothing, stands_in, statements_in, with_asserted, with_new, with_operator, with_operators}
+use Rattle.larch_flat.specs.Files.{Files}
+use Rattle.larch_flat.specs.Flat.{FlatTrait, finished, flat, take_flat, take_items, take_own, take_shorthand, theory_of, with_renamed, within}
+use Rattle.larch_flat.specs.Gathered.{Gathered, is_too_large, stands_in, statements_in, with_asserted, with_new, with_operator, with_operators}
 use Rattle.larch_flat.specs.Laws.{AreWorded, IsSound, IsStatedOver, gathered_in}
 use Rattle.larch_flat.specs.Replacements.{replacements_of}
-use Rattle.larch_flat.specs.Stops.{Refused, Stop, TooDeep, stopped_if, surely}
 use Rattle.larch_shorthand.proofs.Expansions.{expansion_own, expansion_stated}
+use Rattle.larch_flat.proofs.Gathering.{Keeps, every_flat}
 use Rattle.larch_flat.proofs.Proper.{proper_keeps, refused_if_was, replacements_proper}
 use Rattle.larch_flat.proofs.Sound.{operators_come, sound_asserted, sound_nothing, sound_operators, sound_renamed}
 use Rattle.larch_flat.proofs.Stated.{stated_more}
-
-pub stopped_if_was : {A : Type 0} (code : Code) (pos : Pos) (b : Bool) (next : Result A Stop) (x : A) → stopped_if code pos b next ≡ Ok x → next ≡ Ok x
-stopped_if_was code pos true next x e = cc
-stopped_if_was code pos false next x e = e
-
-pub surely_was : {A : Type 0} (a : Result A Fault) (x : A) → surely a ≡ Ok x → a ≡ Ok x
-surely_was (Ok y) x e = ap Ok (ok_inj e)
-surely_was (Err f) x e = cc
-
-pub referred_was : (pos : Pos) (a : Result FlatTrait Stop) (x : FlatTrait) → referred pos a ≡ Ok x → a ≡ Ok x
-referred_was pos (Ok y) x e = e
-referred_was pos (Err (Refused f)) x e = cc
-referred_was pos (Err TooDeep) x e = cc
 
 sound_flat : (r : RawReference) (g h : Gathered) (t : FlatTrait) → IsSound (gathered_in t) → take_flat r g t ≡ Ok h → IsSound g → IsSound h
 sound_flat r g h t i e k =
@@ -51,16 +33,6 @@ sound_flat r g h t i e k =
     let proper = replacements_proper t.operators t.raw.formals r.target p.0 p.1 in
     let q = refused_if_was Size r.target.name.pos (is_too_large (with_renamed r.assumed t p.0 g)) (Ok (with_renamed r.assumed t p.0 g)) h p.2 in
     subst IsSound (ok_inj q.1) (sound_renamed r.assumed t p.0 g (proper_keeps p.0 proper.0) proper.1 i.marked k)
-
-sound_reference : (limit : ℕ) (files : Files) (name : List ℕ) (next : List ℕ → Result FlatTrait Stop) → ((m : List ℕ) (t : FlatTrait) → next m ≡ Ok t → IsSound (gathered_in t))
-    → (r : RawReference) (g h : Gathered) → take_reference limit files name next r g ≡ Ok h → IsSound g → IsSound h
-sound_reference limit files name next k r g h e i =
-    let m : List ℕ = target r in let pos : Pos = r.target.name.pos in
-    let a = stopped_if_was UnknownTrait pos (is_none (files m)) (after (closure files limit (m ∷ [])) (take_new name r g (next m))) h e in
-    let b = after_was (closure files limit (m ∷ [])) (take_new name r g (next m)) h a in
-    let c = stopped_if_was Cycle pos (list_any (bytes_eq name) b.0) (take_told r g (next m)) h b.2 in
-    let d = after_was (referred pos (next m)) (λ t. surely (take_flat r g t)) h c in
-    sound_flat r g h d.0 (k m d.0 (referred_was pos (next m) d.0 d.1)) (surely_was (take_flat r g d.0) h d.2) i
 
 sound_shorthand : (s : RawShorthand) (g h : Gathered) → WordedShorthand s → take_shorthand s g ≡ Ok h → IsSound g → IsSound h
 sound_shorthand s g h w e i =
@@ -110,36 +82,20 @@ sound_finished raw g i =
           (all_left (IsStatedOver g.operators) (λ s. not (stands_in (statements_in g.marked) s)) g.discharge i.discharge);
     }
 
-sound_rest : (raw : RawTrait) (g : Gathered) (t : FlatTrait) → WordedTrait raw → take_rest raw g ≡ Ok t → IsSound g → IsSound (gathered_in t)
-sound_rest raw g t w e i =
-    let p = after_was (all_taken take_shorthand raw.shorthands g) (λ h. after (take_own raw h) (λ j. after (within raw.name.pos j) (λ k. Ok (finished raw k)))) t e in
-    let q = after_was (take_own raw p.0) (λ j. after (within raw.name.pos j) (λ k. Ok (finished raw k))) t p.2 in
-    let s = after_was (within raw.name.pos q.0) (λ k. Ok (finished raw k)) t q.2 in
-    let same = (refused_if_was Size raw.name.pos (is_too_large q.0) (Ok q.0) s.0 s.1).1 in
-    let shorts = kept take_shorthand WordedShorthand IsSound (λ x b c v n k. sound_shorthand x b c v n k) raw.shorthands g p.0 w.4 p.1 i in
-    subst (λ u. IsSound (gathered_in u)) (ok_inj s.2) (sound_finished raw s.0 (subst IsSound (ok_inj same) (sound_own raw p.0 q.0 q.1 shorts)))
-
-sound_text : (limit : ℕ) (files : Files) (name : List ℕ) (next : List ℕ → Result FlatTrait Stop) → ((m : List ℕ) (t : FlatTrait) → next m ≡ Ok t → IsSound (gathered_in t))
-    → (text : Option (Result RawTrait Fault)) → ((raw : RawTrait) → text ≡ Some (Ok raw) → WordedTrait raw) → (t : FlatTrait) → flat_file limit files name next text ≡ Ok t
-    → IsSound (gathered_in t)
-sound_text limit files name next k None w t e = cc
-sound_text limit files name next k (Some (Err f)) w t e = cc
-sound_text limit files name next k (Some (Ok raw)) w t e =
-    let all : Result Gathered Stop = all_taken (take_reference limit files name next) raw.references nothing in
-    let a = stopped_if_was TraitName raw.name.pos (not (bytes_eq raw.name.name name)) (after all (λ g. surely (take_rest raw g))) t e in
-    let b = after_was all (λ g. surely (take_rest raw g)) t a in
-    sound_rest raw b.0 t (w raw refl) (surely_was (take_rest raw b.0) t b.2)
-    (kept (take_reference limit files name next) Any IsSound (λ r g h _ d i. sound_reference limit files name next k r g h d i) raw.references nothing b.0 (all_any raw.references)
-    b.1 sound_nothing)
-
-pub sound_by : (files : Files) → AreWorded files → (n limit : ℕ) (name : List ℕ) (t : FlatTrait) → flat_by n limit files name ≡ Ok t → IsSound (gathered_in t)
-sound_by files w zero limit name t e = cc
-sound_by files w (suc n) limit name t e =
-    sound_text limit files name (λ m. flat_by n limit files m) (λ m u d. sound_by files w n limit m u d) (files name) (w name) t e
+sound_keeps : Keeps WordedTrait Any WordedShorthand IsSound
+sound_keeps =
+    record {
+      references = λ raw w. all_any raw.references;
+      shorthands = λ raw w. w.4;
+      begins = sound_nothing;
+      with_flat = λ r g h t _ i e k. sound_flat r g h t i e k;
+      with_shorthand = sound_shorthand;
+      with_own = λ raw g h _ e i. sound_own raw g h e i;
+      ends = sound_finished;
+    }
 
 pub flat_sound : (files : Files) → AreWorded files → (limit : ℕ) (name : List ℕ) (t : FlatTrait) → flat limit files name ≡ Ok t → IsSound (gathered_in t)
-unfolding flat
-flat_sound files w limit name t e = sound_by files w (suc limit) (suc limit) name t e
+flat_sound files w limit name t e = every_flat WordedTrait Any WordedShorthand IsSound sound_keeps files w limit name t e
 
 pub flat_theory : (files : Files) → AreWorded files → (limit : ℕ) (name : List ℕ) (t : FlatTrait) → flat limit files name ≡ Ok t → IsTheory (theory_of t)
 flat_theory files w limit name t e =

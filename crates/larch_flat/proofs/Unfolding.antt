@@ -1,11 +1,8 @@
 -- A flat trait, as deep as there are files, is that of its text over the flat traits of the files that it refers to.
-use Rattle.std.proofs.Common.{◌≡◌, ℕ, suc, ◌≤◌, length, List, Option, Result}
-use Rattle.larch_base.specs.declared.fault.Fault.{Fault}
-use Rattle.larch_raw.specs.declared.equation.RawTrait.{RawTrait}
-use Rattle.larch_flat.specs.Files.{Files, closure}
-use Rattle.larch_flat.specs.Flat.{FlatTrait, flat, flat_by, flat_file}
+use Rattle.std.proofs.Common.{◌≡◌, ℕ, suc, ◌≤◌, length, List}
+use Rattle.larch_flat.specs.Files.{Files}
+use Rattle.larch_flat.specs.Flat.{flat, flat_by, flat_file}
 use Rattle.larch_flat.specs.Laws.{AreAmong, IsTold}
-use Rattle.larch_flat.specs.Stops.{Stop}
 use Rattle.larch_flat.proofs.Closures.{Names}
 use Rattle.larch_flat.proofs.DeepEnough.{deep_enough}
 use Rattle.larch_flat.proofs.Depth.{further, kept_told}

@@ -1,14 +1,11 @@
 -- Each variable in a flat trait is a word, where its files are written with words.
-use Rattle.std.proofs.Common.{◌≡◌, refl, ℕ, zero, suc, ◌<◌, ◌/◌, ◌%◌, Bool, true, false, cond, not, ◌==◌, ◌&&◌, ◌||◌, List, [], ◌∷◌, ◌++◌, map, All, Option, Some, None, Result, Ok, Err, ap, sym, subst, arith}
+use Rattle.std.proofs.Common.{◌≡◌, refl, ℕ, zero, suc, ◌<◌, ◌/◌, ◌%◌, Bool, true, false, cond, ◌==◌, ◌&&◌, ◌||◌, List, [], ◌∷◌, ◌++◌, map, All, Ok, ap, sym, subst, arith}
 use Rattle.std.specs.Char.{is_ascii_alphanumeric}
 use Rattle.std.specs.Fmt.{decimal, digit_glyph, digits, digits_onto}
-use Rattle.std.specs.Prelude.{bytes_eq, codes, fold, is_none}
-use Rattle.std.specs.List.{list_any}
+use Rattle.std.specs.Prelude.{codes, fold}
 use Rattle.std.proofs.lemmas.List.Elements.{All-nil, All-cons, All-head, All-tail, All-map, All-append, All-push, All-weaker}
 use Rattle.larch_base.specs.Word.{begins_alphanumeric, goes_on}
-use Rattle.larch_base.specs.declared.code.Code.TheVariants.{Cycle, Size, TraitName, UnknownTrait}
-use Rattle.larch_base.specs.declared.fault.Fault.{Fault}
-use Rattle.larch_base.specs.declared.position.Pos.{Pos}
+use Rattle.larch_base.specs.declared.code.Code.TheVariants.{Size}
 use Rattle.larch_base.proofs.Bools.{and_both}
 use Rattle.larch_raw.specs.Worded.{WordedItem, WordedTrait, WordedVar}
 use Rattle.larch_raw.specs.declared.equation.RawItem.{RawItem}
@@ -32,8 +29,7 @@ use Rattle.larch_sorts.specs.Laws.{StatementVariables}
 use Rattle.larch_items.specs.Declarations.{declared}
 use Rattle.larch_items.specs.Items.{items_state}
 use Rattle.larch_items.specs.Laws.{BindsWords, IsWord}
-use Rattle.larch_items.specs.Steps.{after, all_taken}
-use Rattle.larch_items.proofs.Kept.{Any, after_was, all_any, kept, ok_inj, unless_was}
+use Rattle.larch_items.proofs.Kept.{Any, after_was, all_any, ok_inj, unless_was}
 use Rattle.larch_items.proofs.Stated.{items_bind}
 use Rattle.larch_shorthand.specs.Enumeration.{all_differ, all_followed, differ, elements, enumeration, followed, followed_from, successor}
 use Rattle.larch_shorthand.specs.Operators.{on, on_two}
@@ -41,15 +37,14 @@ use Rattle.larch_shorthand.specs.Shorthand.{expand, expansion_of, names_in, wron
 use Rattle.larch_shorthand.specs.Tuple.{all_set, component_of, components_of, is_got, is_set, maker, tuple, tuple_of}
 use Rattle.larch_shorthand.specs.Union.{case_of, is_back, is_tagged, names_of, tag, tag_sort, union_, united}
 use Rattle.larch_shorthand.specs.declared.expansion.Expansion.{Expansion}
-use Rattle.larch_flat.specs.Files.{Files, closure, target}
-use Rattle.larch_flat.specs.Flat.{FlatTrait, finished, flat, flat_by, flat_file, referred, renamed_mark, renamed_marked, take_flat, take_items, take_new, take_own, take_reference, take_rest, take_shorthand, take_told, theory_of, with_renamed, within}
-use Rattle.larch_flat.specs.Gathered.{Gathered, Marked, is_too_large, nothing, with_asserted, with_discharge, with_marked, with_operators, with_taken}
+use Rattle.larch_flat.specs.Files.{Files}
+use Rattle.larch_flat.specs.Flat.{FlatTrait, flat, renamed_mark, renamed_marked, take_flat, take_items, take_own, take_shorthand, theory_of, with_renamed, within}
+use Rattle.larch_flat.specs.Gathered.{Gathered, Marked, is_too_large, with_asserted, with_discharge, with_marked, with_operators, with_taken}
 use Rattle.larch_flat.specs.Laws.{AreWorded}
 use Rattle.larch_flat.specs.Replacements.{Replacements, new_operator, renaming, replacements_of}
-use Rattle.larch_flat.specs.Stops.{Stop, surely}
+use Rattle.larch_flat.proofs.Gathering.{Keeps, every_flat}
 use Rattle.larch_flat.proofs.Proper.{refused_if_was}
 use Rattle.larch_flat.proofs.Sound.{AllMarked, marks_from, with_statement_all}
-use Rattle.larch_flat.proofs.Theory.{referred_was, stopped_if_was, surely_was}
 
 -- the variable's name is a word
 abbrev Named : Variable → Type 0
@@ -262,16 +257,6 @@ says_flat r g h t i e k =
     (All-nil (λ m. Says m.statement)))
     k)
 
-says_reference : (limit : ℕ) (files : Files) (name : List ℕ) (next : List ℕ → Result FlatTrait Stop) → ((m : List ℕ) (t : FlatTrait) → next m ≡ Ok t → AllMarked Says t.marked)
-    → (r : RawReference) (g h : Gathered) → take_reference limit files name next r g ≡ Ok h → Marks g → Marks h
-says_reference limit files name next k r g h e i =
-    let m : List ℕ = target r in let pos : Pos = r.target.name.pos in
-    let a = stopped_if_was UnknownTrait pos (is_none (files m)) (after (closure files limit (m ∷ [])) (take_new name r g (next m))) h e in
-    let b = after_was (closure files limit (m ∷ [])) (take_new name r g (next m)) h a in
-    let c = stopped_if_was Cycle pos (list_any (bytes_eq name) b.0) (take_told r g (next m)) h b.2 in
-    let d = after_was (referred pos (next m)) (λ t. surely (take_flat r g t)) h c in
-    says_flat r g h d.0 (k m d.0 (referred_was pos (next m) d.0 d.1)) (surely_was (take_flat r g d.0) h d.2) i
-
 says_shorthand : (s : RawShorthand) (g h : Gathered) → take_shorthand s g ≡ Ok h → Marks g → Marks h
 says_shorthand s g h e i =
     let p = after_was (expand s) (λ x. Ok (with_asserted x.statements (with_operators x.operators g))) h e in
@@ -291,35 +276,20 @@ says_own raw g h w e i =
     let q = after_was (items_state j.operators raw.items) (λ ss. Ok (with_asserted ss j)) h p.2 in
     subst Marks (ok_inj q.2) (asserted_says q.0 j (items_bind j.operators raw.items q.0 (All-weaker WordedItem BindsWords item_words raw.items w) q.1) i)
 
-says_rest : (raw : RawTrait) (g : Gathered) (t : FlatTrait) → WordedTrait raw → take_rest raw g ≡ Ok t → Marks g → AllMarked Says t.marked
-says_rest raw g t w e i =
-    let p = after_was (all_taken take_shorthand raw.shorthands g) (λ h. after (take_own raw h) (λ j. after (within raw.name.pos j) (λ k. Ok (finished raw k)))) t e in
-    let q = after_was (take_own raw p.0) (λ j. after (within raw.name.pos j) (λ k. Ok (finished raw k))) t p.2 in
-    let s = after_was (within raw.name.pos q.0) (λ k. Ok (finished raw k)) t q.2 in
-    let same = (refused_if_was Size raw.name.pos (is_too_large q.0) (Ok q.0) s.0 s.1).1 in
-    let shorts = kept take_shorthand Any Marks (λ x b c _ n k. says_shorthand x b c n k) raw.shorthands g p.0 (all_any raw.shorthands) p.1 i in
-    subst (λ u. AllMarked Says u.marked) (ok_inj s.2) (subst Marks (ok_inj same) (says_own raw p.0 q.0 w.2 q.1 shorts))
-
-says_text : (limit : ℕ) (files : Files) (name : List ℕ) (next : List ℕ → Result FlatTrait Stop) → ((m : List ℕ) (t : FlatTrait) → next m ≡ Ok t → AllMarked Says t.marked)
-    → (text : Option (Result RawTrait Fault)) → ((raw : RawTrait) → text ≡ Some (Ok raw) → WordedTrait raw) → (t : FlatTrait) → flat_file limit files name next text ≡ Ok t
-    → AllMarked Says t.marked
-says_text limit files name next k None w t e = cc
-says_text limit files name next k (Some (Err f)) w t e = cc
-says_text limit files name next k (Some (Ok raw)) w t e =
-    let all : Result Gathered Stop = all_taken (take_reference limit files name next) raw.references nothing in
-    let a = stopped_if_was TraitName raw.name.pos (not (bytes_eq raw.name.name name)) (after all (λ g. surely (take_rest raw g))) t e in
-    let b = after_was all (λ g. surely (take_rest raw g)) t a in
-    says_rest raw b.0 t (w raw refl) (surely_was (take_rest raw b.0) t b.2)
-    (kept (take_reference limit files name next) Any Marks (λ r g h _ d i. says_reference limit files name next k r g h d i) raw.references nothing b.0 (all_any raw.references)
-    b.1 (All-nil (λ m. Says m.statement)))
-
-says_by : (files : Files) → AreWorded files → (n limit : ℕ) (name : List ℕ) (t : FlatTrait) → flat_by n limit files name ≡ Ok t → AllMarked Says t.marked
-says_by files w zero limit name t e = cc
-says_by files w (suc n) limit name t e =
-    says_text limit files name (λ m. flat_by n limit files m) (λ m u d. says_by files w n limit m u d) (files name) (w name) t e
+says_keeps : Keeps WordedTrait Any Any Marks
+says_keeps =
+    record {
+      references = λ raw w. all_any raw.references;
+      shorthands = λ raw w. all_any raw.shorthands;
+      begins = All-nil (λ m. Says m.statement);
+      with_flat = λ r g h t _ i e k. says_flat r g h t i e k;
+      with_shorthand = λ s g h _ e i. says_shorthand s g h e i;
+      with_own = λ raw g h w e i. says_own raw g h w.2 e i;
+      ends = λ raw g h. h;
+    }
 
 -- the variables of the statements of a flat trait are words
 pub variables_words : (files : Files) → AreWorded files → (limit : ℕ) (name : List ℕ) (t : FlatTrait) → flat limit files name ≡ Ok t
     → All (StatementVariables IsWord) (theory_of t).statements
-unfolding flat
-variables_words files w limit name t e = All-map Says (λ m. m.statement) t.marked (says_by files w (suc limit) (suc limit) name t e)
+variables_words files w limit name t e =
+    All-map Says (λ m. m.statement) t.marked (every_flat WordedTrait Any Any Marks says_keeps files w limit name t e)

@@ -1,36 +1,30 @@
 -- Each sort in a flat trait is a word, where its files are written with words.
-use Rattle.std.proofs.Common.{◌≡◌, refl, ℕ, zero, suc, Bool, true, false, cond, not, ◌==◌, ◌&&◌, ◌||◌, List, [], ◌∷◌, ◌++◌, map, All, Option, Some, None, Result, Ok, Err, ap, sym, subst, ◌∙◌, inl, inr}
+use Rattle.std.proofs.Common.{◌≡◌, refl, ℕ, Bool, true, false, cond, not, ◌==◌, ◌&&◌, ◌||◌, List, [], ◌∷◌, ◌++◌, map, All, Option, Some, None, Ok, ap, sym, subst, ◌∙◌, inl, inr}
 use Rattle.std.specs.Char.{is_ascii_alphanumeric}
-use Rattle.std.specs.Prelude.{bytes_eq, codes, fold, is_none, is_some, unwrap_or}
+use Rattle.std.specs.Prelude.{bytes_eq, codes, is_some, unwrap_or}
 use Rattle.std.specs.List.{list_any}
 use Rattle.std.specs.Map.{lookup}
 use Rattle.std.proofs.lemmas.List.Elements.{All-nil, All-cons, All-head, All-tail, All-map, All-append, All-push, All-weaker, All-contains}
 use Rattle.larch_base.specs.Word.{begins_alphanumeric, goes_on}
-use Rattle.larch_base.specs.declared.code.Code.TheVariants.{Cycle, Rename, Size, TraitName, UnknownTrait}
-use Rattle.larch_base.specs.declared.fault.Fault.{Fault}
+use Rattle.larch_base.specs.declared.code.Code.TheVariants.{Rename}
 use Rattle.larch_base.specs.declared.position.Pos.{Pos}
 use Rattle.larch_base.proofs.Bools.{and_both, both_true}
 use Rattle.larch_base.proofs.Lists.{all_from}
 use Rattle.larch_base.proofs.Members.{contains_here, contains_left, contains_right}
 use Rattle.larch_raw.specs.Worded.{WordedActual, WordedDecl, WordedField, WordedForm, WordedReference, WordedShorthand, WordedTrait}
 use Rattle.larch_raw.specs.declared.declared.RawForm.{RawForm}
-use Rattle.larch_raw.specs.declared.equation.RawTrait.{RawTrait}
 use Rattle.larch_raw.specs.declared.reference.RawActual.{RawActual}
 use Rattle.larch_raw.specs.declared.reference.RawActual.TheVariants.{Plain, Replace}
 use Rattle.larch_raw.specs.declared.reference.RawRef.{RawRef}
-use Rattle.larch_raw.specs.declared.reference.RawReference.{RawReference}
 use Rattle.larch_raw.specs.declared.shorthand.RawField.{RawField}
 use Rattle.larch_raw.specs.declared.shorthand.RawShorthand.{RawShorthand}
 use Rattle.larch_raw.specs.declared.shorthand.RawShorthand.TheVariants.{Enumeration, Tuple, Union}
 use Rattle.larch_term.specs.BuiltIn.{bool_sort, is_built_in}
-use Rattle.larch_term.specs.Equality.{same_operator}
 use Rattle.larch_term.specs.Operator.{PlainOperator}
 use Rattle.larch_term.specs.Tree.{Tree, Forest, var, app, none, more}
 use Rattle.larch_term.specs.declared.statement.Statement.{Statement}
 use Rattle.larch_term.specs.declared.statement.Statement.TheVariants.{Equation, Generated, Partitioned}
 use Rattle.larch_sorts.specs.Laws.{ForestSorts, IsSortOf, OperatorSorts, StatementSorts, TermSorts, sorts_of_operator}
-use Rattle.larch_items.specs.Declarations.{declared}
-use Rattle.larch_items.specs.Items.{items_state}
 use Rattle.larch_items.specs.Laws.{DeclaresWords, IsWord}
 use Rattle.larch_items.specs.Steps.{after, all_taken}
 use Rattle.larch_items.proofs.Kept.{after_was, kept, ok_inj, unless_was}
@@ -41,14 +35,14 @@ use Rattle.larch_shorthand.specs.Shorthand.{expand, expansion_of, names_in, wron
 use Rattle.larch_shorthand.specs.Tuple.{getter, maker, setter, tuple_operators}
 use Rattle.larch_shorthand.specs.Union.{injection, names_of, tag, tag_sort, union_operators}
 use Rattle.larch_shorthand.specs.declared.expansion.Expansion.{Expansion}
-use Rattle.larch_flat.specs.Files.{Files, closure, target}
-use Rattle.larch_flat.specs.Flat.{FlatTrait, finished, flat, flat_by, flat_file, referred, renamed_marked, take_flat, take_items, take_new, take_own, take_reference, take_rest, take_shorthand, take_told, theory_of, with_renamed, within}
-use Rattle.larch_flat.specs.Gathered.{Gathered, Marked, is_too_large, nothing, with_asserted, with_discharge, with_marked, with_operator, with_operators, with_taken}
+use Rattle.larch_flat.specs.Files.{Files}
+use Rattle.larch_flat.specs.Flat.{FlatTrait, flat, theory_of}
 use Rattle.larch_flat.specs.Laws.{AreWorded, IsStatedOver}
 use Rattle.larch_flat.specs.Replacements.{Named, OldOperators, OldSort, Replacement, Replacements, all_replacements, by_name, by_position, cannot_rename, cannot_rename_sort, is_count_wrong, kept_apart, named, new_operator, new_sort, none_or_any, none_replaced, plain_forms, replace, replaced, replacements_of}
-use Rattle.larch_flat.specs.Stops.{Stop, surely}
+use Rattle.larch_flat.proofs.EachOperator.{Brings, HaveOperators, each_operator}
+use Rattle.larch_flat.proofs.Gathering.{every_flat}
 use Rattle.larch_flat.proofs.Proper.{refused_if_was}
-use Rattle.larch_flat.proofs.Theory.{flat_stated, referred_was, stopped_if_was, surely_was}
+use Rattle.larch_flat.proofs.Theory.{flat_stated}
 
 -- each sort of the operator is a word
 abbrev HasWordSorts : PlainOperator → Type 0
@@ -201,103 +195,21 @@ replacements_words fs formals ref by w e =
     (position_worded formals (plain_forms ref.actuals) (plain_worded ref.actuals w)) (name_worded ref.actuals w))
     q.1 (All-nil (λ p. IsWord p.1)))
 
--- what is gathered has words for sorts
-abbrev HasWords : Gathered → Type 0
-HasWords g = All HasWordSorts g.operators
-
-with_by : (fs : List PlainOperator) (f : PlainOperator) (b : Bool) → All HasWordSorts fs → HasWordSorts f → All HasWordSorts (cond b fs (fs ++ f ∷ []))
-with_by fs f true h k = h
-with_by fs f false h k = All-push HasWordSorts fs f h k
-
-with_words : (fs os : List PlainOperator) → All HasWordSorts os → All HasWordSorts fs → All HasWordSorts (fold with_operator os fs)
-with_words [] os h k = h
-with_words (f ∷ fs) os h k =
-    with_words fs (with_operator os f) (with_by os f (list_any (same_operator f) os) h (All-head HasWordSorts f fs k)) (All-tail HasWordSorts f fs k)
-
-same_by : (m : Marked) (g : Gathered) (b : Bool) → (cond b (with_discharge m.statement g) (with_marked false m.statement g)).operators ≡ g.operators
-same_by m g true = refl
-same_by m g false = refl
-
-taken_same : (assumes : Bool) (m : Marked) (g : Gathered) → (with_taken assumes m g).operators ≡ g.operators
-taken_same true m g = refl
-taken_same false m g = same_by m g m.assumed
-
-all_taken_same : (assumes : Bool) (ms : List Marked) (g : Gathered) → (fold (λ h m. with_taken assumes m h) g ms).operators ≡ g.operators
-all_taken_same assumes [] g = refl
-all_taken_same assumes (m ∷ ms) g = all_taken_same assumes ms (with_taken assumes m g) ∙ taken_same assumes m g
-
-asserted_same : (ss : List Statement) (g : Gathered) → (with_asserted ss g).operators ≡ g.operators
-asserted_same [] g = refl
-asserted_same (s ∷ ss) g = asserted_same ss (with_marked false s g)
-
-words_flat : (r : RawReference) (g h : Gathered) (t : FlatTrait) → WordedReference r → All HasWordSorts t.operators → take_flat r g t ≡ Ok h → HasWords g → HasWords h
-words_flat r g h t w i e k =
-    let p = after_was (replacements_of t.operators t.raw.formals r.target) (λ by. within r.target.name.pos (with_renamed r.assumed t by g)) h e in
-    let by : Replacements = p.0 in
-    let n = replacements_words t.operators t.raw.formals r.target by w.1 p.1 in
-    let q = refused_if_was Size r.target.name.pos (is_too_large (with_renamed r.assumed t by g)) (Ok (with_renamed r.assumed t by g)) h p.2 in
-    let news : List PlainOperator = map (new_operator by) t.operators in
-    subst HasWords (ok_inj q.1)
-    (subst (All HasWordSorts) (sym (all_taken_same r.assumed (renamed_marked by t.marked) (with_operators news g)))
-    (with_words news g.operators k (each_worded HasWordSorts (new_operator by) (renamed_words by n) t.operators i)))
-
-words_reference : (limit : ℕ) (files : Files) (name : List ℕ) (next : List ℕ → Result FlatTrait Stop) → ((m : List ℕ) (t : FlatTrait) → next m ≡ Ok t → All HasWordSorts t.operators)
-    → (r : RawReference) (g h : Gathered) → WordedReference r → take_reference limit files name next r g ≡ Ok h → HasWords g → HasWords h
-words_reference limit files name next k r g h w e i =
-    let m : List ℕ = target r in let pos : Pos = r.target.name.pos in
-    let a = stopped_if_was UnknownTrait pos (is_none (files m)) (after (closure files limit (m ∷ [])) (take_new name r g (next m))) h e in
-    let b = after_was (closure files limit (m ∷ [])) (take_new name r g (next m)) h a in
-    let c = stopped_if_was Cycle pos (list_any (bytes_eq name) b.0) (take_told r g (next m)) h b.2 in
-    let d = after_was (referred pos (next m)) (λ t. surely (take_flat r g t)) h c in
-    words_flat r g h d.0 w (k m d.0 (referred_was pos (next m) d.0 d.1)) (surely_was (take_flat r g d.0) h d.2) i
-
-words_shorthand : (s : RawShorthand) (g h : Gathered) → WordedShorthand s → take_shorthand s g ≡ Ok h → HasWords g → HasWords h
-words_shorthand s g h w e i =
-    let p = after_was (expand s) (λ x. Ok (with_asserted x.statements (with_operators x.operators g))) h e in
-    let x : Expansion = p.0 in
-    subst HasWords (ok_inj p.2)
-    (subst (All HasWordSorts) (sym (asserted_same x.statements (with_operators x.operators g))) (with_words x.operators g.operators i (expansion_words s x w p.1)))
-
-words_own : (raw : RawTrait) (g h : Gathered) → All WordedDecl raw.declarations → take_own raw g ≡ Ok h → HasWords g → HasWords h
-words_own raw g h w e i =
-    let p = after_was (declared raw.declarations) (λ fs. take_items raw (with_operators fs g)) h e in
-    let q = after_was (items_state (with_operators p.0 g).operators raw.items) (λ ss. Ok (with_asserted ss (with_operators p.0 g))) h p.2 in
-    subst HasWords (ok_inj q.2)
-    (subst (All HasWordSorts) (sym (asserted_same q.0 (with_operators p.0 g)))
-    (with_words p.0 g.operators i
-    (declared_words raw.declarations p.0 (All-weaker WordedDecl DeclaresWords (λ d k. k) raw.declarations w) p.1)))
-
-words_rest : (raw : RawTrait) (g : Gathered) (t : FlatTrait) → WordedTrait raw → take_rest raw g ≡ Ok t → HasWords g → All HasWordSorts t.operators
-words_rest raw g t w e i =
-    let p = after_was (all_taken take_shorthand raw.shorthands g) (λ h. after (take_own raw h) (λ j. after (within raw.name.pos j) (λ k. Ok (finished raw k)))) t e in
-    let q = after_was (take_own raw p.0) (λ j. after (within raw.name.pos j) (λ k. Ok (finished raw k))) t p.2 in
-    let s = after_was (within raw.name.pos q.0) (λ k. Ok (finished raw k)) t q.2 in
-    let same = (refused_if_was Size raw.name.pos (is_too_large q.0) (Ok q.0) s.0 s.1).1 in
-    let shorts = kept take_shorthand WordedShorthand HasWords (λ x b c v n k. words_shorthand x b c v n k) raw.shorthands g p.0 w.4 p.1 i in
-    subst (λ u. All HasWordSorts u.operators) (ok_inj s.2) (subst HasWords (ok_inj same) (words_own raw p.0 q.0 w.1 q.1 shorts))
-
-words_text : (limit : ℕ) (files : Files) (name : List ℕ) (next : List ℕ → Result FlatTrait Stop) → ((m : List ℕ) (t : FlatTrait) → next m ≡ Ok t → All HasWordSorts t.operators)
-    → (text : Option (Result RawTrait Fault)) → ((raw : RawTrait) → text ≡ Some (Ok raw) → WordedTrait raw) → (t : FlatTrait) → flat_file limit files name next text ≡ Ok t
-    → All HasWordSorts t.operators
-words_text limit files name next k None w t e = cc
-words_text limit files name next k (Some (Err f)) w t e = cc
-words_text limit files name next k (Some (Ok raw)) w t e =
-    let all : Result Gathered Stop = all_taken (take_reference limit files name next) raw.references nothing in
-    let a = stopped_if_was TraitName raw.name.pos (not (bytes_eq raw.name.name name)) (after all (λ g. surely (take_rest raw g))) t e in
-    let b = after_was all (λ g. surely (take_rest raw g)) t a in
-    words_rest raw b.0 t (w raw refl) (surely_was (take_rest raw b.0) t b.2)
-    (kept (take_reference limit files name next) WordedReference HasWords (λ r g h v d i. words_reference limit files name next k r g h v d i) raw.references nothing b.0 (w raw refl).5
-    b.1 (All-nil HasWordSorts))
-
-words_by : (files : Files) → AreWorded files → (n limit : ℕ) (name : List ℕ) (t : FlatTrait) → flat_by n limit files name ≡ Ok t → All HasWordSorts t.operators
-words_by files w zero limit name t e = cc
-words_by files w (suc n) limit name t e =
-    words_text limit files name (λ m. flat_by n limit files m) (λ m u d. words_by files w n limit m u d) (files name) (w name) t e
+words_brought : Brings WordedTrait WordedReference WordedShorthand HasWordSorts
+words_brought =
+    record {
+      references = λ raw w. w.5;
+      shorthands = λ raw w. w.4;
+      renames = λ r t by w e. renamed_words by (replacements_words t.operators t.raw.formals r.target by w.1 e);
+      expands = expansion_words;
+      declares = λ raw fs w e. declared_words raw.declarations fs (All-weaker WordedDecl DeclaresWords (λ d k. k) raw.declarations w.1) e;
+    }
 
 -- the sorts of the operators of a flat trait are words
 pub operators_words : (files : Files) → AreWorded files → (limit : ℕ) (name : List ℕ) (t : FlatTrait) → flat limit files name ≡ Ok t → All (OperatorSorts IsWord) t.operators
-unfolding flat
-operators_words files w limit name t e = words_by files w (suc limit) (suc limit) name t e
+operators_words files w limit name t e =
+    every_flat WordedTrait WordedReference WordedShorthand (HaveOperators HasWordSorts)
+    (each_operator WordedTrait WordedReference WordedShorthand HasWordSorts words_brought) files w limit name t e
 
 word_exists : (fs : List PlainOperator) → All (OperatorSorts IsWord) fs → (s : List ℕ) → IsSortOf fs s → IsWord s
 word_exists fs h s (inl e) = subst IsWord (sym e) refl

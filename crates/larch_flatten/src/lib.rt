@@ -10,6 +10,3 @@ mod taking;
 
 pub use flat_traits::FlatTraits;
 pub use flattening::flatten;
-
-#[cfg(test)]
-mod tests;

@@ -9,6 +9,3 @@ mod trait_;
 
 pub use flat::Flat;
 pub use store::Store;
-
-#[cfg(test)]
-mod tests;

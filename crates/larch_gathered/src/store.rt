@@ -30,7 +30,10 @@ impl Model for Store {
 
     ghost coded = { coded_store };
 
-    ghost view = { λ store. record { gathered = record { operators = store.operators.keys; marked = store.marked; discharge = store.discharge }; full = store.full } };
+    ghost view = { λ store. record {
+      gathered = record { operators = store.operators.keys; marked = store.marked; discharge = store.discharge };
+      full = store.full;
+    } };
 }
 
 impl Store {

@@ -97,8 +97,7 @@ impl Store {
     {
         let operators = copy_operators(alloc, self.operators())?;
         let signature = Signature::from_operators(alloc, operators)?;
-        let statements = state_items(alloc, &signature, items)?;
-        Ok(statements)
+        state_items(alloc, &signature, items)
     }
 
     // All that is gathered, unless a limit is passed.

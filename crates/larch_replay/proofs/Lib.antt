@@ -8,4 +8,8 @@ pub mod LevelSorts
 pub mod NewConstants
 pub mod StepSorts
 pub mod OpeningSorts
+pub mod CasePlans
+pub mod InductionPlans
+pub mod PartitionPlans
+pub mod PlanParts
 pub mod PlanSorts

@@ -28,7 +28,7 @@ use Rattle.larch_replay.specs.Plans.{Cases, Conjunction, Contradiction, Implicat
 use Rattle.larch_replay.specs.Steps.{own_operators, taken_names}
 use Rattle.larch_replay.proofs.FreeNames.{free_is_free}
 use Rattle.larch_replay.proofs.LevelSorts.{ok_inj}
-use Rattle.larch_replay.proofs.PlanSorts.{new_are_constants}
+use Rattle.larch_replay.proofs.PlanParts.{new_are_constants}
 
 -- ---- names
 

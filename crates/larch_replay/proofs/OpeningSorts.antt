@@ -35,7 +35,7 @@ use Rattle.larch_replay.specs.WellSorted.{AreLemmasOver, GoesOn, IsFactOver, IsL
 use Rattle.larch_replay.proofs.AddingSorts.{equality_over, truth_over}
 use Rattle.larch_replay.proofs.LevelSorts.{Is, Keeps, added_keeps, between, goal_keeps, ok_inj, settled_keeps, supposed_keeps, with_constants_over, with_goal_over}
 use Rattle.larch_replay.proofs.NewConstants.{grown_new, none_are_new, own_taken, predicate_new, two_new}
-use Rattle.larch_replay.proofs.PlanSorts.{formula_over}
+use Rattle.larch_replay.proofs.PartitionPlans.{formula_over}
 use Rattle.larch_replay.proofs.StepSorts.{AreGiven, Leads, all_keep, own_are, declared_keeps, heightened_keeps, located_done, replied, stays, status_keeps, step_keeps}
 
 -- ---- the preamble

@@ -47,7 +47,8 @@ use Rattle.larch_replay.specs.WellSorted.{AreLemmasOver, IsFactOver, IsLevelOver
 use Rattle.larch_replay.proofs.AddingSorts.{sides_under_over}
 use Rattle.larch_replay.proofs.LevelSorts.{Is, Keeps, begun_keeps, between, derived_keeps, either_way, goal_keeps, moved, ok_inj, settled_keeps, unless_passed}
 use Rattle.larch_replay.proofs.NewConstants.{grown_new, own_taken, plan_new}
-use Rattle.larch_replay.proofs.PlanSorts.{formula_over, plan_over}
+use Rattle.larch_replay.proofs.PartitionPlans.{formula_over}
+use Rattle.larch_replay.proofs.PlanSorts.{plan_over}
 
 -- ---- what a step leads to
 

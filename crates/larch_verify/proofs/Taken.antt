@@ -42,9 +42,13 @@ bad_verdict t s st lines o n b e f =
     sym (subst (λ x. IfSome x (λ m. (r : Statement) → verdict_from t r st lines ≡ Some m)) e b s)
     ∙ ap (λ u. verdict_from t s u lines) f
 
--- the verdict where none is
-pub end_verdict : (t : Theory) (s : Statement) (st last : State) (lines : List Line) (b c : Bool)
-    → verdict_from t s st lines ≡ verdict_from t s last [] → st ≡ start → b ≡ ends_with s last.history → b ≡ c
-    → (if c then None else Some (suc last.count)) ≡ verdict t s lines
-end_verdict t s st last lines b c a f e n =
-    ap (λ x. if x then None else Some (suc last.count)) (sym n ∙ e) ∙ sym a ∙ ap (λ u. verdict_from t s u lines) f
+-- the verdict at the end
+pub end_verdict : (t : Theory) (s : Statement) (last : State) (b c : Bool) → b ≡ ends_with s last.history → b ≡ c
+    → (if c then None else Some (suc last.count)) ≡ verdict_from t s last []
+end_verdict t s last b c e n = ap (λ x. if x then None else Some (suc last.count)) (sym n ∙ e)
+
+-- the verdict where no line is bad
+pub good_verdict : (t : Theory) (s : Statement) (st last : State) (lines : List Line) (o : Option ℕ)
+    → verdict_from t s st lines ≡ verdict_from t s last [] → st ≡ start → o ≡ verdict_from t s last []
+    → o ≡ verdict t s lines
+good_verdict t s st last lines o a f e = e ∙ sym a ∙ ap (λ u. verdict_from t s u lines) f

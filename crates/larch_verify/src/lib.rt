@@ -11,6 +11,3 @@ mod verifying;
 
 pub use verdict::Verdict;
 pub use verifying::verify;
-
-#[cfg(test)]
-mod tests;

@@ -1,8 +1,11 @@
-ghost use Rattle.std.specs.Prelude.{◌≡◌, IfOk};
+ghost use Rattle.std.specs.Prelude.{◌≡◌, [], IfOk, length};
 ghost use Rattle.larch_term.specs.Statement.{IsWellSortedTheory};
 ghost use Rattle.larch_calculus.specs.Derivable.{Derivable};
 ghost use Rattle.larch_calculus.specs.Renaming.{HasPlainNames};
-ghost use Rattle.larch_lines.specs.Acceptance.{verdict};
+ghost use Rattle.larch_lines.specs.Acceptance.{verdict, verdict_from};
+ghost use Rattle.larch_pool.specs.Pooled.{Pooled};
+ghost use Rattle.larch_past.specs.Past.{IsPast, history_of};
+ghost use Rattle.larch_verify.specs.Checking.{state_of};
 ghost use Rattle.larch_verify.specs.Verdict.{refusal};
 ghost use Rattle.larch_verify.specs.declared.verdict.Verdict.TheVariants.{Accepted};
 
@@ -38,7 +41,7 @@ pub fn verify(
     Ok(verdict)
 }
 
-// The verdict, by all lines in order and what there is at the end.
+// The verdict, with a pool and a past of its own.
 fn checked(
     alloc: Global,
     theory: &Theory,
@@ -49,13 +52,46 @@ fn checked(
 {
     let mut pool = Pool::new(alloc);
     let own = intern_operators(alloc, &mut pool, theory.operators.as_slice())?;
-    let axioms = intern_statements(alloc, &mut pool, theory.statements.as_slice())?;
     let mut past = Past::new(alloc, own);
-    let bad = take_lines(alloc, &mut pool, theory, &axioms, &mut past, certificate)?;
+    let verdict = by_lines(alloc, &mut pool, theory, &mut past, statement, certificate)?;
+    Ok(verdict)
+}
+
+// The verdict by all lines in order, before which nothing has happened, and by what there is at the end.
+fn by_lines(
+    alloc: Global,
+    pool: &mut Pool,
+    theory: &Theory,
+    past: &mut Past,
+    statement: &Statement,
+    certificate: &[Line],
+) -> Result<Verdict, Memory>
+    requires past { IsPast theory.now pool.old past.old }
+    requires count { length past.old.places.items ≡ 0 }
+    requires history { (p : Pooled) → history_of p past.old ≡ [] }
+    ensures { IfOk result (λ v. refusal v ≡ verdict theory.now statement.now certificate.now) }
+{
+    let axioms = intern_statements(alloc, pool, theory.statements.as_slice())?;
+    let bad = take_lines(alloc, pool, theory, &axioms, past, certificate)?;
     if let Some(number) = bad {
         return Ok(Verdict::Refused(number));
     }
-    let ends = ends_with(alloc, &mut pool, theory, &past, statement)?;
+    let verdict = by_end(alloc, pool, theory, past, statement)?;
+    Ok(verdict)
+}
+
+// The verdict behind the last line, where none was bad.
+fn by_end(
+    alloc: Global,
+    pool: &mut Pool,
+    theory: &Theory,
+    past: &Past,
+    statement: &Statement,
+) -> Result<Verdict, Memory>
+    requires { IsPast theory.now pool.old past.now }
+    ensures { IfOk result (λ v. refusal v ≡ verdict_from theory.now statement.now (state_of pool.old past.now) []) }
+{
+    let ends = ends_with(alloc, pool, theory, past, statement)?;
     if ends {
         Ok(Verdict::Accepted)
     } else {

@@ -28,6 +28,11 @@ returns-in_err-conversions c =
     (subst (λ rs. IfSome o (λ f. each (conversion_of c.args.flat.now.operators) rs ≡ Err f)) c.as_slice-clauses.ensures
     (subst (λ fs. IfSome o (λ f. each (conversion_of fs) c.as_slice-clauses.result.now ≡ Err f)) c.in_ok-signature.ensures c.in_err-conversions.ensures)))
 
+pub returns-in_err-implied : goal.returns-in_err-implied
+returns-in_err-implied c =
+    let p = err_from_is_err_and c.from_residual-in_err-implied.result c.from_residual-in_err-implied.ensures.1 in
+    rw (p.1, p.2) tt
+
 pub returns-then-are_too_many : goal.returns-then-are_too_many
 returns-then-are_too_many c =
     let g = c.args.flat.now in
