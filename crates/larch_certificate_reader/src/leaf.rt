@@ -56,7 +56,7 @@ pub fn read_leaf(names: &mut Names, here: Here, text: &[u8]) -> Result<Option<Co
         return read_variable(names, name, sort);
     }
     match read_symbol(here, text) {
-        Some(symbol) => Ok(Some(Coded::app(symbol, CodedTerms::from_vec(Vec::new(names.alloc))))),
+        Some(symbol) => Ok(Some(Coded::app(symbol, CodedTerms::none()))),
         None => Ok(None),
     }
 }

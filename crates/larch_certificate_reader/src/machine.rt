@@ -128,9 +128,12 @@ fn close(names: &mut Names, here: Here, reading: &mut Reading, atom: &[u8]) -> R
 fn closed_frame(frame: Frame, last: Coded) -> Result<Coded, Memory>
     ensures { IfOk result (λ term. term ≡ coded_app frame.symbol (coded_forest_of (frame.done ++ last ∷ []))) }
 {
-    let Frame { symbol, mut done } = frame;
-    done.push(last)?;
-    Ok(Coded::app(symbol, CodedTerms::from_vec(done.into_vec())))
+    let Frame { symbol, done } = frame;
+    let mut arguments = done.into_vec();
+    arguments.reserve_exact(1)?;
+    arguments.push(last)?;
+    let arguments = CodedTerms::from_vec(arguments)?;
+    Ok(Coded::app(symbol, arguments))
 }
 
 fn settle(reading: &mut Reading, term: Coded) -> Step

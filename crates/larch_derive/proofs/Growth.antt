@@ -9,13 +9,15 @@ use Rattle.larch_term.specs.Tree.{Tree}
 use Rattle.larch_term.specs.declared.statement.Statement.{Statement}
 use Rattle.larch_term.specs.declared.statement.Statement.TheVariants.{Equation}
 use Rattle.larch_term.specs.declared.statement.Theory.{Theory}
+use Rattle.larch_certificate.specs.Coded.{CodedTree}
 use Rattle.larch_certificate.specs.declared.line.Line.{Line}
 use Rattle.larch_lines.specs.Context.{theory_of, find_line}
 use Rattle.larch_lines.specs.Events.{Event, Said, Opened, Closed, State, start}
 use Rattle.larch_lines.specs.Run.{run, step}
 use Rattle.larch_derive.specs.declared.builder.Builder.{Builder}
 use Rattle.larch_derive.specs.declared.open_box.OpenBox.{OpenBox}
-use Rattle.larch_derive.specs.Builder.{shape_of}
+use Rattle.larch_derive.specs.Builder.{shape_of, IsCodeIn}
+use Rattle.larch_derive.specs.Coding.{IsCodeOf}
 use Rattle.larch_derive.specs.Predicates.{shapes_of, written, written_statement, StandIn, KnownIn, SaysIn, Stands, Known, HasStatement, IsSaidBehind, IsBehind, LeadsOn, GrowsBy, AreAlike, Extends, Grows}
 
 -- ---- events behind
@@ -283,3 +285,12 @@ said_stands a n s (st, h) = (st, h.stand)
 pub grows_alike : (a b : Builder) → Grows a b → (b.theory ≡ a.theory) × (b.boxes ≡ a.boxes)
 unfolding Grows
 grows_alike a b x = (x.0.theory, x.0.boxes)
+
+-- ---- terms as lines write them
+
+-- what writes a term writes it where the builder has further lines
+pub code_stays : (a b : Builder) (t : Tree) (c : CodedTree) → Extends a b → IsCodeIn a t c → IsCodeIn b t c
+unfolding Extends
+code_stays a b t c (same, g) h =
+    subst (λ bs. IsCodeOf bs b.theory.operators t c) (sym same.boxes)
+    (subst (λ th. IsCodeOf a.boxes th.operators t c) (sym same.theory) h)

@@ -1,16 +1,17 @@
 ghost use Rattle.std.specs.Prelude.{◌≡◌, suc, ◌-◌, ◌++◌, ◌∷◌, [], IfOk, OnErr, false, length, map, take, All};
 ghost use Rattle.larch_calculus.specs.Renaming.{IsPlainName};
+ghost use Rattle.larch_derive.specs.Coding.{IsSymbolOf};
 ghost use Rattle.larch_derive.specs.Predicates.{Stands};
 ghost use Rattle.larch_derive.specs.Builder.{IsEmpty, IsPushed, IsOpened, IsBoxLine, IsCodeIn};
 ghost use Rattle.larch_derive.specs.Builder.{opens_box, part_for, boxes_in, lines_in, theory_in};
 
-use crate::coding::{code, code_equations};
+use crate::coding::{code, code_equations, symbol_of};
 use crate::copying::copy_line;
 use crate::open_box::{OpenBox, OpenBoxes, copy_boxes};
 use crate::shared_list::SharedList;
 use crate::shared_theory::SharedTheory;
 use larch_base::{Memory, Sequence};
-use larch_certificate::{BoxPart, BoxParts, Certificate, Coded, Line};
+use larch_certificate::{BoxPart, BoxParts, Certificate, Coded, Line, Symbol};
 use larch_term::{Operator, Operators, Statements, Term, Theory, copy_operators};
 use std::alloc::Global;
 
@@ -76,6 +77,13 @@ impl Builder {
     {
         let coded = code(self.alloc, &self.theory, self.boxes.as_slice(), term)?;
         Ok(coded)
+    }
+
+    /// What names an operator in lines, where these boxes are open. It takes no memory.
+    pub fn symbol(&self, operator: &Operator) -> Symbol
+        ensures { IsSymbolOf (boxes_in self.now) (theory_in self.now).operators operator.now result }
+    {
+        symbol_of(&self.theory, self.boxes.as_slice(), operator)
     }
 
     /// Puts a line that opens no box behind the others, and answers its number. A refused line changes nothing.

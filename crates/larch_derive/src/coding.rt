@@ -65,7 +65,8 @@ fn code_all(
         let coded = code(alloc, theory, boxes, term)?;
         items.push(coded)?;
     }
-    Ok(CodedTerms::from_vec(items))
+    let arguments = CodedTerms::from_vec(items)?;
+    Ok(arguments)
 }
 
 // The equations among statements as lines write them.

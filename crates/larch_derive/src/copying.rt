@@ -3,8 +3,8 @@ ghost use Rattle.larch_certificate.specs.declared.line.Line.TheVariants.{BoxLine
 
 use larch_base::{Memory, Name, Sequence};
 use larch_certificate::{
-    Binding, Bindings, BoxPart, BoxParts, Coded, CodedEquation, CodedEquations, CodedNode,
-    CodedTerms, CodedVar, CodedVars, Line, Numbers,
+    Binding, Bindings, BoxPart, BoxParts, CodedEquation, CodedEquations, CodedVar, CodedVars, Line,
+    Numbers,
 };
 use std::alloc::Global;
 
@@ -20,7 +20,7 @@ pub(crate) fn copy_line(alloc: Global, line: &Line) -> Result<Line, Memory>
             Ok(Line::Row(*row, sort))
         }
         Line::Refl(term) => {
-            let term = copy_coded(alloc, term)?;
+            let term = term.copy()?;
             Ok(Line::Refl(term))
         }
         Line::Sym(line) => Ok(Line::Sym(*line)),
@@ -48,7 +48,7 @@ pub(crate) fn copy_line(alloc: Global, line: &Line) -> Result<Line, Memory>
             Ok(copied)
         }
         Line::Observe(line, equation, lines) => {
-            let equation = copy_equation(alloc, equation)?;
+            let equation = copy_equation(equation)?;
             let lines = copy_numbers(alloc, lines.as_slice())?;
             Ok(Line::Observe(*line, equation, lines))
         }
@@ -87,7 +87,7 @@ fn copy_induct(
     ensures { IfOk result (λ copied. copied ≡ Induct line variable.now equation.now boxes.now) }
 {
     let variable = copy_variable(variable)?;
-    let equation = copy_equation(alloc, equation)?;
+    let equation = copy_equation(equation)?;
     let boxes = copy_numbers(alloc, boxes.as_slice())?;
     Ok(Line::Induct(line, variable, equation, boxes))
 }
@@ -145,11 +145,11 @@ fn copy_variables(alloc: Global, variables: &[CodedVar]) -> Result<CodedVars, Me
     Ok(copied)
 }
 
-fn copy_equation(alloc: Global, equation: &CodedEquation) -> Result<CodedEquation, Memory>
+fn copy_equation(equation: &CodedEquation) -> Result<CodedEquation, Memory>
     ensures { IfOk result (λ copied. copied ≡ equation.now) }
 {
-    let left = copy_coded(alloc, &equation.left)?;
-    let right = copy_coded(alloc, &equation.right)?;
+    let left = equation.left.copy()?;
+    let right = equation.right.copy()?;
     Ok(CodedEquation { left, right })
 }
 
@@ -158,18 +158,18 @@ fn copy_equations(alloc: Global, equations: &[CodedEquation]) -> Result<CodedEqu
 {
     let mut copied = Sequence::new(alloc);
     for equation in equations {
-        let equation = copy_equation(alloc, equation)?;
+        let equation = copy_equation(equation)?;
         copied.push(equation)?;
     }
     Ok(copied)
 }
 
-fn copy_binding(alloc: Global, binding: &Binding) -> Result<Binding, Memory>
+fn copy_binding(binding: &Binding) -> Result<Binding, Memory>
     ensures { IfOk result (λ copied. copied ≡ binding.now) }
 {
     let name = binding.name.copy()?;
     let sort = binding.sort.copy()?;
-    let term = copy_coded(alloc, &binding.term)?;
+    let term = binding.term.copy()?;
     Ok(Binding { name, sort, term })
 }
 
@@ -178,41 +178,8 @@ fn copy_bindings(alloc: Global, bindings: &[Binding]) -> Result<Bindings, Memory
 {
     let mut copied = Sequence::new(alloc);
     for binding in bindings {
-        let binding = copy_binding(alloc, binding)?;
+        let binding = copy_binding(binding)?;
         copied.push(binding)?;
     }
     Ok(copied)
-}
-
-// A coded term once more. It goes down by recursion: what a builder is given comes from terms of at most 5,000 nodes.
-#[cycle(copy)]
-#[tactic(auto, using(larch_certificate::specs::Coded::coded_nodes_all_is_sum))]
-fn copy_coded(alloc: Global, term: &Coded) -> Result<Coded, Memory>
-    ensures { IfOk result (λ copied. copied ≡ term.now) }
-{
-    match term.node() {
-        CodedNode::Var(name, sort) => {
-            let name = name.copy()?;
-            let sort = sort.copy()?;
-            Ok(Coded::var(name, sort))
-        }
-        CodedNode::App(symbol, arguments) => {
-            let symbol = *symbol;
-            let arguments = copy_all_coded(alloc, arguments)?;
-            Ok(Coded::app(symbol, arguments))
-        }
-    }
-}
-
-#[cycle(copy)]
-#[tactic(auto, using(larch_certificate::specs::Coded::coded_nodes_all_is_sum))]
-fn copy_all_coded(alloc: Global, terms: &CodedTerms) -> Result<CodedTerms, Memory>
-    ensures { IfOk result (λ copied. copied ≡ terms.now) }
-{
-    let mut items = Vec::with_capacity(alloc, terms.as_slice().len())?;
-    for term in terms.as_slice() {
-        let copied = copy_coded(alloc, term)?;
-        items.push(copied)?;
-    }
-    Ok(CodedTerms::from_vec(items))
 }

@@ -12,6 +12,3 @@ mod shared_theory;
 pub use builder::Builder;
 pub use open_box::{OpenBox, OpenBoxes};
 pub use shared_list::SharedList;
-
-#[cfg(test)]
-mod tests;

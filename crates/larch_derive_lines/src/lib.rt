@@ -6,4 +6,5 @@ mod rules;
 
 pub use rules::{
     axiom_line, equal_line, inst_line, refl_line, repl_line, row_line, sym_line, trans_line,
+    written_inst_line,
 };

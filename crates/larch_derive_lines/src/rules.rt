@@ -4,6 +4,7 @@ ghost use Rattle.larch_term.specs.Statement.{IsStatementOver, statement_zero};
 ghost use Rattle.larch_term.specs.Substitution.{substituted};
 ghost use Rattle.larch_term.specs.Truth.{truth};
 ghost use Rattle.larch_term.specs.declared.statement.Statement.{Statement};
+ghost use Rattle.larch_term.specs.declared.substitution.Entry.{Entry};
 ghost use Rattle.larch_calculus.specs.Formula.{equality};
 ghost use Rattle.larch_lines.specs.Matching.{all_different};
 ghost use Rattle.larch_lines.specs.Rules.{row_says};
@@ -91,6 +92,27 @@ pub fn inst_line(
     let bindings = write_entries(alloc, builder, by.as_slice())?;
     let number = builder.push(Line::Inst(line, bindings))?;
     Ok(number)
+}
+
+/// A line that says what another one says with variables replaced, all at once, by entries that are written already.
+/// The entries are of different variables, and their terms known. A refused line changes nothing.
+#[tactic(auto, using(crate::proofs::Instances::inst_says, crate::proofs::Instances::inst_extends))]
+pub fn written_inst_line(
+    builder: &mut Builder,
+    line: u64,
+    bindings: Bindings,
+) -> Result<u64, Memory>
+    ensures says { IfOk result (λ n. (es : List Entry) (l r : Tree) → AreWritten builder.old es bindings
+        → HasEquation builder.old line l r → AreKnownEntries builder.old es
+        → all_different (map variable_in es) ≡ true
+        → HasEquation builder.new n (substituted es l) (substituted es r)) }
+    ensures extends { OnOk result ((es : List Entry) (l r : Tree) → AreWritten builder.old es bindings
+        → HasEquation builder.old line l r → AreKnownEntries builder.old es
+        → all_different (map variable_in es) ≡ true → Extends builder.old builder.new) }
+    ensures err { OnErr result (builder.new ≡ builder.old) }
+{
+    let pushed = builder.push(Line::Inst(line, bindings))?;
+    Ok(pushed)
 }
 
 // The entries as the builder's next lines write them.
