@@ -2,20 +2,24 @@
 """Times normal forms: python3 bench/rewriting.py [PROGRAM] [--applications N] [--only WORD] [--others]
 
 PROGRAM is the built `larch_rewrite_table`. Each row is one run of it: the applications that are charged, the seconds of
-processor time with reading the terms in it, how many applications that is a second, and the peak of memory. Lines are
-pushed in each run; where a row says so they are printed too.
+processor time with reading the terms in it, how many applications that is a second, and the peak of memory, which is
+never told to be less than what this script takes. Lines are pushed in each run; where a row says so they are printed
+too.
 
-- `products`: terms of numbers, written with 0 and s, times others, by rules for plus and times; of `small` ones no term
-  has more than 400 nodes, of `large` ones up to 5,000. About N applications (200,000) in all.
+- `products`: terms of numbers, written with 0 and s, times others, by rules for plus and times. Of `small` ones no term
+  has more than 450 nodes, and about N applications (200,000) are charged in all; of `large` ones up to 2,500, and a
+  twentieth of N, since each line has a number of that size.
 - `lists`: lists of 30 numbers below 20 are sorted by insertion, with rules for the order. About as many.
 - `walk`: a rule that goes down s, which are 1,000, 2,000 and 4,998 deep.
 - `pending`: f(s(x)) -> s^50(f(x)), on 100 and 1,000 s: up to 50,000 terms wait, and the form is too large in the end.
-- `kept`: one product, once and a hundred times, for products of different costs: what each further time takes.
+- `many`: 1,000 rules g_i(X) -> X behind those for products, which no root has at its head, with small products.
+- `kept`: a small term that costs much, once and 100,000 times, for different costs: what each further time takes.
 
 With `--others` Maude and CafeOBJ have the same products and lists, where they are on the path; they keep nothing and
 write no lines. What their start takes is taken away.
 """
 import argparse
+import itertools
 import os
 import pathlib
 import random
@@ -38,6 +42,7 @@ insert(X, cons(Y, Z)) = put(le(X, Y), X, Y, Z); put(yes, X, Y, Z) = cons(X, cons
 put(no, X, Y, Z) = cons(Y, insert(X, Z))"""
 VARIABLES = {"X": "N", "Y": "N", "Z": "L"}
 WALK = [("0", "", "N"), ("s", "N", "N"), ("f", "N", "N")]
+BUDGET = 1_000_000
 
 
 def number(count):
@@ -69,21 +74,25 @@ class Rules:
     def sorts(self):
         return sorted({range_ for _, _, range_ in self.operators})
 
-    def maude(self, terms):
+    def module(self, form, terms):
+        """The rules and terms as another program reads them."""
         sorts = self.sorts()
-        text = f"fmod T is\n  sorts {' '.join(sorts)} .\n"
-        text += "".join(f"  op {name} : {domain} -> {range_} .\n" for name, domain, range_ in self.operators)
-        text += "".join(f"  var {name} : {sort} .\n" for name, sort in VARIABLES.items() if sort in sorts)
-        text += "".join(f"  eq {left} = {right} .\n" for left, right in self.rules)
-        return text + "endfm\n" + "".join(f"red {term} .\n" for term in terms) + "quit .\n"
+        lines = [form.head.format(" ".join(sorts))]
+        lines += [f"op {name} : {domain} -> {range_}{form.end}" for name, domain, range_ in self.operators]
+        lines += [f"var {name} : {sort}{form.end}" for name, sort in VARIABLES.items() if sort in sorts]
+        lines += [f"eq {left} = {right} ." for left, right in self.rules]
+        return "\n".join(lines + [form.foot] + [f"{form.bring} {term} ." for term in terms] + [form.quit, ""])
 
-    def cafeobj(self, terms):
-        sorts = self.sorts()
-        text = f"mod! T {{\n  [ {' '.join(sorts)} ]\n"
-        text += "".join(f"  op {name} : {domain} -> {range_}\n" for name, domain, range_ in self.operators)
-        text += "".join(f"  var {name} : {sort}\n" for name, sort in VARIABLES.items() if sort in sorts)
-        text += "".join(f"  eq {left} = {right} .\n" for left, right in self.rules)
-        return text + "}\n" + "".join(f"red in T : {term} .\n" for term in terms)
+
+class Form:
+    """How another program is called, and how it writes what all of them have."""
+
+    def __init__(self, words, end, head, foot, bring, leave):
+        self.words, self.end, self.head, self.foot, self.bring, self.quit = words, end, head, foot, bring, leave
+
+
+OTHERS = {"maude": Form(["-no-banner", "-batch"], " .", "fmod T is sorts {} .", "endfm", "red", "quit ."),
+          "cafeobj": Form(["-q", "-batch"], "", "mod! T {{ [ {} ]", "}", "red in T :", "")}
 
 
 def run(command, given):
@@ -114,25 +123,37 @@ def row(what, program, problem):
     return count, took
 
 
-def small_products(count):
-    """Products of at most 400, each of another left number than the others with its right number."""
-    terms, charged, left = [], 0, 1
-    while charged < count:
-        right = 1 + (len(terms) * 7) % 20
-        left = 1 + (left * 3 + len(terms)) % 20
+def products(pairs, count):
+    """Products of these pairs of numbers, until so many applications are charged."""
+    terms, charged = [], 0
+    for left, right in pairs:
+        if charged >= count:
+            return terms
         terms.append(f"times({number(left)}, {number(right)})")
         charged += right * (left + 2) + 1
-    return terms
+
+
+def small_pairs():
+    """Products of at most 400, each of another left number than the others with its right number."""
+    left = 1
+    for place in itertools.count():
+        left = 1 + (left * 3 + place) % 20
+        yield left, 1 + place * 7 % 20
+
+
+def large_pairs():
+    left = 1
+    while True:
+        left = left % 98 + 2
+        yield left, 2_400 // left
+
+
+def small_products(count):
+    return products(small_pairs(), count)
 
 
 def large_products(count):
-    terms, charged, left = [], 0, 1
-    while charged < count:
-        left = left % 98 + 2
-        right = 4_900 // left
-        terms.append(f"times({number(left)}, {number(right)})")
-        charged += right * (left + 2) + 1
-    return terms
+    return products(large_pairs(), count // 20)
 
 
 def lists(count):
@@ -147,21 +168,67 @@ def lists(count):
 
 
 def others(what, rules, terms, count):
-    with tempfile.TemporaryDirectory() as folder:
-        for name, text, words in (("maude", rules.maude(terms), ["-no-banner", "-batch"]),
-                                  ("cafeobj", rules.cafeobj(terms), ["-q", "-batch"])):
-            if shutil.which(name) is None:
-                continue
-            start, file = pathlib.Path(folder) / f"start.{name}", pathlib.Path(folder) / f"{name}.{name}"
-            start.write_text("quit .\n" if name == "maude" else "")
-            file.write_text(text)
-            _, began, _ = run([name, *words, str(start)], b"")
-            said, took, peak = run([name, *words, str(file)], b"")
-            took = max(took - began, 0.001)
-            own = sum(float(part) for part in re.findall(rb"([\d.]+) sec for \d+ rewrites", said))
-            own += sum(int(part) for part in re.findall(rb" in (\d+)ms cpu", said)) / 1000
-            print(f"{what}, {name}: {count:,} applications in {took:.2f} s, {count / took:,.0f} a second, "
-                  f"peak {peak} MB; {own:.2f} s without reading, as it tells", flush=True)
+    """The same by the other programs that are there."""
+    for name, form in OTHERS.items():
+        if shutil.which(name) is None:
+            continue
+        with tempfile.TemporaryDirectory() as folder:
+            start, file = pathlib.Path(folder) / f"start.{name}", pathlib.Path(folder) / f"all.{name}"
+            start.write_text(form.quit + "\n")
+            file.write_text(rules.module(form, terms))
+            _, began, _ = run([name, *form.words, str(start)], b"")
+            said, took, peak = run([name, *form.words, str(file)], b"")
+        took = max(took - began, 0.001)
+        own = sum(float(part) for part in re.findall(rb"([\d.]+) sec for \d+ rewrites", said))
+        own += sum(int(part) for part in re.findall(rb" in (\d+)ms cpu", said)) / 1000
+        print(f"{what}, {name}: {count:,} applications in {took:.2f} s, {count / took:,.0f} a second, "
+              f"peak {peak} MB; {own:.2f} s without reading, as it tells", flush=True)
+
+
+def many(program, said, what, rules, terms):
+    """Many terms, without lines printed and with them."""
+    terms = terms(said.applications)
+    count, _ = row(what, program, rules.problem(terms, BUDGET, False))
+    row(f"{what}, lines printed", program, rules.problem(terms, BUDGET, True))
+    if said.others:
+        others(what, rules, terms, count)
+
+
+def deep(program, what, rules, levels, each):
+    """f at numbers of so many levels."""
+    for level in levels:
+        row(f"{what}, {each * level} deep", program, rules.problem([f"f({number(level)})"], BUDGET, False))
+
+
+def again(program, rules, levels):
+    """What a term takes that has a normal form already: each level is one node more and twice the cost."""
+    for level in levels:
+        term = f"f({number(level)})"
+        count, once = row(f"kept, {level} deep", program, rules.problem([term], BUDGET, False))
+        _, often = row(f"kept, {level} deep, 100,000 times", program, rules.problem([term] * 100_000, BUDGET, False))
+        print(f"  each further time of {count:,} applications: {(often - once) / 99_999 * 1e6:.1f} us", flush=True)
+
+
+def with_others(operators, rules, count):
+    """The rules, and behind them others for operators that no term has."""
+    more = [f"g_{place}" for place in range(count)]
+    return Rules(operators + [(name, "N", "N") for name in more],
+                 "; ".join([rules] + [f"{name}(X) = X" for name in more]))
+
+
+def rows(program, said):
+    """A row's word with what it runs, in order."""
+    numbers = Rules(NUMBERS, PRODUCTS)
+    yield "products, small", lambda: many(program, said, "products, small", numbers, small_products)
+    yield "products, large", lambda: many(program, said, "products, large", numbers, large_products)
+    yield "lists", lambda: many(program, said, "lists", Rules(LISTS, SORTING), lists)
+    more = with_others(NUMBERS, PRODUCTS, 1_000)
+    yield "many", lambda: row("many rules", program, more.problem(small_products(said.applications), BUDGET, False))
+    walk, pending = Rules(WALK, "f(s(X)) = f(X); f(0) = 0"), Rules(WALK, f"f(s(X)) = {'s(' * 50}f(X){')' * 50}")
+    yield "walk", lambda: deep(program, "walk", walk, (1_000, 2_000, 4_998), 1)
+    yield "pending", lambda: deep(program, "pending", pending, (100, 1_000), 50)
+    doubled = Rules(WALK + [("pair", "N N", "N")], "f(s(X)) = pair(f(X), f(X)); f(0) = 0; pair(0, 0) = 0")
+    yield "kept", lambda: again(program, doubled, (2, 5, 10, 14))
 
 
 def main():
@@ -171,32 +238,9 @@ def main():
     words.add_argument("--only", default="")
     words.add_argument("--others", action="store_true")
     said = words.parse_args()
-    products, sorting = Rules(NUMBERS, PRODUCTS), Rules(LISTS, SORTING)
-    many = [("products, small", products, small_products), ("products, large", products, large_products),
-            ("lists", sorting, lists)]
-    for what, rules, terms in many:
-        if said.only not in what:
-            continue
-        terms = terms(said.applications)
-        count, _ = row(what, said.program, rules.problem(terms, 1_000_000, False))
-        row(what + ", lines printed", said.program, rules.problem(terms, 1_000_000, True))
-        if said.others:
-            others(what, rules, terms, count)
-    if said.only in "walk":
-        walk = Rules(WALK, "f(s(X)) = f(X); f(0) = 0")
-        for deep in (1_000, 2_000, 4_998):
-            row(f"walk, {deep} deep", said.program, walk.problem([f"f({number(deep)})"], 1_000_000, False))
-    if said.only in "pending":
-        pending = Rules(WALK, f"f(s(X)) = {'s(' * 50}f(X){')' * 50}")
-        for deep in (100, 1_000):
-            row(f"pending, {50 * deep} deep", said.program, pending.problem([f"f({number(deep)})"], 1_000_000, False))
-    if said.only in "kept":
-        for left, right in ((5, 4), (20, 20), (70, 70)):
-            term = f"times({number(left)}, {number(right)})"
-            count, once = row(f"kept, {left} times {right}", said.program, products.problem([term], 1_000_000, False))
-            _, again = row(f"kept, {left} times {right}, 100 times", said.program,
-                           products.problem([term] * 100, 1_000_000, False))
-            print(f"  each further time of {count:,} applications: {(again - once) / 99 * 1e6:.0f} us", flush=True)
+    for word, measure in rows(said.program, said):
+        if said.only in word:
+            measure()
 
 
 if __name__ == "__main__":

@@ -1,25 +1,35 @@
 #!/usr/bin/env python3
 """Compares normal forms, costs and events with another reading of them, on random rules and terms.
 
-    compare_normal_forms.py PROGRAM REFERENCE [--count N] [--seed N] [--unchecked]
+    compare_normal_forms.py PROGRAM REFERENCE [--count N] [--seed N] [--jobs N] [--checker CHECKER] [--unchecked]
 
 PROGRAM is the built `larch_rewrite_table`; its README says how a problem is written. REFERENCE is the folder with a
 Python package `larchref`, whose modules `nodes`, `norm` and `verify` have terms, normal forms and a checker; it is no
 part of the repository, and where it isn't there nothing is compared. N problems are made (10,000): rules are put and
-taken out and terms are brought to normal forms by turns, the same ones too, so that kept forms are used and forgotten.
-Rules are random ones; some for numbers; some whose left side is an equality, which are tried exchanged too, beside rules
-that come before or behind that; some whose left side is a variable; some that never end; built-in operators at each
-sort, for the rows; terms that grow to about 5,000 nodes as starts, by their arguments or by an application; and rules
-with sides that are too large. Budgets are the cost, one less, one more, none or any. Lines are printed in every problem,
-and the other checker has to accept each line, and to find in the lines that are told that the term equals the form;
-`--unchecked` leaves this out. The seed is printed first, and at the end how often each kind of answer came. Problems on
-which the two differ are written to files that the output names. Ends with 'N passed, N failed', and status 1 where one
-failed.
+taken out and terms are brought to normal forms by turns, the same ones too, so that kept forms are used and
+forgotten. Rules are random ones; some for numbers; some whose left side is an equality, which are tried exchanged too,
+beside rules that come before or behind that; some whose left side is a variable; some that never end; built-in
+operators at each sort, for the rows; terms that grow to about 5,000 nodes as starts, by their arguments or by an
+application; and rules with sides that are too large. Budgets are the cost, one less, one more, none or any. Lines are
+printed in every problem, and the other checker has to accept each line, and to find in the lines that are told that
+the term equals the form; `--unchecked` leaves this out. CHECKER is the built `larch_verify_table`: where it is given,
+it has to accept the lines of every problem too, and the other checker, which takes a minute for a few megabytes of them,
+looks at those of at most 30,000 bytes. A problem for which the other reading's recursion runs out is
+made anew. The problems are made and compared in pieces of 500, so many at once as there are jobs (1); for one seed and count they are the same with any number of jobs. The seed is printed
+first, and at the end how often each kind of answer came. Problems on which the two differ are written to files that
+the output names. Ends with 'N passed, N failed', and status 1 where one failed.
 """
 import collections
+import functools
+import multiprocessing
+import random
 import sys
 
 import comparing
+
+PIECE = 500
+# The most bytes of lines that the other checker looks at where CHECKER does too.
+MOST_BYTES = 30000
 
 SORTS = ["S", "T", "Bool"]
 # name, domain, range
@@ -333,6 +343,19 @@ class Problem:
         forms = [f"refl {self.spelled(form)}" for form in self.forms if form is not None]
         return "".join(line + "\n" for line in self.told), certificate(forms)
 
+    def claims(self, text, numbers):
+        """The lines that were printed as CHECKER reads them: all of them, and those up to each line that was told, with
+        what that one has to say."""
+        operators = self.text().split("\1")[0]
+        rules = [self.line(task) for task in self.tasks if task[0] == "rule"]
+        lines = text.splitlines(keepends=True)
+        terms = [task[1] for task in self.tasks if task[0] == "term"]
+        says = [f"{self.spelled(term)}=={self.spelled(form)}" for term, form in zip(terms, self.forms) if form is not None]
+        ends = [(f"{len(lines)} refl #1\n", lines, "#1==#1")]
+        ends += [("", lines[:number + 1], said) for number, said in zip(numbers, says)]
+        return ["\1".join([operators, certificate([*rules, f"box - | {said}"]), "".join(before) + end])
+                for end, before, said in ends]
+
     def theory(self, base):
         rules = [base.Equation(task[1].term(), task[2].term()) for task in self.tasks if task[0] == "rule"]
         return base.Theory(tuple(self.operators), tuple(rules))
@@ -365,18 +388,41 @@ def checked(problem, text, numbers, reading):
     return None
 
 
-def main():
-    words = comparing.words_of(__doc__, 10000, "program", "reference")
-    words.add_argument("--unchecked", action="store_true")
-    said = words.parse_args()
-    pick = comparing.choices(said.seed)
-    reading = Reading(said.reference)
-    maker = Maker(pick, reading)
-    problems = [Problem(maker, reading, pick) for _ in range(said.count)]
-    ours = comparing.answers(said.program, [problem.text().encode("latin-1") for problem in problems])
-    differences = comparing.Differences(".rules", abs(len(problems) - len(ours)))
-    counted, lines = collections.Counter(), 0
+def verdicts_of(said, problems, ours):
+    """What CHECKER finds wrong with the lines of each problem, where it is given."""
+    if said.checker is None or said.unchecked:
+        return [None] * len(problems)
+    claims = []
     for problem, answer in zip(problems, ours):
+        told, _, lines = (answer.decode("latin-1").split("\1") + ["", ""])[:3]
+        claims.append(problem.claims(lines, without_lines(told)[1]))
+    said_of = iter(comparing.answers(said.checker, [claim.encode("latin-1") for one in claims for claim in one]))
+    found = [[next(said_of, b"no answer").decode("latin-1") for _ in one] for one in claims]
+    return [next((f"the checker says {word.strip()}" for word in one if word.strip() != "accepted"), None) for one in found]
+
+
+def problem_of(maker, reading, pick):
+    """A problem; another one where so much work waits inside each other that the other reading's recursion runs out."""
+    while True:
+        try:
+            return Problem(maker, reading, pick)
+        except RecursionError:
+            pass
+
+
+Piece = collections.namedtuple("Piece", "lacking differing counted lines")
+
+
+def compared(said, seed, number):
+    """A piece of the problems: how many have no answer, those on which the two differ, how often each kind of answer
+    came, and how many lines were checked."""
+    pick, reading = random.Random(f"{seed} {number}"), Reading(said.reference)
+    maker = Maker(pick, reading)
+    problems = [problem_of(maker, reading, pick) for _ in range(min(PIECE, said.count - number * PIECE))]
+    ours = comparing.answers(said.program, [problem.text().encode("latin-1") for problem in problems])
+    differing, counted, lines = [], collections.Counter(), 0
+    verdicts = verdicts_of(said, problems, ours)
+    for problem, answer, verdict in zip(problems, ours, verdicts):
         parts = answer.decode("latin-1").split("\1")
         told, numbers = without_lines(parts[0])
         expected = problem.expected()
@@ -385,13 +431,35 @@ def main():
         wrong = None
         if not said.unchecked and (told, *parts[1:2]) == expected and len(parts) == 3:
             lines += parts[2].count("\n") - 1
-            wrong = checked(problem, parts[2], numbers, reading)
-        differences.look(problem.text(), (told, *parts[1:2], wrong), (*expected, None))
+            wrong = verdict
+            if wrong is None and (said.checker is None or len(parts[2]) <= MOST_BYTES):
+                wrong = checked(problem, parts[2], numbers, reading)
+        if (told, *parts[1:2], wrong) != (*expected, None):
+            differing.append((problem.text(), (told, *parts[1:2], wrong), (*expected, None)))
+    return Piece(abs(len(problems) - len(ours)), differing, counted, lines)
+
+
+def main():
+    words = comparing.words_of(__doc__, 10000, "program", "reference")
+    words.add_argument("--jobs", type=int, default=1)
+    words.add_argument("--checker", default=None)
+    words.add_argument("--unchecked", action="store_true")
+    said = words.parse_args()
+    comparing.module_of(said.reference, "norm")
+    piece_of = functools.partial(compared, said, comparing.seed_of(said.seed))
+    differences, counted, lines = comparing.Differences(".rules"), collections.Counter(), 0
+    with multiprocessing.Pool(said.jobs, maxtasksperchild=1) as pool:
+        for piece in pool.imap(piece_of, range(-(-said.count // PIECE))):
+            differences.failed += piece.lacking
+            for difference in piece.differing:
+                differences.look(*difference)
+            counted += piece.counted
+            lines += piece.lines
     for (kind, word), number in sorted(counted.items()):
         print(f"{kind}: {word}: {number}")
     if not said.unchecked:
         print(f"{lines} lines checked")
-    sys.exit(differences.end(len(problems)))
+    sys.exit(differences.end(said.count))
 
 
 if __name__ == "__main__":

@@ -1,3 +1,5 @@
 pub mod Entries
 pub mod Exchange
 pub mod Applications
+pub mod RightSides
+pub mod Written

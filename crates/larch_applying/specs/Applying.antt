@@ -5,6 +5,8 @@ use Rattle.larch_normal_forms.specs.Work.{is_large}
 use Rattle.larch_redexes.specs.Exchanged.{turned}
 use Rattle.larch_redexes.specs.Rule.{left_of}
 use Rattle.larch_redexes.specs.declared.rule.Rule.{Rule}
+use Rattle.larch_store.specs.declared.refusal.StoreRefusal.{StoreRefusal}
+use Rattle.larch_store.specs.declared.refusal.StoreRefusal.TheVariants.{TooLarge as store_too_large, Memory as store_memory}
 use Rattle.larch_applying.specs.declared.refusal.ApplyRefusal.{ApplyRefusal}
 use Rattle.larch_applying.specs.declared.refusal.ApplyRefusal.TheVariants.{TooLarge, Memory}
 
@@ -12,6 +14,11 @@ use Rattle.larch_applying.specs.declared.refusal.ApplyRefusal.TheVariants.{TooLa
 abbrev pub MayRefuse : Tree → ApplyRefusal → Type 0
 MayRefuse u TooLarge = is_large u ≡ true
 MayRefuse u Memory = Unit {0}
+
+-- what is refused for the reason for which a term isn't taken
+abbrev pub from_store : StoreRefusal → ApplyRefusal
+from_store store_too_large = TooLarge
+from_store store_memory = Memory
 
 -- the left side of a rule as it is tried: as it stands, or exchanged
 abbrev pub IsTried : Rule → Bool → Tree → Type 0

@@ -1,3 +1,4 @@
 pub mod Holding
 pub mod Exchanging
 pub mod Applying
+pub mod Codes

@@ -1,26 +1,33 @@
 ghost use Rattle.std.specs.Prelude.{◌≡◌, IfOk, IfErr};
 ghost use Rattle.larch_applying.specs.Applying.{MayRefuse, IsTried};
+ghost use Rattle.larch_applying.specs.Codes.{AreCodes, AreOfStore};
 ghost use Rattle.larch_applying.specs.Holding.{Says, RuleHolds};
 ghost use Rattle.larch_derive.specs.Predicates.{HasEquation, Extends, Known, Stands};
+ghost use Rattle.larch_redexes.specs.Bound.{entries_of};
 ghost use Rattle.larch_redexes.specs.Rule.{right_of};
-ghost use Rattle.larch_redexes.specs.Search.{IsBy};
+ghost use Rattle.larch_redexes.specs.Search.{IsBoundIn, IsBy};
+ghost use Rattle.larch_store.specs.Numbered.{term_of};
+ghost use Rattle.larch_store.specs.Stored.{Belongs, Grows};
 ghost use Rattle.larch_term.specs.Substitution.{substituted};
 ghost use Rattle.larch_term.specs.Tree.{Tree};
 
+use crate::code::Codes;
 use crate::exchanging::exchanged_line;
+use crate::making::made;
 use crate::refusal::ApplyRefusal;
+use crate::writing::write_bound;
 use larch_base::Memory;
 use larch_derive::Builder;
-use larch_derive_lines::{inst_line, row_line};
-use larch_pairs::{PairRefusal, substitute_within};
+use larch_derive_lines::{row_line, written_inst_line};
 use larch_redexes::{Match, Reason, Rule};
-use larch_term::{Sort, Substitution, Term};
+use larch_store::{Shared, Store};
+use larch_term::Sort;
 use std::alloc::Global;
 
 /// What a rule makes of a term, and the line that says that both are equal.
 #[derive(Drop)]
 pub struct Applied {
-    pub term: Term,
+    pub term: Shared,
     pub line: u64,
 }
 
@@ -76,34 +83,36 @@ fn rule_line(
 }
 
 /// What a rule that applies makes of a term, with a line that says that both are equal. `TooLarge` where it has more
-/// than 5,000 nodes, which are counted first. A refused application may leave lines behind, none of them bad.
-#[tactic(auto, using(larch_derive::proofs::Growth::extends_same))]
+/// than 5,000 nodes. For the line what the rule's variables stand for is written, unless it was written before. A
+/// refused application may leave lines behind, none of them bad.
+#[tactic(auto, using(larch_derive::proofs::Growth::extends_same, larch_store::proofs::Growth::grows_refl, crate::proofs::RightSides::bound_stay, crate::proofs::RightSides::store_refuses, crate::proofs::Written::of_store_stay))]
 pub fn apply_match<'a>(
     alloc: Global,
+    store: &mut Store,
     builder: &mut Builder,
+    codes: &mut Codes,
     found: &Match<'a>,
 ) -> Result<Applied, ApplyRefusal>
-    ensures term { IfOk result (λ a. a.term ≡ substituted found.now.by (right_of found.now.rule.now)) }
-    ensures refused { IfErr result (MayRefuse (substituted found.now.by (right_of found.now.rule.now))) }
+    requires bound { IsBoundIn store.old found.now }
+    requires codes { AreOfStore store.old codes.old }
+    ensures term { IfOk result (λ a. term_of a.term
+        ≡ substituted (entries_of found.now.by) (right_of found.now.rule.now)) }
+    ensures belongs { IfOk result (λ a. Belongs store.new a.term) }
+    ensures refused { IfErr result (MayRefuse (substituted (entries_of found.now.by) (right_of found.now.rule.now))) }
     ensures says { IfOk result (λ a. (t : Tree) → Known builder.old t → RuleHolds builder.old found.now.rule.now
-        → IsBy found.now.rule.now found.now.exchanged t found.now.by → HasEquation builder.new a.line t a.term) }
+        → IsBy found.now.rule.now found.now.exchanged t (entries_of found.now.by) → AreCodes builder.old codes.old
+        → HasEquation builder.new a.line t (term_of a.term)) }
     ensures extends { (t : Tree) → Known builder.old t → RuleHolds builder.old found.now.rule.now
-        → IsBy found.now.rule.now found.now.exchanged t found.now.by → Extends builder.old builder.new }
+        → IsBy found.now.rule.now found.now.exchanged t (entries_of found.now.by) → AreCodes builder.old codes.old
+        → Extends builder.old builder.new }
+    ensures grows { Grows store.old store.new }
+    ensures belong { AreOfStore store.new codes.new }
+    ensures codes { AreCodes builder.old codes.old → AreCodes builder.old codes.new }
 {
-    let term = made(alloc, found.rule.right(), &found.by)?;
+    let bound = found.by.as_slice();
+    let term = made(alloc, store, found.rule.right(), bound)?;
+    let by = write_bound(store, builder, codes, bound)?;
     let tried = rule_line(alloc, builder, found.rule, found.exchanged)?;
-    let line = inst_line(alloc, builder, tried, &found.by)?;
+    let line = written_inst_line(builder, tried, by)?;
     Ok(Applied { term, line })
-}
-
-// The right side of a rule under a substitution, unless it is too large.
-fn made(alloc: Global, right: &Term, by: &Substitution) -> Result<Term, ApplyRefusal>
-    ensures term { IfOk result (λ t. t ≡ substituted by.now right.now) }
-    ensures refused { IfErr result (MayRefuse (substituted by.now right.now)) }
-{
-    match substitute_within(alloc, right, by) {
-        Ok(term) => Ok(term),
-        Err(PairRefusal::TooLarge) => Err(ApplyRefusal::TooLarge),
-        Err(PairRefusal::Memory) => Err(ApplyRefusal::Memory),
-    }
 }

@@ -2,12 +2,13 @@
 #![tactic(auto)]
 
 mod applying;
+mod code;
 mod exchanging;
+mod making;
 mod refusal;
+mod writing;
 
 pub use applying::{Applied, apply_match, reason_line};
+pub use code::{Code, Codes};
 pub use exchanging::exchanged_line;
 pub use refusal::ApplyRefusal;
-
-#[cfg(test)]
-mod tests;

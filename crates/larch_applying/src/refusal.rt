@@ -1,7 +1,9 @@
 ghost use Rattle.std.specs.Prelude.{◌≡◌};
+ghost use Rattle.larch_applying.specs.Applying.{from_store};
 ghost use Rattle.larch_applying.specs.declared.refusal.ApplyRefusal.TheVariants.{Memory as wants_memory};
 
 use larch_base::Memory;
+use larch_store::StoreRefusal;
 use thiserror::Error;
 
 /// Why a rule isn't applied.
@@ -20,5 +22,16 @@ impl From<Memory> for ApplyRefusal {
 
     fn from(_memory: Memory) -> ApplyRefusal {
         ApplyRefusal::Memory
+    }
+}
+
+impl From<StoreRefusal> for ApplyRefusal {
+    ghost from_gives = { λ given refusal. refusal ≡ from_store given };
+
+    fn from(refusal: StoreRefusal) -> ApplyRefusal {
+        match refusal {
+            StoreRefusal::TooLarge => ApplyRefusal::TooLarge,
+            StoreRefusal::Memory => ApplyRefusal::Memory,
+        }
     }
 }

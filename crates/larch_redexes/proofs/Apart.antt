@@ -4,7 +4,7 @@ use Rattle.std.proofs.Common.{inl, inr, arith, ap, sym, subst, ◌∙◌}
 use Rattle.std.specs.Bool.{Decides}
 use Rattle.std.proofs.lemmas.Bool.Decides.{Decides-and, same_from_decides}
 use Rattle.larch_term.proofs.Decided.{tree_Decides}
-use Rattle.std.proofs.lemmas.List.Elements.{All-cons, All-weaker}
+use Rattle.std.proofs.lemmas.List.Elements.{All-cons, All-nil, All-weaker}
 use Rattle.std.proofs.lemmas.List.Kept.{AllPairs-cons}
 use Rattle.std.proofs.lemmas.Slice.Eq.{bytes_eq-Decides}
 use Rattle.larch_base.proofs.Options.{some_inj}
@@ -15,6 +15,10 @@ use Rattle.larch_term.specs.Equality.{same_operator, same_tree}
 use Rattle.larch_term.specs.Substitution.{is_entry_of}
 use Rattle.larch_term.specs.declared.substitution.Entry.{Entry}
 use Rattle.larch_normal_forms.specs.Matching.{bound, matched, matched_all}
+use Rattle.larch_redexes.specs.Bound.{AreBound, IsBinding, entries_of}
+use Rattle.larch_redexes.specs.declared.patterns.Bound.{Bound}
+use Rattle.larch_store.specs.Numbered.{Numbered}
+use Rattle.larch_store.specs.Stored.{Belongs}
 
 -- a test that tells exactly what is equal is the test of terms
 pub same_told : (t u : Tree) (b : Bool) → IsTrue b ↔ (t ≡ u) → b ≡ same_tree t u
@@ -128,3 +132,20 @@ as_many [] (t ∷ ts) es h = refl
 as_many (p ∷ ps) [] es h = refl
 as_many (p ∷ ps) (t ∷ ts) es h =
     shorter p t (forest_of ps) (forest_of ts) (matched p t es) (λ ds. as_many ps ts ds (λ e. h (ap suc e)))
+
+-- ---- what matches, with its shared terms
+
+match_bound : (store : List Numbered) (p t : Tree) (bs : List Bound) → AreBound store bs
+    → matched p t [] ≡ Some (entries_of bs) → IsBinding store bs
+match_bound store p t bs a h = (a, match_apart p t (entries_of bs) h)
+
+pub match_made : (store : List Numbered) (p t : Tree) (olds news by : List Bound) (told : Bool) → olds ≡ [] → by ≡ news
+    → told ≡ true → matched p t (entries_of olds) ≡ cond told (Some (entries_of news)) None → AreBound store news
+    → IsBinding store by
+match_made store p t olds news by told o b y h a =
+    subst (IsBinding store) (sym b)
+    (match_bound store p t news a (ap (λ xs. matched p t (entries_of xs)) (sym o) ∙ h
+    ∙ ap (λ c. cond c (Some (entries_of news)) None) y))
+
+pub none_bound : (store : List Numbered) (bs : List Bound) → bs ≡ [] → AreBound store bs
+none_bound store bs e = subst (AreBound store) (sym e) (All-nil (λ b. Belongs store b.term))

@@ -1,7 +1,9 @@
 -- Rules that are tried one behind the other.
-use Rattle.std.specs.Prelude.{◌≡◌, ◌&&◌, ℕ, Bool, true, false, cond, List, [], ◌∷◌, ◌++◌, Option, Some, None, option_map, option_and_then, refl}
+use Rattle.std.specs.Prelude.{◌≡◌, ◌&&◌, ℕ, Bool, true, false, cond, All, Contains, List, [], ◌∷◌, ◌++◌, Option, Some, None, option_map, option_and_then, refl}
 use Rattle.std.proofs.Common.{ap, sym, subst, ◌∙◌}
 use Rattle.std.specs.List.{flat_map}
+use Rattle.std.proofs.lemmas.List.Elements.{All-contains}
+use Rattle.larch_base.proofs.Members.{contains_right}
 use Rattle.larch_term.specs.Tree.{Tree, Forest, var, app, none, more}
 use Rattle.larch_term.specs.Operator.{PlainOperator}
 use Rattle.larch_term.specs.BuiltIn.{is_built_in_as}
@@ -12,7 +14,11 @@ use Rattle.larch_normal_forms.specs.Matching.{matched}
 use Rattle.larch_normal_forms.specs.Rewriting.{tried, exchanged, rewritten, rewritten_by, rewritten_once, rows_for}
 use Rattle.larch_normal_forms.specs.Sides.{Sides}
 use Rattle.larch_redexes.specs.Exchanged.{turned}
+use Rattle.larch_redexes.specs.Heads.{Suffice}
 use Rattle.larch_redexes.specs.Rule.{sides_of_rule, all_sides}
+use Rattle.larch_redexes.specs.Search.{AreRowsFor, IsFirst, IsRedex}
+use Rattle.larch_redexes.specs.Bound.{entries_of}
+use Rattle.larch_redexes.specs.declared.search.Match.{Match}
 use Rattle.larch_redexes.specs.declared.rule.Rule.{Rule}
 
 -- the first that some rules make of a term, or else what further ones make
@@ -84,17 +90,26 @@ tried_by r t =
 
 -- ---- rows before rules
 
-pub once_first : (rows rs : List Rule) (t u : Tree) → flat_map tried (all_sides rows) ≡ rows_for t
+pub once_first : (rows rs : List Rule) (t u : Tree) → AreRowsFor rows t
     → rewritten (flat_map tried (all_sides rows)) t ≡ Some u → rewritten_once (all_sides rs) t ≡ Some u
 once_first rows rs t u e h =
-    ap (λ xs. rewritten (xs ++ flat_map tried (all_sides rs)) t) (sym e)
-    ∙ (rewritten_further (flat_map tried (all_sides rows)) (flat_map tried (all_sides rs)) t
-    ∙ ap (λ o. or_further o (rewritten (flat_map tried (all_sides rs)) t)) h)
+    rewritten_further (rows_for t) (flat_map tried (all_sides rs)) t
+    ∙ ap (λ o. or_further o (rewritten (flat_map tried (all_sides rs)) t)) (sym e ∙ h)
 
-pub once_further : (rows rs : List Rule) (t : Tree) (o : Option Tree) → flat_map tried (all_sides rows) ≡ rows_for t
-    → rewritten (flat_map tried (all_sides rows)) t ≡ None → rewritten (flat_map tried (all_sides rs)) t ≡ o
-    → rewritten_once (all_sides rs) t ≡ o
-once_further rows rs t o e h k =
-    ap (λ xs. rewritten (xs ++ flat_map tried (all_sides rs)) t) (sym e)
-    ∙ (rewritten_further (flat_map tried (all_sides rows)) (flat_map tried (all_sides rs)) t
-    ∙ (ap (λ p. or_further p (rewritten (flat_map tried (all_sides rs)) t)) h ∙ k))
+once_further : (rows few rs : List Rule) (t : Tree) (o : Option Tree) → AreRowsFor rows t
+    → rewritten (flat_map tried (all_sides rows)) t ≡ None → Suffice few rs t
+    → rewritten (flat_map tried (all_sides few)) t ≡ o → rewritten_once (all_sides rs) t ≡ o
+once_further rows few rs t o e h s k =
+    rewritten_further (rows_for t) (flat_map tried (all_sides rs)) t
+    ∙ (ap (λ p. or_further p (rewritten (flat_map tried (all_sides rs)) t)) (sym e ∙ h) ∙ (sym s ∙ k))
+
+-- what is first among rules that suffice, where no row applies
+pub first_once : (rows few rs : List Rule) (t : Tree) (o : Option Match) → AreRowsFor rows t
+    → rewritten (flat_map tried (all_sides rows)) t ≡ None → Suffice few rs t → All (Contains rs) few → IsFirst few t o
+    → IsRedex rows rs t o
+first_once rows few rs t None e h s a f = once_further rows few rs t None e h s f
+first_once rows few rs t (Some m) e h s a f = (
+  contains_right rows rs m.rule.now (All-contains (Contains rs) few m.rule.now a f.0),
+  f.1,
+  once_further rows few rs t (Some (substituted (entries_of m.by) m.rule.now.right)) e h s f.2,
+)

@@ -5,34 +5,44 @@ use Rattle.larch_term.specs.Tree.{Tree}
 use Rattle.larch_term.specs.Substitution.{substituted}
 use Rattle.larch_term.specs.declared.substitution.Entry.{Entry}
 use Rattle.larch_normal_forms.specs.Matching.{matched}
-use Rattle.larch_normal_forms.specs.Rewriting.{tried, rewritten, rewritten_once}
+use Rattle.larch_normal_forms.specs.Rewriting.{tried, rewritten, rewritten_once, rows_for}
+use Rattle.larch_redexes.specs.Bound.{IsBinding, entries_of}
 use Rattle.larch_redexes.specs.Exchanged.{turned}
 use Rattle.larch_redexes.specs.Rule.{sides_of_rule, all_sides}
 use Rattle.larch_redexes.specs.declared.rule.Rule.{Rule}
+use Rattle.larch_store.specs.Numbered.{Numbered}
 use Rattle.larch_redexes.specs.declared.search.Match.{Match}
+
+-- rows do at a term what all rows for it do
+abbrev pub AreRowsFor : List Rule → Tree → Type 0
+AreRowsFor rows t = rewritten (flat_map tried (all_sides rows)) t ≡ rewritten (rows_for t) t
 
 -- the left side of a rule, as it stands or exchanged, is a term under a substitution
 abbrev pub IsBy : Rule → Bool → Tree → List Entry → Type 0
 IsBy r false t es = matched r.left t [] ≡ Some es
 IsBy r true t es = option_and_then (λ l. matched l t []) (turned r.left) ≡ Some es
 
+-- the bindings of what is found belong to a store, and bind no variable twice
+abbrev pub IsBoundIn : List Numbered → Match → Type 0
+IsBoundIn store m = IsBinding store m.by
+
 -- what a rule makes of a term, and by which substitution
 abbrev pub IsMatch : Rule → Tree → Option Match → Type 0
 IsMatch r t None = rewritten (tried (sides_of_rule r)) t ≡ None
 IsMatch r t (Some m) =
-    (m.rule.now ≡ r) × IsBy r m.exchanged t m.by
-    × (rewritten (tried (sides_of_rule r)) t ≡ Some (substituted m.by r.right))
+    (m.rule.now ≡ r) × IsBy r m.exchanged t (entries_of m.by)
+    × (rewritten (tried (sides_of_rule r)) t ≡ Some (substituted (entries_of m.by) r.right))
 
 -- the first of some rules that applies to a term, and by which substitution
 abbrev pub IsFirst : List Rule → Tree → Option Match → Type 0
 IsFirst rs t None = rewritten (flat_map tried (all_sides rs)) t ≡ None
 IsFirst rs t (Some m) =
-    Contains rs m.rule.now × IsBy m.rule.now m.exchanged t m.by
-    × (rewritten (flat_map tried (all_sides rs)) t ≡ Some (substituted m.by m.rule.now.right))
+    Contains rs m.rule.now × IsBy m.rule.now m.exchanged t (entries_of m.by)
+    × (rewritten (flat_map tried (all_sides rs)) t ≡ Some (substituted (entries_of m.by) m.rule.now.right))
 
 -- the first of the rows for a term, or else of some rules, that applies to it, and by which substitution
 abbrev pub IsRedex : List Rule → List Rule → Tree → Option Match → Type 0
 IsRedex rows rs t None = rewritten_once (all_sides rs) t ≡ None
 IsRedex rows rs t (Some m) =
-    Contains (rows ++ rs) m.rule.now × IsBy m.rule.now m.exchanged t m.by
-    × (rewritten_once (all_sides rs) t ≡ Some (substituted m.by m.rule.now.right))
+    Contains (rows ++ rs) m.rule.now × IsBy m.rule.now m.exchanged t (entries_of m.by)
+    × (rewritten_once (all_sides rs) t ≡ Some (substituted (entries_of m.by) m.rule.now.right))

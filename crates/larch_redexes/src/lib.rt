@@ -1,15 +1,21 @@
-//! Which rule applies at the root of a term: patterns that match terms, rules as they are tried, and the rows of
-//! built-in operators at a sort.
+//! Which rule applies at the root of a shared term: patterns that match terms, rules that are found by their heads, and
+//! the rows of built-in operators at a sort.
 //!
 //! Matching goes down a pattern by recursion, so a pattern that is 5,000 deep takes 2 MB of stack at most.
 #![tactic(auto)]
 
 mod patterns;
+mod row_tables;
 mod rows;
 mod rule;
 mod search;
+mod shared;
+mod table;
 
-pub use patterns::matching;
-pub use rows::{RuleList, rows_at, rows_for};
+pub use patterns::{Bindings, Bound, matching, written};
+pub use row_tables::RowTables;
+pub use rows::rows_at;
 pub use rule::{Reason, Rule, sort_at};
 pub use search::{Match, first_match, first_redex};
+pub use shared::{RuleList, SharedRule, copy_rules};
+pub use table::RuleTable;

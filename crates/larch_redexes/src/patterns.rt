@@ -1,97 +1,108 @@
-ghost use Rattle.std.specs.Prelude.{◌≡◌, length, AllPairs, false, [], if◌then◌else◌, Some, None, IfOk};
+ghost use Rattle.std.specs.Prelude.{◌≡◌, length, AllPairs, false, [], if◌then◌else◌, Some, None, IfOk, IfSome, map, option_map};
 ghost use Rattle.larch_normal_forms.specs.Matching.{bound as binding, matched, matched_all};
+ghost use Rattle.larch_redexes.specs.Bound.{AreBound, IsBinding, entries_of, entry_of};
+ghost use Rattle.larch_store.specs.Numbered.{term_of};
+ghost use Rattle.larch_store.specs.Stored.{AllBelong, Belongs};
 ghost use Rattle.larch_term.specs.Equality.{same_tree};
 ghost use Rattle.larch_term.specs.Substitution.{is_entry_of};
 ghost use Rattle.larch_term.specs.Tree.{forest_of};
 
 use larch_base::{Memory, Name, Sequence};
 use larch_pairs::substitution_of;
-use larch_term::{Entry, Node, Sort, Substitution, Term, copy, same_term, sort_of};
+use larch_store::{Shared, SharedNode, Store};
+use larch_term::{Entry, Node, Sort, Substitution, Term};
 use std::alloc::Global;
-use std::marker::Model;
 
-// A variable of a pattern, and the term that it stands for. Contracts see it as an entry of a substitution.
+/// A variable of a pattern, and the shared term that it stands for.
 #[derive(Drop)]
-pub(crate) struct Bound<'a> {
-    name: &'a Name,
-    sort: &'a Sort,
-    term: &'a Term,
+pub struct Bound<'a> {
+    pub name: &'a Name,
+    pub sort: &'a Sort,
+    pub term: Shared,
 }
 
-impl<'a> Model for Bound<'a> {
-    ghost use Rattle.larch_term.specs.Substitution.{coded_entry};
-    ghost use Rattle.larch_term.specs.declared.substitution.Entry.{Entry};
+/// What the variables of a pattern stand for, the last one first.
+pub type Bindings<'a> = Sequence<Bound<'a>>;
 
-    ghost Value = { Entry };
-
-    ghost coded = { coded_entry };
-
-    ghost view = { λ b. record { name = b.name.now; sort = b.sort.now; term = b.term.now } };
-}
-
-/// The substitution that makes a pattern the term, if there is one. A variable matches terms of its sort, at each place
-/// the same one. It takes time by the size of the pattern; terms are copied only where the pattern matches.
-#[tactic(auto, using(crate::proofs::Apart::match_apart))]
-pub fn matching(alloc: Global, pattern: &Term, term: &Term) -> Result<Option<Substitution>, Memory>
-    ensures { IfOk result (λ found. matched pattern.now term.now [] ≡ found) }
+/// The bindings that make a pattern the term, if there are such. A variable matches terms of its sort, at each place
+/// the same one. It takes time by the size of the pattern, whatever that of the term.
+#[tactic(auto, using(crate::proofs::Apart::none_bound))]
+pub fn matching<'a>(
+    alloc: Global,
+    store: &Store,
+    pattern: &'a Term,
+    term: &Shared,
+) -> Result<Option<Bindings<'a>>, Memory>
+    requires { Belongs store.now term.now }
+    ensures found { IfOk result (λ found. matched pattern.now (term_of term.now) [] ≡ option_map entries_of found) }
+    ensures bound { IfOk result (λ found. IfSome found (IsBinding store.now)) }
 {
     let mut bound = Vec::new(alloc);
-    if !matches(pattern, term, &mut bound)? {
+    if !matches(store, pattern, term, &mut bound)? {
         return Ok(None);
     }
-    let found = substitution(alloc, bound)?;
-    Ok(Some(found))
+    Ok(Some(Sequence::from_vec(bound)))
 }
 
-fn substitution<'a>(alloc: Global, bound: Vec<Bound<'a>>) -> Result<Substitution, Memory>
-    requires { AllPairs (λ d e. is_entry_of e.name e.sort d ≡ false) bound.items }
-    ensures { IfOk result (λ by. by ≡ bound.entry.items) }
+/// The substitution that bindings are, with their terms written out.
+pub fn written<'a>(
+    alloc: Global,
+    store: &Store,
+    bound: &[Bound<'a>],
+) -> Result<Substitution, Memory>
+    requires { AllPairs (λ d e. is_entry_of e.name e.sort d ≡ false) (entries_of bound.now) }
+    ensures { IfOk result (λ by. by ≡ entries_of bound.now) }
 {
     let mut entries = Sequence::new(alloc);
-    for binding in &bound {
-        let entry = entry(alloc, binding)?;
+    for binding in bound {
+        let entry = entry(store, binding)?;
         entries.push(entry)?;
     }
     let by = substitution_of(alloc, entries)?;
     Ok(by)
 }
 
-fn entry<'a>(alloc: Global, bound: &Bound<'a>) -> Result<Entry, Memory>
-    ensures { IfOk result (λ entry. entry ≡ bound.now) }
+fn entry<'a>(store: &Store, bound: &Bound<'a>) -> Result<Entry, Memory>
+    ensures { IfOk result (λ entry. entry ≡ entry_of bound.now) }
 {
     let name = bound.name.copy()?;
     let sort = bound.sort.copy()?;
-    let term = copy(alloc, bound.term)?;
+    let term = store.to_term(&bound.term)?;
     Ok(Entry { name, sort, term })
 }
 
 // Whether bindings can be extended so that a pattern is the term; they then are. Else they may be extended in part.
 #[cycle(matches)]
-#[tactic(auto, using(larch_term::specs::Tree::nodes_all_is_sum, crate::proofs::Apart::as_many))]
+#[tactic(auto, using(larch_term::specs::Tree::nodes_all_is_sum, crate::proofs::Shares::variable_apart, crate::proofs::Shares::other_head, crate::proofs::Shares::other_count, crate::proofs::Shares::by_arguments, crate::proofs::Shares::arguments_belong))]
 fn matches<'a>(
+    store: &Store,
     pattern: &'a Term,
-    term: &'a Term,
+    term: &Shared,
     bound: &mut Vec<Bound<'a>>,
 ) -> Result<bool, Memory>
-    ensures { IfOk result (λ yes. matched pattern.now term.now bound.old.items
-        ≡ (if yes then Some bound.new.items else None)) }
+    requires term { Belongs store.now term.now }
+    requires bound { AreBound store.now bound.old.items }
+    ensures bound { AreBound store.now bound.new.items }
+    ensures fits { IfOk result (λ yes. matched pattern.now (term_of term.now) (entries_of bound.old.items)
+        ≡ (if yes then Some (entries_of bound.new.items) else None)) }
 {
+    store.children_belong();
     match (pattern.node(), term.node()) {
         (Node::Var(name, sort), _) => {
-            if *sort_of(term) != *sort {
+            if *term.sort() != *sort {
                 return Ok(false);
             }
-            let fits = bind(name, sort, term, bound)?;
+            let fits = bind(store, name, sort, term, bound)?;
             Ok(fits)
         }
-        (Node::App(_, _), Node::Var(_, _)) => Ok(false),
-        (Node::App(operator, patterns), Node::App(other, terms)) => {
+        (Node::App(_, _), SharedNode::Variable(_, _)) => Ok(false),
+        (Node::App(operator, patterns), SharedNode::Application(other, terms)) => {
             let patterns = patterns.as_slice();
             let terms = terms.as_slice();
             if operator != other || patterns.len() != terms.len() {
                 return Ok(false);
             }
-            let fit = match_all(patterns, terms, bound)?;
+            let fit = match_all(store, patterns, terms, bound)?;
             Ok(fit)
         }
     }
@@ -100,16 +111,21 @@ fn matches<'a>(
 #[cycle(matches)]
 #[tactic(auto, using(larch_term::specs::Tree::nodes_all_is_sum))]
 fn match_all<'a>(
+    store: &Store,
     patterns: &'a [Term],
-    terms: &'a [Term],
+    terms: &[Shared],
     bound: &mut Vec<Bound<'a>>,
 ) -> Result<bool, Memory>
-    requires { length patterns.now ≡ length terms.now }
-    ensures { IfOk result (λ yes. matched_all (forest_of patterns.now) (forest_of terms.now) bound.old.items
-        ≡ (if yes then Some bound.new.items else None)) }
+    requires count { length patterns.now ≡ length terms.now }
+    requires terms { AllBelong store.now terms.now }
+    requires bound { AreBound store.now bound.old.items }
+    ensures bound { AreBound store.now bound.new.items }
+    ensures fits { IfOk result (λ yes.
+        matched_all (forest_of patterns.now) (forest_of (map term_of terms.now)) (entries_of bound.old.items)
+        ≡ (if yes then Some (entries_of bound.new.items) else None)) }
 {
     for i in 0..patterns.len() {
-        if !matches(&patterns[i], &terms[i], bound)? {
+        if !matches(store, &patterns[i], &terms[i], bound)? {
             return Ok(false);
         }
     }
@@ -117,27 +133,35 @@ fn match_all<'a>(
 }
 
 // Binds a variable to a term, unless it is bound to another one.
+#[tactic(auto, using(crate::proofs::Shares::bound_more))]
 fn bind<'a>(
+    store: &Store,
     name: &'a Name,
     sort: &'a Sort,
-    term: &'a Term,
+    term: &Shared,
     bound: &mut Vec<Bound<'a>>,
 ) -> Result<bool, Memory>
-    ensures { IfOk result (λ yes. binding bound.old.items name.now sort.now term.now bound.old.items
-        ≡ (if yes then Some bound.new.items else None)) }
+    requires term { Belongs store.now term.now }
+    requires bound { AreBound store.now bound.old.items }
+    ensures bound { AreBound store.now bound.new.items }
+    ensures fits { IfOk result (λ yes.
+        binding (entries_of bound.old.items) name.now sort.now (term_of term.now) (entries_of bound.old.items)
+        ≡ (if yes then Some (entries_of bound.new.items) else None)) }
 {
     for entry in bound.as_slice() {
         if *entry.name == *name && *entry.sort == *sort {
-            return Ok(is_same(entry.term, term));
+            return Ok(is_same(store, &entry.term, term));
         }
     }
+    let term = term.copy()?;
     bound.insert(0, Bound { name, sort, term })?;
     Ok(true)
 }
 
-#[tactic(auto, using(crate::proofs::Apart::same_told))]
-fn is_same(left: &Term, right: &Term) -> bool
-    ensures { result ≡ same_tree left.now right.now }
+fn is_same(store: &Store, left: &Shared, right: &Shared) -> bool
+    requires left { Belongs store.now left.now }
+    requires right { Belongs store.now right.now }
+    ensures { result ≡ same_tree (term_of left.now) (term_of right.now) }
 {
-    same_term(left, right)
+    store.same(left, right)
 }

@@ -1,6 +1,5 @@
 ghost use Rattle.std.specs.Prelude.{◌≡◌, ◌∷◌, [], if◌then◌else◌, Some, None, IfOk, All, option_map};
-ghost use Rattle.std.specs.List.{flat_map};
-ghost use Rattle.larch_normal_forms.specs.Rewriting.{rewriting_rows, rows_for, tried};
+ghost use Rattle.larch_normal_forms.specs.Rewriting.{rewriting_rows};
 ghost use Rattle.larch_normal_forms.specs.Sides.{sides_of};
 ghost use Rattle.larch_redexes.specs.Rule.{all_sides, sides_of_rule, IsRule, IsSaidByRow};
 ghost use Rattle.larch_redexes.specs.declared.rule.Reason.TheVariants.{Row as IsRow};
@@ -9,46 +8,28 @@ ghost use Rattle.larch_tables.specs.Statement.{offered};
 ghost use Rattle.larch_tables.specs.Tables.{built_in_rows, sort_for};
 ghost use Rattle.larch_term.specs.declared.statement.Statement.TheVariants.{Equation};
 
-use crate::rule::{Reason, Rule, sort_at};
-use larch_base::{Memory, Sequence};
+use crate::rule::{Reason, Rule};
+use crate::shared::SharedRule;
+use crate::table::RuleTable;
+use larch_base::Memory;
 use larch_tables::{Row, RowRefusal, built_in, row_statement};
-use larch_term::{Node, Sort, Statement, Term, bool_sort, is_built_in};
+use larch_term::{Sort, Statement, bool_sort};
 use std::alloc::Global;
-
-/// Rules in the order in which they are tried.
-pub type RuleList = Sequence<Rule>;
 
 // How many of the built-in rows rewrite.
 const REWRITING_ROWS: u32 = 33;
 
-/// The rows that are tried at the root of a term: those at the sort of its operator, where that is built in.
-#[tactic(auto, using(crate::proofs::RowSteps::rows_of_built_in, crate::proofs::RowSteps::rows_of_other))]
-pub fn rows_for(alloc: Global, term: &Term) -> Result<RuleList, Memory>
-    ensures sides { IfOk result (λ rows. flat_map tried (all_sides rows) ≡ rows_for term.now) }
-    ensures reasons { IfOk result (λ rows. All IsSaidByRow rows) }
-    ensures rules { IfOk result (λ rows. All IsRule rows) }
-{
-    let Node::App(operator, _) = term.node() else {
-        return Ok(Sequence::new(alloc));
-    };
-    if !is_built_in(operator) {
-        return Ok(Sequence::new(alloc));
-    }
-    let sort = sort_at(alloc, operator)?;
-    let rows = rows_at(alloc, &sort)?;
-    Ok(rows)
-}
-
 /// The built-in rows that rewrite, at a sort, as rules. It takes time by the size of the rows.
 #[tactic(auto, using(crate::proofs::RowSteps::rows_pushed))]
-pub fn rows_at(alloc: Global, sort: &Sort) -> Result<RuleList, Memory>
+pub fn rows_at(alloc: Global, sort: &Sort) -> Result<RuleTable, Memory>
     ensures sides { IfOk result (λ rows. all_sides rows ≡ rewriting_rows sort.now) }
     ensures reasons { IfOk result (λ rows. All IsSaidByRow rows) }
     ensures rules { IfOk result (λ rows. All IsRule rows) }
 {
-    let mut rows = Sequence::new(alloc);
+    let mut rows = RuleTable::new(alloc);
     for place in 0..REWRITING_ROWS {
         let row = row_at(alloc, place + 1, sort)?;
+        let row = SharedRule::new(alloc, row)?;
         rows.push(row)?;
     }
     Ok(rows)

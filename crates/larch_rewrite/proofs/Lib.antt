@@ -4,4 +4,3 @@ pub mod Lines
 pub mod Stored
 pub mod RuleSets
 pub mod Roots
-pub mod Unapplied

@@ -1,10 +1,13 @@
 -- The machine's lines, turn by turn.
 use Rattle.std.specs.Prelude.{◌≡◌, ◌+◌, ℕ, List, [], ◌∷◌, ◌++◌, All, map, reverse, None}
 use Rattle.std.proofs.Common.{ap, ap₂, sym, subst, inl, inr, ◌∙◌}
-use Rattle.std.proofs.lemmas.List.Elements.{All-push, All-weaker}
+use Rattle.std.proofs.lemmas.List.Elements.{All-nil, All-push, All-weaker}
 use Rattle.larch_term.specs.Tree.{Tree, AllOf, forest_of}
+use Rattle.larch_applying.specs.Codes.{AreCodes}
+use Rattle.larch_applying.specs.declared.code.Code.{Code}
 use Rattle.larch_applying.specs.Holding.{RuleHolds, RulesHold, Says as ReasonSays}
 use Rattle.larch_applying.proofs.Entries.{known_arguments}
+use Rattle.larch_derive.specs.Builder.{IsCodeIn}
 use Rattle.larch_derive.specs.Predicates.{Extends, HasEquation, Known}
 use Rattle.larch_derive.specs.declared.builder.Builder.{Builder}
 use Rattle.larch_derive.proofs.Growth.{stays_said, stays_known}
@@ -21,6 +24,7 @@ use Rattle.larch_rewrite.specs.Ways.{AreWaysTo, IsWayTo, MayBegin, Says, reached
 use Rattle.larch_rewrite.specs.declared.kept.KeptForm.{KeptForm}
 use Rattle.larch_rewrite.specs.declared.level.Frame.{Frame}
 use Rattle.larch_rewrite.specs.declared.level.Level.{Level}
+use Rattle.larch_rewrite.specs.declared.level.Means.{Means}
 use Rattle.larch_rewrite.specs.declared.level.Turn.{Turn}
 use Rattle.larch_rewrite.specs.declared.level.Turn.TheVariants.{Begin, Arguments, Root, Finish}
 use Rattle.larch_rewrite.proofs.Levels.{done_next, done_behind}
@@ -39,6 +43,13 @@ rules_stay a b rules x h =
 pub led_stays : (a b : Builder) (kept : List KeptForm) → Extends a b → All (IsLed a) kept → All (IsLed b) kept
 led_stays a b kept x h =
     All-weaker (IsLed a) (IsLed b) (λ k p. leads_stays a b k.way (term_of k.start) (term_of k.form) x p) kept h
+
+-- terms that are written
+pub none_written : (b : Builder) (codes : List Code) → codes ≡ [] → AreCodes b codes
+none_written b codes e = subst (AreCodes b) (sym e) (All-nil (λ k. IsCodeIn b (term_of k.term) k.coded))
+
+pub means_written : (b : Builder) (m n : Means) → n ≡ m → AreCodes b m.codes → AreCodes b n.codes
+means_written b m n e h = subst (λ (o : Means). AreCodes b o.codes) (sym e) h
 
 pub ways_stay : (a b : Builder) (t : Tree) (fs : List Frame) → Extends a b → AreWaysTo a t fs → AreWaysTo b t fs
 ways_stay a b t [] x h = tt

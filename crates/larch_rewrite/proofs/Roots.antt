@@ -21,16 +21,13 @@ use Rattle.larch_redexes.specs.declared.rule.Reason.{Reason}
 use Rattle.larch_redexes.specs.declared.rule.Reason.TheVariants.{Row, Line}
 use Rattle.larch_redexes.specs.declared.rule.Rule.{Rule}
 use Rattle.larch_store.specs.Numbered.{Numbered, term_of}
-use Rattle.larch_store.specs.Refusals.{MayRefuse}
 use Rattle.larch_store.specs.Stored.{most_nodes}
-use Rattle.larch_store.specs.declared.refusal.StoreRefusal.{StoreRefusal}
-use Rattle.larch_store.specs.declared.refusal.StoreRefusal.TheVariants.{TooLarge as store_too_large, Memory as store_memory}
 use Rattle.larch_ways.specs.Way.{Leads}
 use Rattle.larch_rewrite.specs.Kept.{IsForm}
-use Rattle.larch_rewrite.specs.Refusals.{Tells, from_application, from_store}
+use Rattle.larch_rewrite.specs.Refusals.{Tells, from_application}
 use Rattle.larch_rewrite.specs.declared.kept.KeptForm.{KeptForm}
 use Rattle.larch_rewrite.specs.declared.refusal.RewriteRefusal.{RewriteRefusal}
-use Rattle.larch_rewrite.proofs.Levels.{large_is, small_is}
+use Rattle.larch_rewrite.proofs.Levels.{small_is}
 
 -- ---- ways
 
@@ -42,9 +39,6 @@ led_on b way s t u e h = subst (λ v. Leads b way s v) e h
 pub leads_as : (b : Builder) (way : Option ℕ) (s : Tree) (y z : Numbered) → y ≡ z → Leads b way s (term_of z)
     → Leads b way s (term_of y)
 leads_as b way s y z e h = subst (λ x. Leads b way s (term_of x)) (sym e) h
-
-pub said_as : (b : Builder) (n : ℕ) (s u v : Tree) → u ≡ v → HasEquation b n s v → HasEquation b n s u
-said_as b n s u v e h = subst (λ x. HasEquation b n s x) (sym e) h
 
 -- ---- a rule holds that was found among rows and rules
 
@@ -65,10 +59,6 @@ pub root_is_normal : (rules : List Sides) (x : Numbered) (t : Tree) (b : ℕ) �
     → t ≡ term_of x → rewritten_once rules t ≡ None → root_work rules (term_of x) b ≡ Made (term_of x) b
 root_is_normal rules x t b h e n =
     root_normal rules (term_of x) b (small_is (term_of x) h) (ap (rewritten_once rules) (sym e) ∙ n)
-
-pub root_stays : (rules : List Sides) (x : Numbered) (b : ℕ) → nodes (term_of x) ≤ most_nodes
-    → rewritten_once rules (term_of x) ≡ None → root_work rules (term_of x) b ≡ Made (term_of x) b
-root_stays rules x b h n = root_is_normal rules x (term_of x) b h refl n
 
 pub root_is_made : (rules : List Sides) (x : Numbered) (t u v : Tree) (b c : ℕ) → nodes (term_of x) ≤ most_nodes
     → t ≡ term_of x → rewritten_once rules t ≡ Some u → v ≡ u → b ≡ c + 1
@@ -103,12 +93,6 @@ pub application_tells : (rules : List Sides) (t u : Tree) (b : ℕ) (e : ApplyRe
     → rewritten_once rules t ≡ Some u → MayRefuseApplication u e → Tells (root_work rules t b) (from_application e)
 application_tells rules t u b application_too_large z h n l = made_large rules t u b z h n l
 application_tells rules t u b application_memory z h n l = tt
-
-pub store_tells : (rules : List Sides) (t u v : Tree) (b : ℕ) (e : StoreRefusal) → (b ≡ 0 → ⊥) → is_large t ≡ false
-    → rewritten_once rules t ≡ Some u → v ≡ u → MayRefuse (nodes v) e → Tells (root_work rules t b) (from_store e)
-store_tells rules t u v b store_too_large z h n p l =
-    made_large rules t u b z h n (ap is_large (sym p) ∙ large_is v l)
-store_tells rules t u v b store_memory z h n p l = tt
 
 -- ---- a kept form is taken
 

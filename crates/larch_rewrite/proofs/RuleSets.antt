@@ -1,8 +1,9 @@
 -- Rules as contracts see them.
-use Rattle.std.specs.Prelude.{◌≡◌, ◌+◌, ℕ, true, List, [], ◌∷◌, ◌++◌, All, Some, map, length, slice_get, take, drop, refl}
+use Rattle.std.specs.Prelude.{◌≡◌, ◌+◌, ◌<◌, ℕ, true, List, [], ◌∷◌, ◌++◌, All, Some, map, length, slice_get, take, drop, refl}
 use Rattle.std.proofs.Common.{arith, ap, ap₂, sym, subst, ◌∙◌}
 use Rattle.std.proofs.Math.Seq.{take-append_seam}
-use Rattle.std.proofs.lemmas.List.{length-map, length_push, map-append, take-map, drop-map}
+use Rattle.std.proofs.lemmas.List.{length-append, length-drop, length-take-le, length_push, map-append, take-map, drop-map}
+use Rattle.std.proofs.lemmas.Option.{slice_get_within}
 use Rattle.std.proofs.lemmas.List.Elements.{All-append, All-cons, All-drop, All-head, All-nil, All-push, All-tail, All-take, All-weaker}
 use Rattle.larch_applying.specs.Holding.{RuleHolds, RulesHold, Says as ReasonSays}
 use Rattle.larch_base.specs.declared.fact_name.FactName.{FactName}
@@ -71,16 +72,28 @@ none_kept [] = refl
 none_kept (k ∷ ks) = refl
 
 -- without the rule at a place
-pub rules_removed : (names fewer : List FactName) (rules others : List Rule) (kept : List KeptForm) (i : ℕ)
-    → others ≡ take i rules ++ drop (i + 1) rules → length fewer + 1 ≡ length names → length others + 1 ≡ length rules
-    → kept ≡ [] → (length names ≡ length rules) → All IsLineRule rules → AreRules fewer others kept
-rules_removed names fewer rules others kept i q m n e l h = (
-  omega (arith, l, m, n),
-  subst (All IsLineRule) (sym q)
-      (All-append IsLineRule (take i rules) (drop (i + 1) rules) (All-take IsLineRule i rules h)
-      (All-drop IsLineRule (i + 1) rules h)),
-  subst (All (IsForm (all_sides others))) (sym e) (All-nil (IsForm (all_sides others))),
-)
+fewer_by_one : {X : Type 0} (xs : List X) (i : ℕ) → i < length xs → length (take i xs ++ drop (i + 1) xs) + 1 ≡ length xs
+fewer_by_one xs i h =
+    let a = length-append (take i xs) (drop (i + 1) xs) in
+    let b = length-take-le i xs (omega (arith, h)) in
+    let c = length-drop (i + 1) xs in
+    omega (arith, a, b, c, h)
+
+pub rules_removed : (names slice fewer : List FactName) (name : FactName) (rules others : List Rule)
+    (kept left : List KeptForm) (i : ℕ) → others ≡ take i rules ++ drop (i + 1) rules
+    → fewer ≡ take i names ++ drop (i + 1) names → slice ≡ names → slice_get slice i ≡ Some name → left ≡ take 0 kept
+    → (length names ≡ length rules) → All IsLineRule rules → AreRules fewer others left
+rules_removed names slice fewer name rules others kept left i q p s g e l h =
+    let w : i < length names = subst (λ ns. i < length ns) s (slice_get_within slice i name g) in
+    let m : length fewer + 1 ≡ length names = ap (λ xs. length xs + 1) p ∙ fewer_by_one names i w in
+    let n : length others + 1 ≡ length rules =
+    ap (λ xs. length xs + 1) q ∙ fewer_by_one rules i (subst (λ k. i < k) l w) in (
+      omega (arith, l, m, n),
+      subst (All IsLineRule) (sym q)
+          (All-append IsLineRule (take i rules) (drop (i + 1) rules) (All-take IsLineRule i rules h)
+          (All-drop IsLineRule (i + 1) rules h)),
+      subst (All (IsForm (all_sides others))) (sym (e ∙ none_kept kept)) (All-nil (IsForm (all_sides others))),
+    )
 
 pub lined_removed : (rules others : List Rule) (i : ℕ) → others ≡ take i rules ++ drop (i + 1) rules
     → map lined others ≡ take i (map lined rules) ++ drop (i + 1) (map lined rules)
@@ -90,11 +103,10 @@ lined_removed rules others i q =
 
 -- the same rules once more
 pub rules_copied : (names more : List FactName) (rules copied : List Rule) (kept : List KeptForm) → more ≡ names
-    → map lined copied ≡ map lined rules → kept ≡ [] → All IsLineRule copied → (length names ≡ length rules)
-    → AreRules more copied kept
-rules_copied names more rules copied kept p q e h l = (
-  ap length p ∙ l ∙ sym (length-map rules lined) ∙ sym (ap length q) ∙ length-map copied lined,
-  h,
+    → copied ≡ rules → kept ≡ [] → (length names ≡ length rules) → All IsLineRule rules → AreRules more copied kept
+rules_copied names more rules copied kept p q e l h = (
+  ap length p ∙ l ∙ sym (ap length q),
+  subst (All IsLineRule) (sym q) h,
   subst (All (IsForm (all_sides copied))) (sym e) (All-nil (IsForm (all_sides copied))),
 )
 
@@ -103,31 +115,30 @@ pub front_cut : (kept mid : List KeptForm) → IsFront kept mid → take (length
 front_cut kept mid (xs, e) = ap (take (length kept)) e ∙ take-append_seam kept xs
 
 -- the sides of the rules as contracts see them
-pub sides_now : (set : RuleSet) (names : List FactName) (rules slice : List Rule) (kept : List KeptForm)
-    → record { names = names; rules = map lined rules; kept = kept } ≡ set → slice ≡ rules
-    → sides_in set ≡ all_sides slice
-sides_now set names rules slice kept e q = ap sides_in (sym e) ∙ sides_same rules ∙ ap all_sides (sym q)
+pub sides_now : (set : RuleSet) (names : List FactName) (rules : List Rule) (kept : List KeptForm)
+    → record { names = names; rules = map lined rules; kept = kept } ≡ set → sides_in set ≡ all_sides rules
+sides_now set names rules kept e = ap sides_in (sym e) ∙ sides_same rules
 
 -- what the machine makes by them, or tells
-pub made_now : (set : RuleSet) (names : List FactName) (rules slice : List Rule) (kept : List KeptForm) (budget k : ℕ)
-    (u t : Tree) → record { names = names; rules = map lined rules; kept = kept } ≡ set → slice ≡ rules
-    → IsMade budget k u (normal (all_sides slice) t budget) → IsMade budget k u (normal (sides_in set) t budget)
-made_now set names rules slice kept budget k u t e q h =
-    subst (λ ss. IsMade budget k u (normal ss t budget)) (sym (sides_now set names rules slice kept e q)) h
+pub made_now : (set : RuleSet) (names : List FactName) (rules : List Rule) (kept : List KeptForm) (budget k : ℕ)
+    (u t : Tree) → record { names = names; rules = map lined rules; kept = kept } ≡ set
+    → IsMade budget k u (normal (all_sides rules) t budget) → IsMade budget k u (normal (sides_in set) t budget)
+made_now set names rules kept budget k u t e h =
+    subst (λ ss. IsMade budget k u (normal ss t budget)) (sym (sides_now set names rules kept e)) h
 
-pub tells_now : (set : RuleSet) (names : List FactName) (rules slice : List Rule) (kept : List KeptForm) (budget : ℕ)
-    (t : Tree) (x : RewriteRefusal) → record { names = names; rules = map lined rules; kept = kept } ≡ set → slice ≡ rules
-    → Tells (normal (all_sides slice) t budget) x → Tells (normal (sides_in set) t budget) x
-tells_now set names rules slice kept budget t x e q h =
-    subst (λ ss. Tells (normal ss t budget) x) (sym (sides_now set names rules slice kept e q)) h
+pub tells_now : (set : RuleSet) (names : List FactName) (rules : List Rule) (kept : List KeptForm) (budget : ℕ)
+    (t : Tree) (x : RewriteRefusal) → record { names = names; rules = map lined rules; kept = kept } ≡ set
+    → Tells (normal (all_sides rules) t budget) x → Tells (normal (sides_in set) t budget) x
+tells_now set names rules kept budget t x e h =
+    subst (λ ss. Tells (normal ss t budget) x) (sym (sides_now set names rules kept e)) h
 
 -- where all that the rules carry is said the machine may begin
-pub may_begin : (b : Builder) (set : RuleSet) (names : List FactName) (rules slice : List Rule) (kept : List KeptForm)
-    (t : Tree) → record { names = names; rules = map lined rules; kept = kept } ≡ set → slice ≡ rules
-    → All IsLineRule rules → Known b t → Carries b set → MayBegin b slice kept t
-may_begin b set names rules slice kept t e q i k h =
+pub may_begin : (b : Builder) (set : RuleSet) (names : List FactName) (rules : List Rule) (kept : List KeptForm)
+    (t : Tree) → record { names = names; rules = map lined rules; kept = kept } ≡ set → All IsLineRule rules → Known b t
+    → Carries b set → MayBegin b rules kept t
+may_begin b set names rules kept t e i k h =
     let g : Carries b (record { names = names; rules = map lined rules; kept = kept }) = subst (Carries b) (sym e) h in
-    (k, subst (RulesHold b) (sym q) (rules_carried b rules i g.0), g.1)
+    (k, rules_carried b rules i g.0, g.1)
 
 -- the rules' own lines still say them, and what is kept is led to
 pub carried_on : (a b : Builder) (set : RuleSet) (names : List FactName) (rules : List Rule) (kept more : List KeptForm)

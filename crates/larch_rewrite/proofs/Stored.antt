@@ -2,7 +2,9 @@
 use Rattle.std.specs.Prelude.{◌≡◌, ℕ, List, [], ◌∷◌, ◌++◌, All, slice_get, Some}
 use Rattle.std.proofs.Common.{ap, sym, subst, inl, inr, ◌∙◌}
 use Rattle.std.proofs.lemmas.List.{append_assoc, append-nil}
-use Rattle.std.proofs.lemmas.List.Elements.{All-contains, All-push, All-weaker}
+use Rattle.std.proofs.lemmas.List.Elements.{All-contains, All-nil, All-push, All-weaker}
+use Rattle.larch_applying.specs.Codes.{AreOfStore}
+use Rattle.larch_applying.specs.declared.code.Code.{Code}
 use Rattle.larch_base.proofs.Members.{got_contains}
 use Rattle.larch_store.specs.Numbered.{Numbered}
 use Rattle.larch_store.specs.Stored.{Belongs, AllBelong, Grows}
@@ -11,6 +13,7 @@ use Rattle.larch_rewrite.specs.Kept.{IsFront, IsKeptAt, IsKeptBehind, IsOfStore,
 use Rattle.larch_rewrite.specs.Levels.{IsFrameOf, IsTurnOf}
 use Rattle.larch_rewrite.specs.declared.kept.KeptForm.{KeptForm}
 use Rattle.larch_rewrite.specs.declared.level.Frame.{Frame}
+use Rattle.larch_rewrite.specs.declared.level.Means.{Means}
 use Rattle.larch_rewrite.specs.declared.level.Turn.{Turn}
 use Rattle.larch_rewrite.specs.declared.level.Turn.TheVariants.{Begin, Arguments, Root, Finish}
 
@@ -35,6 +38,13 @@ kept_behind : (s : List Numbered) (kept new : List KeptForm) (k : KeptForm) → 
 kept_behind s kept new k h o (inl e) = subst (All (IsOfStore s)) (sym e) h
 kept_behind s kept new k h o (inr e) = subst (All (IsOfStore s)) (sym e) (All-push (IsOfStore s) kept k h o)
 
+-- so does what is written
+pub none_of_store : (s : List Numbered) (codes : List Code) → codes ≡ [] → AreOfStore s codes
+none_of_store s codes e = subst (AreOfStore s) (sym e) (All-nil (λ k. Belongs s k.term))
+
+pub means_stay : (s : List Numbered) (m n : Means) → n ≡ m → AreOfStore s m.codes → AreOfStore s n.codes
+means_stay s m n e h = subst (λ (o : Means). AreOfStore s o.codes) (sym e) h
+
 -- what is kept of a turn's level belongs to the store
 pub all_kept : (s : List Numbered) (kept new : List KeptForm) (turn : Turn) (n : ℕ) → IsKeptAt kept turn n new
     → IsTurnOf s turn → All (IsOfStore s) kept → All (IsOfStore s) new
@@ -42,6 +52,11 @@ all_kept s kept new (Begin l) n e t h = subst (All (IsOfStore s)) (sym e) h
 all_kept s kept new (Arguments f) n e t h = subst (All (IsOfStore s)) (sym e) h
 all_kept s kept new (Root l) n e t h = subst (All (IsOfStore s)) (sym e) h
 all_kept s kept new (Finish l) n e t h = kept_behind s kept new (kept_of l n) h (t.0, t.1) e
+
+-- what is kept behind others that are the same
+pub kept_from : (kept mid new : List KeptForm) (turn : Turn) (n : ℕ) → mid ≡ kept → IsKeptAt mid turn n new
+    → IsKeptAt kept turn n new
+kept_from kept mid new turn n e h = subst (λ k. IsKeptAt k turn n new) e h
 
 -- further ones are kept behind others
 pub front_same : (kept new : List KeptForm) → new ≡ kept → IsFront kept new

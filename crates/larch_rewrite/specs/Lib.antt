@@ -4,4 +4,3 @@ pub mod Levels
 pub mod Ways
 pub mod RuleSet
 pub mod RuleSetCode
-pub mod Heads

@@ -1,4 +1,5 @@
 ghost use Rattle.std.specs.Prelude.{◌≡◌, ◌+◌, List, All, Some, false, IfOk, IfErr, OnOk};
+ghost use Rattle.larch_applying.specs.Codes.{AreCodes, AreOfStore};
 ghost use Rattle.larch_applying.specs.Holding.{RuleHolds, RulesHold};
 ghost use Rattle.larch_derive.specs.Predicates.{Extends, Known};
 ghost use Rattle.larch_normal_forms.specs.Rewriting.{rewritten_once};
@@ -6,7 +7,8 @@ ghost use Rattle.larch_normal_forms.specs.Sides.{Sides};
 ghost use Rattle.larch_normal_forms.specs.Work.{is_large};
 ghost use Rattle.larch_normal_laws.specs.Level.{root_work};
 ghost use Rattle.larch_redexes.specs.Rule.{IsRule, all_sides, right_of};
-ghost use Rattle.larch_redexes.specs.Search.{IsBy};
+ghost use Rattle.larch_redexes.specs.Bound.{entries_of};
+ghost use Rattle.larch_redexes.specs.Search.{IsBoundIn, IsBy};
 ghost use Rattle.larch_rewrite.specs.Levels.{HaveOneStart, IsTurnOf, work_at};
 ghost use Rattle.larch_rewrite.specs.Refusals.{Tells};
 ghost use Rattle.larch_rewrite.specs.Ways.{IsWayTo};
@@ -17,85 +19,91 @@ ghost use Rattle.larch_term.specs.Substitution.{substituted};
 ghost use Rattle.larch_term.specs.Tree.{Tree};
 ghost use Rattle.larch_ways.specs.Way.{Leads};
 
-use crate::heads::may_apply;
-use crate::level::{Level, Turn};
+use crate::kept::Kept;
+use crate::level::{Level, Means, Turn};
 use crate::refusal::RewriteRefusal;
 use larch_applying::{Applied, apply_match};
 use larch_derive::Builder;
-use larch_redexes::{Match, Rule, first_redex, rows_for};
+use larch_redexes::{Match, RuleTable, first_redex};
 use larch_store::Store;
 use larch_ways::further_line;
 use std::alloc::Global;
 
-/// The turn behind the root of a term whose arguments are normal: the first rule that applies is applied, or the term is
-/// the normal form.
-#[tactic(auto, using(larch_derive::proofs::Growth::extends_same, larch_store::proofs::Growth::grows_refl, crate::proofs::Roots::root_is_normal, crate::proofs::Roots::root_stays))]
+/// The turn behind the root of a term whose arguments are normal: the first rule that applies is applied, or the term
+/// is the normal form.
+#[tactic(auto, using(larch_derive::proofs::Growth::extends_same, larch_store::proofs::Growth::grows_refl, crate::proofs::Roots::root_is_normal, crate::proofs::Roots::root_is_made, crate::proofs::Roots::root_tells))]
 pub(crate) fn rewrite(
-    alloc: Global,
     store: &mut Store,
     builder: &mut Builder,
-    rules: &[Rule],
+    rules: &RuleTable,
+    kept: &mut Kept,
     level: Level,
-    left: &mut u32,
+    means: &mut Means,
 ) -> Result<Turn, RewriteRefusal>
     requires rules { All IsRule rules.now }
     requires turn { IsTurnOf store.old (at_root level) }
+    requires codes { AreOfStore store.old means.old.codes }
     ensures start { IfOk result (λ t. HaveOneStart t (at_root level)) }
     ensures turn { IfOk result (IsTurnOf store.new) }
     ensures work { IfOk result (λ t.
-        work_at (all_sides rules.now) (at_root level) left.old ≡ work_at (all_sides rules.now) t left.new) }
-    ensures refused { IfErr result (Tells (work_at (all_sides rules.now) (at_root level) left.old)) }
+        work_at (all_sides rules.now) (at_root level) means.old.left ≡ work_at (all_sides rules.now) t means.new.left) }
+    ensures refused { IfErr result (Tells (work_at (all_sides rules.now) (at_root level) means.old.left)) }
     ensures says { IfOk result (λ t. (x : Tree) → RulesHold builder.old rules.now
-        → IsWayTo builder.old x (at_root level) → IsWayTo builder.new x t) }
+        → IsWayTo builder.old x (at_root level) → AreCodes builder.old means.old.codes → IsWayTo builder.new x t) }
     ensures extends { (x : Tree) → RulesHold builder.old rules.now → IsWayTo builder.old x (at_root level)
-        → Extends builder.old builder.new }
+        → AreCodes builder.old means.old.codes → Extends builder.old builder.new }
     ensures grows { Grows store.old store.new }
+    ensures belong { AreOfStore store.new means.new.codes }
+    ensures codes { AreCodes builder.old means.old.codes → AreCodes builder.old means.new.codes }
+    ensures kept { kept.new ≡ kept.old }
 {
     store.sizes_are_told();
-    if !may_apply(rules, &level.term) {
-        return Ok(Turn::Finish(level));
-    }
-    let term = store.to_term(&level.term)?;
-    let rows = rows_for(alloc, &term)?;
-    let Some(found) = first_redex(alloc, rows.as_slice(), rules, &term)? else {
+    kept.prepare_rows(&level.term)?;
+    let alloc = rules.allocator();
+    let rows = kept.rows().rows_for(&level.term)?;
+    let Some(found) = first_redex(alloc, store, rows, rules, &level.term)? else {
         return Ok(Turn::Finish(level));
     };
-    let level = apply(alloc, store, builder, &found, level, left)?;
+    let level = apply(alloc, store, builder, &found, level, means)?;
     Ok(Turn::Begin(level))
 }
 
 // A level whose term is what a rule that applies makes of it; that takes one from what is left of the budget.
-#[tactic(auto, using(larch_derive::proofs::Growth::extends_same, larch_store::proofs::Growth::grows_refl, crate::proofs::Roots::nothing_left, crate::proofs::Roots::application_tells, crate::proofs::Roots::store_tells))]
+#[tactic(auto, using(larch_derive::proofs::Growth::extends_same, larch_store::proofs::Growth::grows_refl, crate::proofs::Roots::nothing_left, crate::proofs::Roots::application_tells))]
 fn apply<'a>(
     alloc: Global,
     store: &mut Store,
     builder: &mut Builder,
     found: &Match<'a>,
     level: Level,
-    left: &mut u32,
+    means: &mut Means,
 ) -> Result<Level, RewriteRefusal>
+    requires bound { IsBoundIn store.old found.now }
+    requires codes { AreOfStore store.old means.old.codes }
     ensures level { IfOk result (λ l. (l.start ≡ level.start) × (l.begun ≡ level.begun)) }
-    ensures term { IfOk result (λ l. term_of l.term ≡ substituted found.now.by (right_of found.now.rule.now)) }
+    ensures term { IfOk result (λ l. term_of l.term
+        ≡ substituted (entries_of found.now.by) (right_of found.now.rule.now)) }
     ensures belongs { IfOk result (λ l. Belongs store.new l.term) }
-    ensures spent { OnOk result (left.old ≡ left.new + 1) }
+    ensures spent { OnOk result (means.old.left ≡ means.new.left + 1) }
     ensures refused { IfErr result (λ e. (rs : List Sides) (t : Tree) → is_large t ≡ false
-        → rewritten_once rs t ≡ Some (substituted found.now.by (right_of found.now.rule.now))
-        → Tells (root_work rs t left.old) e) }
+        → rewritten_once rs t ≡ Some (substituted (entries_of found.now.by) (right_of found.now.rule.now))
+        → Tells (root_work rs t means.old.left) e) }
     ensures says { IfOk result (λ l. (s t : Tree) → Known builder.old t → RuleHolds builder.old found.now.rule.now
-        → IsBy found.now.rule.now found.now.exchanged t found.now.by → Leads builder.old level.way s t
-        → Leads builder.new l.way s (term_of l.term)) }
+        → IsBy found.now.rule.now found.now.exchanged t (entries_of found.now.by) → AreCodes builder.old means.old.codes
+        → Leads builder.old level.way s t → Leads builder.new l.way s (term_of l.term)) }
     ensures extends { (s t : Tree) → Known builder.old t → RuleHolds builder.old found.now.rule.now
-        → IsBy found.now.rule.now found.now.exchanged t found.now.by → Leads builder.old level.way s t
-        → Extends builder.old builder.new }
+        → IsBy found.now.rule.now found.now.exchanged t (entries_of found.now.by) → AreCodes builder.old means.old.codes
+        → Leads builder.old level.way s t → Extends builder.old builder.new }
     ensures grows { Grows store.old store.new }
+    ensures belong { AreOfStore store.new means.new.codes }
+    ensures codes { AreCodes builder.old means.old.codes → AreCodes builder.old means.new.codes }
 {
-    if *left == 0 {
+    if means.left == 0 {
         return Err(RewriteRefusal::Limit);
     }
-    let Applied { term, line } = apply_match(alloc, builder, found)?;
-    let term = store.intern(&term)?;
+    let Applied { term, line } = apply_match(alloc, store, builder, &mut means.codes, found)?;
     let line = further_line(alloc, builder, level.way, line)?;
-    *left -= 1;
+    means.left -= 1;
     Ok(Level {
         start: level.start,
         begun: level.begun,

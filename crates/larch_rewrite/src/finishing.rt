@@ -16,7 +16,8 @@ use larch_store::{Shared, Store};
 use larch_ways::{argument_line, way_line};
 use std::alloc::Global;
 
-/// Keeps the normal form to which a turn's level has come, unless that of its start is kept already, or memory runs out.
+/// Keeps the normal form to which a turn's level has come, unless that of its start is kept already, or memory runs
+/// out.
 pub(crate) fn keep(store: &Store, kept: &mut Kept, turn: &Turn, left: u32)
     requires turn { IsTurnOf store.now turn.now }
     requires kept { All (IsOfStore store.now) kept.old }

@@ -5,6 +5,7 @@ ghost use Rattle.larch_store.specs.Stored.{Belongs};
 
 use indexmap::IndexMap;
 use larch_base::Memory;
+use larch_redexes::RowTables;
 use larch_store::{Shared, Store};
 use std::alloc::Global;
 use std::marker::Model;
@@ -18,11 +19,13 @@ pub struct KeptForm {
     pub way: Option<u64>,
 }
 
-/// Normal forms that are kept, found by the numbers of their terms. Contracts see them as a list.
+/// Normal forms that are kept, found by the numbers of their terms, and the built-in rows at the sorts that have come
+/// up. Contracts see the forms, as a list.
 #[derive(Drop)]
 pub(crate) struct Kept {
     forms: Vec<KeptForm>,
     places: IndexMap<u64, usize>,
+    rows: RowTables,
 }
 
 impl Model for Kept {
@@ -47,7 +50,13 @@ impl Kept {
         Kept {
             forms: Vec::new(alloc),
             places: IndexMap::new(alloc),
+            rows: RowTables::new(alloc),
         }
+    }
+
+    // Where its memory comes from.
+    pub(crate) fn allocator(&self) -> Global {
+        *self.forms.allocator()
     }
 
     // How many there are.
@@ -55,6 +64,19 @@ impl Kept {
         ensures { result ≡ length self.now }
     {
         self.forms.len()
+    }
+
+    // Makes the rows for a term, unless they are there.
+    pub(crate) fn prepare_rows(&mut self, term: &Shared) -> Result<(), Memory>
+        ensures { self.new ≡ self.old }
+    {
+        self.rows.prepare(term)?;
+        Ok(())
+    }
+
+    // The rows that have been made.
+    pub(crate) fn rows(&self) -> &RowTables {
+        &self.rows
     }
 
     // What is kept of a term, if something is.

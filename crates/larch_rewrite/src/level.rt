@@ -1,6 +1,7 @@
 ghost use Rattle.std.specs.Prelude.{◌≡◌};
 ghost use Rattle.larch_rewrite.specs.Levels.{level_of};
 
+use larch_applying::Codes;
 use larch_store::{Shared, SharedList};
 
 /// The work on one term: the term whose normal form is sought, the budget with which that began, and the term that it
@@ -31,6 +32,13 @@ pub(crate) enum Turn {
     Root(Level),
     /// Its term is the normal form.
     Finish(Level),
+}
+
+/// What applications take: what is left of the budget, and how lines write terms.
+#[derive(Drop)]
+pub(crate) struct Means {
+    pub(crate) left: u32,
+    pub(crate) codes: Codes,
 }
 
 impl Turn {

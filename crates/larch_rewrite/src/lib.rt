@@ -3,7 +3,6 @@
 
 mod applying;
 mod finishing;
-mod heads;
 mod kept;
 mod level;
 mod machine;

@@ -1,4 +1,5 @@
 ghost use Rattle.std.specs.Prelude.{◌≡◌, ℕ, List, All, true, IfOk, IfErr, OnOk};
+ghost use Rattle.larch_applying.specs.Codes.{AreCodes, AreOfStore};
 ghost use Rattle.larch_derive.specs.Predicates.{Extends, HasEquation, Known};
 ghost use Rattle.larch_derive.specs.declared.builder.Builder.{Builder as is_builder};
 ghost use Rattle.larch_normal_forms.specs.NormalForm.{normal};
@@ -19,12 +20,13 @@ ghost use Rattle.larch_ways.specs.Way.{Leads};
 use crate::applying::rewrite;
 use crate::finishing::{keep, resume, whole_line};
 use crate::kept::Kept;
-use crate::level::{Frame, Level, Turn};
+use crate::level::{Frame, Level, Means, Turn};
 use crate::refusal::RewriteRefusal;
 use crate::turning::{argument, begin, first_level, form};
+use larch_applying::Codes;
 use larch_base::Memory;
 use larch_derive::Builder;
-use larch_redexes::Rule;
+use larch_redexes::RuleTable;
 use larch_store::{Shared, Store};
 use std::alloc::Global;
 
@@ -36,45 +38,50 @@ pub struct Normal {
     pub line: u64,
 }
 
-// What waits while the machine runs: terms whose arguments are being normalised, the innermost last; and what is left of
-// the budget.
+// What waits while the machine runs: terms whose arguments are being normalised, the innermost last; and what
+// applications take.
 #[derive(Drop)]
 pub(crate) struct Pending {
     pub(crate) frames: Vec<Frame>,
-    pub(crate) left: u32,
+    pub(crate) means: Means,
 }
 
 // One turn, to the next one. Where nothing waits any longer for a normal form, that is the last turn, and stays.
 #[tactic(auto, using(larch_derive::proofs::Growth::extends_same, larch_store::proofs::Growth::grows_refl))]
 fn step(
-    alloc: Global,
     store: &mut Store,
     builder: &mut Builder,
-    rules: &[Rule],
+    rules: &RuleTable,
     kept: &mut Kept,
     pending: &mut Pending,
     turn: Turn,
 ) -> Result<Turn, RewriteRefusal>
     requires rules { All IsRule rules.now }
     requires stored { IsStored store.old kept.old pending.old.frames.items turn }
+    requires codes { AreOfStore store.old pending.old.means.codes }
     ensures stored { IfOk result (IsStored store.new kept.new pending.new.frames.items) }
     ensures grows { Grows store.old store.new }
     ensures front { IsFront kept.old kept.new }
     ensures works { IfOk result (λ t. (whole : Tree) (budget : ℕ)
-        → Works (all_sides rules.now) whole budget kept.old pending.old.frames.items turn pending.old.left
-        → Works (all_sides rules.now) whole budget kept.new pending.new.frames.items t pending.new.left) }
+        → Works (all_sides rules.now) whole budget kept.old pending.old.frames.items turn pending.old.means.left
+        → Works (all_sides rules.now) whole budget kept.new pending.new.frames.items t pending.new.means.left) }
     ensures refused { IfErr result (λ e. (whole : Tree) (budget : ℕ)
-        → Works (all_sides rules.now) whole budget kept.old pending.old.frames.items turn pending.old.left
+        → Works (all_sides rules.now) whole budget kept.old pending.old.frames.items turn pending.old.means.left
         → Tells (normal (all_sides rules.now) whole budget) e) }
     ensures says { IfOk result (λ t. Says builder.old rules.now kept.old pending.old.frames.items turn
+        → AreCodes builder.old pending.old.means.codes
         → Says builder.new rules.now kept.new pending.new.frames.items t) }
     ensures extends { Says builder.old rules.now kept.old pending.old.frames.items turn
-        → Extends builder.old builder.new }
+        → AreCodes builder.old pending.old.means.codes → Extends builder.old builder.new }
+    ensures belong { OnOk result (AreOfStore store.new pending.new.means.codes) }
+    ensures codes { OnOk result (AreCodes builder.old pending.old.means.codes
+        → AreCodes builder.old pending.new.means.codes) }
 {
+    let alloc = *pending.frames.allocator();
     match turn {
         Turn::Begin(level) => {
-            let turn = begin(alloc, store, builder, kept, level, &mut pending.left)?;
-            keep(store, kept, &turn, pending.left);
+            let turn = begin(alloc, store, builder, kept, level, &mut pending.means.left)?;
+            keep(store, kept, &turn, pending.means.left);
             Ok(turn)
         }
         Turn::Arguments(frame) => {
@@ -82,8 +89,8 @@ fn step(
             Ok(turn)
         }
         Turn::Root(level) => {
-            let turn = rewrite(alloc, store, builder, rules, level, &mut pending.left)?;
-            keep(store, kept, &turn, pending.left);
+            let turn = rewrite(store, builder, rules, kept, level, &mut pending.means)?;
+            keep(store, kept, &turn, pending.means.left);
             Ok(turn)
         }
         Turn::Finish(level) => {
@@ -102,17 +109,18 @@ fn go_on(store: &mut Store, pending: &mut Pending, frame: Frame) -> Result<Turn,
     ensures turn { IfOk result (IsTurnOf store.new) }
     ensures grows { Grows store.old store.new }
     ensures works { IfOk result (λ t. (rs : List Sides) (whole : Tree) (budget : ℕ) (kept : List KeptForm)
-        → Works rs whole budget kept pending.old.frames.items (among_arguments frame) pending.old.left
-        → Works rs whole budget kept pending.new.frames.items t pending.new.left) }
+        → Works rs whole budget kept pending.old.frames.items (among_arguments frame) pending.old.means.left
+        → Works rs whole budget kept pending.new.frames.items t pending.new.means.left) }
     ensures refused { IfErr result (λ e. (rs : List Sides) (whole : Tree) (budget : ℕ) (kept : List KeptForm)
-        → Works rs whole budget kept pending.old.frames.items (among_arguments frame) pending.old.left
+        → Works rs whole budget kept pending.old.frames.items (among_arguments frame) pending.old.means.left
         → Tells (normal rs whole budget) e) }
     ensures says { IfOk result (λ t. (b : is_builder) (rules : List is_rule) (kept : List KeptForm)
         → Says b rules kept pending.old.frames.items (among_arguments frame)
         → Says b rules kept pending.new.frames.items t) }
+    ensures means { pending.new.means ≡ pending.old.means }
 {
     store.children_belong();
-    match argument(&frame, pending.left)? {
+    match argument(&frame, pending.means.left)? {
         Some(level) => {
             pending.frames.push(frame)?;
             Ok(Turn::Begin(level))
@@ -138,13 +146,14 @@ fn go_up(
     ensures frames { OnOk result (All (IsFrameOf store.now) pending.new.frames.items) }
     ensures turn { IfOk result (IsTurnOf store.now) }
     ensures works { IfOk result (λ t. (rs : List Sides) (whole : Tree) (budget : ℕ) (kept : List KeptForm)
-        → Works rs whole budget kept pending.old.frames.items (finished level) pending.old.left
-        → Works rs whole budget kept pending.new.frames.items t pending.new.left) }
+        → Works rs whole budget kept pending.old.frames.items (finished level) pending.old.means.left
+        → Works rs whole budget kept pending.new.frames.items t pending.new.means.left) }
     ensures says { IfOk result (λ t. (rules : List is_rule) (kept : List KeptForm)
         → Says builder.old rules kept pending.old.frames.items (finished level)
         → Says builder.new rules kept pending.new.frames.items t) }
     ensures extends { (rules : List is_rule) (kept : List KeptForm)
         → Says builder.old rules kept pending.old.frames.items (finished level) → Extends builder.old builder.new }
+    ensures means { pending.new.means ≡ pending.old.means }
 {
     let Some(frame) = pending.frames.pop() else {
         return Ok(Turn::Finish(level));
@@ -184,10 +193,9 @@ fn normal_of(store: &Store, builder: &mut Builder, turn: Turn, cost: u32) -> Res
 /// The normal form of a term by rules under a budget, or the first event.
 #[tactic(auto, using(larch_derive::proofs::Growth::extends_same, larch_store::proofs::Growth::grows_refl))]
 pub(crate) fn run(
-    alloc: Global,
     store: &mut Store,
     builder: &mut Builder,
-    rules: &[Rule],
+    rules: &RuleTable,
     kept: &mut Kept,
     term: &Shared,
     budget: u32,
@@ -210,19 +218,23 @@ pub(crate) fn run(
         → All (IsLed builder.new) kept.new) }
     ensures extends { MayBegin builder.old rules.now kept.old (term_of term.now) → Extends builder.old builder.new }
 {
+    let codes = Codes::new(kept.allocator());
     let mut pending = Pending {
-        frames: Vec::new(alloc),
-        left: budget,
+        frames: Vec::new(kept.allocator()),
+        means: Means {
+            left: budget,
+            codes,
+        },
     };
     let first = first_level(term, budget)?;
     let mut turn = Turn::Begin(first);
     for _ in 0..u64::MAX {
         if is_last(&turn, &pending) {
-            let cost = budget.saturating_sub(pending.left);
+            let cost = budget.saturating_sub(pending.means.left);
             let normal = normal_of(store, builder, turn, cost)?;
             return Ok(normal);
         }
-        turn = step(alloc, store, builder, rules, kept, &mut pending, turn)?;
+        turn = step(store, builder, rules, kept, &mut pending, turn)?;
     }
     // There are never so many turns.
     Err(RewriteRefusal::Memory)

@@ -13,7 +13,7 @@ use crate::machine::{Normal, run};
 use crate::refusal::RewriteRefusal;
 use larch_base::{FactName, Memory};
 use larch_derive::Builder;
-use larch_redexes::{Reason, Rule};
+use larch_redexes::{Reason, Rule, RuleTable, SharedRule};
 use larch_store::{Shared, Store, StoreRefusal};
 use larch_term::{Term, copy};
 use std::alloc::Global;
@@ -23,7 +23,7 @@ use std::marker::Model;
 #[derive(Drop)]
 pub struct Rules {
     names: Vec<FactName>,
-    rules: Vec<Rule>,
+    rules: RuleTable,
     kept: Kept,
 }
 
@@ -36,9 +36,9 @@ impl Model for Rules {
 
     ghost coded = { coded_set };
 
-    ghost view = { λ r. record { names = r.names.items; rules = map lined r.rules.items; kept = r.kept } };
+    ghost view = { λ r. record { names = r.names.items; rules = map lined r.rules; kept = r.kept } };
 
-    ghost invariant = { λ r. AreRules r.names.items r.rules.items r.kept };
+    ghost invariant = { λ r. AreRules r.names.items r.rules r.kept };
 }
 
 impl Rules {
@@ -48,7 +48,7 @@ impl Rules {
     {
         Ok(Rules {
             names: Vec::new(alloc),
-            rules: Vec::new(alloc),
+            rules: RuleTable::new(alloc),
             kept: Kept::new(alloc),
         })
     }
@@ -58,9 +58,9 @@ impl Rules {
     pub fn copy(&self) -> Result<Rules, Memory>
         ensures { IfOk result (λ rules. rules ≡ without_kept self.now) }
     {
-        let alloc = *self.rules.allocator();
+        let alloc = self.rules.allocator();
         let names = Vec::from_slice(alloc, self.names.as_slice())?;
-        let rules = copy_rules(alloc, self.rules.as_slice())?;
+        let rules = self.rules.copy()?;
         Ok(Rules {
             names,
             rules,
@@ -68,8 +68,8 @@ impl Rules {
         })
     }
 
-    /// Puts a rule behind the others, with the line that says it; what was kept is forgotten. It is refused as too large
-    /// exactly if one of its sides has more than 5,000 nodes, and a refused rule changes nothing.
+    /// Puts a rule behind the others, with the line that says it; what was kept is forgotten. It is refused as too
+    /// large exactly if one of its sides has more than 5,000 nodes, and a refused rule changes nothing.
     #[tactic(auto, using(larch_store::proofs::Growth::grows_trans, larch_store::proofs::Growth::grows_refl))]
     pub fn add_rule(
         &mut self,
@@ -85,7 +85,7 @@ impl Rules {
         ensures err { OnErr result (self.new ≡ self.old) }
         ensures grows { Grows store.old store.new }
     {
-        let alloc = *self.rules.allocator();
+        let alloc = self.rules.allocator();
         let _ = store.intern(left)?;
         let _ = store.intern(right)?;
         let rule = rule_by_line(alloc, left, right, line)?;
@@ -95,7 +95,7 @@ impl Rules {
 
     // Puts a rule behind the others. Where memory runs out nothing changes.
     #[tactic(auto, using(crate::proofs::RuleSets::rules_pushed))]
-    fn put(&mut self, name: FactName, rule: Rule) -> Result<(), Memory>
+    fn put(&mut self, name: FactName, rule: SharedRule) -> Result<(), Memory>
         requires { IsLineRule rule }
         ensures ok { OnOk result (self.new
             ≡ with_rule name (left_of rule) (right_of rule) (line_of (reason_of rule)) self.old) }
@@ -110,8 +110,8 @@ impl Rules {
         Ok(())
     }
 
-    /// Takes out the rule of a name, and forgets what was kept. `false` exactly where no rule has the name; then nothing
-    /// changes.
+    /// Takes out the rule of a name, and forgets what was kept. `false` exactly where no rule has the name; then
+    /// nothing changes.
     #[tactic(auto, using(crate::proofs::RuleSets::rules_removed, crate::proofs::RuleSets::lined_removed))]
     pub fn remove(&mut self, name: &FactName) -> Result<bool, Memory>
         ensures removed { IfOk result (IsRemoved name.now self.old self.new) }
@@ -120,15 +120,16 @@ impl Rules {
         let Some(place) = place_of(self.names.as_slice(), name) else {
             return Ok(false);
         };
+        let others = self.rules.without(place)?;
         let _ = self.names.remove(place);
-        let _ = self.rules.remove(place);
+        self.rules = others;
         self.kept.cut(0);
         Ok(true)
     }
 
-    /// The normal form of a term under a budget, with what it costs, and a line that says that the term equals it. It is
-    /// leftmost innermost: the arguments from left to right, and then the first rule that applies at the root. After a
-    /// refusal the rules are as before; the builder may have further lines, none of them bad.
+    /// The normal form of a term under a budget, with what it costs, and a line that says that the term equals it. It
+    /// is leftmost innermost: the arguments from left to right, and then the first rule that applies at the root.
+    /// After a refusal the rules are as before; the builder may have further lines, none of them bad.
     #[tactic(auto, using(crate::proofs::RuleSets::are_rules, crate::proofs::RuleSets::front_cut))]
     pub fn normalise(
         &mut self,
@@ -154,17 +155,8 @@ impl Rules {
             → Carries builder.new self.new) }
         ensures err { OnErr result (self.new ≡ self.old) }
     {
-        let alloc = *self.rules.allocator();
         let count = self.kept.len();
-        match run(
-            alloc,
-            store,
-            builder,
-            self.rules.as_slice(),
-            &mut self.kept,
-            term,
-            budget,
-        ) {
+        match run(store, builder, &self.rules, &mut self.kept, term, budget) {
             Ok(normal) => Ok(normal),
             Err(refusal) => {
                 self.kept.cut(count);
@@ -188,36 +180,13 @@ fn place_of(names: &[FactName], name: &FactName) -> Option<usize>
 }
 
 // The rule with these sides, said by a line.
-fn rule_by_line(alloc: Global, left: &Term, right: &Term, line: u64) -> Result<Rule, Memory>
+fn rule_by_line(alloc: Global, left: &Term, right: &Term, line: u64) -> Result<SharedRule, Memory>
     ensures { IfOk result (λ rule. IsLineRule rule
         × (lined rule ≡ record { left = left.now; right = right.now; line = line })) }
 {
     let left = copy(alloc, left)?;
     let right = copy(alloc, right)?;
     let rule = Rule::new(alloc, left, right, Reason::Line(line))?;
-    Ok(rule)
-}
-
-// The same rules once more.
-fn copy_rules(alloc: Global, rules: &[Rule]) -> Result<Vec<Rule>, Memory>
-    requires { All IsLineRule rules.now }
-    ensures rules { IfOk result (λ copied. map lined copied.items ≡ map lined rules.now) }
-    ensures are_rules { IfOk result (λ copied. All IsLineRule copied.items) }
-{
-    let mut copied = Vec::with_capacity(alloc, rules.len())?;
-    for rule in rules {
-        let rule = rule_by_line(alloc, rule.left(), rule.right(), line_of(rule.reason()))?;
-        copied.push(rule)?;
-    }
-    Ok(copied)
-}
-
-// The number of a reason's line; 0 where it has none.
-fn line_of(reason: &Reason) -> u64
-    ensures { result ≡ line_of reason.now }
-{
-    match reason {
-        Reason::Line(number) => *number,
-        Reason::Row(_, _) => 0,
-    }
+    let shared = SharedRule::new(alloc, rule)?;
+    Ok(shared)
 }

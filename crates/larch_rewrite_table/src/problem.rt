@@ -17,10 +17,19 @@ pub enum Task {
 }
 
 /// Operators, with the rules as statements, and what is to be done.
-#[derive(Drop)]
 pub struct Problem {
     pub theory: Theory,
     pub tasks: Vec<Task>,
+}
+
+// By a call, so that a proof takes a problem apart in one place alone.
+impl Drop for Problem {
+    fn drop(self) {
+        let Problem {
+            theory: _theory,
+            tasks: _tasks,
+        } = self;
+    }
 }
 
 /// The budgets, and whether lines are wanted.

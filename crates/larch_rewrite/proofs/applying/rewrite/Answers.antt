@@ -5,6 +5,7 @@ use Rattle.larch_applying.specs.Holding.{RuleHolds}
 use Rattle.larch_derive.specs.Predicates.{Known}
 use Rattle.larch_derive.proofs.Growth.{stays_known}
 use Rattle.larch_redexes.specs.Rule.{IsSaidByRow}
+use Rattle.larch_redexes.specs.Bound.{entries_of}
 use Rattle.larch_redexes.specs.Search.{IsBy, IsRedex}
 use Rattle.larch_store.specs.Numbered.{term_of}
 use Rattle.larch_store.specs.Stored.{Belongs}
@@ -22,40 +23,43 @@ returns-clause-turn c = (
 )
 
 pub returns-clause-says : goal.returns-clause-says
-returns-clause-says c x r w =
-    let m : IsRedex c.as_slice.result.now c.args.rules.now c.in_ok-term.term (Some c.in-Some.found) =
-    subst (IsRedex c.as_slice.result.now c.args.rules.now c.in_ok-term.term) c.in-Some.is c.in_ok-found.ensures in
+returns-clause-says c x r w d =
+    let m : IsRedex c.in_ok-rows.rows.now c.args.rules.now (term_of c.args.level.term) (Some c.in-Some.found) =
+    subst (IsRedex c.in_ok-rows.rows.now c.args.rules.now (term_of c.args.level.term)) c.in-Some.is
+    c.in_ok-found.ensures.found in
     let k : Known c.args.builder.now (term_of c.args.level.term) =
     leads_known c.args.builder.now c.args.level.way x (term_of c.args.level.term) w.0 w.1 in
     let h : RuleHolds c.args.builder.now c.in-Some.found.rule.now =
-    found_holds c.args.builder.now c.as_slice.result.now c.args.rules.now c.in-Some.found.rule.now m.0
-    (subst (All IsSaidByRow) (sym c.as_slice.ensures) c.in_ok-rows.ensures.reasons) r in
-    let b : IsBy c.in-Some.found.rule.now c.in-Some.found.exchanged (term_of c.args.level.term) c.in-Some.found.by =
-    subst (λ t. IsBy c.in-Some.found.rule.now c.in-Some.found.exchanged t c.in-Some.found.by) c.in_ok-term.ensures m.1 in
-    (stays_known _ _ _ (c.in_ok-level.ensures.extends _ _ k h b w.1) w.0, c.in_ok-level.ensures.says _ _ k h b w.1)
+    found_holds c.args.builder.now c.in_ok-rows.rows.now c.args.rules.now c.in-Some.found.rule.now m.0
+    c.in_ok-rows.ensures.reasons r in
+    let b : IsBy c.in-Some.found.rule.now c.in-Some.found.exchanged (term_of c.args.level.term)
+    (entries_of c.in-Some.found.by) = m.1 in
+    (stays_known _ _ _ (c.in_ok-level.ensures.extends _ _ k h b d w.1) w.0, c.in_ok-level.ensures.says _ _ k h b d w.1)
 
 pub returns-clause-extends : goal.returns-clause-extends
-returns-clause-extends c x r w =
-    let m : IsRedex c.as_slice.result.now c.args.rules.now c.in_ok-term.term (Some c.in-Some.found) =
-    subst (IsRedex c.as_slice.result.now c.args.rules.now c.in_ok-term.term) c.in-Some.is c.in_ok-found.ensures in
+returns-clause-extends c x r w d =
+    let m : IsRedex c.in_ok-rows.rows.now c.args.rules.now (term_of c.args.level.term) (Some c.in-Some.found) =
+    subst (IsRedex c.in_ok-rows.rows.now c.args.rules.now (term_of c.args.level.term)) c.in-Some.is
+    c.in_ok-found.ensures.found in
     let k : Known c.args.builder.now (term_of c.args.level.term) =
     leads_known c.args.builder.now c.args.level.way x (term_of c.args.level.term) w.0 w.1 in
     let h : RuleHolds c.args.builder.now c.in-Some.found.rule.now =
-    found_holds c.args.builder.now c.as_slice.result.now c.args.rules.now c.in-Some.found.rule.now m.0
-    (subst (All IsSaidByRow) (sym c.as_slice.ensures) c.in_ok-rows.ensures.reasons) r in
-    let b : IsBy c.in-Some.found.rule.now c.in-Some.found.exchanged (term_of c.args.level.term) c.in-Some.found.by =
-    subst (λ t. IsBy c.in-Some.found.rule.now c.in-Some.found.exchanged t c.in-Some.found.by) c.in_ok-term.ensures m.1 in
-    c.in_ok-level.ensures.extends _ _ k h b w.1
+    found_holds c.args.builder.now c.in_ok-rows.rows.now c.args.rules.now c.in-Some.found.rule.now m.0
+    c.in_ok-rows.ensures.reasons r in
+    let b : IsBy c.in-Some.found.rule.now c.in-Some.found.exchanged (term_of c.args.level.term)
+    (entries_of c.in-Some.found.by) = m.1 in
+    c.in_ok-level.ensures.extends _ _ k h b d w.1
 
 pub returns-in_err-level-clause-extends : goal.returns-in_err-level-clause-extends
-returns-in_err-level-clause-extends c x r w =
-    let m : IsRedex c.as_slice.result.now c.args.rules.now c.in_ok-term.term (Some c.in-Some.found) =
-    subst (IsRedex c.as_slice.result.now c.args.rules.now c.in_ok-term.term) c.in-Some.is c.in_ok-found.ensures in
+returns-in_err-level-clause-extends c x r w d =
+    let m : IsRedex c.in_ok-rows.rows.now c.args.rules.now (term_of c.args.level.term) (Some c.in-Some.found) =
+    subst (IsRedex c.in_ok-rows.rows.now c.args.rules.now (term_of c.args.level.term)) c.in-Some.is
+    c.in_ok-found.ensures.found in
     let k : Known c.args.builder.now (term_of c.args.level.term) =
     leads_known c.args.builder.now c.args.level.way x (term_of c.args.level.term) w.0 w.1 in
     let h : RuleHolds c.args.builder.now c.in-Some.found.rule.now =
-    found_holds c.args.builder.now c.as_slice.result.now c.args.rules.now c.in-Some.found.rule.now m.0
-    (subst (All IsSaidByRow) (sym c.as_slice.ensures) c.in_ok-rows.ensures.reasons) r in
-    let b : IsBy c.in-Some.found.rule.now c.in-Some.found.exchanged (term_of c.args.level.term) c.in-Some.found.by =
-    subst (λ t. IsBy c.in-Some.found.rule.now c.in-Some.found.exchanged t c.in-Some.found.by) c.in_ok-term.ensures m.1 in
-    c.in_err-level.ensures.extends _ _ k h b w.1
+    found_holds c.args.builder.now c.in_ok-rows.rows.now c.args.rules.now c.in-Some.found.rule.now m.0
+    c.in_ok-rows.ensures.reasons r in
+    let b : IsBy c.in-Some.found.rule.now c.in-Some.found.exchanged (term_of c.args.level.term)
+    (entries_of c.in-Some.found.by) = m.1 in
+    c.in_err-level.ensures.extends _ _ k h b d w.1

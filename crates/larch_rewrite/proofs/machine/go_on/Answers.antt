@@ -12,9 +12,9 @@ use Rattle.larch_rewrite.proofs.Stored.{child_belongs, frames_stay}
 use Rattle.larch_rewrite.proofs.machine.go_on.Goals as goal
 
 -- the argument that begins
-begins : (c : goal.In_ok-push-in-Some) → IsArgument c.args.frame c.args.pending.now.left c.in-Some.level
+begins : (c : goal.In_ok-push-in-Some) → IsArgument c.args.frame c.args.pending.now.means.left c.in-Some.level
 begins c =
-    subst (λ o. IfSome o (IsArgument c.args.frame c.args.pending.now.left)) c.in-Some.is c.in_ok-level.ensures.some
+    subst (λ o. IfSome o (IsArgument c.args.frame c.args.pending.now.means.left)) c.in-Some.is c.in_ok-level.ensures.some
 
 pub returns-in_ok-push-in-Some-clause-frames : goal.returns-in_ok-push-in-Some-clause-frames
 returns-in_ok-push-in-Some-clause-frames c =

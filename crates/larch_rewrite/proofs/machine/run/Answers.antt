@@ -2,14 +2,15 @@ use Rattle.std.specs.Prelude.{All, refl}
 use Rattle.std.proofs.Common.{ap, sym, subst, ◌∙◌}
 use Rattle.std.proofs.lemmas.List.Elements.{All-nil}
 use Rattle.std.proofs.lemmas.Result.{err_from_is_err_and}
+use Rattle.larch_applying.proofs.Written.{codes_stay}
 use Rattle.larch_derive.proofs.Growth.{extends_same, extends_trans}
 use Rattle.larch_store.specs.Stored.{Belongs}
 use Rattle.larch_store.proofs.Growth.{grows_refl, grows_trans}
 use Rattle.larch_rewrite.specs.Levels.{IsFrameOf}
 use Rattle.larch_rewrite.specs.declared.level.Level.{Level}
 use Rattle.larch_rewrite.proofs.Turns.{last_made, last_start, works_first}
-use Rattle.larch_rewrite.proofs.Lines.{last_says, last_way, led_stays, says_first}
-use Rattle.larch_rewrite.proofs.Stored.{front_further, front_same}
+use Rattle.larch_rewrite.proofs.Lines.{last_says, last_way, led_stays, none_written, says_first}
+use Rattle.larch_rewrite.proofs.Stored.{front_further, front_same, none_of_store}
 use Rattle.larch_rewrite.proofs.machine.run.Goals as goal
 
 pub loop-init : goal.loop-init
@@ -31,6 +32,8 @@ loop-init c =
       extends = λ m. extends_same _ _ refl;
       says = λ m. says_first _ _ _ _ _ c.in_ok-first.first c.new.ensures.items
           (ap (λ (l : Level). l.start) e, ap (λ (l : Level). l.way) e, ap (λ (l : Level). l.term) e) m;
+      belong = none_of_store c.args.store.now _ c.new-codes.ensures;
+      codes = λ m. none_written c.args.builder.now _ c.new-codes.ensures;
     }
 
 pub loop-preserved : goal.loop-preserved
@@ -39,8 +42,14 @@ loop-preserved c = record {
   grows = grows_trans _ _ _ c.loop.invariant.grows c.in_ok-turn.ensures.grows;
   front = front_further _ _ _ c.loop.invariant.front c.in_ok-turn.ensures.front;
   works = c.in_ok-turn.ensures.works _ _ c.loop.invariant.works;
-  extends = λ m. extends_trans _ _ _ (c.loop.invariant.extends m) (c.in_ok-turn.ensures.extends (c.loop.invariant.says m));
-  says = λ m. c.in_ok-turn.ensures.says (c.loop.invariant.says m);
+  extends = λ m.
+      extends_trans _ _ _ (c.loop.invariant.extends m)
+      (c.in_ok-turn.ensures.extends (c.loop.invariant.says m) (c.loop.invariant.codes m));
+  says = λ m. c.in_ok-turn.ensures.says (c.loop.invariant.says m) (c.loop.invariant.codes m);
+  belong = c.in_ok-turn.ensures.belong;
+  codes = λ m.
+      codes_stay _ _ _ (c.in_ok-turn.ensures.extends (c.loop.invariant.says m) (c.loop.invariant.codes m))
+      (c.in_ok-turn.ensures.codes (c.loop.invariant.codes m));
 }
 
 pub returns-then-is_last-clause-belongs : goal.returns-then-is_last-clause-belongs
@@ -86,4 +95,5 @@ returns-in_err-turn-clause-front c = front_further _ _ _ c.loop.invariant.front 
 
 pub returns-in_err-turn-clause-extends : goal.returns-in_err-turn-clause-extends
 returns-in_err-turn-clause-extends c m =
-    extends_trans _ _ _ (c.loop.invariant.extends m) (c.in_err-turn.ensures.extends (c.loop.invariant.says m))
+    extends_trans _ _ _ (c.loop.invariant.extends m)
+    (c.in_err-turn.ensures.extends (c.loop.invariant.says m) (c.loop.invariant.codes m))

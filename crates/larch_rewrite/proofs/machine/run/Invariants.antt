@@ -1,3 +1,4 @@
+use Rattle.larch_applying.specs.Codes.{AreCodes, AreOfStore}
 use Rattle.larch_derive.specs.Predicates.{Extends}
 use Rattle.larch_redexes.specs.Rule.{all_sides}
 use Rattle.larch_store.specs.Numbered.{term_of}
@@ -12,8 +13,10 @@ invariant-loop l = record {
   stored : IsStored l.store l.kept l.pending.frames.items l.turn;
   grows : Grows l.fn.store l.store;
   front : IsFront l.fn.kept l.kept;
-  works : Works (all_sides l.rules) (term_of l.term) l.budget l.kept l.pending.frames.items l.turn l.pending.left;
+  works : Works (all_sides l.rules) (term_of l.term) l.budget l.kept l.pending.frames.items l.turn l.pending.means.left;
   extends : MayBegin l.fn.builder l.rules l.fn.kept (term_of l.term) → Extends l.fn.builder l.builder;
   says : MayBegin l.fn.builder l.rules l.fn.kept (term_of l.term)
       → Says l.builder l.rules l.kept l.pending.frames.items l.turn;
+  belong : AreOfStore l.store l.pending.means.codes;
+  codes : MayBegin l.fn.builder l.rules l.fn.kept (term_of l.term) → AreCodes l.builder l.pending.means.codes;
 }

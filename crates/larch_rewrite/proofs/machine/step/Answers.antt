@@ -1,9 +1,12 @@
-use Rattle.std.proofs.Common.{subst}
+use Rattle.std.specs.Prelude.{All}
+use Rattle.std.proofs.Common.{sym, subst}
 use Rattle.std.proofs.lemmas.Result.{err_from_is_err_and}
+use Rattle.larch_applying.proofs.Written.{of_store_stay}
+use Rattle.larch_rewrite.specs.Kept.{IsOfStore}
 use Rattle.larch_rewrite.specs.Levels.{IsTurnOf}
 use Rattle.larch_rewrite.proofs.Turns.{tells_whole, works_from, works_kept, works_on}
-use Rattle.larch_rewrite.proofs.Lines.{says_from, says_kept, says_on}
-use Rattle.larch_rewrite.proofs.Stored.{all_kept, front_at, frames_stay, kept_stay}
+use Rattle.larch_rewrite.proofs.Lines.{means_written, says_from, says_kept, says_on}
+use Rattle.larch_rewrite.proofs.Stored.{all_kept, front_at, front_same, frames_stay, kept_from, kept_stay, means_stay}
 use Rattle.larch_rewrite.proofs.machine.step.Goals as goal
 
 -- ---- a term's work begins
@@ -25,7 +28,7 @@ returns-in_ok-turn-in-Begin-clause-works c whole budget h =
     (works_on _ _ _ _ _ _ _ _ _ c.in_ok-turn-in-Begin.ensures.start (c.in_ok-turn-in-Begin.ensures.work _ g.forms) g)
 
 pub returns-in_ok-turn-in-Begin-clause-says : goal.returns-in_ok-turn-in-Begin-clause-says
-returns-in_ok-turn-in-Begin-clause-says c h =
+returns-in_ok-turn-in-Begin-clause-says c h d =
     let g = says_from _ _ _ _ _ _ c.in-Begin.is h in
     says_kept _ _ _ _ _ _ _ c.keep.ensures
     (says_on _ _ _ _ _ _ _ (c.in_ok-turn-in-Begin.ensures.extends _ g.kept_led g.way) c.in_ok-turn-in-Begin.ensures.start
@@ -56,7 +59,7 @@ returns-in_ok-turn-in-Arguments-clause-works c whole budget h =
     c.in_ok-turn-in-Arguments.ensures.works _ whole budget _ (works_from _ _ _ _ _ _ _ _ c.in-Arguments.is h)
 
 pub returns-in_ok-turn-in-Arguments-clause-says : goal.returns-in_ok-turn-in-Arguments-clause-says
-returns-in_ok-turn-in-Arguments-clause-says c h =
+returns-in_ok-turn-in-Arguments-clause-says c h d =
     c.in_ok-turn-in-Arguments.ensures.says _ _ _ (says_from _ _ _ _ _ _ c.in-Arguments.is h)
 
 pub returns-in_err-turn-in-Arguments-clause-refused : goal.returns-in_err-turn-in-Arguments-clause-refused
@@ -67,34 +70,47 @@ returns-in_err-turn-in-Arguments-clause-refused c =
     (λ whole budget h.
     c.in_err-turn-in-Arguments.ensures.refused _ whole budget _ (works_from _ _ _ _ _ _ _ _ c.in-Arguments.is h))
 
+pub returns-in_ok-turn-in-Arguments-clause-belong : goal.returns-in_ok-turn-in-Arguments-clause-belong
+returns-in_ok-turn-in-Arguments-clause-belong c =
+    means_stay _ _ _ c.in_ok-turn-in-Arguments.ensures.means
+    (of_store_stay _ _ _ c.in_ok-turn-in-Arguments.ensures.grows c.requires.codes)
+
+pub returns-in_ok-turn-in-Arguments-clause-codes : goal.returns-in_ok-turn-in-Arguments-clause-codes
+returns-in_ok-turn-in-Arguments-clause-codes c d =
+    means_written c.args.builder.now _ _ c.in_ok-turn-in-Arguments.ensures.means d
+
 -- ---- a root
 
 pub keep-requires-in-Root-clause-kept : goal.keep-requires-in-Root-clause-kept
-keep-requires-in-Root-clause-kept c = kept_stay _ _ _ c.in_ok-turn-in-Root.ensures.grows c.requires.stored.kept_are
+keep-requires-in-Root-clause-kept c =
+    subst (All (IsOfStore _)) (sym c.in_ok-turn-in-Root.ensures.kept)
+    (kept_stay _ _ _ c.in_ok-turn-in-Root.ensures.grows c.requires.stored.kept_are)
 
 pub returns-in_ok-turn-in-Root-clause-stored : goal.returns-in_ok-turn-in-Root-clause-stored
 returns-in_ok-turn-in-Root-clause-stored c = record {
-  kept_are = all_kept _ _ _ _ _ c.keep-in-Root.ensures c.in_ok-turn-in-Root.ensures.turn
+  kept_are = all_kept _ _ _ _ _
+      (kept_from _ _ _ _ _ c.in_ok-turn-in-Root.ensures.kept c.keep-in-Root.ensures) c.in_ok-turn-in-Root.ensures.turn
       (kept_stay _ _ _ c.in_ok-turn-in-Root.ensures.grows c.requires.stored.kept_are);
   frames_are = frames_stay _ _ _ c.in_ok-turn-in-Root.ensures.grows c.requires.stored.frames_are;
   turn_is = c.in_ok-turn-in-Root.ensures.turn;
 }
 
 pub returns-in_ok-turn-in-Root-clause-front : goal.returns-in_ok-turn-in-Root-clause-front
-returns-in_ok-turn-in-Root-clause-front c = front_at _ _ _ _ c.keep-in-Root.ensures
+returns-in_ok-turn-in-Root-clause-front c =
+    front_at _ _ _ _ (kept_from _ _ _ _ _ c.in_ok-turn-in-Root.ensures.kept c.keep-in-Root.ensures)
 
 pub returns-in_ok-turn-in-Root-clause-works : goal.returns-in_ok-turn-in-Root-clause-works
 returns-in_ok-turn-in-Root-clause-works c whole budget h =
     let g = works_from _ _ _ _ _ _ _ _ c.in-Root.is h in
-    works_kept _ _ _ _ _ _ _ _ c.keep-in-Root.ensures
+    works_kept _ _ _ _ _ _ _ _ (kept_from _ _ _ _ _ c.in_ok-turn-in-Root.ensures.kept c.keep-in-Root.ensures)
     (works_on _ _ _ _ _ _ _ _ _ c.in_ok-turn-in-Root.ensures.start c.in_ok-turn-in-Root.ensures.work g)
 
 pub returns-in_ok-turn-in-Root-clause-says : goal.returns-in_ok-turn-in-Root-clause-says
-returns-in_ok-turn-in-Root-clause-says c h =
+returns-in_ok-turn-in-Root-clause-says c h d =
     let g = says_from _ _ _ _ _ _ c.in-Root.is h in
-    says_kept _ _ _ _ _ _ _ c.keep-in-Root.ensures
-    (says_on _ _ _ _ _ _ _ (c.in_ok-turn-in-Root.ensures.extends _ g.rules_hold g.way) c.in_ok-turn-in-Root.ensures.start
-    (c.in_ok-turn-in-Root.ensures.says _ g.rules_hold g.way) g)
+    says_kept _ _ _ _ _ _ _ (kept_from _ _ _ _ _ c.in_ok-turn-in-Root.ensures.kept c.keep-in-Root.ensures)
+    (says_on _ _ _ _ _ _ _ (c.in_ok-turn-in-Root.ensures.extends _ g.rules_hold g.way d) c.in_ok-turn-in-Root.ensures.start
+    (c.in_ok-turn-in-Root.ensures.says _ g.rules_hold g.way d) g)
 
 pub returns-in_err-turn-in-Root-clause-refused : goal.returns-in_err-turn-in-Root-clause-refused
 returns-in_err-turn-in-Root-clause-refused c =
@@ -104,6 +120,9 @@ returns-in_err-turn-in-Root-clause-refused c =
     (λ whole budget h.
     tells_whole _ _ _ _ _ _ _ _ (works_from _ _ _ _ _ _ _ _ c.in-Root.is h) c.in_err-turn-in-Root.ensures.refused)
 
+pub returns-in_err-turn-in-Root-clause-front : goal.returns-in_err-turn-in-Root-clause-front
+returns-in_err-turn-in-Root-clause-front c = front_same _ _ c.in_err-turn-in-Root.ensures.kept
+
 -- ---- a normal form
 
 pub returns-in_ok-turn-in-Finish-clause-works : goal.returns-in_ok-turn-in-Finish-clause-works
@@ -111,13 +130,21 @@ returns-in_ok-turn-in-Finish-clause-works c whole budget h =
     c.in_ok-turn-in-Finish.ensures.works _ whole budget _ (works_from _ _ _ _ _ _ _ _ c.in-Finish.is h)
 
 pub returns-in_ok-turn-in-Finish-clause-says : goal.returns-in_ok-turn-in-Finish-clause-says
-returns-in_ok-turn-in-Finish-clause-says c h =
+returns-in_ok-turn-in-Finish-clause-says c h d =
     c.in_ok-turn-in-Finish.ensures.says _ _ (says_from _ _ _ _ _ _ c.in-Finish.is h)
 
 pub returns-in_ok-turn-in-Finish-clause-extends : goal.returns-in_ok-turn-in-Finish-clause-extends
-returns-in_ok-turn-in-Finish-clause-extends c h =
+returns-in_ok-turn-in-Finish-clause-extends c h d =
     c.in_ok-turn-in-Finish.ensures.extends _ _ (says_from _ _ _ _ _ _ c.in-Finish.is h)
 
 pub returns-in_err-turn-in-Finish-clause-extends : goal.returns-in_err-turn-in-Finish-clause-extends
-returns-in_err-turn-in-Finish-clause-extends c h =
+returns-in_err-turn-in-Finish-clause-extends c h d =
     c.in_err-turn-in-Finish.ensures.extends _ _ (says_from _ _ _ _ _ _ c.in-Finish.is h)
+
+pub returns-in_ok-turn-in-Finish-clause-belong : goal.returns-in_ok-turn-in-Finish-clause-belong
+returns-in_ok-turn-in-Finish-clause-belong c =
+    means_stay _ _ _ c.in_ok-turn-in-Finish.ensures.means c.requires.codes
+
+pub returns-in_ok-turn-in-Finish-clause-codes : goal.returns-in_ok-turn-in-Finish-clause-codes
+returns-in_ok-turn-in-Finish-clause-codes c d =
+    means_written c.args.builder.now _ _ c.in_ok-turn-in-Finish.ensures.means d
