@@ -12,7 +12,7 @@ use Rattle.larch_term.specs.declared.statement.Statement.{Statement}
 use Rattle.larch_term.specs.declared.statement.Statement.TheVariants.{Equation}
 use Rattle.larch_calculus.specs.Formula.{equality}
 use Rattle.larch_tables.specs.Row.{PlainRow, numbered}
-use Rattle.larch_formulas.specs.Deductions.{Follows, found_by, given_by}
+use Rattle.larch_formulas.specs.Consequences.{Follows, found_by, given_by}
 use Rattle.larch_formulas.specs.Instances.{truths, values}
 use Rattle.larch_formulas.specs.declared.consequences.Deduction.{Deduction}
 use Rattle.larch_formulas.specs.declared.consequences.TheConstants.{DEDUCTIONS}

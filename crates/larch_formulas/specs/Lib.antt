@@ -1,3 +1,3 @@
 pub mod Instances
 pub mod Formulas
-pub mod Deductions
+pub mod Consequences

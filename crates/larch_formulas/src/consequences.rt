@@ -2,8 +2,8 @@ ghost use Rattle.std.specs.Prelude.{◌≡◌, ◌↔◌, ℕ, List, not, IfOk, 
 ghost use Rattle.std.specs.List.{AllZip};
 ghost use Rattle.larch_calculus.specs.Formula.{negation};
 ghost use Rattle.larch_derive.specs.Predicates.{Extends, HasEquation, HasStatement};
-ghost use Rattle.larch_formulas.specs.Deductions.{Follows, arguments_of, found_by, given_by, head_of, headed};
-ghost use Rattle.larch_formulas.specs.Deductions.{last_sort, lines_of, sort_within, truth_value};
+ghost use Rattle.larch_formulas.specs.Consequences.{Follows, arguments_of, found_by, given_by, head_of, headed};
+ghost use Rattle.larch_formulas.specs.Consequences.{last_sort, lines_of, sort_within, truth_value};
 ghost use Rattle.larch_formulas.specs.declared.consequences.TheConstants.{DEDUCTIONS};
 ghost use Rattle.larch_tables.specs.Row.{numbered};
 ghost use Rattle.larch_term.specs.BuiltIn.{built_in};
@@ -35,7 +35,7 @@ pub(crate) enum Deduction {
 
 impl Deduction {
     ghost use Rattle.std.specs.Prelude.{◌≡◌};
-    ghost use Rattle.larch_formulas.specs.Deductions.{head_of, value_of};
+    ghost use Rattle.larch_formulas.specs.Consequences.{head_of, value_of};
 
     // The word at the head of the left side of its equation.
     fn head(self) -> BuiltIn

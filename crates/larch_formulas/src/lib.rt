@@ -13,6 +13,3 @@ pub use deductions::{
     BothLines, conjunct_lines, disjunct_lines, false_line, implication_lines, true_line,
 };
 pub use formulas::{equated_line, equation_line, equivalent_line, formula_line};
-
-#[cfg(test)]
-mod tests;

@@ -1,7 +1,6 @@
 -- Induction, with the variable and the truth as lines write them.
 use Rattle.std.specs.Prelude.{◌≡◌, ℕ, true, List}
 use Rattle.std.proofs.Common.{sym, subst}
-use Rattle.larch_term.specs.BuiltIn.{bool_sort}
 use Rattle.larch_term.specs.Operator.{PlainOperator}
 use Rattle.larch_term.specs.Sorts.{sort_of}
 use Rattle.larch_term.specs.Tree.{Tree}
@@ -9,9 +8,9 @@ use Rattle.larch_term.specs.Truth.{truth}
 use Rattle.larch_term.specs.declared.statement.Statement.TheVariants.{Generated}
 use Rattle.larch_term.specs.declared.variable.Variable.{Variable}
 use Rattle.larch_certificate.specs.declared.line.CodedVar.{CodedVar}
-use Rattle.larch_derive.specs.Predicates.{Extends, HasEquation, HasStatement, Known, Stands}
+use Rattle.larch_derive.specs.Predicates.{Extends, HasStatement, Known, Stands}
 use Rattle.larch_derive.specs.declared.builder.Builder.{Builder}
-use Rattle.larch_derive.proofs.Growth.{extends_grows, extends_trans, known_stands}
+use Rattle.larch_derive.proofs.Growth.{extends_grows, known_stands}
 use Rattle.larch_derive_clauses.specs.Showing.{ShowCases}
 use Rattle.larch_derive_clauses.proofs.Staying.{cases_stay}
 use Rattle.larch_methods.specs.Inside.{written_variable}

@@ -1,10 +1,14 @@
+pub mod Begun
 pub mod Connectives
 pub mod Inductions
 pub mod Joining
+pub mod Left
 pub mod Lengths
 pub mod Numbered
 pub mod Observing
+pub mod Opened
 pub mod Places
+pub mod Planned
 pub mod Settled
 pub mod Sharing
 pub mod Shown

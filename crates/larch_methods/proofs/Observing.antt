@@ -1,6 +1,5 @@
 -- Lines that say what observers show.
-use Rattle.std.specs.Prelude.{◌≡◌, ◌<◌, ◌≤◌, ◌++◌, ◌+◌, ℕ, suc, true, List, [], ◌∷◌, map, All, Contains, length, get_or, refl}
-use Rattle.std.specs.Prelude.{Some}
+use Rattle.std.specs.Prelude.{◌≡◌, ◌<◌, ◌≤◌, ◌++◌, ◌+◌, ℕ, suc, List, [], ◌∷◌, map, All, length, get_or, refl}
 use Rattle.std.specs.List.{AllZip, slice_get}
 use Rattle.std.proofs.Common.{arith, ap, sym, subst, ◌∙◌, drop}
 use Rattle.std.proofs.lemmas.List.{append-nil, append_assoc, drop_all, drop_more}
@@ -16,14 +15,14 @@ use Rattle.larch_term.specs.declared.statement.Theory.{Theory}
 use Rattle.larch_term.specs.declared.statement.Statement.TheVariants.{Equation, Partitioned}
 use Rattle.larch_term.specs.declared.variable.Variable.{Variable}
 use Rattle.larch_term_laws.proofs.Occurring.{listed_occurs}
-use Rattle.larch_calculus.specs.Observation.{Observation, observations_of, observed, other_variables}
+use Rattle.larch_calculus.specs.Observation.{Observation, observations_of, observed}
 use Rattle.larch_certificate.specs.declared.line.CodedVar.{CodedVar}
 use Rattle.larch_lines.specs.Matching.{are_apart, variable_of}
 use Rattle.larch_derive.specs.Predicates.{Extends, Grows, HasEquation, HasStatement, Known, Stands}
 use Rattle.larch_derive.specs.declared.builder.Builder.{Builder}
 use Rattle.larch_derive.specs.declared.open_box.OpenBox.{OpenBox}
 use Rattle.larch_derive.proofs.Growth.{extends_grows, extends_refl, extends_trans, grown_stands, grows_alike, known_stands, stays_known}
-use Rattle.larch_derive_boxes.specs.Boxes.{HasResult, AreOwnConstants, with_constants}
+use Rattle.larch_derive_boxes.specs.Boxes.{HasResult, with_constants}
 use Rattle.larch_derive_boxes.proofs.Closing.{grown_result}
 use Rattle.larch_derive_clauses.specs.Showing.{ShowSame, ShowsSame}
 use Rattle.larch_derive_clauses.proofs.Staying.{all_same_stay}

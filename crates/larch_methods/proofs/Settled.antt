@@ -1,6 +1,6 @@
 -- What connectives come to by rows, in lines.
 use Rattle.std.specs.Prelude.{◌≡◌, ◌+◌, ◌++◌, ℕ, true, List, [], ◌∷◌, map, codes, length, refl}
-use Rattle.std.proofs.Common.{ap, sym, subst, ◌∙◌}
+use Rattle.std.proofs.Common.{ap, sym, subst}
 use Rattle.std.proofs.lemmas.List.Elements.{All-cons, All-nil}
 use Rattle.larch_term.specs.BuiltIn.{bool_sort, built_in}
 use Rattle.larch_term.specs.Operator.{PlainOperator}

@@ -1,5 +1,5 @@
 -- What is shown in the box of a clause, and the rule that takes it.
-use Rattle.std.specs.Prelude.{◌≡◌, ℕ, All, Contains, List, [], ◌∷◌, map, Some}
+use Rattle.std.specs.Prelude.{◌≡◌, ℕ, All, Contains, List, map, Some}
 use Rattle.std.proofs.Common.{ap, sym, subst, ◌∙◌}
 use Rattle.larch_term.specs.Operator.{PlainOperator}
 use Rattle.larch_term.specs.Tree.{var}
@@ -11,13 +11,12 @@ use Rattle.larch_calculus.specs.Formula.{applied, constant}
 use Rattle.larch_calculus.specs.Generation.{generation_hypotheses, place_name}
 use Rattle.larch_calculus.specs.Observation.{observations}
 use Rattle.larch_lines.specs.ClauseRules.{own_operators}
-use Rattle.larch_derive.specs.Builder.{boxes_in, theory_in}
+use Rattle.larch_derive.specs.Builder.{theory_in}
 use Rattle.larch_derive.specs.OpenBox.{constant_of}
 use Rattle.larch_derive.specs.Predicates.{Grows, HasStatement}
 use Rattle.larch_derive.specs.declared.builder.Builder.{Builder}
-use Rattle.larch_derive.proofs.Growth.{grows_alike, grows_trans, extends_grows}
+use Rattle.larch_derive.proofs.Growth.{grows_alike}
 use Rattle.larch_derive_boxes.specs.Boxes.{HasResult}
-use Rattle.larch_derive_boxes.proofs.Opening.{opened_boxes}
 use Rattle.larch_derive_clauses.specs.Showing.{ShowsGenerated, ShowsPartitioned}
 use Rattle.larch_methods.specs.Clauses.{ByConstants, ByPredicate}
 use Rattle.larch_methods.proofs.Numbered.{each_found}

@@ -1,11 +1,11 @@
 -- Words of different lengths as names of variables.
-use Rattle.std.specs.Prelude.{◌≡◌, ◌<◌, ◌≤◌, ◌+◌, ◌&&◌, ◌||◌, ℕ, zero, suc, Bool, true, false, not, cond, All, List, [], ◌∷◌, map, length, bytes_eq, refl}
+use Rattle.std.specs.Prelude.{◌≡◌, ◌<◌, ◌≤◌, ◌&&◌, ◌||◌, ℕ, zero, suc, Bool, true, false, not, cond, All, List, [], ◌∷◌, length, bytes_eq, refl}
 use Rattle.std.specs.List.{list_all, list_any}
-use Rattle.std.proofs.Common.{arith, ap, ap₂, sym, subst, ◌∙◌}
+use Rattle.std.proofs.Common.{arith, ap, ap₂, sym, ◌∙◌}
 use Rattle.std.proofs.lemmas.List.Elements.{All-head, All-tail, All-weaker}
 use Rattle.std.proofs.lemmas.Slice.Eq.{bytes_eq-Decides}
 use Rattle.larch_term.specs.Operator.{PlainOperator}
-use Rattle.larch_term.specs.Substitution.{image, is_entry_of, substituted}
+use Rattle.larch_term.specs.Substitution.{image, substituted}
 use Rattle.larch_term.specs.Tree.{Tree, var}
 use Rattle.larch_term.specs.Variable.{occurrences, same_variable}
 use Rattle.larch_term.specs.declared.substitution.Entry.{Entry}

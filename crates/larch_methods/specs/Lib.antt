@@ -3,4 +3,5 @@ pub mod Conjuncts
 pub mod Inside
 pub mod Methods
 pub mod Observers
+pub mod Opening
 pub mod Rows

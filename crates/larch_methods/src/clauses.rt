@@ -18,31 +18,38 @@ use larch_derive_lines::equal_line;
 use larch_term::{Operator, Sort, Theory};
 use std::alloc::Global;
 
+/// A clause: its sort, and the operators that generate or partition it.
+#[derive(Drop)]
+pub struct Clause<'a> {
+    pub sort: &'a Sort,
+    pub operators: &'a [Operator],
+}
+
 /// A line that says that operators generate a sort, by a line in the box of a new predicate: the box is closed. None
 /// where one of them isn't the theory's. Then, and where the call is refused, nothing changes: the box is open still.
 pub fn finish_generated(
     alloc: Global,
     builder: &mut Builder,
     theory: &Theory,
-    sort: &Sort,
-    operators: &[Operator],
+    clause: &Clause<'_>,
     number: u64,
     line: u64,
 ) -> Result<Option<u64>, Memory>
     ensures says { IfOk result (λ said. IfSome said (λ n. (a : Built) → theory_in a ≡ theory.now
-        → ByPredicate a builder.old sort.now operators.now number line
-        → HasStatement builder.new n (Generated sort.now operators.now))) }
+        → ByPredicate a builder.old clause.now.sort.now clause.now.operators.now number line
+        → HasStatement builder.new n (Generated clause.now.sort.now clause.now.operators.now))) }
     ensures grows { IfOk result (λ said. IfSome said (λ n. (a : Built) → theory_in a ≡ theory.now
-        → ByPredicate a builder.old sort.now operators.now number line → Grows a builder.new)) }
-    ensures none { IfOk result (λ said. IfNone said (All (Contains theory.now.operators) operators.now → ⊥)) }
+        → ByPredicate a builder.old clause.now.sort.now clause.now.operators.now number line → Grows a builder.new)) }
+    ensures none { IfOk result (λ said. IfNone said (All (Contains theory.now.operators) clause.now.operators.now
+        → ⊥)) }
     ensures same { IfOk result (λ said. IfNone said (builder.new ≡ builder.old)) }
     ensures err { OnErr result (builder.new ≡ builder.old) }
 {
-    let found = numbers_of(alloc, theory.operators.as_slice(), operators)?;
+    let found = numbers_of(alloc, theory.operators.as_slice(), clause.operators)?;
     let Some(numbers) = found else {
         return Ok(None);
     };
-    let sort = sort.copy()?;
+    let sort = clause.sort.copy()?;
     let kept = builder.copy()?;
     let made = write_generated(alloc, builder, sort, numbers, number, line);
     let said = undo_refused(builder, kept, made)?;
@@ -76,25 +83,25 @@ pub fn finish_partitioned(
     alloc: Global,
     builder: &mut Builder,
     theory: &Theory,
-    sort: &Sort,
-    operators: &[Operator],
+    clause: &Clause<'_>,
     number: u64,
     line: u64,
 ) -> Result<Option<u64>, Memory>
     ensures says { IfOk result (λ said. IfSome said (λ n. (a : Built) → theory_in a ≡ theory.now
-        → ByConstants a builder.old sort.now operators.now number line
-        → HasStatement builder.new n (Partitioned sort.now operators.now))) }
+        → ByConstants a builder.old clause.now.sort.now clause.now.operators.now number line
+        → HasStatement builder.new n (Partitioned clause.now.sort.now clause.now.operators.now))) }
     ensures grows { IfOk result (λ said. IfSome said (λ n. (a : Built) → theory_in a ≡ theory.now
-        → ByConstants a builder.old sort.now operators.now number line → Grows a builder.new)) }
-    ensures none { IfOk result (λ said. IfNone said (All (Contains theory.now.operators) operators.now → ⊥)) }
+        → ByConstants a builder.old clause.now.sort.now clause.now.operators.now number line → Grows a builder.new)) }
+    ensures none { IfOk result (λ said. IfNone said (All (Contains theory.now.operators) clause.now.operators.now
+        → ⊥)) }
     ensures same { IfOk result (λ said. IfNone said (builder.new ≡ builder.old)) }
     ensures err { OnErr result (builder.new ≡ builder.old) }
 {
-    let found = numbers_of(alloc, theory.operators.as_slice(), operators)?;
+    let found = numbers_of(alloc, theory.operators.as_slice(), clause.operators)?;
     let Some(numbers) = found else {
         return Ok(None);
     };
-    let sort = sort.copy()?;
+    let sort = clause.sort.copy()?;
     let kept = builder.copy()?;
     let made = write_partitioned(alloc, builder, sort, numbers, number, line);
     let said = undo_refused(builder, kept, made)?;

@@ -9,7 +9,7 @@ ghost use Rattle.larch_term.specs.Tree.{Tree, nodes};
 ghost use Rattle.larch_term.specs.Truth.{truth};
 
 use crate::arguments::{Two, arguments_of};
-use crate::rows::settled_line;
+use crate::rows::{SaidArgument, settled_line};
 use larch_base::Memory;
 use larch_derive::Builder;
 use larch_derive_lines::trans_line;
@@ -152,7 +152,11 @@ fn both_line(
         → IsKnownFormula builder.old whole.now → HasEquation builder.old line t truth
         → HasEquation builder.old further u truth → Extends builder.old builder.new }
 {
-    let same = settled_line(alloc, builder, whole, 2, further, AND_TRUE, first)?;
+    let said = SaidArgument {
+        argument: 2,
+        line: further,
+    };
+    let same = settled_line(alloc, builder, whole, said, AND_TRUE, first)?;
     let shown = trans_line(alloc, builder, same, line)?;
     Ok(shown)
 }

@@ -11,7 +11,7 @@ ghost use Rattle.larch_term.specs.Variable.{variables_of};
 use crate::arguments::arguments_of;
 use crate::boxes::{supposing_box, write_freed};
 use crate::refusals::undo_refused;
-use crate::rows::settled_line;
+use crate::rows::{SaidArgument, settled_line};
 use larch_base::Memory;
 use larch_derive::Builder;
 use larch_derive_boxes::{cases_line, close_box, hyp_line};
@@ -40,7 +40,8 @@ pub fn implied_line(
         → Extends builder.old builder.new }
 {
     let two = arguments_of(whole)?;
-    let implied = settled_line(alloc, builder, whole, 2, line, TO_TRUE, two.first)?;
+    let said = SaidArgument { argument: 2, line };
+    let implied = settled_line(alloc, builder, whole, said, TO_TRUE, two.first)?;
     Ok(implied)
 }
 
@@ -55,7 +56,11 @@ fn vacuous_box(alloc: Global, builder: &mut Builder, whole: &Term) -> Result<u64
     let two = arguments_of(whole)?;
     let number = supposing_box(alloc, builder, two.first, false)?;
     let denied = hyp_line(builder, number, 1)?;
-    let line = settled_line(alloc, builder, whole, 1, denied, FROM_FALSE, two.second)?;
+    let said = SaidArgument {
+        argument: 1,
+        line: denied,
+    };
+    let line = settled_line(alloc, builder, whole, said, FROM_FALSE, two.second)?;
     close_box(alloc, builder, line)?;
     Ok(number)
 }

@@ -1,4 +1,5 @@
-//! The ends of proof methods: from what a method's subgoals left, in boxes and lines, the line that its goal is true.
+//! The boxes of proof methods' subgoals, and the ends of methods: from what subgoals left, in boxes and lines, the line
+//! that the method's goal is true.
 #![tactic(auto)]
 
 mod arguments;
@@ -9,17 +10,20 @@ mod conjunction;
 mod contradiction;
 mod implication;
 mod induction;
+pub mod laws;
 mod naming;
 mod numbers;
+mod opening;
 mod partition;
 mod refusals;
 mod rows;
 
 pub use boxes::{freed_line, supposing_box};
 pub use cases::finish_cases;
-pub use clauses::{finish_generated, finish_partitioned};
+pub use clauses::{Clause, finish_generated, finish_partitioned};
 pub use conjunction::finish_conjunction;
 pub use contradiction::{contradicted_line, finish_contradiction};
 pub use implication::{finish_implication, implied_line};
 pub use induction::finish_induction;
+pub use opening::{open_constants, open_subgoal};
 pub use partition::finish_partition;

@@ -42,6 +42,13 @@ fn for_x(alloc: Global, formula: &Term) -> Result<Substitution, Memory>
     Ok(by)
 }
 
+// What a line says of an argument of a term: the argument's number, and the line's.
+#[derive(Drop)]
+pub(crate) struct SaidArgument {
+    pub(crate) argument: u64,
+    pub(crate) line: u64,
+}
+
 // A line that says what a connective comes to, one argument of which is a truth value by a line: by a row, with a
 // formula in the place of its variable.
 #[tactic(auto, using(larch_derive::proofs::Growth::extends_same))]
@@ -49,18 +56,18 @@ pub(crate) fn settled_line(
     alloc: Global,
     builder: &mut Builder,
     whole: &Term,
-    argument: u64,
-    line: u64,
+    said: SaidArgument,
     row: u64,
     formula: &Term,
 ) -> Result<u64, Memory>
-    ensures says { IfOk result (λ n. (v : Tree) → IsSettledBy builder.old whole.now argument line row formula.now v
+    ensures says { IfOk result (λ n. (v : Tree)
+        → IsSettledBy builder.old whole.now said.argument said.line row formula.now v
         → HasEquation builder.new n whole.now v) }
-    ensures extends { (v : Tree) → IsSettledBy builder.old whole.now argument line row formula.now v
+    ensures extends { (v : Tree) → IsSettledBy builder.old whole.now said.argument said.line row formula.now v
         → Extends builder.old builder.new }
 {
     let same = refl_line(builder, whole)?;
-    let changed = argument_line(alloc, builder, same, argument, line)?;
+    let changed = argument_line(alloc, builder, same, said.argument, said.line)?;
     let settled = row_at(alloc, builder, row, formula)?;
     let number = trans_line(alloc, builder, changed, settled)?;
     Ok(number)

@@ -1,3 +1,4 @@
 pub mod Planning
 pub mod Shapes
 pub mod Observations
+pub mod ClauseGoals

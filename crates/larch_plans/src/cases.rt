@@ -2,16 +2,20 @@ ghost use Rattle.std.specs.Prelude.{◌≡◌, ◌∷◌, [], map, option_map, I
 ghost use Rattle.larch_calculus.specs.Formula.{falsity};
 ghost use Rattle.larch_plans.specs.Planning.{plan_of, subgoal_of};
 ghost use Rattle.larch_replay.specs.Plans.{cases_plan, contradiction_plan, fails, holds, shared};
-ghost use Rattle.larch_replay.specs.Plans.{implication_of, implication_plan};
+ghost use Rattle.larch_replay.specs.Plans.{closed_by, implication_of, implication_plan, two_arguments};
+ghost use Rattle.larch_term.specs.BuiltIn.{bool_sort, built_in};
+ghost use Rattle.larch_term.specs.Equality.{same_operator};
 ghost use Rattle.larch_term.specs.Substitution.{substituted};
 ghost use Rattle.larch_term.specs.declared.statement.Statement.TheVariants.{Equation};
 
-use crate::closing::{closing, constants_of};
+use crate::closing::{closed_by, closing, constants_of};
 use crate::shapes::pair_by;
 use crate::subgoals::{Plan, Subgoal, Subgoals};
 use crate::terms::{falsity, truth};
 use larch_base::{Memory, Name, Sequence};
-use larch_term::{BuiltIn, Statement, Statements, Substitution, Term, bool_sort, substitute};
+use larch_term::{
+    BuiltIn, Operator, Statement, Statements, Substitution, Term, bool_sort, substitute,
+};
 use std::alloc::Global;
 
 // By cases: a formula, closed by new constants, is true in a first subgoal and false in a second.
@@ -126,6 +130,24 @@ fn implication_of(
         constants,
         subgoals,
     })
+}
+
+/// An implication with constants in the places of its premise's variables, in order. None of another term.
+pub fn closed_implication(
+    alloc: Global,
+    goal: &Term,
+    constants: &[Operator],
+) -> Result<Option<Term>, Memory>
+    ensures { IfOk result (λ t. t ≡ option_map (λ p. closed_by p.0 constants.now goal.now)
+        (two_arguments (same_operator (built_in BuiltIn.Implies bool_sort)) goal.now)) }
+{
+    let sort = bool_sort(alloc)?;
+    let implies = BuiltIn::Implies.operator(alloc, &sort)?;
+    let Some(pair) = pair_by(goal, &implies) else {
+        return Ok(None);
+    };
+    let closed = closed_by(alloc, pair.left, constants, goal)?;
+    Ok(Some(closed))
 }
 
 fn only(alloc: Global, subgoal: Subgoal) -> Result<Subgoals, Memory>

@@ -1,7 +1,11 @@
-ghost use Rattle.std.specs.Prelude.{◌≡◌, ◌∷◌, [], option_map, IfOk};
+ghost use Rattle.std.specs.Prelude.{◌≡◌, ◌∷◌, [], List, None, Some, option_map, IfNone, IfOk, IfSome};
+ghost use Rattle.std.specs.List.{slice_get};
+ghost use Rattle.larch_plans.specs.ClauseGoals.{generates, partitions};
 ghost use Rattle.larch_replay.specs.Plans.{generators, observers};
 ghost use Rattle.larch_term.specs.BuiltIn.{bool_sort, built_in};
+ghost use Rattle.larch_term.specs.Operator.{PlainOperator};
 ghost use Rattle.larch_term.specs.Statement.{statement_zero};
+ghost use Rattle.larch_term.specs.declared.statement.Statement.TheVariants.{Generated, Partitioned};
 
 use larch_base::{Memory, Sequence};
 use larch_term::{BuiltIn, Operators, Sort, Statement, bool_sort, copy_operators};
@@ -53,6 +57,75 @@ fn stated_generators<'a>(statements: &'a [Statement], sort: &Sort) -> Option<&'a
         }
     }
     None
+}
+
+/// The number of the first clause that generates a sort: 0 of the truth values, others counted from 1.
+pub fn generating_clause(statements: &[Statement], sort: &Sort) -> Option<u64>
+    ensures some { IfSome result (λ k. (fs : List PlainOperator)
+        → generators sort.now (statement_zero ∷ statements.now) ≡ Some fs
+        → slice_get (statement_zero ∷ statements.now) k ≡ Some (Generated sort.now fs)) }
+    ensures none { IfNone result (generators sort.now (statement_zero ∷ statements.now) ≡ None) }
+{
+    if b"Bool".as_slice() == sort.bytes() {
+        return Some(0);
+    }
+    match stated_clause(statements, sort) {
+        Some(number) => Some(number),
+        None => None,
+    }
+}
+
+// The number of the first statement that says that a sort is generated, counted from 1.
+fn stated_clause(statements: &[Statement], sort: &Sort) -> Option<u64>
+    ensures some { IfSome result (λ k. (fs : List PlainOperator) → generators sort.now statements.now ≡ Some fs
+        → slice_get (statement_zero ∷ statements.now) k ≡ Some (Generated sort.now fs)) }
+    ensures none { IfNone result (generators sort.now statements.now ≡ None) }
+{
+    let mut number = 1;
+    for statement in statements {
+        if generates(statement, sort) {
+            return Some(number);
+        }
+        number += 1;
+    }
+    None
+}
+
+// Whether a statement says that a sort is generated.
+fn generates(statement: &Statement, sort: &Sort) -> bool
+    ensures { result ≡ generates sort.now statement.now }
+{
+    match statement {
+        Statement::Generated(generated, _) => *generated == *sort,
+        _ => false,
+    }
+}
+
+/// The number of the first clause that partitions a sort, counted from 1.
+pub fn partitioning_clause(statements: &[Statement], sort: &Sort) -> Option<u64>
+    ensures some { IfSome result (λ k. (os : List PlainOperator)
+        → observers sort.now (statement_zero ∷ statements.now) ≡ Some os
+        → slice_get (statement_zero ∷ statements.now) k ≡ Some (Partitioned sort.now os)) }
+    ensures none { IfNone result (observers sort.now (statement_zero ∷ statements.now) ≡ None) }
+{
+    let mut number = 1;
+    for statement in statements {
+        if partitions(statement, sort) {
+            return Some(number);
+        }
+        number += 1;
+    }
+    None
+}
+
+// Whether a statement says that a sort is partitioned.
+fn partitions(statement: &Statement, sort: &Sort) -> bool
+    ensures { result ≡ partitions sort.now statement.now }
+{
+    match statement {
+        Statement::Partitioned(partitioned, _) => *partitioned == *sort,
+        _ => false,
+    }
 }
 
 // The observers of a sort, by the first clause that has it.

@@ -1,14 +1,14 @@
 ghost use Rattle.std.specs.Prelude.{◌≡◌, ◌++◌, map, IfOk, OnOk};
 ghost use Rattle.larch_calculus.specs.Formula.{constant};
 ghost use Rattle.larch_calculus.specs.Freed.{constants_for};
-ghost use Rattle.larch_replay.specs.Plans.{constants_of, taken_beside};
+ghost use Rattle.larch_replay.specs.Plans.{closed_by, constants_of, taken_beside};
 ghost use Rattle.larch_term.specs.Variable.{variables_of};
 
 use crate::new_names::{copy_names, new_constants};
 use crate::terms::constant;
 use larch_base::{Memory, Name, Sequence};
 use larch_pairs::{Entries, substitution_of};
-use larch_term::{Entry, Operator, Operators, Substitution, Term, Variable, variables};
+use larch_term::{Entry, Operator, Operators, Substitution, Term, Variable, substitute, variables};
 use std::alloc::Global;
 
 // The names that are taken beside a goal: the goal's variables have names too.
@@ -44,6 +44,20 @@ pub(crate) fn constants_of(
     let variables = variables(alloc, term)?;
     let constants = new_constants(alloc, taken.as_slice(), variables.as_slice())?;
     Ok(constants)
+}
+
+/// A term with constants in the places of a formula's variables, in order.
+pub fn closed_by(
+    alloc: Global,
+    formula: &Term,
+    constants: &[Operator],
+    term: &Term,
+) -> Result<Term, Memory>
+    ensures { IfOk result (λ t. t ≡ closed_by formula.now constants.now term.now) }
+{
+    let by = closing(alloc, formula, constants)?;
+    let closed = substitute(alloc, term, &by)?;
+    Ok(closed)
 }
 
 // The substitution of constants for the variables of a term.

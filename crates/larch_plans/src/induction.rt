@@ -8,6 +8,7 @@ ghost use Rattle.larch_replay.specs.Plans.{a_variable, argument_variables, goal_
 ghost use Rattle.larch_replay.specs.Plans.{induction_plan, induction_subgoals};
 ghost use Rattle.larch_term.specs.Statement.{statement_zero};
 ghost use Rattle.larch_term.specs.Tree.{app};
+ghost use Rattle.larch_term.specs.Variable.{variables_of};
 
 use crate::clauses::generators;
 use crate::closing::taken_beside;
@@ -46,6 +47,23 @@ pub(crate) fn induction(
         constants: Sequence::new(alloc),
         subgoals,
     })
+}
+
+/// The variable of a term that induction goes by: the first that has the name.
+pub fn induction_variable(
+    alloc: Global,
+    goal: &Term,
+    name: &Name,
+) -> Result<Option<Variable>, Memory>
+    ensures { IfOk result (λ v. v ≡ find (λ v. bytes_eq v.name name.now) (variables_of goal.now)) }
+{
+    let variables = variables(alloc, goal)?;
+    let Some(variable) = variable_named(variables.as_slice(), name) else {
+        return Ok(None);
+    };
+    let name = variable.name.copy()?;
+    let sort = variable.sort.copy()?;
+    Ok(Some(Variable { name, sort }))
 }
 
 // The first variable of a name.

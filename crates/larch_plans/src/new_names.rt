@@ -111,7 +111,7 @@ fn name_after(alloc: Global, taken: &[Name], name: &Name) -> Result<Name, Memory
 }
 
 // A constant with a name.
-fn constant_named(alloc: Global, name: &Name, sort: &Sort) -> Result<Operator, Memory>
+pub(crate) fn constant_named(alloc: Global, name: &Name, sort: &Sort) -> Result<Operator, Memory>
     ensures { IfOk result (λ c. c ≡ constant_named name.now sort.now) }
 {
     let name = name.copy()?;

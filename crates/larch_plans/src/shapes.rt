@@ -10,12 +10,12 @@ use larch_base::Memory;
 use larch_term::{BuiltIn, Node, Operator, Term};
 use std::alloc::Global;
 
-// An operator with two arguments.
+/// An operator with two arguments.
 #[derive(Drop)]
-pub(crate) struct Pair<'a> {
-    pub(crate) operator: &'a Operator,
-    pub(crate) left: &'a Term,
-    pub(crate) right: &'a Term,
+pub struct Pair<'a> {
+    pub operator: &'a Operator,
+    pub left: &'a Term,
+    pub right: &'a Term,
 }
 
 // The arguments of an operator with two, where it is this one.
@@ -29,8 +29,8 @@ pub(crate) fn pair_by<'a>(term: &'a Term, operator: &Operator) -> Option<Pair<'a
     Some(pair)
 }
 
-// The sides of an equality.
-pub(crate) fn equality_in<'a>(alloc: Global, term: &'a Term) -> Result<Option<Pair<'a>>, Memory>
+/// The sides of an equality. None of another term.
+pub fn equality_in<'a>(alloc: Global, term: &'a Term) -> Result<Option<Pair<'a>>, Memory>
     ensures { IfOk result (λ p. option_map parts_of p
         ≡ two_arguments (λ f. is_built_in_as f BuiltIn.Equal) term.now) }
 {

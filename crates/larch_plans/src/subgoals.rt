@@ -2,7 +2,6 @@ use larch_base::{Name, Sequence};
 use larch_term::{Operators, Statements, Term};
 
 /// How a goal is to be proved.
-#[derive(Drop)]
 pub enum Method {
     /// By cases on whether a formula is true.
     Cases(Term),
@@ -18,8 +17,21 @@ pub enum Method {
     Partition,
 }
 
+// By a call, so that a proof takes a method apart in one place alone.
+impl Drop for Method {
+    fn drop(self) {
+        match self {
+            Method::Cases(_it) => {}
+            Method::Implication => {}
+            Method::Conjunction => {}
+            Method::Contradiction => {}
+            Method::Induction(_it) => {}
+            Method::Partition => {}
+        }
+    }
+}
+
 /// A part of what is to be proved: its own constants, what is supposed, and its goal.
-#[derive(Drop)]
 pub struct Subgoal {
     pub constants: Operators,
     /// Equations.
@@ -27,12 +39,32 @@ pub struct Subgoal {
     pub goal: Term,
 }
 
+// By a call, so that a proof takes a subgoal apart in one place alone.
+impl Drop for Subgoal {
+    fn drop(self) {
+        let Subgoal {
+            constants: _constants,
+            hypotheses: _hypotheses,
+            goal: _goal,
+        } = self;
+    }
+}
+
 /// Several subgoals, in order.
 pub type Subgoals = Sequence<Subgoal>;
 
 /// What a method makes of a goal: the constants that all subgoals share, and the subgoals.
-#[derive(Drop)]
 pub struct Plan {
     pub constants: Operators,
     pub subgoals: Subgoals,
+}
+
+// By a call, so that a proof takes a plan apart in one place alone.
+impl Drop for Plan {
+    fn drop(self) {
+        let Plan {
+            constants: _constants,
+            subgoals: _subgoals,
+        } = self;
+    }
 }

@@ -72,7 +72,13 @@ fn equating(alloc: Global, term: &Term) -> Result<Operator, Memory>
     Ok(operator)
 }
 
-fn joined(alloc: Global, operator: Operator, left: Term, right: Term) -> Result<Term, Memory>
+// An operator with two arguments.
+pub(crate) fn joined(
+    alloc: Global,
+    operator: Operator,
+    left: Term,
+    right: Term,
+) -> Result<Term, Memory>
     ensures { IfOk result (λ t. t ≡ joined operator left right) }
 {
     let mut arguments = Vec::with_capacity(alloc, 2)?;

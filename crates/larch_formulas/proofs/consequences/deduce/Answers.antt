@@ -2,7 +2,7 @@ use Rattle.std.proofs.Common.{rules, ◌≡◌, ℕ, List, Some}
 use Rattle.larch_tables.specs.Row.{numbered}
 use Rattle.larch_term.specs.Tree.{Tree}
 use Rattle.larch_term.specs.declared.statement.Statement.TheVariants.{Equation}
-use Rattle.larch_formulas.specs.Deductions.{given_by, sort_within}
+use Rattle.larch_formulas.specs.Consequences.{given_by, sort_within}
 use Rattle.larch_formulas.specs.declared.consequences.TheConstants.{DEDUCTIONS}
 use Rattle.larch_formulas.proofs.Followed.{nothing_follows, something_follows, unread}
 use Rattle.larch_formulas.proofs.consequences.deduce.Goals as goal

@@ -1,6 +1,5 @@
-use Rattle.std.specs.Prelude.{refl, [], ◌∷◌}
+use Rattle.std.specs.Prelude.{refl, []}
 use Rattle.larch_term.specs.Truth.{truth}
-use Rattle.larch_derive.specs.declared.open_box.OpenBox.{OpenBox}
 use Rattle.larch_derive.proofs.Growth.{extends_grows}
 use Rattle.larch_derive_boxes.proofs.Supposing.{opens_is_open}
 use Rattle.larch_methods.proofs.boxes.trivial_box.Goals as goal

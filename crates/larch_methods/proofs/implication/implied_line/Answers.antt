@@ -2,7 +2,6 @@ use Rattle.larch_term.specs.Truth.{truth}
 use Rattle.larch_methods.proofs.Connectives.{only_arguments}
 use Rattle.larch_methods.proofs.Settled.{conclusion_settles}
 use Rattle.larch_methods.proofs.implication.implied_line.Goals as goal
-use Rattle.larch_calculus.specs.Formula.{implication}
 use Rattle.larch_term.specs.BuiltIn.{built_in, bool_sort}
 use Rattle.larch_term.specs.declared.built_in.BuiltIn.TheVariants.{Implies}
 

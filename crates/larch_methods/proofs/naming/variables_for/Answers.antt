@@ -1,4 +1,4 @@
-use Rattle.std.specs.Prelude.{◌≡◌, ◌++◌, [], ◌∷◌, map}
+use Rattle.std.specs.Prelude.{◌++◌, map}
 use Rattle.std.proofs.Common.{ap, arith, drop, ◌+◌, ◌∙◌}
 use Rattle.larch_methods.specs.Inside.{written_variable}
 use Rattle.larch_methods.specs.Observers.{variables_for}

@@ -1,4 +1,4 @@
-use Rattle.std.specs.Prelude.{◌≡◌, ◌++◌, [], ◌∷◌}
+use Rattle.std.specs.Prelude.{◌++◌, [], ◌∷◌}
 use Rattle.std.proofs.Common.{ap, ◌∙◌}
 use Rattle.larch_methods.proofs.Lengths.{word_push}
 use Rattle.larch_methods.proofs.naming.word_of.Goals as goal
