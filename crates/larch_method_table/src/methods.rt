@@ -1,0 +1,308 @@
+use crate::desk::Desk;
+use crate::stop::Stop;
+use larch_base::{Memory, Name, Sequence};
+use larch_certificate::Numbers;
+use larch_derive::{OpenBox, OpenBoxes};
+use larch_derive_lines::{inst_line, refl_line, row_line, trans_line};
+use larch_formulas::{equation_line, formula_line};
+use larch_methods::{
+    contradicted_line, finish_cases, finish_conjunction, finish_contradiction, finish_implication,
+    finish_induction, finish_partition, implied_line, open_constants,
+};
+use larch_plans::{
+    Method, Pair, Plan, Subgoal, closed_by, closed_implication, equality_in, generating_clause,
+    induction_variable, partitioning_clause,
+};
+use larch_term::{Node, Sort, Substitution, Term, copy, sort_of};
+use larch_ways::argument_line;
+use std::alloc::Global;
+
+// What makes a box's result of the line that says that its goal is true.
+#[derive(Drop)]
+enum Ending<'a> {
+    // Nothing.
+    Shown,
+    // Of the conclusion, this implication.
+    Implied(&'a Term),
+    // Of a contradiction, what is supposed to be false.
+    Contradicted,
+    // Of a formula, its equation.
+    Equated,
+}
+
+/// A line that says that a goal is true: by the first of the methods that has a plan, in whose subgoals the ones behind
+/// it are tried; where none has one, by what is given.
+#[cycle(prove)]
+pub fn prove(desk: &mut Desk, goal: &Term, methods: &[Method]) -> Result<u64, Stop> {
+    let [method, further @ ..] = methods else {
+        return desk.given_line(goal);
+    };
+    match desk.planned(goal, method)? {
+        Some(plan) => carry_out(desk, goal, method, &plan, further),
+        None => prove(desk, goal, further),
+    }
+}
+
+#[cycle(prove)]
+fn carry_out(
+    desk: &mut Desk,
+    goal: &Term,
+    method: &Method,
+    plan: &Plan,
+    further: &[Method],
+) -> Result<u64, Stop> {
+    match method {
+        Method::Cases(formula) => by_cases(desk, formula, plan, further),
+        Method::Implication => by_implication(desk, goal, plan, further),
+        Method::Conjunction => by_conjunction(desk, goal, plan, further),
+        Method::Contradiction => by_contradiction(desk, goal, plan, further),
+        Method::Induction(name) => by_induction(desk, goal, name, plan, further),
+        Method::Partition => by_partition(desk, goal, plan, further),
+    }
+}
+
+#[cycle(prove)]
+fn by_cases(desk: &mut Desk, formula: &Term, plan: &Plan, further: &[Method]) -> Result<u64, Stop> {
+    let shared = open_constants(desk.alloc, &mut desk.builder, &plan.constants)?;
+    let boxes = in_boxes(desk, plan, further, &Ending::Shown)?;
+    let [first, second] = boxes.as_slice() else {
+        return Err(Stop::Open);
+    };
+    let line = finish_cases(
+        desk.alloc,
+        &mut desk.builder,
+        formula,
+        shared.number,
+        first.number,
+        second.number,
+    )?;
+    Ok(line)
+}
+
+#[cycle(prove)]
+fn by_implication(
+    desk: &mut Desk,
+    goal: &Term,
+    plan: &Plan,
+    further: &[Method],
+) -> Result<u64, Stop> {
+    let shared = open_constants(desk.alloc, &mut desk.builder, &plan.constants)?;
+    let Some(closed) = closed_implication(desk.alloc, goal, shared.constants.as_slice())? else {
+        return Err(Stop::Open);
+    };
+    let boxes = in_boxes(desk, plan, further, &Ending::Implied(&closed))?;
+    let [opened] = boxes.as_slice() else {
+        return Err(Stop::Open);
+    };
+    let line = finish_implication(
+        desk.alloc,
+        &mut desk.builder,
+        goal,
+        &closed,
+        shared.number,
+        opened.number,
+    )?;
+    Ok(line)
+}
+
+#[cycle(prove)]
+fn by_conjunction(
+    desk: &mut Desk,
+    goal: &Term,
+    plan: &Plan,
+    further: &[Method],
+) -> Result<u64, Stop> {
+    let mut lines = Sequence::new(desk.alloc);
+    for subgoal in plan.subgoals.as_slice() {
+        let line = prove(desk, &subgoal.goal, further)?;
+        lines.push(line)?;
+    }
+    let line = finish_conjunction(desk.alloc, &mut desk.builder, goal, lines.as_slice())?;
+    Ok(line)
+}
+
+#[cycle(prove)]
+fn by_contradiction(
+    desk: &mut Desk,
+    goal: &Term,
+    plan: &Plan,
+    further: &[Method],
+) -> Result<u64, Stop> {
+    let shared = open_constants(desk.alloc, &mut desk.builder, &plan.constants)?;
+    let closed = closed_by(desk.alloc, goal, shared.constants.as_slice(), goal)?;
+    let boxes = in_boxes(desk, plan, further, &Ending::Contradicted)?;
+    let [opened] = boxes.as_slice() else {
+        return Err(Stop::Open);
+    };
+    let line = finish_contradiction(
+        desk.alloc,
+        &mut desk.builder,
+        goal,
+        &closed,
+        shared.number,
+        opened.number,
+    )?;
+    Ok(line)
+}
+
+#[cycle(prove)]
+fn by_induction(
+    desk: &mut Desk,
+    goal: &Term,
+    name: &Name,
+    plan: &Plan,
+    further: &[Method],
+) -> Result<u64, Stop> {
+    let Some(variable) = induction_variable(desk.alloc, goal, name)? else {
+        return Err(Stop::Open);
+    };
+    let statements = desk.theory.statements.as_slice();
+    let Some(clause) = generating_clause(statements, &variable.sort) else {
+        return Err(Stop::Open);
+    };
+    let boxes = in_boxes(desk, plan, further, &Ending::Shown)?;
+    let numbers = numbers_of(desk.alloc, boxes.as_slice())?;
+    let line = finish_induction(
+        desk.alloc,
+        &mut desk.builder,
+        clause,
+        &variable,
+        goal,
+        numbers,
+    )?;
+    Ok(line)
+}
+
+fn numbers_of(alloc: Global, boxes: &[OpenBox]) -> Result<Numbers, Memory> {
+    let mut numbers = Sequence::new(alloc);
+    for closed in boxes {
+        numbers.push(closed.number)?;
+    }
+    Ok(numbers)
+}
+
+#[cycle(prove)]
+fn by_partition(
+    desk: &mut Desk,
+    goal: &Term,
+    plan: &Plan,
+    further: &[Method],
+) -> Result<u64, Stop> {
+    let Some(sides) = equality_in(desk.alloc, goal)? else {
+        return Err(Stop::Open);
+    };
+    let boxes = in_boxes(desk, plan, further, &Ending::Equated)?;
+    let line = partition_line(desk, &sides, boxes.as_slice())?;
+    let line = if sort_of(sides.left).bytes() == b"Bool".as_slice() {
+        equal_line(desk, goal, sides.right, line)?
+    } else {
+        formula_line(desk.alloc, &mut desk.builder, sides.left, sides.right, line)?
+    };
+    Ok(line)
+}
+
+fn partition_line(desk: &mut Desk, sides: &Pair<'_>, boxes: &[OpenBox]) -> Result<u64, Stop> {
+    let statements = desk.theory.statements.as_slice();
+    let Some(clause) = partitioning_clause(statements, sort_of(sides.left)) else {
+        return Err(Stop::Open);
+    };
+    let line = finish_partition(
+        desk.alloc,
+        &mut desk.builder,
+        clause,
+        sides.left,
+        sides.right,
+        boxes,
+    )?;
+    Ok(line)
+}
+
+// A line that says that an equality is true, by a line that says that its first argument equals its second one. Unlike
+// the formula of that line's equation, it is one at truth values too.
+fn equal_line(desk: &mut Desk, goal: &Term, second: &Term, line: u64) -> Result<u64, Memory> {
+    let same = refl_line(&mut desk.builder, goal)?;
+    let changed = argument_line(desk.alloc, &mut desk.builder, same, 1, line)?;
+    let equal = itself_line(desk, second)?;
+    trans_line(desk.alloc, &mut desk.builder, changed, equal)
+}
+
+// The row that says that anything is equal to itself.
+const EQUAL_TO_ITSELF: u64 = 24;
+
+// A line that says that the equality of a term with itself is true.
+fn itself_line(desk: &mut Desk, term: &Term) -> Result<u64, Memory> {
+    let sort = sort_of(term);
+    let by = for_a(desk.alloc, sort, term)?;
+    let stated = row_line(&mut desk.builder, EQUAL_TO_ITSELF, Some(sort.copy()?))?;
+    inst_line(desk.alloc, &mut desk.builder, stated, &by)
+}
+
+// A term for the variable a.
+fn for_a(alloc: Global, sort: &Sort, term: &Term) -> Result<Substitution, Memory> {
+    let name = Name::new(alloc, b"a")?;
+    let sort = sort.copy()?;
+    let term = copy(alloc, term)?;
+    let mut by = Substitution::new(alloc);
+    by.push(name, sort, term)?;
+    Ok(by)
+}
+
+// A closed box for each subgoal, in order.
+#[cycle(prove)]
+fn in_boxes(
+    desk: &mut Desk,
+    plan: &Plan,
+    further: &[Method],
+    ending: &Ending<'_>,
+) -> Result<OpenBoxes, Stop> {
+    let mut boxes = Sequence::new(desk.alloc);
+    for subgoal in plan.subgoals.as_slice() {
+        let closed = in_box(desk, subgoal, further, ending)?;
+        boxes.push(closed)?;
+    }
+    Ok(boxes)
+}
+
+// A closed box, in which a subgoal is proved.
+#[cycle(prove)]
+fn in_box(
+    desk: &mut Desk,
+    subgoal: &Subgoal,
+    further: &[Method],
+    ending: &Ending<'_>,
+) -> Result<OpenBox, Stop> {
+    let known = desk.known();
+    let opened = desk.open(subgoal)?;
+    let line = prove(desk, &subgoal.goal, further)?;
+    let result = result_line(desk, subgoal, opened.number, line, ending)?;
+    desk.close(result, known)?;
+    Ok(opened)
+}
+
+fn result_line(
+    desk: &mut Desk,
+    subgoal: &Subgoal,
+    number: u64,
+    line: u64,
+    ending: &Ending<'_>,
+) -> Result<u64, Stop> {
+    let line = match ending {
+        Ending::Shown => line,
+        Ending::Implied(whole) => implied_line(desk.alloc, &mut desk.builder, whole, line)?,
+        Ending::Contradicted => contradicted_line(desk.alloc, &mut desk.builder, number, line)?,
+        Ending::Equated => equated_sides(desk, &subgoal.goal, line)?,
+    };
+    Ok(line)
+}
+
+// A line that says the equation whose formula is an equality or an equivalence that is true by a line.
+fn equated_sides(desk: &mut Desk, formula: &Term, line: u64) -> Result<u64, Stop> {
+    let Node::App(_, sides) = formula.node() else {
+        return Err(Stop::Open);
+    };
+    let [left, right] = sides.as_slice() else {
+        return Err(Stop::Open);
+    };
+    let line = equation_line(desk.alloc, &mut desk.builder, left, right, line)?;
+    Ok(line)
+}
