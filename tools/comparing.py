@@ -1,4 +1,4 @@
-"""What the tools that compare two programs on random inputs share: their words, the seed, a run, and the differences."""
+"""What the tools that compare two programs on random inputs share: words, the seed, a run, and the differences."""
 import argparse
 import importlib
 import pathlib
@@ -19,11 +19,16 @@ def words_of(description, count, *programs):
     return words
 
 
-def choices(seed):
-    """What random inputs are chosen by; the seed, a new one where none is given, is printed first."""
+def seed_of(seed):
+    """The seed, a new one where none is given; it is printed."""
     seed = random.randrange(2 ** 32) if seed is None else seed
     print(f"seed {seed}", flush=True)
-    return random.Random(seed)
+    return seed
+
+
+def choices(seed):
+    """What random inputs are chosen by; the seed, a new one where none is given, is printed first."""
+    return random.Random(seed_of(seed))
 
 
 def answers(command, texts):

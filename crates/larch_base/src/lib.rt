@@ -29,6 +29,3 @@ pub use sequence::Sequence;
 pub use steps::Steps;
 pub use way::Way;
 pub use word::is_word;
-
-#[cfg(test)]
-mod tests;

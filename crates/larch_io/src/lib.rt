@@ -38,6 +38,3 @@ pub use standard_input::StandardInput;
 pub use standard_output::StandardOutput;
 pub use take::{take_exact, take_line};
 pub use working_folder::WorkingFolder;
-
-#[cfg(test)]
-mod tests;

@@ -6,6 +6,3 @@ mod sorts;
 
 pub use built_ins::push_built_ins;
 pub use sorts::{SortSet, existing_sorts};
-
-#[cfg(test)]
-mod tests;

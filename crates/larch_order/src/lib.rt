@@ -8,6 +8,3 @@ mod precedence;
 
 pub use larch_base::Way;
 pub use precedence::{OrderRefusal, Precedence, Ranked};
-
-#[cfg(test)]
-mod tests;

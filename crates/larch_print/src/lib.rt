@@ -9,6 +9,3 @@ pub use print::{
     print_operator, print_statement, print_term, write_operator, write_signature, write_statement,
     write_term,
 };
-
-#[cfg(test)]
-mod tests;

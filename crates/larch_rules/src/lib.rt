@@ -18,6 +18,3 @@ pub use refl::refl_line;
 pub use repl::repl_line;
 pub use row::row_line;
 pub use sym::sym_line;
-
-#[cfg(test)]
-mod tests;

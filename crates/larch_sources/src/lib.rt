@@ -12,6 +12,3 @@ pub use laws::sources_are_among;
 pub use links::{Links, links_of};
 pub use marks::Marks;
 pub use sources::Sources;
-
-#[cfg(test)]
-mod tests;

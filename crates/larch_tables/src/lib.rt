@@ -11,6 +11,3 @@ mod tables;
 pub use row::{Row, Side, Sides, Table};
 pub use statement::{RowRefusal, row_statement};
 pub use tables::{built_in, deductions};
-
-#[cfg(test)]
-mod tests;

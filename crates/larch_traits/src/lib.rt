@@ -8,6 +8,3 @@ mod reading;
 pub use files::Files;
 pub use larch_items::TraitRefusal;
 pub use reading::{read_files, read_text};
-
-#[cfg(test)]
-mod tests;

@@ -1,0 +1,27 @@
+use crate::making::{chain, variable};
+use larch_critical_pairs::{Rule, critical_pairs};
+use larch_pairs::PairRefusal;
+use larch_term::size;
+use std::alloc::Global;
+
+// How many critical pairs f(f(x)) -> x has with itself, and the nodes of all their sides.
+fn counted(alloc: Global, one: bool) -> Result<(usize, u64), PairRefusal> {
+    let left = chain(alloc, b"f", b"x", 2)?;
+    let right = variable(alloc, b"x")?;
+    let rule = Rule { left, right };
+    let pairs = critical_pairs(alloc, &rule, &rule, one)?;
+    let mut nodes = 0;
+    for pair in pairs.as_slice() {
+        nodes = size(&pair.left)
+            .saturating_add(size(&pair.right))
+            .saturating_add(nodes);
+    }
+    Ok((pairs.as_slice().len(), nodes))
+}
+
+// Below the root alone, and there and at the root.
+#[test]
+fn overlaps_with_itself(rt: HostRuntime) {
+    assert_eq!(rt; counted(rt.alloc(), true), Ok((1, 4)));
+    assert_eq!(rt; counted(rt.alloc(), false), Ok((2, 6)));
+}

@@ -1,0 +1,53 @@
+use crate::making::sources;
+use larch_base::Bytes;
+use larch_duties::{duties_of, find_duty, list_trait};
+use larch_flatten::flatten;
+use larch_items::TraitRefusal;
+use larch_sources::Sources;
+use std::alloc::Global;
+use std::test::Fail;
+
+// A constant, of which one thing is claimed.
+fn claiming(alloc: Global) -> Result<Sources, Fail> {
+    sources(
+        alloc,
+        &[(b"T.lsl", b"T: trait introduces c: -> S implies c == c")],
+    )
+}
+
+// What is written of the first trait.
+fn listed(alloc: Global, sources: &Sources) -> Result<Bytes, TraitRefusal> {
+    let flat_traits = flatten(alloc, sources)?;
+    if sources.len() == 0 {
+        return Err(TraitRefusal::Memory);
+    }
+    let text = list_trait(alloc, sources, &flat_traits, 0)?;
+    Ok(text)
+}
+
+// Whether the first trait has a duty of this label.
+fn has_duty(alloc: Global, sources: &Sources, label: &[u8]) -> Result<bool, TraitRefusal> {
+    let flat_traits = flatten(alloc, sources)?;
+    if sources.len() == 0 {
+        return Err(TraitRefusal::Memory);
+    }
+    let duties = duties_of(alloc, sources, &flat_traits, 0)?;
+    let found = find_duty(alloc, &duties, label)?;
+    Ok(found.is_some())
+}
+
+#[test]
+fn lists_a_claim(rt: HostRuntime) -> Result<(), Fail> {
+    let sources = claiming(rt.alloc())?;
+    let text = listed(rt.alloc(), &sources)?;
+    assert_eq!(rt; text.bytes(), b"op c: -> S\nimply.1 c == c\n".as_slice());
+    Ok(())
+}
+
+#[test]
+fn finds_a_claim(rt: HostRuntime) -> Result<(), Fail> {
+    let sources = claiming(rt.alloc())?;
+    assert!(rt; has_duty(rt.alloc(), &sources, b"imply.1")?);
+    assert!(rt; !has_duty(rt.alloc(), &sources, b"imply.2")?);
+    Ok(())
+}

@@ -1,0 +1,76 @@
+use crate::making::{raw_trait, theory, wrong};
+use larch_base::{Bytes, Code};
+use larch_items::TraitRefusal;
+use larch_print::{print_operator, print_statement};
+use larch_replacing::{NewNames, replacements_of};
+use larch_term::{Operator, Theory};
+use std::alloc::Global;
+
+// A constant, of which one thing is stated.
+fn constant(alloc: Global) -> Result<Theory, TraitRefusal> {
+    theory(alloc, b"T: trait introduces c: -> A asserts c == c")
+}
+
+// What the reference of a text makes of names among operators.
+fn names(alloc: Global, text: &[u8], operators: &[Operator]) -> Result<NewNames, TraitRefusal> {
+    let raw = raw_trait(alloc, text)?;
+    match raw.references.as_slice() {
+        [reference] => {
+            let by = replacements_of(alloc, operators, &[], &reference.target)?;
+            let names = NewNames::new(alloc, by, operators)?;
+            Ok(names)
+        }
+        _ => Err(TraitRefusal::Memory),
+    }
+}
+
+// The constant by its new name.
+fn renamed(alloc: Global, text: &[u8]) -> Result<Bytes, TraitRefusal> {
+    let theory = constant(alloc)?;
+    let names = names(alloc, text, theory.operators.as_slice())?;
+    let new = names.operators(alloc, theory.operators.as_slice())?;
+    match new.as_slice() {
+        [operator] => {
+            let line = print_operator(alloc, operator)?;
+            Ok(line)
+        }
+        _ => Err(TraitRefusal::Memory),
+    }
+}
+
+// What is stated of it by that name.
+fn restated(alloc: Global, text: &[u8]) -> Result<Bytes, TraitRefusal> {
+    let theory = constant(alloc)?;
+    let names = names(alloc, text, theory.operators.as_slice())?;
+    match theory.statements.as_slice() {
+        [statement] => {
+            let statement = names.rename_statement(alloc, statement)?;
+            let line = print_statement(alloc, &statement)?;
+            Ok(line)
+        }
+        _ => Err(TraitRefusal::Memory),
+    }
+}
+
+#[test]
+fn renames_a_sort_and_an_operator(rt: HostRuntime) -> Result<(), TraitRefusal> {
+    let line = renamed(rt.alloc(), b"U: trait includes T(B for A)")?;
+    assert_eq!(rt; line.bytes(), b"op c: -> B".as_slice());
+    let line = renamed(rt.alloc(), b"U: trait includes T(d for c)")?;
+    assert_eq!(rt; line.bytes(), b"op d: -> A".as_slice());
+    Ok(())
+}
+
+#[test]
+fn renames_a_statement(rt: HostRuntime) -> Result<(), TraitRefusal> {
+    let line = restated(rt.alloc(), b"U: trait includes T(d for c)")?;
+    assert_eq!(rt; line.bytes(), b"d == d".as_slice());
+    Ok(())
+}
+
+#[test]
+fn refuses_what_is_not_there(rt: HostRuntime) -> Result<(), TraitRefusal> {
+    let refusal = renamed(rt.alloc(), b"U: trait includes T(B for C)").err();
+    assert_eq!(rt; refusal, wrong(27, Code::Rename));
+    Ok(())
+}
