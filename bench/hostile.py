@@ -124,6 +124,45 @@ def ifs(depth, sorts):
     return trait([f"c:->A{i}\n" for i in range(sorts)], ["(if true then " * depth + "c" + " else c)" * depth + ":A0==c;\n"])
 
 
+def wide(size, used, further=(), each="c:->A{0}\n__+__:A{0},A{0}->A{0}\n", symbols=2400):
+    """A constant and a symbol at as many sorts as the size has room for, and equations of chains of them."""
+    chain = "+".join(["c"] * (symbols + 1))
+    stated = [equation.format(chain) for equation in used]
+    left = size - sum(map(len, stated)) - sum(map(len, further))
+    return trait([*further, *(each.format(i) for i in range(left // len(each.format(10_000))))], stated)
+
+
+def apart(size):
+    """A chain that has no sort in common with the other side."""
+    return wide(size, ["{0}==d\n"], ["d:->D\n"])
+
+
+def formula(size):
+    """A chain that is said to be equal to another one by a built-in symbol."""
+    return wide(size, ["{0}={0}\n"], symbols=1200)
+
+
+def told(size):
+    """A function that makes one sort of a chain at any sort."""
+    return wide(size, ["f({0})==d\n"], ["d:->D\n"], "c:->A{0}\n__+__:A{0},A{0}->A{0}\nf:A{0}->D\n")
+
+
+def narrow(size):
+    """Chains under a function of two sorts."""
+    return wide(size, ["f({0})==f({0})\n"], ["f:A0->D\n", "f:A1->E\n"], symbols=1200)
+
+
+def thin(size):
+    """Two functions of two sorts, of a constant of one sort, among many sorts."""
+    first = ["k:->A0\n", "g:A0->D\n", "g:A1->E\n", "h:A0->D\n", "h:A1->E\n"]
+    return halves(size, (first, lambda i: f"c:->A{i}\n"), lambda i: "g(k)==h(k);\n")
+
+
+def one_way(size):
+    """Ten chains at a sort that is told, each of whose symbols could make it of two sorts."""
+    return wide(size, ["({0}):A0==c;\n"] * 10, [], "c:->A{0}\n__+__:A{0},A{0}->A{0}\n__+__:B{0},B{0}->A{0}\n")
+
+
 def qualified(size):
     """Qualifications of qualifications."""
     return halves(size, ([], lambda i: f"c:->A{i}\n"), lambda i: "((((c:A{0}):A{0}):A{0}):A{0})==c;\n".format(i))
@@ -135,6 +174,7 @@ SHAPES = {
     "functions": functions, "arguments": arguments, "crossing": crossing, "crossing twice": crossing_twice,
     "long arguments": long_arguments, "qualified": qualified, "references": references, "names": names, "made": made,
     "chain": lambda size: chain(2400, 1000), "ifs": lambda size: ifs(150, 10_000),
+    "apart": apart, "formula": formula, "told": told, "narrow": narrow, "thin": thin, "one way": one_way,
 }
 
 

@@ -5,6 +5,7 @@ use Rattle.larch_base.specs.declared.position.Pos.{Pos}
 use Rattle.larch_raw.specs.RawTree.{RawTree, RawForest, apply, qualified, raw_forest}
 use Rattle.larch_raw.specs.declared.declared.RawWord.{RawWord}
 use Rattle.larch_raw.specs.declared.equation.RawEquation.{RawEquation}
+use Rattle.larch_raw.specs.declared.equation.RawRight.{RawRight}
 use Rattle.larch_base.proofs.Members.{contains_cases, contains_none}
 use Rattle.larch_term.specs.Operator.{PlainOperator}
 use Rattle.larch_term.specs.Sorts.{sort_of, sorts_of}
@@ -14,19 +15,18 @@ use Rattle.larch_sorts.specs.Found.{Tells}
 use Rattle.larch_sorts.specs.Makers.{made_place, maker_among, making}
 use Rattle.larch_sorts.specs.Narrow.{ReadAt, ReadsAt, application_of}
 use Rattle.larch_sorts.specs.Parts.{in_sides, parts, sides}
-use Rattle.larch_sorts.specs.Read.{first_unread, read_equation}
-use Rattle.larch_sorts.specs.Readings.{AllRead, IsOnly, Reads, all_read, one_read, of_sort, variable_sort}
+use Rattle.larch_sorts.specs.Read.{read_equation}
+use Rattle.larch_sorts.specs.Readings.{AllRead, IsOnly, Reads, ReadsRight, all_read, one_read, of_sort, variable_sort}
 use Rattle.larch_sorts.specs.Scope.{Variables}
 use Rattle.larch_sorts.specs.Sides.{ReadsSides}
 use Rattle.larch_sorts.specs.Signature.{named, taking_part}
 use Rattle.larch_sorts.specs.Unknown.{unknown_sort}
-use Rattle.larch_sorts.specs.declared.found.Found.{Found}
-use Rattle.larch_sorts.specs.declared.found.Found.TheVariants.{One, Several}
+use Rattle.larch_sorts.specs.declared.found.Found.TheVariants.{One}
 use Rattle.larch_sorts.specs.declared.found.Sides.{Sides}
-use Rattle.larch_sorts.proofs.Answers.{decided}
 use Rattle.larch_sorts.proofs.MakersTold.{makers_tell}
 use Rattle.larch_sorts.proofs.Parts.{all_parts_have, equation_parts}
-use Rattle.larch_sorts.proofs.ReadAnswers.{as_statement, equation_found}
+use Rattle.larch_sorts.proofs.ReadAnswers.{equation_found}
+use Rattle.larch_sorts.proofs.SidesTold.{equal_sides}
 use Rattle.larch_sorts.proofs.Tables.{from_reads, inside, only_empty, put_together, taken_apart, to_reads, variable_at}
 
 pub not_false : (b : Bool) → not b ≡ false → b ≡ true
@@ -93,7 +93,8 @@ only_next fs vs raws ss i old new raw s t lt less e d grown h k =
     (subst (λ zs. OnlyAll fs vs (take (i + 1) raws) zs (old ++ t ∷ [])) (sym further)
     (subst (λ rs. OnlyAll fs vs rs (take i ss ++ s ∷ []) (old ++ t ∷ [])) (sym more) (only_more fs vs (take i raws) (take i ss) old raw s t h k)))
 
-take_all : {X : Type 0} (xs : List X) (i : ℕ) → length xs ≤ i → take i xs ≡ xs
+-- a list of which all is taken
+pub take_all : {X : Type 0} (xs : List X) (i : ℕ) → length xs ≤ i → take i xs ≡ xs
 take_all [] zero l = refl
 take_all [] (suc i) l = refl
 take_all (x ∷ xs) zero l = absurd (omega (arith, l))
@@ -150,13 +151,15 @@ sides_answered fs vs raw found these u h e =
     equation_found fs vs raw (Some (One these)) u
     (all_parts_have fs vs (in_sides parts (sides raw)) (equation_parts fs vs raw (Equation these.left these.right) only.0)) only
 
-met_parts : (fs : List PlainOperator) (vs : Variables) (raw : RawEquation) (met : Found Sides) → Tells (Some met) (ReadsSides fs vs raw) → first_unread fs vs raw ≡ None
-met_parts fs vs raw (One p) h = all_parts_have fs vs (in_sides parts (sides raw)) (equation_parts fs vs raw (Equation p.left p.right) h.0)
-met_parts fs vs raw Several h = all_parts_have fs vs (in_sides parts (sides raw)) (equation_parts fs vs raw (Equation h.0.left h.0.right) h.2)
-
--- the readings that are told are answered
-pub met_answered : (fs : List PlainOperator) (vs : Variables) (raw : RawEquation) (found : Option (Found Sides)) (met : Found Sides) → unknown_sort fs raw ≡ None
-    → IfSome found (λ these. Tells (Some these) (ReadsSides fs vs raw)) → found ≡ Some met → read_equation fs vs raw ≡ decided raw (as_statement (Some met))
-met_answered fs vs raw found met u h e =
-    let told : Tells (Some met) (ReadsSides fs vs raw) = subst (λ o. IfSome o (λ these. Tells (Some these) (ReadsSides fs vs raw))) e h in
-    equation_found fs vs raw (Some met) u (met_parts fs vs raw met told) told
+-- what both sides read as at the only sort that they may have is what the equation reads as
+pub only_sides_met : (fs : List PlainOperator) (vs : Variables) (raw : RawEquation) (right : RawRight) (s : List ℕ) (found : Option Sides) → raw.right ≡ Some right
+    → ((l r : Tree) → Reads fs vs raw.left l → Reads fs vs right.term r → sort_of l ≡ sort_of r → sort_of l ≡ s)
+    → IfSome found (λ p. IsOnly (ReadsAt fs vs raw.left s) p.left × IsOnly (ReadsAt fs vs right.term s) p.right) → IfSome found (IsOnly (ReadsSides fs vs raw))
+only_sides_met fs vs raw right s None e told h = tt
+only_sides_met fs vs raw right s (Some p) e told h =
+    subst (λ o. IsOnly (λ q. Reads fs vs raw.left q.left × ReadsRight fs vs o q.left q.right) p) (sym e) (
+      (h.0.0.0, (h.1.0.0, h.0.0.1 ∙ sym h.1.0.1)),
+      λ q w.
+          let at : sort_of q.left ≡ s = told q.left q.right w.0 w.1.0 w.1.1 in
+          equal_sides q p (h.0.1 q.left (w.0, at)) (h.1.1 q.right (w.1.0, sym w.1.1 ∙ at)),
+    )

@@ -116,7 +116,7 @@ first_enough left right all before now after s ss rest first is put several inva
     ∙ ap (λ x. fold (λ b z. with_found same_sides b (paired (reading_at left z) (reading_at right z))) x rest) (sym several ∙ put ∙ ap (with_found same_sides before) is)
     ∙ ap (fold (λ b z. with_found same_sides b (paired (reading_at left z) (reading_at right z))) before) (sym first) ∙ invariant
 
-formula_of : (P : Tree → Type 0) (found : Option (Found Tree)) → Tells found (λ t. P t × (sort_of t ≡ bool_sort)) → Tells (formula_found found) (λ p. P p.left × ((sort_of p.left ≡ bool_sort) × (p.right ≡ truth)))
+pub formula_of : (P : Tree → Type 0) (found : Option (Found Tree)) → Tells found (λ t. P t × (sort_of t ≡ bool_sort)) → Tells (formula_found found) (λ p. P p.left × ((sort_of p.left ≡ bool_sort) × (p.right ≡ truth)))
 formula_of P None h = λ p q. h p.left (q.0, q.1.0)
 formula_of P (Some (One l)) h = ((h.0.0, (h.0.1, refl)), λ p q. equal_sides p (record { left = l; right = truth }) (h.1 p.left (q.0, q.1.0)) q.1.1)
 formula_of P (Some Several) h =

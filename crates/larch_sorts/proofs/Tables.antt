@@ -27,7 +27,7 @@ use Rattle.larch_term.proofs.Decided.{name_Decides, tree_Decides}
 use Rattle.larch_sorts.proofs.Telling.{tells_same, tells_merged, tells_applied}
 
 -- a list whose first thing has one property, and the further ones another
-abbrev FirstAndRest : (Tree → Type 0) → (List Tree → Type 0) → List Tree → Type 0
+abbrev pub FirstAndRest : (Tree → Type 0) → (List Tree → Type 0) → List Tree → Type 0
 FirstAndRest P Q us = (t : Tree) × (ts : List Tree) × (us ≡ t ∷ ts) × P t × Q ts
 
 tells_with_argument : (P : Tree → Type 0) (Q : List Tree → Type 0) (first : Option (Found Tree)) (rest : Option (Found (List Tree)))
@@ -39,11 +39,11 @@ tells_with_argument P Q (Some Several) (Some Several) h k = (h.0 ∷ k.0, h.1 �
 tells_with_argument P Q (Some (One t)) (Some Several) h k = (t ∷ k.0, t ∷ k.1, (t, k.0, refl, h.0, k.2), (t, k.1, refl, h.0, k.3), λ e. k.4 cc)
 tells_with_argument P Q (Some (One t)) (Some (One ts)) h k = ((t, ts, refl, h.0, k.0), λ us w. w.2 ∙ ap₂ (λ u us. u ∷ us) (h.1 w.0 w.3) (k.1 w.1 w.4))
 
-none_at_sorts : (fs : List PlainOperator) (vs : Variables) (s : List ℕ) (ss : List (List ℕ)) (ts : List Tree) → ReadAt fs vs [] (s ∷ ss) ts → ⊥
+pub none_at_sorts : (fs : List PlainOperator) (vs : Variables) (s : List ℕ) (ss : List (List ℕ)) (ts : List Tree) → ReadAt fs vs [] (s ∷ ss) ts → ⊥
 none_at_sorts fs vs s ss [] (all_read, e) = cc
 none_at_sorts fs vs s ss (t ∷ ts) r = elim r.0 [ ]
 
-some_at_none : (fs : List PlainOperator) (vs : Variables) (raw : RawTree) (raws : List RawTree) (ts : List Tree) → ReadAt fs vs (raw ∷ raws) [] ts → ⊥
+pub some_at_none : (fs : List PlainOperator) (vs : Variables) (raw : RawTree) (raws : List RawTree) (ts : List Tree) → ReadAt fs vs (raw ∷ raws) [] ts → ⊥
 some_at_none fs vs raw raws [] r = elim r.0 [ ]
 some_at_none fs vs raw raws (t ∷ ts) (one_read r all, e) = cc
 

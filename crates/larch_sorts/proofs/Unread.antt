@@ -13,7 +13,7 @@ use Rattle.larch_term.specs.Tree.{Tree}
 use Rattle.larch_sorts.specs.Read.{is_empty, unread_in}
 use Rattle.larch_sorts.specs.Parts.{head_of, parts, parts_of}
 use Rattle.larch_sorts.specs.Scope.{Variables}
-use Rattle.larch_sorts.specs.Readings.{variable_sort, Reads}
+use Rattle.larch_sorts.specs.Readings.{IsNone, variable_sort, Reads}
 use Rattle.larch_sorts.specs.ReadingLists.{readings}
 use Rattle.larch_sorts.specs.Table.{Entries, reading_at}
 use Rattle.larch_sorts.specs.Found.{Tells}
@@ -53,10 +53,9 @@ parts_is (qualified raw w p) = refl
 pub unread_inside : (fs : List PlainOperator) (vs : Variables) (refusal : ReadRefusal) (raw : RawTree) → Unread refusal (unread_in fs vs (inner_parts raw)) → Unread refusal (unread_in fs vs (parts raw))
 unread_inside fs vs refusal raw u = rw (parts_is raw) (unread_first fs vs refusal (inner_parts raw) (raw ∷ []) u)
 
-none_read : (fs : List PlainOperator) (vs : Variables) (raw : RawTree) → TableTells [] (Reads fs vs raw) → (ts : List Tree) → readings fs vs raw ≡ ts → is_empty ts ≡ true
+none_read : (fs : List PlainOperator) (vs : Variables) (raw : RawTree) → IsNone (Reads fs vs raw) → (ts : List Tree) → readings fs vs raw ≡ ts → is_empty ts ≡ true
 none_read fs vs raw h [] e = refl
-none_read fs vs raw h (t ∷ ts) e =
-    absurd (h (sort_of t) t (reads_listed fs vs raw t (subst (λ us. Contains us t) (sym e) (contains_here t ts)), refl))
+none_read fs vs raw h (t ∷ ts) e = absurd (h t (reads_listed fs vs raw t (subst (λ us. Contains us t) (sym e) (contains_here t ts))))
 
 of_found : (P Q : Tree → Type 0) (found : Found Tree) → Tells (Some found) (λ t. P t × Q t) → (t : Tree) × P t
 of_found P Q (One t) k = (t, k.0.0)
@@ -78,25 +77,37 @@ unread_single fs vs raw true e = rw e refl
 unread_single fs vs raw false e = rw e refl
 
 -- a term without a reading, whose parts are read, is the first unread one
-pub unread_here : (fs : List PlainOperator) (vs : Variables) (raw : RawTree) (es : Entries) → length es ≡ 0 → unread_in fs vs (inner_parts raw) ≡ None → TableTells es (Reads fs vs raw)
-    → unread_in fs vs (parts raw) ≡ Some (head_of raw)
-unread_here fs vs raw [] l e h =
+pub unread_without : (fs : List PlainOperator) (vs : Variables) (raw : RawTree) → unread_in fs vs (inner_parts raw) ≡ None → IsNone (Reads fs vs raw) → unread_in fs vs (parts raw) ≡ Some (head_of raw)
+unread_without fs vs raw e h =
     rw (parts_is raw) (read_first fs vs (inner_parts raw) (raw ∷ []) e ∙ unread_single fs vs raw true (none_read fs vs raw h (readings fs vs raw) refl))
-unread_here fs vs raw (x ∷ es) l e h = cc
 
 -- a term with a reading, whose parts are read, has no unread part
+pub read_with : (fs : List PlainOperator) (vs : Variables) (raw : RawTree) (t : Tree) → unread_in fs vs (inner_parts raw) ≡ None → Reads fs vs raw t → unread_in fs vs (parts raw) ≡ None
+read_with fs vs raw t e r =
+    rw (parts_is raw) (read_first fs vs (inner_parts raw) (raw ∷ []) e ∙ unread_single fs vs raw false (some_read fs vs raw t r (readings fs vs raw) refl))
+
+-- the same of a table
+pub unread_here : (fs : List PlainOperator) (vs : Variables) (raw : RawTree) (es : Entries) → length es ≡ 0 → unread_in fs vs (inner_parts raw) ≡ None → TableTells es (Reads fs vs raw)
+    → unread_in fs vs (parts raw) ≡ Some (head_of raw)
+unread_here fs vs raw [] l e h = unread_without fs vs raw e (λ t r. h (sort_of t) t (r, refl))
+unread_here fs vs raw (x ∷ es) l e h = cc
+
 pub read_here : (fs : List PlainOperator) (vs : Variables) (raw : RawTree) (es : Entries) → (length es ≡ 0 → ⊥) → unread_in fs vs (inner_parts raw) ≡ None → TableTells es (Reads fs vs raw)
     → unread_in fs vs (parts raw) ≡ None
 read_here fs vs raw [] l e h = absurd (l refl)
-read_here fs vs raw (x ∷ es) l e h =
-    let r = has_reading fs vs raw x.0 x.1 es h in
-    rw (parts_is raw) (read_first fs vs (inner_parts raw) (raw ∷ []) e ∙ unread_single fs vs raw false (some_read fs vs raw r.0 r.1 (readings fs vs raw) refl))
+read_here fs vs raw (x ∷ es) l e h = let r = has_reading fs vs raw x.0 x.1 es h in read_with fs vs raw r.0 e r.1
 
 -- a variable has no part that could be unread
 pub variable_read : (fs : List PlainOperator) (vs : Variables) (n s : List ℕ) (raws : RawForest) → variable_sort vs n raws ≡ Some s → unread_in fs vs (parts_of raws) ≡ None
 unfolding unread_in
 variable_read fs vs n s no_more e = refl
 variable_read fs vs n s (one_more raw raws) e = cc
+
+-- nothing stands in no arguments
+pub nothing_inside : (fs : List PlainOperator) (vs : Variables) (raws : List RawTree) → raws ≡ [] → unread_in fs vs (parts_of (raw_forest raws)) ≡ None
+unfolding unread_in
+nothing_inside fs vs [] e = refl
+nothing_inside fs vs (raw ∷ raws) e = cc
 
 -- the arguments from a place on
 forest_from : (raws : List RawTree) (i : ℕ) (raw : RawTree) → i < length raws → raw ≡ get_or raws i raw → parts_of (raw_forest (drop i raws)) ≡ parts raw ++ parts_of (raw_forest (drop (i + 1) raws))

@@ -1,11 +1,14 @@
 pub mod Application
+pub mod Count
+pub mod Counted
+pub mod Counts
 pub mod Domains
 pub mod Faults
 pub mod Found
 pub mod Laws
 pub mod Makers
-pub mod Marks
 pub mod Narrow
+pub mod Numbers
 pub mod Operators
 pub mod Overloads
 pub mod Parts

@@ -1,12 +1,15 @@
 -- What was found of the sides of an equation.
 use Rattle.std.specs.Prelude.{Bool, List, None, Option, Some, fold, map, ℕ, ◌&&◌, ◌≡◌, ◌⊎◌}
+use Rattle.larch_raw.specs.RawTree.{RawTree}
 use Rattle.larch_raw.specs.declared.equation.RawEquation.{RawEquation}
 use Rattle.larch_term.specs.Operator.{PlainOperator}
+use Rattle.larch_term.specs.BuiltIn.{bool_sort}
+use Rattle.larch_term.specs.Sorts.{sort_of}
 use Rattle.larch_term.specs.Tree.{Tree}
 use Rattle.larch_term.specs.declared.statement.Statement.TheVariants.{Equation}
 use Rattle.larch_term.specs.Equality.{same_tree}
 use Rattle.larch_sorts.specs.Parts.{sides}
-use Rattle.larch_sorts.specs.Readings.{ReadsEquation}
+use Rattle.larch_sorts.specs.Readings.{Reads, ReadsEquation}
 use Rattle.larch_term.specs.Truth.{truth}
 use Rattle.larch_sorts.specs.Scope.{Variables}
 use Rattle.larch_sorts.specs.Table.{Entries, merged_by, reading_at}
@@ -58,3 +61,13 @@ formula_found (Some (One l)) = Some (One (record { left = l; right = truth }))
 -- an equation reads as these sides
 abbrev pub ReadsSides : List PlainOperator → Variables → RawEquation → Sides → Type 0
 ReadsSides fs vs raw sides = ReadsEquation fs vs raw (Equation sides.left sides.right)
+
+-- two terms read as these, of one sort
+abbrev pub ReadBoth : List PlainOperator → Variables → RawTree → RawTree → Sides → Type 0
+ReadBoth fs vs left right sides =
+    Reads fs vs left sides.left × (Reads fs vs right sides.right × (sort_of sides.left ≡ sort_of sides.right))
+
+-- a formula reads as this, and true beside it
+abbrev pub ReadsFormula : List PlainOperator → Variables → RawTree → Sides → Type 0
+ReadsFormula fs vs left sides =
+    Reads fs vs left sides.left × ((sort_of sides.left ≡ bool_sort) × (sides.right ≡ truth))

@@ -28,6 +28,11 @@ impl Domains {
         Ok(Domains { kept })
     }
 
+    // How many domains there are.
+    pub(crate) fn len(&self) -> usize {
+        self.kept.len()
+    }
+
     // The operators with this domain.
     pub(crate) fn at(&self, domain: &Domain) -> &[Operator]
         ensures { result.now ≡ kept_for self.now.kept.entries domain.now }

@@ -2,17 +2,20 @@
 #![tactic(auto)]
 
 mod application;
+mod count;
+mod counted;
+mod counts;
 mod domain;
 mod domains;
 mod found;
 pub mod laws;
 mod lone;
 mod makers;
-mod marks;
 mod narrow;
 mod numbers;
 mod operators;
 mod overloads;
+mod pick;
 mod place;
 mod places;
 mod read;
@@ -23,8 +26,10 @@ mod sides;
 mod signature;
 mod table;
 mod tabulate;
+mod tally;
 mod told;
 mod unknown;
+mod width;
 mod words;
 
 pub use lone::read_lone;

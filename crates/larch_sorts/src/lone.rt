@@ -11,6 +11,7 @@ ghost use Rattle.larch_sorts.specs.Readings.{ReadsLone, IsOnly};
 ghost use Rattle.larch_sorts.specs.Found.{Tells};
 ghost use Rattle.larch_sorts.specs.Tabulate.{Unread};
 
+use crate::counted::{counted_anywhere, counted_at};
 use crate::found::Found;
 use crate::reading::{Reading, term_of};
 use crate::refusal::ReadRefusal;
@@ -73,8 +74,56 @@ fn lone(
     }
 }
 
-// What a lone term reads as, or the head token of the first part in it that has no reading.
+// What a lone term reads as, or the head token of the first part in it that has no reading: as counts tell, or else its
+// table.
 fn lone_found(
+    alloc: Global,
+    signature: &Signature,
+    scope: &Scope,
+    raw: &RawEquation,
+    sort: Option<&Sort>,
+) -> Result<Option<Found<Reading>>, ReadRefusal>
+    requires { raw.now.right ≡ None }
+    ensures tells { IfOk result (λ found. Tells found
+        (ReadsLone signature.now scope.now (option_copied sort.entry) raw.now)) }
+    ensures read { IfOk result (λ _. first_unread signature.now scope.now raw.now ≡ None) }
+    ensures unread { IfErr result (λ refusal. Unread refusal (first_unread signature.now scope.now raw.now)) }
+{
+    if let Some(found) = lone_by_counts(alloc, signature, scope, raw, sort)? {
+        return Ok(found);
+    }
+    let found = lone_by_table(alloc, signature, scope, raw, sort)?;
+    Ok(found)
+}
+
+// The same by counts, where they tell.
+fn lone_by_counts(
+    alloc: Global,
+    signature: &Signature,
+    scope: &Scope,
+    raw: &RawEquation,
+    sort: Option<&Sort>,
+) -> Result<Option<Option<Found<Reading>>>, ReadRefusal>
+    requires { raw.now.right ≡ None }
+    ensures tells { IfOk result (λ told. IfSome told (λ found. Tells found
+        (ReadsLone signature.now scope.now (option_copied sort.entry) raw.now))) }
+    ensures read { IfOk result (λ told. IfSome told (λ _. first_unread signature.now scope.now raw.now ≡ None)) }
+    ensures unread { IfErr result (λ refusal. Unread refusal (first_unread signature.now scope.now raw.now)) }
+{
+    match sort {
+        None => {
+            let told = counted_anywhere(alloc, signature, scope, &raw.left)?;
+            Ok(told)
+        }
+        Some(sort) => {
+            let told = counted_at(alloc, signature, scope, &raw.left, sort)?;
+            Ok(told)
+        }
+    }
+}
+
+// The same by its table.
+fn lone_by_table(
     alloc: Global,
     signature: &Signature,
     scope: &Scope,

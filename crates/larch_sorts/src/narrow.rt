@@ -6,6 +6,7 @@ ghost use Rattle.larch_sorts.specs.Narrow.{ReadAt, ReadsAt, application_of, the_
 ghost use Rattle.larch_sorts.specs.Readings.{IsOnly};
 ghost use Rattle.larch_sorts.specs.Signature.{named, taking_part};
 
+use crate::counted::counted_at;
 use crate::found::Found;
 use crate::place::Place;
 use crate::reading::Reading;
@@ -19,8 +20,8 @@ use larch_raw::{RawNode, RawTerm, RawTerms};
 use larch_term::{Operator, Sort};
 use std::alloc::Global;
 
-// What a term reads as at a sort, if that is one thing. It goes down where one operator makes the sort, and asks the
-// table of a term where several do.
+// What a term reads as at a sort, if that is one thing. It goes down where one operator makes the sort, and where
+// several do it asks the counts of the term, or else its table.
 #[cycle(narrow)]
 #[tactic(auto, using(larch_raw::specs::RawTree::raw_nodes_all_is_sum))]
 pub(crate) fn only_at(
@@ -42,7 +43,7 @@ pub(crate) fn only_at(
             match maker_of(signature, name, arguments.as_slice().len(), sort)? {
                 None => Ok(None),
                 Some(Found::Several) => {
-                    let found = only_in_table(alloc, signature, scope, raw, sort)?;
+                    let found = only_told(alloc, signature, scope, raw, sort)?;
                     Ok(found)
                 }
                 Some(Found::One(operator)) => {
@@ -96,7 +97,7 @@ fn only_arguments(
 }
 
 // What a variable reads as at a sort.
-fn variable_at(
+pub(crate) fn variable_at(
     alloc: Global,
     name: &Name,
     own: &Sort,
@@ -129,7 +130,7 @@ fn applied(
 }
 
 // The operator of a name that makes a sort of so many arguments, or that there are several.
-fn maker_of(
+pub(crate) fn maker_of(
     signature: &Signature,
     name: &Name,
     arity: usize,
@@ -149,6 +150,29 @@ fn maker_of(
     };
     let found = overloads.maker(&place)?;
     Ok(found)
+}
+
+// What the counts of a term tell at a sort, or else its table, if that is one thing.
+fn only_told(
+    alloc: Global,
+    signature: &Signature,
+    scope: &Scope,
+    raw: &RawTerm,
+    sort: &Sort,
+) -> Result<Option<Reading>, Memory>
+    ensures { IfOk result (λ found. IfSome found
+        (IsOnly (ReadsAt signature.now scope.now raw.now sort.now))) }
+{
+    match counted_at(alloc, signature, scope, raw, sort) {
+        Err(ReadRefusal::Memory) => Err(Memory),
+        Err(_) => Ok(None),
+        Ok(Some(Some(Found::One(reading)))) => Ok(Some(reading)),
+        Ok(Some(_)) => Ok(None),
+        Ok(None) => {
+            let found = only_in_table(alloc, signature, scope, raw, sort)?;
+            Ok(found)
+        }
+    }
 }
 
 // What the table of a term has at a sort, if that is one thing.

@@ -1,9 +1,10 @@
 ghost use Rattle.std.specs.Map.{lookup};
 ghost use Rattle.std.specs.Option.{option_copied};
-ghost use Rattle.std.specs.Prelude.{◌≡◌, ℕ, List, IfOk, IfSome, OnOk, bytes_eq, length, map, slice_get};
-ghost use Rattle.larch_sorts.specs.Marks.{AreWords, number_of, numbered};
+ghost use Rattle.std.specs.Prelude.{◌≡◌, ℕ, List, IfOk, IsTrue, bytes_eq, length, map, slice_get};
+ghost use Rattle.larch_sorts.specs.Numbers.{AreDifferent, AreWords, number_of, numbered, numbers_under};
 ghost use Rattle.larch_sorts.specs.Signature.{kept_under};
 
+use crate::count::Count;
 use crate::overloads::Overloads;
 use crate::words::words_of;
 use indexmap::{IndexMap, IndexSet};
@@ -18,12 +19,12 @@ pub(crate) struct Numbered {
     pub(crate) range: usize,
 }
 
-/// Sorts by number, the operators of each name as the numbers of their sorts, and the marks of names without arguments.
+/// Sorts by number, the operators of each name as the numbers of their sorts, and counts of names without arguments.
 #[derive(Drop)]
 pub(crate) struct Numbers {
     sorts: IndexSet<Sort>,
     names: IndexMap<Name, Sequence<Numbered>>,
-    words: IndexMap<Name, Sequence<bool>>,
+    words: IndexMap<Name, Sequence<Count>>,
 }
 
 impl Numbers {
@@ -34,8 +35,8 @@ impl Numbers {
         index: &IndexMap<Name, Overloads>,
     ) -> Result<Numbers, Memory>
         ensures names { IfOk result (λ numbers. (n : List ℕ)
-            → IfSome (lookup (bytes_eq n) numbers.names.entries)
-            (λ gs. gs ≡ map (numbered numbers.sorts.keys) (kept_under index.now.entries n))) }
+            → numbers_under numbers.names.entries n
+            ≡ map (numbered numbers.sorts.keys) (kept_under index.now.entries n)) }
         ensures words { IfOk result (λ numbers.
             AreWords (length numbers.sorts.keys) numbers.names.entries numbers.words.entries) }
     {
@@ -50,19 +51,21 @@ impl Numbers {
     }
 
     // The operators of a name.
-    pub(crate) fn named(&self, name: &Name) -> Option<&[Numbered]>
-        ensures { option_copied result ≡ lookup (bytes_eq name.now) self.now.names.entries }
+    pub(crate) fn named(&self, name: &Name) -> &[Numbered]
+        ensures { result.now ≡ numbers_under self.now.names.entries name.now }
     {
-        let operators = self.names.get(name)?;
-        Some(operators.as_slice())
+        match self.names.get(name) {
+            Some(operators) => operators.as_slice(),
+            None => &[],
+        }
     }
 
-    // The marks of what a name makes of no arguments, where they are kept.
-    pub(crate) fn word(&self, name: &Name) -> Option<&[bool]>
+    // The counts of what a name makes of no arguments, where they are kept.
+    pub(crate) fn word(&self, name: &Name) -> Option<&[Count]>
         ensures { option_copied result ≡ lookup (bytes_eq name.now) self.now.words.entries }
     {
-        let marks = self.words.get(name)?;
-        Some(marks.as_slice())
+        let counts = self.words.get(name)?;
+        Some(counts.as_slice())
     }
 
     // How many sorts there are.
@@ -87,6 +90,21 @@ impl Numbers {
     }
 }
 
+// Whether no operator comes twice among these.
+pub(crate) fn all_differ(alloc: Global, operators: &[Operator]) -> Result<bool, Memory>
+    ensures { IfOk result (λ told. IsTrue told → AreDifferent operators.now) }
+{
+    let mut before = IndexSet::new(alloc);
+    for operator in operators {
+        let operator = operator.copy()?;
+        if before.contains(&operator) {
+            return Ok(false);
+        }
+        before.insert(operator)?;
+    }
+    Ok(true)
+}
+
 // Sorts, each once.
 fn set_of(alloc: Global, sorts: &[Sort]) -> Result<IndexSet<Sort>, Memory> {
     let mut set = IndexSet::new(alloc);
@@ -104,38 +122,33 @@ fn names_of(
     index: &IndexMap<Name, Overloads>,
 ) -> Result<IndexMap<Name, Sequence<Numbered>>, Memory>
     ensures { IfOk result (λ names. (n : List ℕ)
-        → IfSome (lookup (bytes_eq n) names.entries)
-        (λ gs. gs ≡ map (numbered sorts.now.keys) (kept_under index.now.entries n))) }
+        → numbers_under names.entries n ≡ map (numbered sorts.now.keys) (kept_under index.now.entries n)) }
 {
     let mut names = IndexMap::new(alloc);
     for name in index.keys() {
-        note(alloc, sorts, index, name, &mut names)?;
+        let operators = numbers_of(alloc, sorts, index, name)?;
+        let name = name.copy()?;
+        names.insert(name, operators)?;
     }
     Ok(names)
 }
 
-// Notes the operators of one name.
-#[tactic(auto, using(crate::proofs::Marked::name_noted))]
-fn note(
+// The operators of one name as the numbers of their sorts.
+fn numbers_of(
     alloc: Global,
     sorts: &IndexSet<Sort>,
     index: &IndexMap<Name, Overloads>,
     name: &Name,
-    names: &mut IndexMap<Name, Sequence<Numbered>>,
-) -> Result<(), Memory>
-    ensures { OnOk result ((n : List ℕ)
-        → IfSome (lookup (bytes_eq n) names.old.entries)
-        (λ gs. gs ≡ map (numbered sorts.now.keys) (kept_under index.now.entries n))
-        → IfSome (lookup (bytes_eq n) names.new.entries)
-        (λ gs. gs ≡ map (numbered sorts.now.keys) (kept_under index.now.entries n))) }
+) -> Result<Sequence<Numbered>, Memory>
+    ensures { IfOk result (λ all. all ≡ map (numbered sorts.now.keys) (kept_under index.now.entries name.now)) }
 {
-    let Some(overloads) = index.get(name) else {
-        return Ok(());
-    };
-    let operators = all_numbered(alloc, sorts, overloads.as_slice())?;
-    let name = name.copy()?;
-    names.insert(name, operators)?;
-    Ok(())
+    match index.get(name) {
+        Some(overloads) => {
+            let all = all_numbered(alloc, sorts, overloads.as_slice())?;
+            Ok(all)
+        }
+        None => Ok(Sequence::new(alloc)),
+    }
 }
 
 // Operators as the numbers of their sorts.

@@ -12,6 +12,7 @@ ghost use Rattle.larch_sorts.specs.Found.{Tells};
 ghost use Rattle.larch_sorts.specs.Sides.{ReadsSides};
 ghost use Rattle.larch_sorts.specs.Tabulate.{Unread};
 
+use crate::counted::counted_sides;
 use crate::found::{Found, Sides};
 use crate::reading::term_of;
 use crate::refusal::ReadRefusal;
@@ -19,7 +20,7 @@ use crate::scope::Scope;
 use crate::sides::{formula, sides};
 use crate::signature::Signature;
 use crate::tabulate::{equation_head, table_of};
-use crate::told::{met_sides, only_sides};
+use crate::told::only_sides;
 use crate::unknown::unknown_sort;
 use larch_base::Memory;
 use larch_raw::RawEquation;
@@ -48,7 +49,7 @@ pub fn read_in(
     statement(alloc, signature, scope, raw)
 }
 
-// The same, by the only sides where the head of one tells their sort, else by the sorts that both have.
+// The same, by the only sides where the head of one tells their sort, else by all sides.
 fn statement(
     alloc: Global,
     signature: &Signature,
@@ -66,37 +67,14 @@ fn statement(
             Ok(statement)
         }
         None => {
-            let statement = by_meeting(alloc, signature, scope, raw)?;
+            let statement = by_sides(alloc, signature, scope, raw)?;
             Ok(statement)
         }
     }
 }
 
-// The same by the only sort that both sides have, or that they have several, where it can be told, else by tables.
-fn by_meeting(
-    alloc: Global,
-    signature: &Signature,
-    scope: &Scope,
-    raw: &RawEquation,
-) -> Result<Statement, ReadRefusal>
-    requires { unknown_sort signature.now raw.now ≡ None }
-    ensures { Answers told result (read_equation signature.now scope.now raw.now) }
-{
-    let Some(met) = met_sides(alloc, signature, scope, raw)? else {
-        let statement = by_tables(alloc, signature, scope, raw)?;
-        return Ok(statement);
-    };
-    match met {
-        Found::Several => Err(ReadRefusal::Ambiguous(raw.first)),
-        Found::One(sides) => {
-            let statement = equation(alloc, &sides)?;
-            Ok(statement)
-        }
-    }
-}
-
-// The same by the tables of the sides, where all sorts are known.
-fn by_tables(
+// The same by all sides, where all sorts are known.
+fn by_sides(
     alloc: Global,
     signature: &Signature,
     scope: &Scope,
@@ -115,8 +93,27 @@ fn by_tables(
     }
 }
 
-// The sides that an equation reads as, or the head token of the first part in them that has no reading.
+// The sides that an equation reads as, or the head token of the first part in them that has no reading: as counts tell,
+// or else tables.
 fn sides_of(
+    alloc: Global,
+    signature: &Signature,
+    scope: &Scope,
+    raw: &RawEquation,
+) -> Result<Option<Found<Sides>>, ReadRefusal>
+    ensures tells { IfOk result (λ found. Tells found (ReadsSides signature.now scope.now raw.now)) }
+    ensures read { IfOk result (λ _. first_unread signature.now scope.now raw.now ≡ None) }
+    ensures unread { IfErr result (λ refusal. Unread refusal (first_unread signature.now scope.now raw.now)) }
+{
+    if let Some(found) = counted_sides(alloc, signature, scope, raw)? {
+        return Ok(found);
+    }
+    let found = sides_by_tables(alloc, signature, scope, raw)?;
+    Ok(found)
+}
+
+// The same by tables.
+fn sides_by_tables(
     alloc: Global,
     signature: &Signature,
     scope: &Scope,

@@ -1,13 +1,12 @@
-ghost use Rattle.std.specs.Prelude.{◌≡◌, ℕ, List, ◌++◌, ◌∷◌, [], IfOk, IfSome, OnOk, bytes_eq, length, map};
-ghost use Rattle.std.specs.Map.{lookup};
+ghost use Rattle.std.specs.Prelude.{◌≡◌, ℕ, List, ◌++◌, ◌∷◌, [], IfOk, IfSome, OnOk, length, map};
 ghost use Rattle.std.specs.Option.{option_copied};
 ghost use Rattle.larch_sorts.specs.Signature.{kept, kept_under};
 ghost use Rattle.larch_operators.specs.Sorts.{exists_sort};
-ghost use Rattle.larch_sorts.specs.Marks.{AreNumbers, AreWords, numbered};
+ghost use Rattle.larch_sorts.specs.Numbers.{AreDifferent, AreNumbers, AreWords, numbered, numbers_under};
 ghost use Rattle.larch_sorts.specs.Signature.{taking_part};
 ghost use Rattle.larch_sorts.specs.Signature.{named};
 
-use crate::numbers::Numbers;
+use crate::numbers::{Numbers, all_differ};
 use crate::overloads::Overloads;
 use indexmap::IndexMap;
 use larch_base::{Memory, Name, Sequence};
@@ -31,7 +30,7 @@ pub struct Signature {
 impl Model for Signature {
     ghost use Rattle.std.specs.Prelude.{List, IfSome, ◌≡◌};
     ghost use Rattle.larch_term.specs.Operator.{PlainOperator};
-    ghost use Rattle.larch_sorts.specs.Marks.{AreNumbers};
+    ghost use Rattle.larch_sorts.specs.Numbers.{AreNumbers};
     ghost use Rattle.larch_sorts.specs.Signature.{IsIndex};
     ghost use Rattle.larch_operators.specs.Sorts.{existing_sorts};
     ghost use Rattle.larch_sorts.specs.Signature.{taking_part};
@@ -54,7 +53,7 @@ impl Signature {
         let mut all = copy_operators(alloc, operators.as_slice())?;
         push_built_ins(alloc, &mut all, sorts.as_slice())?;
         let index = index_of(alloc, all.as_slice())?;
-        let numbers = numbers_of(alloc, sorts.as_slice(), &index)?;
+        let numbers = numbers_of(alloc, sorts.as_slice(), all.as_slice(), &index)?;
         Ok(Signature {
             operators,
             sorts,
@@ -103,18 +102,19 @@ impl Signature {
     }
 }
 
-// The operators of each name as numbers, where there are many sorts.
+// The operators of each name as numbers, where there are many sorts and no operator comes twice.
 fn numbers_of(
     alloc: Global,
     sorts: &[Sort],
+    operators: &[Operator],
     index: &IndexMap<Name, Overloads>,
 ) -> Result<Option<Numbers>, Memory>
     ensures { IfOk result (λ found. IfSome found (λ numbers. ((n : List ℕ)
-        → IfSome (lookup (bytes_eq n) numbers.names.entries)
-        (λ gs. gs ≡ map (numbered numbers.sorts.keys) (kept_under index.now.entries n)))
-        × AreWords (length numbers.sorts.keys) numbers.names.entries numbers.words.entries)) }
+        → numbers_under numbers.names.entries n ≡ map (numbered numbers.sorts.keys) (kept_under index.now.entries n))
+        × (AreDifferent operators.now
+        × AreWords (length numbers.sorts.keys) numbers.names.entries numbers.words.entries))) }
 {
-    if sorts.len() <= FEW {
+    if sorts.len() <= FEW || !all_differ(alloc, operators)? {
         return Ok(None);
     }
     let numbers = Numbers::of(alloc, sorts, index)?;

@@ -1,16 +1,14 @@
-ghost use Rattle.std.specs.Prelude.{◌≡◌, IfOk, IfSome, Some};
+ghost use Rattle.std.specs.Prelude.{◌≡◌, IfOk, IfSome};
 ghost use Rattle.std.specs.Option.{option_copied};
 ghost use Rattle.larch_term.specs.BuiltIn.{bool_sort};
 ghost use Rattle.larch_term.specs.Sorts.{sort_of};
 ghost use Rattle.larch_term.specs.Tree.{Tree};
 ghost use Rattle.larch_term.specs.Truth.{truth};
-ghost use Rattle.larch_sorts.specs.Found.{Tells};
 ghost use Rattle.larch_sorts.specs.Narrow.{ReadsAt};
 ghost use Rattle.larch_sorts.specs.Readings.{IsOnly, Reads};
 ghost use Rattle.larch_sorts.specs.Sides.{ReadsSides};
 
-use crate::found::{Found, Sides};
-use crate::marks::{are_wide, meeting};
+use crate::found::Sides;
 use crate::narrow::only_at;
 use crate::scope::Scope;
 use crate::sides::truth;
@@ -23,7 +21,7 @@ use std::alloc::Global;
 
 // The sides that an equation reads as, where they are the only ones and their sort is told by the head of one of them,
 // or it is a formula.
-#[tactic(auto, using(crate::proofs::Marked::only_sides_met))]
+#[tactic(auto, using(crate::proofs::OnlyReadings::only_sides_met))]
 pub(crate) fn only_sides(
     alloc: Global,
     signature: &Signature,
@@ -92,7 +90,11 @@ fn both_at(
 }
 
 // The sort that a term has whatever it reads as, where its head tells.
-fn told_sort<'a>(signature: &'a Signature, scope: &'a Scope, raw: &'a RawTerm) -> Option<&'a Sort>
+pub(crate) fn told_sort<'a>(
+    signature: &'a Signature,
+    scope: &'a Scope,
+    raw: &'a RawTerm,
+) -> Option<&'a Sort>
     ensures { IfSome (option_copied result)
         (λ s. (t : Tree) → Reads signature.now scope.now raw.now t → sort_of t ≡ s) }
 {
@@ -106,38 +108,5 @@ fn told_sort<'a>(signature: &'a Signature, scope: &'a Scope, raw: &'a RawTerm) -
             Some(operator.range())
         }
         RawNode::Qualified(_, sort, _) => Some(&sort.name),
-    }
-}
-
-// What an equation reads as, where the only sort that both sides have tells, or that they have several; where marks of
-// their sorts are worth their making.
-#[tactic(auto, using(crate::proofs::Exact::only_met))]
-pub(crate) fn met_sides(
-    alloc: Global,
-    signature: &Signature,
-    scope: &Scope,
-    raw: &RawEquation,
-) -> Result<Option<Found<Sides>>, Memory>
-    ensures { IfOk result (λ found. IfSome found (λ met.
-        Tells (Some met) (ReadsSides signature.now scope.now raw.now))) }
-{
-    let (Some(numbers), Some(right)) = (signature.numbers(), &raw.right) else {
-        return Ok(None);
-    };
-    if !are_wide(numbers, &raw.left, &right.term) {
-        return Ok(None);
-    }
-    match meeting(alloc, numbers, scope, &raw.left, &right.term)? {
-        None => Ok(None),
-        Some(Found::Several) => Ok(Some(Found::Several)),
-        Some(Found::One(number)) => {
-            let Some(sort) = numbers.sort(number) else {
-                return Ok(None);
-            };
-            let Some(sides) = both_at(alloc, signature, scope, &raw.left, &right.term, sort)? else {
-                return Ok(None);
-            };
-            Ok(Some(Found::One(sides)))
-        }
     }
 }

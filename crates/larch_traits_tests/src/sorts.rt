@@ -95,3 +95,68 @@ fn tells_several_readings(rt: HostRuntime) -> Result<(), Fail> {
     );
     Ok(())
 }
+
+// The operators of one of many sorts: a constant, a symbol, and a function to D.
+fn declare(text: &mut Bytes, sort: &[u8]) -> Result<(), Memory> {
+    let pieces: [&[u8]; 10] = [
+        b" c: -> ",
+        sort,
+        b" __ + __: ",
+        sort,
+        b", ",
+        sort,
+        b" -> ",
+        sort,
+        b" f: ",
+        sort,
+    ];
+    for piece in pieces.iter() {
+        text.append(piece)?;
+    }
+    text.append(b" -> D")
+}
+
+// Such operators at seventy sorts, and a function to D of one of them and of a sort that nothing has.
+fn wide_signature(alloc: Global) -> Result<Signature, Fail> {
+    let mut text = Bytes::new(alloc);
+    text.append(b"T: trait introduces d: -> D h: S -> D h: E -> D")?;
+    let mut sort = Bytes::new(alloc);
+    for _ in 0..70 {
+        sort.append(b"S")?;
+        declare(&mut text, sort.bytes())?;
+    }
+    let theory = theory(alloc, text.bytes())?;
+    let signature = Signature::from_operators(alloc, theory.operators)?;
+    Ok(signature)
+}
+
+// Why a text isn't read over them, if it isn't.
+fn wide_refusal(alloc: Global, text: &[u8]) -> Result<Option<ReadRefusal>, Fail> {
+    let signature = wide_signature(alloc)?;
+    let raw = equation(alloc, text)?;
+    let scope = Scope::new(alloc);
+    Ok(read_in(alloc, &signature, &scope, &raw).err())
+}
+
+#[test]
+fn counts_at_many_sorts(rt: HostRuntime) -> Result<(), Fail> {
+    assert_eq!(rt; wide_refusal(rt.alloc(), b"h(c) == d")?, None);
+    assert_eq!(rt;
+        wide_refusal(rt.alloc(), b"c + c == d")?,
+        Some(ReadRefusal::NoReading(at(7)))
+    );
+    Ok(())
+}
+
+#[test]
+fn counts_several_at_many_sorts(rt: HostRuntime) -> Result<(), Fail> {
+    assert_eq!(rt;
+        wide_refusal(rt.alloc(), b"f(c + c) == d")?,
+        Some(ReadRefusal::Ambiguous(at(1)))
+    );
+    assert_eq!(rt;
+        wide_refusal(rt.alloc(), b"c + c = c")?,
+        Some(ReadRefusal::Ambiguous(at(1)))
+    );
+    Ok(())
+}

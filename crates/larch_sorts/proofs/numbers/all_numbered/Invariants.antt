@@ -1,5 +1,5 @@
 use Rattle.std.proofs.Common.{◌≡◌, map, take}
-use Rattle.larch_sorts.specs.Marks.{numbered}
+use Rattle.larch_sorts.specs.Numbers.{numbered}
 use Rattle.larch_sorts.proofs.numbers.all_numbered.Given as goal
 
 -- the operators so far are numbered

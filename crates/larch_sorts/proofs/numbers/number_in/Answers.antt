@@ -1,5 +1,5 @@
 use Rattle.std.proofs.Common.{◌∙◌, sym}
-use Rattle.larch_sorts.proofs.Marked.{number_of_none}
+use Rattle.larch_sorts.proofs.Numbered.{number_of_none}
 use Rattle.larch_sorts.proofs.numbers.number_in.Goals as goal
 
 pub returns-in-None : goal.returns-in-None

@@ -1,5 +1,5 @@
 use Rattle.std.proofs.Common.{◌≡◌, map, take}
-use Rattle.larch_sorts.specs.Marks.{number_of}
+use Rattle.larch_sorts.specs.Numbers.{number_of}
 use Rattle.larch_sorts.proofs.numbers.numbers_in.Given as goal
 
 -- these are the numbers of the sorts so far

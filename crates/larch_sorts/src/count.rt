@@ -1,0 +1,34 @@
+ghost use Rattle.std.specs.Prelude.{◌≡◌};
+ghost use Rattle.larch_sorts.specs.Count.{plus, times};
+
+/// How often something is found: never, once, or in several ways.
+#[derive(Clone, Copy)]
+pub(crate) enum Count {
+    Never,
+    Once,
+    Often,
+}
+
+impl Count {
+    // How often one or another thing is found, where they are never the same.
+    pub(crate) fn plus(self, other: Count) -> Count
+        ensures { result ≡ plus self other }
+    {
+        match (self, other) {
+            (Count::Never, other) => other,
+            (count, Count::Never) => count,
+            (_, _) => Count::Often,
+        }
+    }
+
+    // How often one thing is found together with another.
+    pub(crate) fn times(self, other: Count) -> Count
+        ensures { result ≡ times self other }
+    {
+        match (self, other) {
+            (Count::Never, _) | (_, Count::Never) => Count::Never,
+            (Count::Once, other) => other,
+            (Count::Often, _) => Count::Often,
+        }
+    }
+}

@@ -1,0 +1,218 @@
+ghost use Rattle.std.specs.Prelude.{◌≡◌, ◌++◌, IfErr, IfOk, IfSome, None};
+ghost use Rattle.larch_sorts.specs.Found.{Tells};
+ghost use Rattle.larch_sorts.specs.Narrow.{ReadsAt};
+ghost use Rattle.larch_sorts.specs.Parts.{parts};
+ghost use Rattle.larch_sorts.specs.Read.{first_unread, unread_in};
+ghost use Rattle.larch_sorts.specs.Readings.{Reads};
+ghost use Rattle.larch_sorts.specs.Sides.{ReadBoth, ReadsFormula, ReadsSides};
+ghost use Rattle.larch_sorts.specs.Tabulate.{Unread};
+
+use crate::count::Count;
+use crate::counts::counts_of;
+use crate::found::{Found, Sides};
+use crate::numbers::Numbers;
+use crate::pick::picked_at;
+use crate::reading::Reading;
+use crate::refusal::ReadRefusal;
+use crate::scope::Scope;
+use crate::sides::truth;
+use crate::signature::Signature;
+use crate::tally::{count_at, meeting, total};
+use crate::width::{are_wide, is_wide};
+use larch_raw::{RawEquation, RawTerm};
+use larch_term::{Sort, bool_sort};
+use std::alloc::Global;
+
+// What a term reads as at a sort, where it is worth counting and counts tell, or the head token of the first part that
+// has no reading.
+pub(crate) fn counted_at(
+    alloc: Global,
+    signature: &Signature,
+    scope: &Scope,
+    raw: &RawTerm,
+    sort: &Sort,
+) -> Result<Option<Option<Found<Reading>>>, ReadRefusal>
+    ensures tells { IfOk result (λ told. IfSome told (λ found.
+        Tells found (ReadsAt signature.now scope.now raw.now sort.now))) }
+    ensures read { IfOk result (λ told. IfSome told (λ _.
+        unread_in signature.now scope.now (parts raw.now) ≡ None)) }
+    ensures unread { IfErr result (λ refusal. Unread refusal (unread_in signature.now scope.now (parts raw.now))) }
+{
+    let Some(numbers) = signature.numbers() else {
+        return Ok(None);
+    };
+    if !is_wide(signature, scope, raw)? {
+        return Ok(None);
+    }
+    let Some(counted) = counts_of(alloc, numbers, scope, raw)? else {
+        return Ok(None);
+    };
+    let number = numbers.number(sort);
+    if numbers.len() <= number {
+        return Ok(None);
+    }
+    match count_at(counted.counts.as_slice(), number) {
+        Count::Never => Ok(Some(None)),
+        Count::Often => Ok(Some(Some(Found::Several))),
+        Count::Once => {
+            let Some(reading) = picked_at(alloc, signature, scope, raw, &counted, sort)? else {
+                return Ok(None);
+            };
+            Ok(Some(Some(Found::One(reading))))
+        }
+    }
+}
+
+// What a term reads as at any sort, where counts tell, or the head token of the first part that has no reading.
+pub(crate) fn counted_anywhere(
+    alloc: Global,
+    signature: &Signature,
+    scope: &Scope,
+    raw: &RawTerm,
+) -> Result<Option<Option<Found<Reading>>>, ReadRefusal>
+    ensures tells { IfOk result (λ told. IfSome told (λ found. Tells found (Reads signature.now scope.now raw.now))) }
+    ensures read { IfOk result (λ told. IfSome told (λ _.
+        unread_in signature.now scope.now (parts raw.now) ≡ None)) }
+    ensures unread { IfErr result (λ refusal. Unread refusal (unread_in signature.now scope.now (parts raw.now))) }
+{
+    let Some(numbers) = signature.numbers() else {
+        return Ok(None);
+    };
+    if !is_wide(signature, scope, raw)? {
+        return Ok(None);
+    }
+    let Some(counted) = counts_of(alloc, numbers, scope, raw)? else {
+        return Ok(None);
+    };
+    match total(numbers.len(), counted.counts.as_slice()) {
+        Count::Never => Ok(Some(None)),
+        Count::Often => Ok(Some(Some(Found::Several))),
+        Count::Once => {
+            let counts = counted.counts.as_slice();
+            let Some(sort) = sort_met(numbers, counts, counts) else {
+                return Ok(None);
+            };
+            let Some(reading) = picked_at(alloc, signature, scope, raw, &counted, sort)? else {
+                return Ok(None);
+            };
+            Ok(Some(Some(Found::One(reading))))
+        }
+    }
+}
+
+// The sides that an equation reads as, where counts tell, or the head token of the first part in them that has no
+// reading.
+pub(crate) fn counted_sides(
+    alloc: Global,
+    signature: &Signature,
+    scope: &Scope,
+    raw: &RawEquation,
+) -> Result<Option<Option<Found<Sides>>>, ReadRefusal>
+    ensures tells { IfOk result (λ told. IfSome told (λ found.
+        Tells found (ReadsSides signature.now scope.now raw.now))) }
+    ensures read { IfOk result (λ told. IfSome told (λ _. first_unread signature.now scope.now raw.now ≡ None)) }
+    ensures unread { IfErr result (λ refusal. Unread refusal (first_unread signature.now scope.now raw.now)) }
+{
+    match &raw.right {
+        None => {
+            let told = counted_formula(alloc, signature, scope, &raw.left)?;
+            Ok(told)
+        }
+        Some(right) => {
+            let told = counted_both(alloc, signature, scope, &raw.left, &right.term)?;
+            Ok(told)
+        }
+    }
+}
+
+// What a formula reads as, and true beside it.
+fn counted_formula(
+    alloc: Global,
+    signature: &Signature,
+    scope: &Scope,
+    left: &RawTerm,
+) -> Result<Option<Option<Found<Sides>>>, ReadRefusal>
+    ensures tells { IfOk result (λ told. IfSome told (λ found.
+        Tells found (ReadsFormula signature.now scope.now left.now))) }
+    ensures read { IfOk result (λ told. IfSome told (λ _.
+        unread_in signature.now scope.now (parts left.now) ≡ None)) }
+    ensures unread { IfErr result (λ refusal. Unread refusal (unread_in signature.now scope.now (parts left.now))) }
+{
+    let sort = bool_sort(alloc)?;
+    match counted_at(alloc, signature, scope, left, &sort)? {
+        None => Ok(None),
+        Some(None) => Ok(Some(None)),
+        Some(Some(Found::Several)) => Ok(Some(Some(Found::Several))),
+        Some(Some(Found::One(left))) => {
+            let right = truth(alloc, &sort)?;
+            Ok(Some(Some(Found::One(Sides { left, right }))))
+        }
+    }
+}
+
+// What two terms read as, of one sort.
+fn counted_both(
+    alloc: Global,
+    signature: &Signature,
+    scope: &Scope,
+    left: &RawTerm,
+    right: &RawTerm,
+) -> Result<Option<Option<Found<Sides>>>, ReadRefusal>
+    ensures tells { IfOk result (λ told. IfSome told (λ found.
+        Tells found (ReadBoth signature.now scope.now left.now right.now))) }
+    ensures read { IfOk result (λ told. IfSome told (λ _.
+        (unread_in signature.now scope.now (parts left.now) ≡ None)
+        × (unread_in signature.now scope.now (parts right.now) ≡ None))) }
+    ensures unread { IfErr result (λ refusal.
+        Unread refusal (unread_in signature.now scope.now (parts left.now ++ parts right.now))) }
+{
+    let Some(numbers) = signature.numbers() else {
+        return Ok(None);
+    };
+    if !are_wide(signature, scope, left, right)? {
+        return Ok(None);
+    }
+    let Some(lefts) = counts_of(alloc, numbers, scope, left)? else {
+        return Ok(None);
+    };
+    let Some(rights) = counts_of(alloc, numbers, scope, right)? else {
+        return Ok(None);
+    };
+    match meeting(
+        numbers.len(),
+        lefts.counts.as_slice(),
+        rights.counts.as_slice(),
+    ) {
+        None => Ok(None),
+        Some(Count::Never) => Ok(Some(None)),
+        Some(Count::Often) => Ok(Some(Some(Found::Several))),
+        Some(Count::Once) => {
+            let Some(sort) = sort_met(numbers, lefts.counts.as_slice(), rights.counts.as_slice())
+            else {
+                return Ok(None);
+            };
+            let Some(left) = picked_at(alloc, signature, scope, left, &lefts, sort)? else {
+                return Ok(None);
+            };
+            let Some(right) = picked_at(alloc, signature, scope, right, &rights, sort)? else {
+                return Ok(None);
+            };
+            Ok(Some(Some(Found::One(Sides { left, right }))))
+        }
+    }
+}
+
+// The first sort that is counted in both.
+fn sort_met<'a>(numbers: &'a Numbers, left: &[Count], right: &[Count]) -> Option<&'a Sort> {
+    for i in 0..numbers.len() {
+        if !is_never(count_at(left, i)) && !is_never(count_at(right, i)) {
+            return numbers.sort(i);
+        }
+    }
+    None
+}
+
+// Whether nothing was counted.
+fn is_never(count: Count) -> bool {
+    matches!(count, Count::Never)
+}
