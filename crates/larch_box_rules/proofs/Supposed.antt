@@ -29,14 +29,14 @@ use Rattle.larch_box_rules.specs.Inductions.{IsInductive, equation_with, hypothe
 use Rattle.larch_box_rules.specs.declared.showing.Inductive.{Inductive}
 
 -- what is shown stays while the pool grows
-pub inductive_later : (p q : Pooled) (x : CodedVar) (i : Inductive) → Grows p q → IsInductive p x i → IsInductive q x i
-inductive_later p q x i g h =
-    (has_later p q i.variable (var x.name x.sort) g h.0, equated_stays p q i.sides g h.1)
+pub inductive_later : (p q : Pooled) (i : Inductive) → Grows p q → IsInductive p i → IsInductive q i
+inductive_later p q i g h =
+    (has_later p q i.number (var i.variable.now.name i.variable.now.sort) g h.0, equated_stays p q i.sides g h.1)
 
-pub with_same : (p q : Pooled) (x : CodedVar) (i : Inductive) (t : Tree) → Grows p q → IsInductive p x i
-    → equation_with q x i t ≡ equation_with p x i t
-with_same p q x i t g h =
-    λ k. equation_at x.name x.sort (tree_later p q i.sides.left g h.1.0 k) (tree_later p q i.sides.right g h.1.1 k) t
+pub with_same : (p q : Pooled) (i : Inductive) (t : Tree) → Grows p q → IsInductive p i
+    → equation_with q i t ≡ equation_with p i t
+with_same p q i t g h =
+    λ k. equation_at i.variable.now.name i.variable.now.sort (tree_later p q i.sides.left g h.1.0 k) (tree_later p q i.sides.right g h.1.1 k) t
 
 -- the binding of the variable is its substitution
 pub binds_only : (p : Pooled) (x : CodedVar) (n m : ℕ) → HasTree p n (var x.name x.sort)
@@ -60,41 +60,41 @@ with_first x s l r b k p ps e h =
     (sym (as_constant b k p e))
 
 -- what is left to compare: these hypotheses with those of these parts, the first of which has a number
-abbrev pub left_same : Pooled → CodedVar → Inductive → ℕ → ℕ → List BoxPart → List Statement → Bool
-left_same p x i b k ps hs = same_statements hs (hypotheses_from p x i b k ps)
+abbrev pub left_same : Pooled → Inductive → ℕ → ℕ → List BoxPart → List Statement → Bool
+left_same p i b k ps hs = same_statements hs (hypotheses_from p i b k ps)
 
 -- a hypothesis is compared
-pub compares : (p : Pooled) (x : CodedVar) (i : Inductive) (b k : ℕ) (c : BoxPart) (ps : List BoxPart) (h : Statement) (hs : List Statement) (r : Bool)
-    → c.predicate ≡ false → bytes_eq c.sort x.sort ≡ true → r ≡ same_statement h (equation_with p x i (constant (part_operator b k c)))
-    → left_same p x i b k (c ∷ ps) (h ∷ hs) ≡ (r && left_same p x i b (suc k) ps hs)
-compares p x i b k c ps h hs r e z s =
+pub compares : (p : Pooled) (i : Inductive) (b k : ℕ) (c : BoxPart) (ps : List BoxPart) (h : Statement) (hs : List Statement) (r : Bool)
+    → c.predicate ≡ false → bytes_eq c.sort i.variable.now.sort ≡ true → r ≡ same_statement h (equation_with p i (constant (part_operator b k c)))
+    → left_same p i b k (c ∷ ps) (h ∷ hs) ≡ (r && left_same p i b (suc k) ps hs)
+compares p i b k c ps h hs r e z s =
     ap (same_statements (h ∷ hs))
-    (with_first x.name x.sort (tree_in p.trees i.sides.left) (tree_in p.trees i.sides.right) b k c ps e z)
-    ∙ ap (λ y. y && left_same p x i b (suc k) ps hs) (sym s)
+    (with_first i.variable.now.name i.variable.now.sort (tree_in p.trees i.sides.left) (tree_in p.trees i.sides.right) b k c ps e z)
+    ∙ ap (λ y. y && left_same p i b (suc k) ps hs) (sym s)
 
 -- what is told by a pool that has grown
-pub told_at : (p q : Pooled) (x : CodedVar) (i : Inductive) (e : Equated) (t : Tree) (n : ℕ) (r : Bool) → Grows p q → IsInductive p x i
-    → IsEquated p e → HasTree q n t → r ≡ same_statement (equated_in q e) (equation_with q x i (tree_in q.trees n))
-    → r ≡ same_statement (equated_in p e) (equation_with p x i t)
-told_at p q x i e t n r g h w z k =
+pub told_at : (p q : Pooled) (i : Inductive) (e : Equated) (t : Tree) (n : ℕ) (r : Bool) → Grows p q → IsInductive p i
+    → IsEquated p e → HasTree q n t → r ≡ same_statement (equated_in q e) (equation_with q i (tree_in q.trees n))
+    → r ≡ same_statement (equated_in p e) (equation_with p i t)
+told_at p q i e t n r g h w z k =
     k ∙ (λ j. same_statement (equated_same p q e g w j)
-    ((with_same p q x i (tree_in q.trees n) g h ∙ ap (equation_with p x i) (has_tree q n t z)) j))
+    ((with_same p q i (tree_in q.trees n) g h ∙ ap (equation_with p i) (has_tree q n t z)) j))
 
 -- both sides with a term for the variable
-pub instance_told : (p q r : Pooled) (x : CodedVar) (i : Inductive) (m : ℕ) (e : Equated) (l k : ℕ) (b : Bool) → Grows p q → Grows q r
-    → IsInductive p x i → m < length p.trees → IsEquated p e
-    → HasTree q l (substituted (entries_of p.trees (record { variable = i.variable; image = m } ∷ [])) (tree_in p.trees i.sides.left))
-    → HasTree r k (substituted (entries_of q.trees (record { variable = i.variable; image = m } ∷ [])) (tree_in q.trees i.sides.right))
+pub instance_told : (p q r : Pooled) (i : Inductive) (m : ℕ) (e : Equated) (l k : ℕ) (b : Bool) → Grows p q → Grows q r
+    → IsInductive p i → m < length p.trees → IsEquated p e
+    → HasTree q l (substituted (entries_of p.trees (record { variable = i.number; image = m } ∷ [])) (tree_in p.trees i.sides.left))
+    → HasTree r k (substituted (entries_of q.trees (record { variable = i.number; image = m } ∷ [])) (tree_in q.trees i.sides.right))
     → (IsTrue b ↔ (equated_in r e ≡ equated_in r (record { left = l; right = k })))
-    → b ≡ same_statement (equated_in p e) (equation_with p x i (tree_in p.trees m))
-instance_told p q r x i m e l k b g f h n w s t c =
-    let at_right : entries_of q.trees (record { variable = i.variable; image = m } ∷ []) ≡ only x.name x.sort (tree_in p.trees m) =
-    binds_only q x i.variable m (has_later p q i.variable (var x.name x.sort) g h.0) ∙ ap (only x.name x.sort) (tree_later p q m g n) in
-    let left : tree_in r.trees l ≡ substituted (only x.name x.sort (tree_in p.trees m)) (tree_in p.trees i.sides.left) =
-    has_tree_later q r l (substituted (entries_of p.trees (record { variable = i.variable; image = m } ∷ [])) (tree_in p.trees i.sides.left)) f s
-    ∙ ap (λ es. substituted es (tree_in p.trees i.sides.left)) (binds_only p x i.variable m h.0) in
-    let right : tree_in r.trees k ≡ substituted (only x.name x.sort (tree_in p.trees m)) (tree_in p.trees i.sides.right) =
-    has_tree r k (substituted (entries_of q.trees (record { variable = i.variable; image = m } ∷ [])) (tree_in q.trees i.sides.right)) t
+    → b ≡ same_statement (equated_in p e) (equation_with p i (tree_in p.trees m))
+instance_told p q r i m e l k b g f h n w s t c =
+    let at_right : entries_of q.trees (record { variable = i.number; image = m } ∷ []) ≡ only i.variable.now.name i.variable.now.sort (tree_in p.trees m) =
+    binds_only q i.variable.now i.number m (has_later p q i.number (var i.variable.now.name i.variable.now.sort) g h.0) ∙ ap (only i.variable.now.name i.variable.now.sort) (tree_later p q m g n) in
+    let left : tree_in r.trees l ≡ substituted (only i.variable.now.name i.variable.now.sort (tree_in p.trees m)) (tree_in p.trees i.sides.left) =
+    has_tree_later q r l (substituted (entries_of p.trees (record { variable = i.number; image = m } ∷ [])) (tree_in p.trees i.sides.left)) f s
+    ∙ ap (λ es. substituted es (tree_in p.trees i.sides.left)) (binds_only p i.variable.now i.number m h.0) in
+    let right : tree_in r.trees k ≡ substituted (only i.variable.now.name i.variable.now.sort (tree_in p.trees m)) (tree_in p.trees i.sides.right) =
+    has_tree r k (substituted (entries_of q.trees (record { variable = i.number; image = m } ∷ [])) (tree_in q.trees i.sides.right)) t
     ∙ (λ j. substituted (at_right j) (tree_later p q i.sides.right g h.1.1 j)) in
     statements_told (equated_in r e) (equated_in r (record { left = l; right = k })) b c
     ∙ (λ j. same_statement (equated_same p r e (grows_trans p q r g f) w j) (Equation (left j) (right j)))
@@ -119,17 +119,17 @@ never_same (Generated z fs) l r e = refl
 never_same (Partitioned z fs) l r e = refl
 
 -- one constant's hypothesis is compared
-pub step_met : (p : Pooled) (x : CodedVar) (v : Inductive) (b : ℕ) (ps : List BoxPart) (hs : List Equated) (i m : ℕ) (c : BoxPart) (d : Equated) (r : Bool)
-    → i < length ps → m < length hs → c ≡ get_or ps i c → All (λ q. q.predicate ≡ false) ps → bytes_eq c.sort x.sort ≡ true
-    → r ≡ same_statement (equated_in p (get_or hs m d)) (equation_with p x v (constant (part_operator b (i + 1) c)))
-    → left_same p x v b (i + 1) (drop i ps) (map (equated_in p) (drop m hs))
-    ≡ (r && left_same p x v b (i + 1 + 1) (drop (i + 1) ps) (map (equated_in p) (drop (m + 1) hs)))
-step_met p x v b ps hs i m c d r l k s a z e =
+pub step_met : (p : Pooled) (v : Inductive) (b : ℕ) (ps : List BoxPart) (hs : List Equated) (i m : ℕ) (c : BoxPart) (d : Equated) (r : Bool)
+    → i < length ps → m < length hs → c ≡ get_or ps i c → All (λ q. q.predicate ≡ false) ps → bytes_eq c.sort v.variable.now.sort ≡ true
+    → r ≡ same_statement (equated_in p (get_or hs m d)) (equation_with p v (constant (part_operator b (i + 1) c)))
+    → left_same p v b (i + 1) (drop i ps) (map (equated_in p) (drop m hs))
+    ≡ (r && left_same p v b (i + 1 + 1) (drop (i + 1) ps) (map (equated_in p) (drop (m + 1) hs)))
+step_met p v b ps hs i m c d r l k s a z e =
     let n : suc (i + 1) ≡ i + 1 + 1 = omega arith in
-    (λ j. left_same p x v b (i + 1) ((drop_more ps i c l ∙ ap (λ y. y ∷ drop (i + 1) ps) (sym s)) j) (map (equated_in p) (drop_more hs m d k j)))
-    ∙ compares p x v b (i + 1) c (drop (i + 1) ps) (equated_in p (get_or hs m d)) (map (equated_in p) (drop (m + 1) hs)) r
+    (λ j. left_same p v b (i + 1) ((drop_more ps i c l ∙ ap (λ y. y ∷ drop (i + 1) ps) (sym s)) j) (map (equated_in p) (drop_more hs m d k j)))
+    ∙ compares p v b (i + 1) c (drop (i + 1) ps) (equated_in p (get_or hs m d)) (map (equated_in p) (drop (m + 1) hs)) r
     (ap (λ y. y.predicate) s ∙ a i c l) z e
-    ∙ ap (λ y. r && left_same p x v b y (drop (i + 1) ps) (map (equated_in p) (drop (m + 1) hs))) n
+    ∙ ap (λ y. r && left_same p v b y (drop (i + 1) ps) (map (equated_in p) (drop (m + 1) hs))) n
 
 pub same_sort : (c s : List ℕ) (r : Bool) → r ≡ not (bytes_eq c s) → r ≡ false → bytes_eq c s ≡ true
 same_sort c s r e h = not_false (bytes_eq c s) (sym e ∙ h)
@@ -139,13 +139,13 @@ same_sort c s r e h = not_false (bytes_eq c s) (sym e ∙ h)
     not_false false q = cc
 
 -- the next constant's hypothesis is compared, while the pool has grown
-pub next_met : (p l q : Pooled) (x : CodedVar) (v : Inductive) (b : ℕ) (ps us : List BoxPart) (hs ks : List Equated) (i m n : ℕ) (c : BoxPart) (d : Equated) (r t : Bool)
-    → Grows p l → Grows l q → IsInductive p x v → All (IsEquated p) ks → hs ≡ ks → All (λ u. u.predicate ≡ false) us → ps ≡ us
-    → i < length ps → m < length hs → c ≡ get_or ps i c → t ≡ not (bytes_eq c.sort x.sort) → t ≡ false
-    → HasTree q n (constant (part_operator b (i + 1) c)) → r ≡ same_statement (equated_in q (get_or hs m d)) (equation_with q x v (tree_in q.trees n))
-    → left_same p x v b (i + 1) (drop i ps) (map (equated_in p) (drop m hs))
-    ≡ (r && left_same p x v b (i + 1 + 1) (drop (i + 1) ps) (map (equated_in p) (drop (m + 1) hs)))
-next_met p l q x v b ps us hs ks i m n c d r t f g h w e a o k z s u y tr j =
-    step_met p x v b ps hs i m c d r k z s (subst (All (λ u. u.predicate ≡ false)) (sym o) a) (same_sort c.sort x.sort t u y)
-    (told_at p q x v (get_or hs m d) (constant (part_operator b (i + 1) c)) n r (grows_trans p l q f g) h
+pub next_met : (p l q : Pooled) (v : Inductive) (b : ℕ) (ps us : List BoxPart) (hs ks : List Equated) (i m n : ℕ) (c : BoxPart) (d : Equated) (r t : Bool)
+    → Grows p l → Grows l q → IsInductive p v → All (IsEquated p) ks → hs ≡ ks → All (λ u. u.predicate ≡ false) us → ps ≡ us
+    → i < length ps → m < length hs → c ≡ get_or ps i c → t ≡ not (bytes_eq c.sort v.variable.now.sort) → t ≡ false
+    → HasTree q n (constant (part_operator b (i + 1) c)) → r ≡ same_statement (equated_in q (get_or hs m d)) (equation_with q v (tree_in q.trees n))
+    → left_same p v b (i + 1) (drop i ps) (map (equated_in p) (drop m hs))
+    ≡ (r && left_same p v b (i + 1 + 1) (drop (i + 1) ps) (map (equated_in p) (drop (m + 1) hs)))
+next_met p l q v b ps us hs ks i m n c d r t f g h w e a o k z s u y tr j =
+    step_met p v b ps hs i m c d r k z s (subst (All (λ u. u.predicate ≡ false)) (sym o) a) (same_sort c.sort v.variable.now.sort t u y)
+    (told_at p q v (get_or hs m d) (constant (part_operator b (i + 1) c)) n r (grows_trans p l q f g) h
     ((subst (All (IsEquated p)) (sym e) w) m d z) tr j)

@@ -6,26 +6,26 @@ use Rattle.larch_term.specs.declared.statement.Statement.{Statement}
 use Rattle.larch_term.specs.declared.statement.Statement.TheVariants.{Equation, Generated, Partitioned}
 use Rattle.larch_calculus.specs.Generation.{equation_at, induction_hypotheses}
 use Rattle.larch_certificate.specs.declared.line.BoxPart.{BoxPart}
-use Rattle.larch_certificate.specs.declared.line.CodedVar.{CodedVar}
 use Rattle.larch_lines.specs.Events.{operators_from}
 use Rattle.larch_pool.specs.Pooled.{Pooled, tree_in, HasTree}
 use Rattle.larch_past.specs.Past.{IsEquated}
 use Rattle.larch_box_rules.specs.declared.showing.Inductive.{Inductive}
 
 -- the numbers are those of the variable and of an equation's sides
-abbrev pub IsInductive : Pooled → CodedVar → Inductive → Type 0
-IsInductive p x i = HasTree p i.variable (var x.name x.sort) × IsEquated p i.sides
+abbrev pub IsInductive : Pooled → Inductive → Type 0
+IsInductive p i = HasTree p i.number (var i.variable.now.name i.variable.now.sort) × IsEquated p i.sides
 
 -- the equation with a term for the variable
-abbrev pub equation_with : Pooled → CodedVar → Inductive → Tree → Statement
-equation_with p x i t = equation_at x.name x.sort (tree_in p.trees i.sides.left) (tree_in p.trees i.sides.right) t
+abbrev pub equation_with : Pooled → Inductive → Tree → Statement
+equation_with p i t =
+    equation_at i.variable.now.name i.variable.now.sort (tree_in p.trees i.sides.left) (tree_in p.trees i.sides.right) t
 
 -- the equation with what each of these parts of a box makes, the first of which has a number, if it has the variable's
 -- sort
-abbrev pub hypotheses_from : Pooled → CodedVar → Inductive → ℕ → ℕ → List BoxPart → List Statement
-hypotheses_from p x i b k ps =
-    induction_hypotheses x.name x.sort (tree_in p.trees i.sides.left) (tree_in p.trees i.sides.right)
-    (operators_from b k ps)
+abbrev pub hypotheses_from : Pooled → Inductive → ℕ → ℕ → List BoxPart → List Statement
+hypotheses_from p i b k ps =
+    induction_hypotheses i.variable.now.name i.variable.now.sort (tree_in p.trees i.sides.left)
+    (tree_in p.trees i.sides.right) (operators_from b k ps)
 
 -- the operators that a statement says generate a sort
 abbrev pub generators_of : List ℕ → Statement → Option (List PlainOperator)

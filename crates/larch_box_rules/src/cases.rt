@@ -7,10 +7,9 @@ ghost use Rattle.larch_box_rules.specs.Cases.{are_cases};
 
 use crate::matching::same_equations;
 use larch_base::Memory;
-use larch_past::{Equated, KnownBox, Past, Stated, same_stated};
+use larch_past::{Equated, KnownBox, Stated, same_stated};
 use larch_pool::Pool;
-use larch_rule_parts::{falsity_in, sides_of, truth_in};
-use larch_term::Theory;
+use larch_rule_parts::{Context, falsity_in, sides_of, truth_in};
 use std::alloc::Global;
 
 /// The common result of two closed boxes, for one of which a formula without variables is true and for the other
@@ -18,21 +17,20 @@ use std::alloc::Global;
 pub fn cases_line(
     alloc: Global,
     pool: &mut Pool,
-    theory: &Theory,
-    past: &Past,
+    context: &Context<'_>,
     first: u64,
     second: u64,
 ) -> Result<Option<Equated>, Memory>
-    requires { IsPast theory.now pool.old past.now }
+    requires { IsPast context.now.theory.now pool.old context.now.past.now }
     ensures within { IfOk result (λ o. IfSome o (IsEquated pool.new)) }
     ensures says { IfOk result (λ o. option_map (equated_in pool.new) o
-        ≡ cases_says (history_of pool.old past.now) first second) }
+        ≡ cases_says (history_of pool.old context.now.past.now) first second) }
     ensures grows { OnOk result (Grows pool.old pool.new) }
 {
-    let Some((one, shown)) = past.closed_box(first) else {
+    let Some((one, shown)) = context.past.closed_box(first) else {
         return Ok(None);
     };
-    let Some((other, other_shown)) = past.closed_box(second) else {
+    let Some((other, other_shown)) = context.past.closed_box(second) else {
         return Ok(None);
     };
     let made = cases_result(alloc, pool, one, shown, other, other_shown)?;

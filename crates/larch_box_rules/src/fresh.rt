@@ -13,28 +13,27 @@ use crate::matching::has_constants;
 use larch_base::Memory;
 use larch_certificate::CodedVar;
 use larch_decoding::decode_variable;
-use larch_past::{Equated, KnownBox, Past, Stated};
+use larch_past::{Equated, KnownBox, Stated};
 use larch_pool::{Numbers, Pool, free_constants};
-use larch_rule_parts::sides_of;
-use larch_term::{Sort, Theory};
+use larch_rule_parts::{Context, sides_of};
+use larch_term::Sort;
 use std::alloc::Global;
 
 /// The result of a closed box without hypotheses, with variables in the places of its constants.
 pub fn fresh_line(
     alloc: Global,
     pool: &mut Pool,
-    theory: &Theory,
-    past: &Past,
+    context: &Context<'_>,
     of_box: u64,
     variables: &[CodedVar],
 ) -> Result<Option<Equated>, Memory>
-    requires { IsPast theory.now pool.old past.now }
+    requires { IsPast context.now.theory.now pool.old context.now.past.now }
     ensures within { IfOk result (λ o. IfSome o (IsEquated pool.new)) }
     ensures says { IfOk result (λ o. option_map (equated_in pool.new) o
-        ≡ fresh_says (history_of pool.old past.now) of_box variables.now) }
+        ≡ fresh_says (history_of pool.old context.now.past.now) of_box variables.now) }
     ensures grows { OnOk result (Grows pool.old pool.new) }
 {
-    let Some((known, stated)) = past.closed_box(of_box) else {
+    let Some((known, stated)) = context.past.closed_box(of_box) else {
         return Ok(None);
     };
     let made = fresh_result(alloc, pool, known, stated, variables)?;

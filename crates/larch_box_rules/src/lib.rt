@@ -9,4 +9,4 @@ mod showing;
 
 pub use cases::cases_line;
 pub use fresh::fresh_line;
-pub use induct::induct_line;
+pub use induct::{Induction, induct_line};

@@ -18,10 +18,11 @@ use larch_rule_parts::sides_of;
 use larch_term::Operator;
 use std::alloc::Global;
 
-/// What is shown by induction on a variable: an equation, both by numbers.
-#[derive(Clone, Copy, Drop)]
-pub struct Inductive {
-    pub variable: u32,
+/// What is shown by induction: the variable that the induction is on, its number, and an equation by numbers.
+#[derive(Drop)]
+pub struct Inductive<'a> {
+    pub variable: &'a CodedVar,
+    pub number: u32,
     pub sides: Equated,
 }
 
@@ -31,28 +32,27 @@ pub struct Inductive {
 pub fn shows_case(
     alloc: Global,
     pool: &mut Pool,
-    variable: &CodedVar,
-    inductive: Inductive,
+    inductive: &Inductive<'_>,
     generator: &Operator,
     known: &KnownBox,
     stated: &Stated,
 ) -> Result<bool, Memory>
-    requires inductive { IsInductive pool.old variable.now inductive }
+    requires inductive { IsInductive pool.old inductive.now }
     requires known { IsBox pool.old known.now }
     requires stated { IsStated pool.old stated.now }
-    ensures shows { IfOk result (λ b. b ≡ shows_case variable.now (tree_in pool.old.trees inductive.sides.left)
-        (tree_in pool.old.trees inductive.sides.right) generator.now
-        (box_in pool.old known.now, stated_in pool.old stated.now)) }
+    ensures shows { IfOk result (λ b. b ≡ shows_case inductive.now.variable.now
+        (tree_in pool.old.trees inductive.now.sides.left) (tree_in pool.old.trees inductive.now.sides.right)
+        generator.now (box_in pool.old known.now, stated_in pool.old stated.now)) }
     ensures grows { OnOk result (Grows pool.old pool.new) }
 {
     if !has_constants(known, generator.domain()) {
         return Ok(false);
     }
-    let supposes = supposes_cases(alloc, pool, variable, inductive, known)?;
+    let supposes = supposes_cases(alloc, pool, inductive, known)?;
     if !supposes {
         return Ok(false);
     }
-    let results = has_result(alloc, pool, variable, inductive, generator, known, stated)?;
+    let results = has_result(alloc, pool, inductive, generator, known, stated)?;
     Ok(results)
 }
 
@@ -60,15 +60,14 @@ pub fn shows_case(
 fn supposes_cases(
     alloc: Global,
     pool: &mut Pool,
-    variable: &CodedVar,
-    inductive: Inductive,
+    inductive: &Inductive<'_>,
     known: &KnownBox,
 ) -> Result<bool, Memory>
-    requires inductive { IsInductive pool.old variable.now inductive }
+    requires inductive { IsInductive pool.old inductive.now }
     requires known { IsBox pool.old known.now }
     requires constants { All (λ p. p.predicate ≡ false) known.now.parts }
     ensures supposes { IfOk result (λ b. b ≡ same_statements (map (equated_in pool.old) known.now.hypotheses)
-        (hypotheses_from pool.old variable.now inductive known.now.number 1 known.now.parts)) }
+        (hypotheses_from pool.old inductive.now known.now.number 1 known.now.parts)) }
     ensures grows { OnOk result (Grows pool.old pool.new) }
 {
     let parts = known.parts.as_slice();
@@ -76,14 +75,14 @@ fn supposes_cases(
     let mut met = 0;
     for i in 0..parts.len() {
         let part = &parts[i];
-        if part.sort != variable.sort {
+        if part.sort != inductive.variable.sort {
             continue;
         }
         if met >= hypotheses.len() {
             return Ok(false);
         }
         let image = constant_in(alloc, pool, known.number, i as u64 + 1, part)?;
-        let supposes = is_instance(alloc, pool, variable, inductive, image, hypotheses[met])?;
+        let supposes = is_instance(alloc, pool, inductive, image, hypotheses[met])?;
         if !supposes {
             return Ok(false);
         }
@@ -96,16 +95,15 @@ fn supposes_cases(
 fn has_result(
     alloc: Global,
     pool: &mut Pool,
-    variable: &CodedVar,
-    inductive: Inductive,
+    inductive: &Inductive<'_>,
     generator: &Operator,
     known: &KnownBox,
     stated: &Stated,
 ) -> Result<bool, Memory>
-    requires inductive { IsInductive pool.old variable.now inductive }
+    requires inductive { IsInductive pool.old inductive.now }
     requires stated { IsStated pool.old stated.now }
     ensures result { IfOk result (λ b. b ≡ same_statement (stated_in pool.old stated.now)
-        (equation_with pool.old variable.now inductive
+        (equation_with pool.old inductive.now
         (app generator.now (constant_terms (operators_from known.now.number 1 known.now.parts))))) }
     ensures grows { OnOk result (Grows pool.old pool.new) }
 {
@@ -113,7 +111,7 @@ fn has_result(
         return Ok(false);
     };
     let made = made_of(alloc, pool, generator, known)?;
-    let results = is_instance(alloc, pool, variable, inductive, made, sides)?;
+    let results = is_instance(alloc, pool, inductive, made, sides)?;
     Ok(results)
 }
 
@@ -138,20 +136,19 @@ fn made_of(
 fn is_instance(
     alloc: Global,
     pool: &mut Pool,
-    variable: &CodedVar,
-    inductive: Inductive,
+    inductive: &Inductive<'_>,
     image: u32,
     sides: Equated,
 ) -> Result<bool, Memory>
-    requires inductive { IsInductive pool.old variable.now inductive }
+    requires inductive { IsInductive pool.old inductive.now }
     requires image { image < length pool.old.trees }
     requires sides { IsEquated pool.old sides }
     ensures instance { IfOk result (λ b. b ≡ same_statement (equated_in pool.old sides)
-        (equation_with pool.old variable.now inductive (tree_in pool.old.trees image))) }
+        (equation_with pool.old inductive.now (tree_in pool.old.trees image))) }
     ensures grows { OnOk result (Grows pool.old pool.new) }
 {
     let by = [Binding {
-        variable: inductive.variable,
+        variable: inductive.number,
         image,
     }];
     let left = substitute(alloc, pool, inductive.sides.left, &by)?;

@@ -19,6 +19,21 @@ use larch_certificate_text::{Here, Text};
 use larch_term::Sort;
 use std::alloc::Global;
 
+// What an induction is on, and what it shows.
+#[derive(Drop)]
+struct Aim<'a> {
+    variable: &'a CodedVar,
+    goal: &'a CodedEquation,
+}
+
+// What a rule names that states a clause: the box, the sort and the operators.
+#[derive(Drop)]
+struct Clause<'a> {
+    closed: u64,
+    sort: &'a Sort,
+    operators: &'a Numbers,
+}
+
 /// Puts a line at the end.
 #[tactic(auto, using(crate::proofs::Labels::numbered_line, crate::proofs::Labels::named_line))]
 pub fn write_line(alloc: Global, text: &mut Text, here: Here, line: &Line) -> Result<(), Memory>
@@ -57,14 +72,25 @@ fn write_rule(alloc: Global, text: &mut Text, here: Here, line: &Line) -> Result
         Line::Fresh(closed, by) => write_fresh(alloc, text, here, *closed, by),
         Line::Cases(yes, no) => write_cases(alloc, text, here, *yes, *no),
         Line::Induct(line, variable, goal, boxes) => {
-            write_induct(alloc, text, here, *line, variable, goal, boxes)
+            let aim = Aim { variable, goal };
+            write_induct(alloc, text, here, *line, &aim, boxes)
         }
         Line::Observe(line, goal, lines) => write_observe(alloc, text, here, *line, goal, lines),
         Line::Generated(closed, sort, operators) => {
-            write_clause(alloc, text, here, b"generated", *closed, sort, operators)
+            let clause = Clause {
+                closed: *closed,
+                sort,
+                operators,
+            };
+            write_clause(alloc, text, here, b"generated", &clause)
         }
         Line::Partitioned(closed, sort, operators) => {
-            write_clause(alloc, text, here, b"partitioned", *closed, sort, operators)
+            let clause = Clause {
+                closed: *closed,
+                sort,
+                operators,
+            };
+            write_clause(alloc, text, here, b"partitioned", &clause)
         }
     }
 }
@@ -190,17 +216,16 @@ fn write_induct(
     text: &mut Text,
     here: Here,
     line: u64,
-    variable: &CodedVar,
-    goal: &CodedEquation,
+    aim: &Aim,
     boxes: &Numbers,
 ) -> Result<(), Memory>
     ensures { OnOk result (text.new ≡ text.old
-        ++ join_with_byte 32 (rule_fields here (Induct line variable.now goal.now boxes.now))) }
+        ++ join_with_byte 32 (rule_fields here (Induct line aim.now.variable.now aim.now.goal.now boxes.now))) }
 {
     text.append(b"induct ")?;
     write_ref_part(alloc, text, here, b"line", line)?;
     text.push(b' ')?;
-    write_aim(alloc, text, here, variable, goal)?;
+    write_aim(alloc, text, here, aim)?;
     text.push(b' ')?;
     write_numbers_part(
         alloc,
@@ -213,19 +238,13 @@ fn write_induct(
 }
 
 // The variable and the goal of an induction.
-fn write_aim(
-    alloc: Global,
-    text: &mut Text,
-    here: Here,
-    variable: &CodedVar,
-    goal: &CodedEquation,
-) -> Result<(), Memory>
+fn write_aim(alloc: Global, text: &mut Text, here: Here, aim: &Aim) -> Result<(), Memory>
     ensures { OnOk result (text.new ≡ text.old
-        ++ (named here (codes "var") (variable_text variable.now) ++ (32 ∷ goal_text here goal.now))) }
+        ++ (named here (codes "var") (variable_text aim.now.variable.now) ++ (32 ∷ goal_text here aim.now.goal.now))) }
 {
-    write_variable_part(text, here, b"var", variable)?;
+    write_variable_part(text, here, b"var", aim.variable)?;
     text.push(b' ')?;
-    write_equation_part(alloc, text, here, b"goal", goal)
+    write_equation_part(alloc, text, here, b"goal", aim.goal)
 }
 
 fn write_observe(
@@ -254,25 +273,23 @@ fn write_observe(
     )
 }
 
-// A rule that states a clause: its word, the box, the sort and the operators.
+// A rule that states a clause: its word, and what it names.
 fn write_clause(
     alloc: Global,
     text: &mut Text,
     here: Here,
     word: &[u8],
-    closed: u64,
-    sort: &Sort,
-    operators: &Numbers,
+    clause: &Clause,
 ) -> Result<(), Memory>
     ensures { OnOk result (text.new ≡ text.old
-        ++ (word.now ++ (32 ∷ join_with_byte 32 (named_ref here (codes "box") closed
-        ∷ named here (codes "sort") sort.now ∷ operators_text here operators.now ∷ [])))) }
+        ++ (word.now ++ (32 ∷ join_with_byte 32 (named_ref here (codes "box") clause.now.closed
+        ∷ named here (codes "sort") clause.now.sort.now ∷ operators_text here clause.now.operators.now ∷ [])))) }
 {
     text.append(word)?;
     text.push(b' ')?;
-    write_ref_part(alloc, text, here, b"box", closed)?;
+    write_ref_part(alloc, text, here, b"box", clause.closed)?;
     text.push(b' ')?;
-    write_sort_part(text, here, b"sort", sort)?;
+    write_sort_part(text, here, b"sort", clause.sort)?;
     text.push(b' ')?;
     write_numbers_part(
         alloc,
@@ -280,6 +297,6 @@ fn write_clause(
         here,
         b"ops",
         NumberKind::Operator,
-        operators.as_slice(),
+        clause.operators.as_slice(),
     )
 }

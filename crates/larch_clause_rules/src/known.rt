@@ -8,9 +8,9 @@ ghost use Rattle.larch_clause_rules.specs.Operators.{IsKnown, operators_in};
 
 use larch_base::{Memory, Sequence};
 use larch_decoding::own_operator;
-use larch_past::Past;
 use larch_pool::{Pool, intern_operator};
-use larch_term::{Operator, Operators, Theory};
+use larch_rule_parts::Context;
+use larch_term::{Operator, Operators};
 use std::alloc::Global;
 
 // An operator with its number in the pool.
@@ -24,18 +24,17 @@ pub(crate) struct Known {
 pub(crate) fn own_operators(
     alloc: Global,
     pool: &Pool,
-    theory: &Theory,
-    past: &Past,
+    context: &Context<'_>,
     numbers: &[u64],
 ) -> Result<Option<Vec<Known>>, Memory>
-    requires { IsPast theory.now pool.now past.now }
+    requires { IsPast context.now.theory.now pool.now context.now.past.now }
     ensures known { IfOk result (λ o. IfSome o (λ ks. All (IsKnown pool.now) ks.items)) }
     ensures says { IfOk result (λ o. option_map (λ ks. operators_in ks.items) o
-        ≡ own_operators theory.now numbers.now) }
+        ≡ own_operators context.now.theory.now numbers.now) }
 {
     let mut known = Vec::with_capacity(alloc, numbers.len())?;
     for number in numbers {
-        let own = own(pool, theory, past, *number)?;
+        let own = own(pool, context, *number)?;
         let Some(own) = own else {
             return Ok(None);
         };
@@ -45,15 +44,16 @@ pub(crate) fn own_operators(
 }
 
 // The theory's operator with a number.
-fn own(pool: &Pool, theory: &Theory, past: &Past, number: u64) -> Result<Option<Known>, Memory>
-    requires { IsPast theory.now pool.now past.now }
+fn own(pool: &Pool, context: &Context<'_>, number: u64) -> Result<Option<Known>, Memory>
+    requires { IsPast context.now.theory.now pool.now context.now.past.now }
     ensures known { IfOk result (λ o. IfSome o (IsKnown pool.now)) }
-    ensures says { IfOk result (λ o. option_map (λ k. k.operator) o ≡ numbered theory.now.operators number) }
+    ensures says { IfOk result (λ o. option_map (λ k. k.operator) o
+        ≡ numbered context.now.theory.now.operators number) }
 {
-    let Some(found) = own_operator(pool, theory, past, number) else {
+    let Some(found) = own_operator(pool, context.theory, context.past, number) else {
         return Ok(None);
     };
-    let Some(operator) = operator_at(theory.operators.as_slice(), number) else {
+    let Some(operator) = operator_at(context.theory.operators.as_slice(), number) else {
         return Ok(None);
     };
     let operator = operator.copy()?;

@@ -20,8 +20,7 @@ use larch_decoding::decode_equation;
 use larch_past::laws::past_stays;
 use larch_past::{Equated, Past, Stated};
 use larch_pool::Pool;
-use larch_rule_parts::{are_different, equation_of};
-use larch_term::Theory;
+use larch_rule_parts::{Context, are_different, equation_of};
 use std::alloc::Global;
 
 /// An equation by what is observed: a line says what partitions the sort of its sides, and for each observation, in
@@ -29,28 +28,27 @@ use std::alloc::Global;
 pub fn observe_line(
     alloc: Global,
     pool: &mut Pool,
-    theory: &Theory,
-    past: &Past,
+    context: &Context<'_>,
     clause: u64,
     equation: &CodedEquation,
     lines: &[u64],
 ) -> Result<Option<Equated>, Memory>
-    requires { IsPast theory.now pool.old past.now }
+    requires { IsPast context.now.theory.now pool.old context.now.past.now }
     ensures within { IfOk result (λ o. IfSome o (IsEquated pool.new)) }
     ensures says { IfOk result (λ o. option_map (equated_in pool.new) o
-        ≡ observe_says (find_symbol theory.now (history_of pool.old past.now))
-        (history_of pool.old past.now) clause equation.now lines.now) }
+        ≡ observe_says (find_symbol context.now.theory.now (history_of pool.old context.now.past.now))
+        (history_of pool.old context.now.past.now) clause equation.now lines.now) }
     ensures grows { OnOk result (Grows pool.old pool.new) }
 {
-    let sides = decode_equation(alloc, pool, theory, past, equation)?;
+    let sides = decode_equation(alloc, pool, context.theory, context.past, equation)?;
     let Some(sides) = sides else {
         return Ok(None);
     };
-    let Some(clause) = past.line(clause) else {
+    let Some(clause) = context.past.line(clause) else {
         return Ok(None);
     };
     past_stays();
-    let shown = observed_equal(alloc, pool, past, sides, clause, lines)?;
+    let shown = observed_equal(alloc, pool, context.past, sides, clause, lines)?;
     if !shown {
         return Ok(None);
     }

@@ -21,31 +21,32 @@ use crate::observers::{Observer, observers_of};
 use crate::variables::place_variables;
 use larch_base::Memory;
 use larch_certificate::BoxPart;
-use larch_past::{Equated, KnownBox, Past, Stated, same_stated};
+use larch_past::{Equated, KnownBox, Stated, same_stated};
 use larch_pool::Pool;
-use larch_term::{Sort, Theory};
+use larch_rule_parts::Context;
+use larch_term::Sort;
 use std::alloc::Global;
 
 /// A sort is partitioned by operators of the theory, given by their numbers, if a closed box shows it.
 pub fn partitioned_line(
     alloc: Global,
     pool: &mut Pool,
-    theory: &Theory,
-    past: &Past,
+    context: &Context<'_>,
     of_box: u64,
     sort: &Sort,
     operators: &[u64],
 ) -> Result<Option<Stated>, Memory>
-    requires { IsPast theory.now pool.old past.now }
+    requires { IsPast context.now.theory.now pool.old context.now.past.now }
     ensures within { IfOk result (λ o. IfSome o (IsStated pool.new)) }
     ensures says { IfOk result (λ o. option_map (stated_in pool.new) o
-        ≡ partitioned_says theory.now (history_of pool.old past.now) of_box sort.now operators.now) }
+        ≡ partitioned_says context.now.theory.now (history_of pool.old context.now.past.now) of_box sort.now
+        operators.now) }
     ensures grows { OnOk result (Grows pool.old pool.new) }
 {
-    let Some((known, stated)) = past.closed_box(of_box) else {
+    let Some((known, stated)) = context.past.closed_box(of_box) else {
         return Ok(None);
     };
-    let observers = own_operators(alloc, pool, theory, past, operators)?;
+    let observers = own_operators(alloc, pool, context, operators)?;
     let Some(observers) = observers else {
         return Ok(None);
     };

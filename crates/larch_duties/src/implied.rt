@@ -23,13 +23,20 @@ use larch_sources::Sources;
 use larch_term::{Operator, Statements};
 use std::alloc::Global;
 
+// A trait: its text, with what its flat trait gathers.
+#[derive(Drop)]
+struct Flattened<'a> {
+    text: &'a RawTrait,
+    flat: &'a Flat,
+}
+
 // What a trait implies: by its references, then by its items; or what is wrong first.
-pub(crate) fn implied(
+pub(crate) fn implied<'a>(
     alloc: Global,
     sources: &Sources,
     flat_traits: &FlatTraits,
-    flat: &Flat,
-    raw: &RawTrait,
+    flat: &'a Flat,
+    raw: &'a RawTrait,
     signature: &Signature,
 ) -> Result<Statements, TraitRefusal>
     requires known { Knows sources.now flat_traits.now }
@@ -39,7 +46,8 @@ pub(crate) fn implied(
         (implied (length sources.now) (files_in sources.now) (flat_with raw.now flat.now)) }
 {
     let references = raw.implied.as_slice();
-    let statements = by_references(alloc, sources, flat_traits, flat, raw, references)?;
+    let own = Flattened { text: raw, flat };
+    let statements = by_references(alloc, sources, flat_traits, &own, references)?;
     let more = state_items(alloc, signature, raw.implied_items.as_slice())?;
     let all = joined(statements, more)?;
     Ok(all)
@@ -60,74 +68,74 @@ fn by_references(
     alloc: Global,
     sources: &Sources,
     flat_traits: &FlatTraits,
-    flat: &Flat,
-    raw: &RawTrait,
+    own: &Flattened<'_>,
     references: &[RawRef],
 ) -> Result<Statements, TraitRefusal>
     requires known { Knows sources.now flat_traits.now }
     requires all { AreAllKnown sources.now flat_traits.now }
-    ensures { Answers stop_told result (all_taken
-        (λ ref. all_behind (reference_implies sources.now (flat_with raw.now flat.now) ref)) references.now []) }
+    ensures { Answers stop_told result (all_taken (λ ref. all_behind (reference_implies sources.now
+        (flat_with own.now.text.now own.now.flat.now) ref)) references.now []) }
 {
-    let own = Among::of(alloc, flat.operators.as_slice())?;
+    let ours = own.flat;
+    let among = Among::of(alloc, ours.operators.as_slice())?;
     let mut statements = Sequence::new(alloc);
     for reference in references {
-        let more = by_reference(alloc, sources, flat_traits, flat, raw, &own, reference)?;
+        let more = by_reference(alloc, sources, flat_traits, own, &among, reference)?;
         statements = joined(statements, more)?;
     }
     Ok(statements)
 }
 
-// What a trait with these operators of its own implies by a reference.
-fn by_reference(
+// What a trait implies by a reference, with its own operators to be found at once.
+fn by_reference<'a>(
     alloc: Global,
-    sources: &Sources,
-    flat_traits: &FlatTraits,
-    flat: &Flat,
-    raw: &RawTrait,
-    own: &Among,
+    sources: &'a Sources,
+    flat_traits: &'a FlatTraits,
+    own: &Flattened<'_>,
+    among: &Among,
     reference: &RawRef,
 ) -> Result<Statements, TraitRefusal>
     requires known { Knows sources.now flat_traits.now }
     requires all { AreAllKnown sources.now flat_traits.now }
-    requires own { own.now ≡ flat.now.operators }
-    ensures { Answers stop_told result (reference_implies sources.now (flat_with raw.now flat.now) reference.now) }
+    requires own { among.now ≡ own.now.flat.now.operators }
+    ensures { Answers stop_told result
+        (reference_implies sources.now (flat_with own.now.text.now own.now.flat.now) reference.now) }
 {
     let name = &reference.name;
     let Some(found) = sources.number_of(&name.name) else {
         return Err(TraitRefusal::Wrong(name.pos, Code::UnknownTrait));
     };
     match known_of(flat_traits, found) {
-        Ok(other) => match sources.text(found) {
-            Ok(text) => by_trait(alloc, flat, raw, own, other, text, reference),
+        Ok(flat) => match sources.text(found) {
+            Ok(text) => by_trait(alloc, own, among, &Flattened { text, flat }, reference),
             Err(_) => Err(TraitRefusal::Wrong(name.pos, Code::BadReference)),
         },
         Err(_) => Err(TraitRefusal::Wrong(name.pos, Code::BadReference)),
     }
 }
 
-// What a trait implies by a reference to another one, which has this text.
+// What a trait implies by a reference to another one.
 fn by_trait(
     alloc: Global,
-    flat: &Flat,
-    raw: &RawTrait,
-    own: &Among,
-    other: &Flat,
-    text: &RawTrait,
+    own: &Flattened<'_>,
+    among: &Among,
+    other: &Flattened<'_>,
     reference: &RawRef,
 ) -> Result<Statements, TraitRefusal>
-    requires own { own.now ≡ flat.now.operators }
-    ensures { Answers told result
-        (trait_implies (flat_with raw.now flat.now) reference.now (flat_with text.now other.now)) }
+    requires own { among.now ≡ own.now.flat.now.operators }
+    ensures { Answers told result (trait_implies (flat_with own.now.text.now own.now.flat.now) reference.now
+        (flat_with other.now.text.now other.now.flat.now)) }
 {
-    let operators = other.operators.as_slice();
-    let by = replacements_of(alloc, operators, text.formals.as_slice(), reference)?;
+    let ours = own.flat;
+    let theirs = other.flat;
+    let operators = theirs.operators.as_slice();
+    let by = replacements_of(alloc, operators, other.text.formals.as_slice(), reference)?;
     let names = NewNames::new(alloc, by, operators)?;
     let operators = names.operators(alloc, operators)?;
-    if lacks_one(own, operators.as_slice()) {
+    if lacks_one(among, operators.as_slice()) {
         return Err(TraitRefusal::Wrong(reference.name.pos, Code::ImpliedOperator));
     }
-    let statements = new_statements(alloc, &flat.marked, &names, &other.marked)?;
+    let statements = new_statements(alloc, &ours.marked, &names, &theirs.marked)?;
     Ok(statements)
 }
 

@@ -16,7 +16,7 @@ use Rattle.larch_calculus.specs.Formula.{applied, choice, equality, equivalence,
 use Rattle.larch_tables.specs.Spelling.{x, y, a, b}
 use Rattle.larch_lines.specs.Matching.{all_different}
 use Rattle.larch_lines.specs.Rules.{row_says}
-use Rattle.larch_derive.specs.Predicates.{written, Known, Stands, HasEquation, HasStatement, Extends}
+use Rattle.larch_derive.specs.Predicates.{written, Known, HasNoBadLine, HasEquation, HasStatement, Extends}
 use Rattle.larch_derive.specs.declared.builder.Builder.{Builder}
 use Rattle.larch_derive.specs.declared.open_box.OpenBox.{OpenBox}
 use Rattle.larch_derive.proofs.Growth.{extends_grows, grown_stands, known_stands, extends_trans, stays_known}
@@ -75,8 +75,8 @@ instance_stays m n i l r e h = record {
 
 -- a line that says the row, and one that says its instance
 pub instance_says : (m n o : Builder) (k q : ℕ) (i : Instance) (l r : Tree) → IsInstance m i l r
-    → ((s : Statement) → Stands m → row_says i.row i.sort ≡ Some s → HasStatement n k s)
-    → ((s : Statement) → Stands m → row_says i.row i.sort ≡ Some s → Extends m n)
+    → ((s : Statement) → HasNoBadLine m → row_says i.row i.sort ≡ Some s → HasStatement n k s)
+    → ((s : Statement) → HasNoBadLine m → row_says i.row i.sort ≡ Some s → Extends m n)
     → ((v w : Tree) → HasEquation n k v w → AreKnownEntries n i.by → all_different (map variable_in i.by) ≡ true
     → HasEquation o q (substituted i.by v) (substituted i.by w))
     → HasEquation o q l r
@@ -87,8 +87,8 @@ instance_says m n o k q i l r h says extends inst =
     (entries_stay m n i.by (extends (Equation h.given h.gives) h.may.0 h.row) h.may.1.0) h.may.1.1))
 
 pub instance_extends : (m n o : Builder) (k : ℕ) (i : Instance) (l r : Tree) → IsInstance m i l r
-    → ((s : Statement) → Stands m → row_says i.row i.sort ≡ Some s → HasStatement n k s)
-    → ((s : Statement) → Stands m → row_says i.row i.sort ≡ Some s → Extends m n)
+    → ((s : Statement) → HasNoBadLine m → row_says i.row i.sort ≡ Some s → HasStatement n k s)
+    → ((s : Statement) → HasNoBadLine m → row_says i.row i.sort ≡ Some s → Extends m n)
     → ((v w : Tree) → HasEquation n k v w → AreKnownEntries n i.by → all_different (map variable_in i.by) ≡ true
     → Extends n o)
     → Extends m o
@@ -98,7 +98,7 @@ instance_extends m n o k i l r h says extends inst =
     (inst h.given h.gives (says (Equation h.given h.gives) h.may.0 h.row) (entries_stay m n i.by e h.may.1.0) h.may.1.1)
 
 pub row_extends : (m n : Builder) (i : Instance) (l r : Tree) → IsInstance m i l r
-    → ((s : Statement) → Stands m → row_says i.row i.sort ≡ Some s → Extends m n) → Extends m n
+    → ((s : Statement) → HasNoBadLine m → row_says i.row i.sort ≡ Some s → Extends m n) → Extends m n
 row_extends m n i l r h extends = extends (Equation h.given h.gives) h.may.0 h.row
 
 -- ---- arguments of known terms

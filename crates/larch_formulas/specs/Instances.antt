@@ -8,7 +8,7 @@ use Rattle.larch_term.specs.declared.statement.Statement.TheVariants.{Equation}
 use Rattle.larch_term.specs.declared.substitution.Entry.{Entry}
 use Rattle.larch_lines.specs.Matching.{all_different}
 use Rattle.larch_lines.specs.Rules.{row_says}
-use Rattle.larch_derive.specs.Predicates.{Known, Stands}
+use Rattle.larch_derive.specs.Predicates.{Known, HasNoBadLine}
 use Rattle.larch_derive.specs.declared.builder.Builder.{Builder}
 use Rattle.larch_derive_lines.specs.Rules.{variable_in, AreKnownEntries}
 use Rattle.larch_formulas.specs.declared.instances.Instance.{Instance}
@@ -36,7 +36,7 @@ IsKnownAt b s t = Known b t × (sort_of t ≡ s)
 
 -- no line of the builder is bad, and these entries may take the places of variables
 abbrev pub MayReplace : Builder → List Entry → Type 0
-MayReplace b es = Stands b × (AreKnownEntries b es × (all_different (map variable_in es) ≡ true))
+MayReplace b es = HasNoBadLine b × (AreKnownEntries b es × (all_different (map variable_in es) ≡ true))
 
 -- the row with these terms says that both sides are equal, and a line may say so
 pub record IsInstance (b : Builder) (i : Instance) (l r : Tree) : Type 0 where

@@ -15,6 +15,7 @@ use crate::deductions::{
     BothLines, conjunct_lines, disjunct_lines, false_line, implication_lines, true_line,
 };
 use crate::formulas::equivalent_line;
+use crate::instances::Places;
 use larch_base::Memory;
 use larch_derive::Builder;
 use larch_derive_lines::equal_line;
@@ -78,13 +79,6 @@ const DEDUCTIONS: [Deduction; 7] = [
 pub enum Consequences {
     One(u64),
     Both(BothLines),
-}
-
-// The terms for the variables of a row. A row of one variable has it twice.
-#[derive(Drop)]
-pub(crate) struct Places<'a> {
-    pub(crate) first: &'a Term,
-    pub(crate) second: &'a Term,
 }
 
 /// Lines that say what follows from an equation by the deduction row with a number, from a line that says the equation.

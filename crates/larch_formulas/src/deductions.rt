@@ -6,7 +6,7 @@ ghost use Rattle.larch_term.specs.Operator.{PlainOperator};
 ghost use Rattle.larch_term.specs.Tree.{Tree, app, forest_of};
 ghost use Rattle.larch_term.specs.Truth.{truth};
 
-use crate::instances::{of_truths, reached_line};
+use crate::instances::{Places, of_truths, reached_line};
 use larch_base::Memory;
 use larch_derive::Builder;
 use larch_derive_lines::sym_line;
@@ -89,16 +89,12 @@ pub fn conjunct_lines(
     ensures extends { HasEquation builder.old line (conjunction left.now right.now) truth
         → Extends builder.old builder.new }
 {
-    let first = implied_line(alloc, builder, LEFT_OF_CONJUNCTION, left, right, left, line)?;
-    let second = implied_line(
-        alloc,
-        builder,
-        RIGHT_OF_CONJUNCTION,
-        left,
-        right,
-        right,
-        line,
-    )?;
+    let places = Places {
+        first: left,
+        second: right,
+    };
+    let first = implied_line(alloc, builder, LEFT_OF_CONJUNCTION, &places, left, line)?;
+    let second = implied_line(alloc, builder, RIGHT_OF_CONJUNCTION, &places, right, line)?;
     Ok(BothLines { first, second })
 }
 
@@ -119,16 +115,12 @@ pub fn disjunct_lines(
     ensures extends { HasEquation builder.old line (disjunction left.now right.now) falsity
         → Extends builder.old builder.new }
 {
-    let first = denied_line(alloc, builder, LEFT_OF_DISJUNCTION, left, right, left, line)?;
-    let second = denied_line(
-        alloc,
-        builder,
-        RIGHT_OF_DISJUNCTION,
-        left,
-        right,
-        right,
-        line,
-    )?;
+    let places = Places {
+        first: left,
+        second: right,
+    };
+    let first = denied_line(alloc, builder, LEFT_OF_DISJUNCTION, &places, left, line)?;
+    let second = denied_line(alloc, builder, RIGHT_OF_DISJUNCTION, &places, right, line)?;
     Ok(BothLines { first, second })
 }
 
@@ -149,8 +141,12 @@ pub fn implication_lines(
     ensures extends { HasEquation builder.old line (implication left.now right.now) falsity
         → Extends builder.old builder.new }
 {
-    let first = implied_line(alloc, builder, PREMISE, left, right, left, line)?;
-    let second = denied_line(alloc, builder, CONCLUSION, left, right, right, line)?;
+    let places = Places {
+        first: left,
+        second: right,
+    };
+    let first = implied_line(alloc, builder, PREMISE, &places, left, line)?;
+    let second = denied_line(alloc, builder, CONCLUSION, &places, right, line)?;
     Ok(BothLines { first, second })
 }
 
@@ -216,25 +212,26 @@ fn implied_line(
     alloc: Global,
     builder: &mut Builder,
     step: Step,
-    left: &Term,
-    right: &Term,
+    places: &Places,
     wanted: &Term,
     line: u64,
 ) -> Result<u64, Memory>
     ensures says { IfOk result (λ n. (f : PlainOperator) (done rest : List Tree) (t u v : Tree)
-        → IsInstance builder.old (of_truths step.row left.now right.now) (app f (forest_of (done ++ t ∷ rest))) truth
+        → IsInstance builder.old (of_truths step.row places.now.first.now places.now.second.now)
+        (app f (forest_of (done ++ t ∷ rest))) truth
         → step.argument ≡ length done + 1 → HasEquation builder.old line t u
         → IsInstance builder.old (of_truths step.further wanted.now wanted.now)
         (app f (forest_of (done ++ u ∷ rest))) v
         → HasEquation builder.new n v truth) }
     ensures extends { (f : PlainOperator) (done rest : List Tree) (t u v : Tree)
-        → IsInstance builder.old (of_truths step.row left.now right.now) (app f (forest_of (done ++ t ∷ rest))) truth
+        → IsInstance builder.old (of_truths step.row places.now.first.now places.now.second.now)
+        (app f (forest_of (done ++ t ∷ rest))) truth
         → step.argument ≡ length done + 1 → HasEquation builder.old line t u
         → IsInstance builder.old (of_truths step.further wanted.now wanted.now)
         (app f (forest_of (done ++ u ∷ rest))) v
         → Extends builder.old builder.new }
 {
-    let first = of_truths(alloc, step.row, left, right)?;
+    let first = of_truths(alloc, step.row, places.first, places.second)?;
     let second = of_truths(alloc, step.further, wanted, wanted)?;
     let reached = reached_line(alloc, builder, first, step.argument, line, second)?;
     let number = sym_line(builder, reached)?;
@@ -247,25 +244,26 @@ fn denied_line(
     alloc: Global,
     builder: &mut Builder,
     step: Step,
-    left: &Term,
-    right: &Term,
+    places: &Places,
     wanted: &Term,
     line: u64,
 ) -> Result<u64, Memory>
     ensures says { IfOk result (λ n. (f : PlainOperator) (done rest : List Tree) (t u : Tree)
-        → IsInstance builder.old (of_truths step.row left.now right.now) (app f (forest_of (done ++ t ∷ rest))) truth
+        → IsInstance builder.old (of_truths step.row places.now.first.now places.now.second.now)
+        (app f (forest_of (done ++ t ∷ rest))) truth
         → step.argument ≡ length done + 1 → HasEquation builder.old line t u
         → IsInstance builder.old (of_truths step.further wanted.now wanted.now)
         (app f (forest_of (done ++ u ∷ rest))) (negation wanted.now)
         → HasEquation builder.new n wanted.now falsity) }
     ensures extends { (f : PlainOperator) (done rest : List Tree) (t u : Tree)
-        → IsInstance builder.old (of_truths step.row left.now right.now) (app f (forest_of (done ++ t ∷ rest))) truth
+        → IsInstance builder.old (of_truths step.row places.now.first.now places.now.second.now)
+        (app f (forest_of (done ++ t ∷ rest))) truth
         → step.argument ≡ length done + 1 → HasEquation builder.old line t u
         → IsInstance builder.old (of_truths step.further wanted.now wanted.now)
         (app f (forest_of (done ++ u ∷ rest))) (negation wanted.now)
         → Extends builder.old builder.new }
 {
-    let denied = implied_line(alloc, builder, step, left, right, wanted, line)?;
+    let denied = implied_line(alloc, builder, step, places, wanted, line)?;
     let number = false_line(alloc, builder, wanted, denied)?;
     Ok(number)
 }

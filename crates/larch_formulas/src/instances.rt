@@ -20,6 +20,13 @@ pub(crate) struct Instance {
     pub(crate) by: Substitution,
 }
 
+// The terms for the variables of a row. A row of one variable has it twice.
+#[derive(Drop)]
+pub(crate) struct Places<'a> {
+    pub(crate) first: &'a Term,
+    pub(crate) second: &'a Term,
+}
+
 // A row with terms for x and y.
 pub(crate) fn of_truths(
     alloc: Global,

@@ -20,6 +20,16 @@ use larch_raw::{RawActual, RawForm, RawRef, RawSig};
 use larch_term::{Operator, Sort, is_built_in};
 use std::alloc::Global;
 
+// A replacement as it is written: a new form in place of what an old one names, or of the operator of its signature
+// where there is one, and where RENAME stands if it can't be.
+#[derive(Drop)]
+struct Replacement<'a> {
+    old: &'a RawForm,
+    sig: Option<&'a RawSig>,
+    new: &'a RawForm,
+    pos: Pos,
+}
+
 /// What a reference to a trait with these operators and formals replaces. `Wrong` has RENAME: at the reference where
 /// forms stand for formals, and not as many as there are; or else at the first replacement that can't be, at its own
 /// form where it stands for a formal, at the old form else; or else at the reference where an operator would become a
@@ -102,11 +112,11 @@ fn all_replaced(
 }
 
 // What forms replace that stand for formals.
-fn replaced_by_position(
+fn replaced_by_position<'a>(
     alloc: Global,
     names: &OldNames,
-    formals: &[RawForm],
-    actuals: &[RawActual],
+    formals: &'a [RawForm],
+    actuals: &'a [RawActual],
 ) -> Result<Replacements, TraitRefusal>
     ensures { Answers told result
         (all_taken (replace names.now) (by_position formals.now (plain_forms actuals.now)) none_replaced) }
@@ -118,7 +128,13 @@ fn replaced_by_position(
             let [formal, others @ ..] = left else {
                 return Ok(by);
             };
-            by = replaced(alloc, names, by, formal, None, form, form.pos)?;
+            let replacement = Replacement {
+                old: formal,
+                sig: None,
+                new: form,
+                pos: form.pos,
+            };
+            by = replaced(alloc, names, by, &replacement)?;
             left = others;
         }
     }
@@ -137,29 +153,33 @@ fn replaced_by_name(
     let mut by = by;
     for actual in actuals {
         if let RawActual::Replace(new, old, sig) = actual {
-            by = replaced(alloc, names, by, old, sig.as_ref(), new, old.pos)?;
+            let replacement = Replacement {
+                old,
+                sig: sig.as_ref(),
+                new,
+                pos: old.pos,
+            };
+            by = replaced(alloc, names, by, &replacement)?;
         }
     }
     Ok(by)
 }
 
-// Replacements with a new form in place of what an old one names, unless that can't be.
+// Replacements with one more, unless that can't be.
 fn replaced(
     alloc: Global,
     names: &OldNames,
     by: Replacements,
-    old: &RawForm,
-    sig: Option<&RawSig>,
-    new: &RawForm,
-    pos: Pos,
+    replacement: &Replacement<'_>,
 ) -> Result<Replacements, TraitRefusal>
-    ensures { Answers told result (replaced pos new.now (named names.now old.now (option_copied sig.entry)) by) }
+    ensures { Answers told result (replaced replacement.now.pos replacement.now.new.now
+        (named names.now replacement.now.old.now (option_copied replacement.now.sig)) by) }
 {
-    if names.is_sort(old, sig) {
-        return sort_replaced(by, &old.name, new, pos);
+    if names.is_sort(replacement.old, replacement.sig) {
+        return sort_replaced(by, &replacement.old.name, replacement.new, replacement.pos);
     }
-    let operators = names.meant(alloc, old, sig)?;
-    operators_replaced(by, operators.as_slice(), new, pos)
+    let operators = names.meant(alloc, replacement.old, replacement.sig)?;
+    operators_replaced(by, operators.as_slice(), replacement.new, replacement.pos)
 }
 
 // Replacements with a new form in place of a sort, unless that can't be.

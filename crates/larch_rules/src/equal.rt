@@ -5,27 +5,25 @@ ghost use Rattle.larch_pool.specs.Pooled.{tree_in, Grows};
 ghost use Rattle.larch_past.specs.Past.{IsPast, IsEquated, equated_in, history_of};
 
 use larch_base::Memory;
-use larch_past::{Equated, Past};
+use larch_past::Equated;
 use larch_pool::{Pool, at};
-use larch_rule_parts::{equality_in, equation_of, truth_in};
-use larch_term::Theory;
+use larch_rule_parts::{Context, equality_in, equation_of, truth_in};
 use std::alloc::Global;
 
 /// An equation that a line states as a term that is true.
 pub fn equal_line(
     alloc: Global,
     pool: &mut Pool,
-    theory: &Theory,
-    past: &Past,
+    context: &Context<'_>,
     line: u64,
 ) -> Result<Option<Equated>, Memory>
-    requires { IsPast theory.now pool.old past.now }
+    requires { IsPast context.now.theory.now pool.old context.now.past.now }
     ensures within { IfOk result (λ o. IfSome o (IsEquated pool.new)) }
     ensures says { IfOk result (λ o. option_map (equated_in pool.new) o
-        ≡ equal_says (history_of pool.old past.now) line) }
+        ≡ equal_says (history_of pool.old context.now.past.now) line) }
     ensures grows { OnOk result (Grows pool.old pool.new) }
 {
-    let Some(sides) = equation_of(past, line) else {
+    let Some(sides) = equation_of(context.past, line) else {
         return Ok(None);
     };
     let stated = equal_sides(alloc, pool, sides)?;

@@ -12,32 +12,30 @@ ghost use Rattle.larch_rules.specs.Instances.{IsBinding, entry_of, instance_in};
 use larch_base::Memory;
 use larch_certificate::Binding;
 use larch_decoding::{decode, decode_variable};
-use larch_past::{Equated, Past};
+use larch_past::Equated;
 use larch_pool::{Pool, substitute};
-use larch_rule_parts::{are_different, equation_of};
-use larch_term::Theory;
+use larch_rule_parts::{Context, are_different, equation_of};
 use std::alloc::Global;
 
 /// The equation of a line with different variables replaced at once by terms of their sorts.
 pub fn inst_line(
     alloc: Global,
     pool: &mut Pool,
-    theory: &Theory,
-    past: &Past,
+    context: &Context<'_>,
     line: u64,
     bindings: &[Binding],
 ) -> Result<Option<Equated>, Memory>
-    requires { IsPast theory.now pool.old past.now }
+    requires { IsPast context.now.theory.now pool.old context.now.past.now }
     ensures within { IfOk result (λ o. IfSome o (IsEquated pool.new)) }
     ensures says { IfOk result (λ o. option_map (equated_in pool.new) o
-        ≡ inst_says (find_symbol theory.now (history_of pool.old past.now))
-        (history_of pool.old past.now) line bindings.now) }
+        ≡ inst_says (find_symbol context.now.theory.now (history_of pool.old context.now.past.now))
+        (history_of pool.old context.now.past.now) line bindings.now) }
     ensures grows { OnOk result (Grows pool.old pool.new) }
 {
-    let Some(sides) = equation_of(past, line) else {
+    let Some(sides) = equation_of(context.past, line) else {
         return Ok(None);
     };
-    let by = decode_bindings(alloc, pool, theory, past, bindings)?;
+    let by = decode_bindings(alloc, pool, context, bindings)?;
     let Some(by) = by else {
         return Ok(None);
     };
@@ -72,19 +70,19 @@ fn instance(
 fn decode_bindings(
     alloc: Global,
     pool: &mut Pool,
-    theory: &Theory,
-    past: &Past,
+    context: &Context<'_>,
     bindings: &[Binding],
 ) -> Result<Option<Vec<larch_pool::Binding>>, Memory>
-    requires { IsPast theory.now pool.old past.now }
+    requires { IsPast context.now.theory.now pool.old context.now.past.now }
     ensures within { IfOk result (λ o. IfSome o (λ by. AreBindings pool.new.trees by.items)) }
     ensures says { IfOk result (λ o. option_map (λ by. entries_of pool.new.trees by.items) o
-        ≡ each (decode_binding (find_symbol theory.now (history_of pool.old past.now))) bindings.now) }
+        ≡ each (decode_binding (find_symbol context.now.theory.now (history_of pool.old context.now.past.now)))
+        bindings.now) }
     ensures grows { OnOk result (Grows pool.old pool.new) }
 {
     let mut by = Vec::with_capacity(alloc, bindings.len())?;
     for binding in bindings {
-        let decoded = decode_binding(alloc, pool, theory, past, binding)?;
+        let decoded = decode_binding(alloc, pool, context, binding)?;
         let Some(decoded) = decoded else {
             return Ok(None);
         };
@@ -97,17 +95,16 @@ fn decode_bindings(
 fn decode_binding(
     alloc: Global,
     pool: &mut Pool,
-    theory: &Theory,
-    past: &Past,
+    context: &Context<'_>,
     binding: &Binding,
 ) -> Result<Option<larch_pool::Binding>, Memory>
-    requires { IsPast theory.now pool.old past.now }
+    requires { IsPast context.now.theory.now pool.old context.now.past.now }
     ensures within { IfOk result (λ o. IfSome o (IsBinding pool.new.trees)) }
     ensures says { IfOk result (λ o. option_map (entry_of pool.new.trees) o
-        ≡ decode_binding (find_symbol theory.now (history_of pool.old past.now)) binding.now) }
+        ≡ decode_binding (find_symbol context.now.theory.now (history_of pool.old context.now.past.now)) binding.now) }
     ensures grows { OnOk result (Grows pool.old pool.new) }
 {
-    let image = decode(alloc, pool, theory, past, &binding.term)?;
+    let image = decode(alloc, pool, context.theory, context.past, &binding.term)?;
     let Some(image) = image else {
         return Ok(None);
     };

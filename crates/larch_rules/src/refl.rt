@@ -8,26 +8,25 @@ ghost use Rattle.larch_past.specs.Past.{IsPast, IsEquated, equated_in, history_o
 use larch_base::Memory;
 use larch_certificate::Coded;
 use larch_decoding::decode;
-use larch_past::{Equated, Past};
+use larch_past::Equated;
 use larch_pool::Pool;
-use larch_term::Theory;
+use larch_rule_parts::Context;
 use std::alloc::Global;
 
 /// A term equals itself.
 pub fn refl_line(
     alloc: Global,
     pool: &mut Pool,
-    theory: &Theory,
-    past: &Past,
+    context: &Context<'_>,
     term: &Coded,
 ) -> Result<Option<Equated>, Memory>
-    requires { IsPast theory.now pool.old past.now }
+    requires { IsPast context.now.theory.now pool.old context.now.past.now }
     ensures within { IfOk result (λ o. IfSome o (IsEquated pool.new)) }
     ensures says { IfOk result (λ o. option_map (equated_in pool.new) o
-        ≡ refl_says (find_symbol theory.now (history_of pool.old past.now)) term.now) }
+        ≡ refl_says (find_symbol context.now.theory.now (history_of pool.old context.now.past.now)) term.now) }
     ensures grows { OnOk result (Grows pool.old pool.new) }
 {
-    let number = decode(alloc, pool, theory, past, term)?;
+    let number = decode(alloc, pool, context.theory, context.past, term)?;
     let Some(number) = number else {
         return Ok(None);
     };

@@ -5,32 +5,30 @@ ghost use Rattle.larch_pool.specs.Pooled.{Grows};
 ghost use Rattle.larch_past.specs.Past.{IsPast, IsEquated, equated_in, history_of};
 
 use larch_base::Memory;
-use larch_past::{Equated, Past};
+use larch_past::Equated;
 use larch_pool::{Pool, at, replace_at};
-use larch_rule_parts::equation_of;
-use larch_term::Theory;
+use larch_rule_parts::{Context, equation_of};
 use std::alloc::Global;
 
 /// The equation of a line whose right side is changed at a place by the equation of another line.
 pub fn repl_line(
     alloc: Global,
     pool: &mut Pool,
-    theory: &Theory,
-    past: &Past,
+    context: &Context<'_>,
     line: u64,
     place: &[u64],
     by: u64,
 ) -> Result<Option<Equated>, Memory>
-    requires { IsPast theory.now pool.old past.now }
+    requires { IsPast context.now.theory.now pool.old context.now.past.now }
     ensures within { IfOk result (λ o. IfSome o (IsEquated pool.new)) }
     ensures says { IfOk result (λ o. option_map (equated_in pool.new) o
-        ≡ repl_says (history_of pool.old past.now) line place.now by) }
+        ≡ repl_says (history_of pool.old context.now.past.now) line place.now by) }
     ensures grows { OnOk result (Grows pool.old pool.new) }
 {
-    let Some(changed) = equation_of(past, line) else {
+    let Some(changed) = equation_of(context.past, line) else {
         return Ok(None);
     };
-    let Some(by) = equation_of(past, by) else {
+    let Some(by) = equation_of(context.past, by) else {
         return Ok(None);
     };
     let stated = replace_side(alloc, pool, changed, place, by)?;

@@ -8,11 +8,12 @@ ghost use Rattle.larch_verify.specs.Checking.{AreStatements};
 ghost use Rattle.larch_verify.specs.Kinds.{goes_by_boxes, says_equations};
 
 use larch_base::Memory;
-use larch_box_rules::{cases_line, fresh_line, induct_line};
+use larch_box_rules::{Induction, cases_line, fresh_line, induct_line};
 use larch_certificate::Line;
 use larch_clause_rules::{generated_line, observe_line, partitioned_line};
 use larch_past::{Equated, Past, Stated};
 use larch_pool::Pool;
+use larch_rule_parts::Context;
 use larch_rules::{
     axiom_line, equal_line, hyp_line, inst_line, refl_line, repl_line, row_line, sym_line,
 };
@@ -35,6 +36,7 @@ pub(crate) fn judge(
         ≡ judge theory.now (history_of pool.old past.now) line.now) }
     ensures grows { OnOk result (Grows pool.old pool.new) }
 {
+    let context = Context { theory, past };
     match line {
         Line::Axiom(number) => {
             let stated = axiom_line(alloc, axioms, *number)?;
@@ -48,8 +50,7 @@ pub(crate) fn judge(
             let stated = generated_line(
                 alloc,
                 pool,
-                theory,
-                past,
+                &context,
                 *of_box,
                 sort,
                 operators.as_slice(),
@@ -60,8 +61,7 @@ pub(crate) fn judge(
             let stated = partitioned_line(
                 alloc,
                 pool,
-                theory,
-                past,
+                &context,
                 *of_box,
                 sort,
                 operators.as_slice(),
@@ -70,7 +70,7 @@ pub(crate) fn judge(
         }
         Line::BoxLine(_, _) | Line::Done => Ok(None),
         _ => {
-            let sides = judge_equation(alloc, pool, theory, past, line)?;
+            let sides = judge_equation(alloc, pool, &context, line)?;
             Ok(equal(sides))
         }
     }
@@ -80,38 +80,37 @@ pub(crate) fn judge(
 fn judge_equation(
     alloc: Global,
     pool: &mut Pool,
-    theory: &Theory,
-    past: &Past,
+    context: &Context<'_>,
     line: &Line,
 ) -> Result<Option<Equated>, Memory>
-    requires past { IsPast theory.now pool.old past.now }
+    requires past { IsPast context.now.theory.now pool.old context.now.past.now }
     requires line { IsTrue (says_equations line.now) }
     ensures within { IfOk result (λ o. IfSome o (IsEquated pool.new)) }
     ensures says { IfOk result (λ o. option_map (equated_in pool.new) o
-        ≡ judge theory.now (history_of pool.old past.now) line.now) }
+        ≡ judge context.now.theory.now (history_of pool.old context.now.past.now) line.now) }
     ensures grows { OnOk result (Grows pool.old pool.new) }
 {
     match line {
-        Line::Hyp(of_box, number) => Ok(hyp_line(past, *of_box, *number)),
+        Line::Hyp(of_box, number) => Ok(hyp_line(context.past, *of_box, *number)),
         Line::Refl(term) => {
-            let sides = refl_line(alloc, pool, theory, past, term)?;
+            let sides = refl_line(alloc, pool, context, term)?;
             Ok(sides)
         }
-        Line::Sym(of_line) => Ok(sym_line(past, *of_line)),
+        Line::Sym(of_line) => Ok(sym_line(context.past, *of_line)),
         Line::Inst(of_line, bindings) => {
-            let sides = inst_line(alloc, pool, theory, past, *of_line, bindings.as_slice())?;
+            let sides = inst_line(alloc, pool, context, *of_line, bindings.as_slice())?;
             Ok(sides)
         }
         Line::Repl(of_line, place, by) => {
-            let sides = repl_line(alloc, pool, theory, past, *of_line, place.as_slice(), *by)?;
+            let sides = repl_line(alloc, pool, context, *of_line, place.as_slice(), *by)?;
             Ok(sides)
         }
         Line::Equal(of_line) => {
-            let sides = equal_line(alloc, pool, theory, past, *of_line)?;
+            let sides = equal_line(alloc, pool, context, *of_line)?;
             Ok(sides)
         }
         _ => {
-            let sides = judge_by_boxes(alloc, pool, theory, past, line)?;
+            let sides = judge_by_boxes(alloc, pool, context, line)?;
             Ok(sides)
         }
     }
@@ -121,49 +120,33 @@ fn judge_equation(
 fn judge_by_boxes(
     alloc: Global,
     pool: &mut Pool,
-    theory: &Theory,
-    past: &Past,
+    context: &Context<'_>,
     line: &Line,
 ) -> Result<Option<Equated>, Memory>
-    requires past { IsPast theory.now pool.old past.now }
+    requires past { IsPast context.now.theory.now pool.old context.now.past.now }
     requires line { IsTrue (goes_by_boxes line.now) }
     ensures within { IfOk result (λ o. IfSome o (IsEquated pool.new)) }
     ensures says { IfOk result (λ o. option_map (equated_in pool.new) o
-        ≡ judge theory.now (history_of pool.old past.now) line.now) }
+        ≡ judge context.now.theory.now (history_of pool.old context.now.past.now) line.now) }
     ensures grows { OnOk result (Grows pool.old pool.new) }
 {
     match line {
         Line::Fresh(of_box, variables) => {
-            let sides = fresh_line(alloc, pool, theory, past, *of_box, variables.as_slice())?;
+            let sides = fresh_line(alloc, pool, context, *of_box, variables.as_slice())?;
             Ok(sides)
         }
         Line::Cases(first, second) => {
-            let sides = cases_line(alloc, pool, theory, past, *first, *second)?;
+            let sides = cases_line(alloc, pool, context, *first, *second)?;
             Ok(sides)
         }
         Line::Induct(clause, variable, equation, boxes) => {
-            let sides = induct_line(
-                alloc,
-                pool,
-                theory,
-                past,
-                *clause,
-                variable,
-                equation,
-                boxes.as_slice(),
-            )?;
+            let induction = Induction { variable, equation };
+            let boxes = boxes.as_slice();
+            let sides = induct_line(alloc, pool, context, *clause, &induction, boxes)?;
             Ok(sides)
         }
         Line::Observe(clause, equation, lines) => {
-            let sides = observe_line(
-                alloc,
-                pool,
-                theory,
-                past,
-                *clause,
-                equation,
-                lines.as_slice(),
-            )?;
+            let sides = observe_line(alloc, pool, context, *clause, equation, lines.as_slice())?;
             Ok(sides)
         }
         // Other lines don't come here.

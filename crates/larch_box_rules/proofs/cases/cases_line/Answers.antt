@@ -6,13 +6,13 @@ use Rattle.larch_box_rules.proofs.cases.cases_line.Goals as goal
 
 pub returns-in_default-clause-says : goal.returns-in_default-clause-says
 returns-in_default-clause-says c =
-    first_missing (find_closed (history_of c.args.pool.now c.args.past.now) c.args.first)
-    (find_closed (history_of c.args.pool.now c.args.past.now) c.args.second) (c.in_default.ensures.known c.args.pool.now)
+    first_missing (find_closed (history_of c.args.pool.now c.args.context.now.past.now) c.args.first)
+    (find_closed (history_of c.args.pool.now c.args.context.now.past.now) c.args.second) (c.in_default.ensures.known c.args.pool.now)
 
 pub returns-in_default-closed_box-clause-says : goal.returns-in_default-closed_box-clause-says
 returns-in_default-closed_box-clause-says c =
-    second_missing (find_closed (history_of c.args.pool.now c.args.past.now) c.args.first)
-    (find_closed (history_of c.args.pool.now c.args.past.now) c.args.second)
+    second_missing (find_closed (history_of c.args.pool.now c.args.context.now.past.now) c.args.first)
+    (find_closed (history_of c.args.pool.now c.args.context.now.past.now) c.args.second)
     (box_in c.args.pool.now c.in-Some.one.now, stated_in c.args.pool.now c.in-Some.shown.now)
     (c.in-Some.ensures.known c.args.pool.now) (c.in_default-closed_box.ensures.known c.args.pool.now)
 
@@ -30,8 +30,8 @@ cases_result-requires-clause-other_shown c = (c.in-Some-closed_box.ensures.withi
 
 pub returns-clause-says : goal.returns-clause-says
 returns-clause-says c =
-    both_found (find_closed (history_of c.args.pool.now c.args.past.now) c.args.first)
-    (find_closed (history_of c.args.pool.now c.args.past.now) c.args.second)
+    both_found (find_closed (history_of c.args.pool.now c.args.context.now.past.now) c.args.first)
+    (find_closed (history_of c.args.pool.now c.args.context.now.past.now) c.args.second)
     (box_in c.args.pool.now c.in-Some.one.now, stated_in c.args.pool.now c.in-Some.shown.now)
     (box_in c.args.pool.now c.in-Some-closed_box.other.now, stated_in c.args.pool.now c.in-Some-closed_box.other_shown.now)
     (option_map (equated_in c.cases_result.new.pool) c.in_ok-made.made)

@@ -8,7 +8,7 @@ use Rattle.larch_box_rules.proofs.fresh.fresh_line.Goals as goal
 
 pub returns-in_default-clause-says : goal.returns-in_default-clause-says
 returns-in_default-clause-says c =
-    no_box (find_closed (history_of c.args.pool.now c.args.past.now) c.args.of_box) (map variable_of c.args.variables.now)
+    no_box (find_closed (history_of c.args.pool.now c.args.context.now.past.now) c.args.of_box) (map variable_of c.args.variables.now)
     (c.in_default.ensures.known c.args.pool.now)
 
 pub fresh_result-requires-clause-known : goal.fresh_result-requires-clause-known
@@ -19,6 +19,6 @@ fresh_result-requires-clause-stated c = (c.in-Some.ensures.within c.args.pool.no
 
 pub returns-clause-says : goal.returns-clause-says
 returns-clause-says c =
-    of_box (find_closed (history_of c.args.pool.now c.args.past.now) c.args.of_box) (map variable_of c.args.variables.now)
+    of_box (find_closed (history_of c.args.pool.now c.args.context.now.past.now) c.args.of_box) (map variable_of c.args.variables.now)
     (box_in c.args.pool.now c.in-Some.known.now, stated_in c.args.pool.now c.in-Some.stated.now)
     (option_map (equated_in c.fresh_result.new.pool) c.in_ok-made.made) (c.in-Some.ensures.known c.args.pool.now) c.in_ok-made.ensures.says

@@ -14,7 +14,7 @@ use Rattle.larch_box_rules.proofs.showing.shows_case.Goals as goal
 
 pub returns-then-not-has_constants-clause-shows : goal.returns-then-not-has_constants-clause-shows
 returns-then-not-has_constants-clause-shows c =
-    wrong_parts c.args.variable.now (tree_in c.args.pool.now.trees c.args.inductive.sides.left) (tree_in c.args.pool.now.trees c.args.inductive.sides.right)
+    wrong_parts c.args.inductive.now.variable.now (tree_in c.args.pool.now.trees c.args.inductive.now.sides.left) (tree_in c.args.pool.now.trees c.args.inductive.now.sides.right)
     c.args.generator.now (box_in c.args.pool.now c.args.known.now, stated_in c.args.pool.now c.args.stated.now) c.has_constants.result
     (c.has_constants.ensures c.args.pool.now ∙ ap (has_constants (box_in c.args.pool.now c.args.known.now)) c.domain.ensures)
     c.if-not-has_constants.true
@@ -26,16 +26,16 @@ supposes_cases-requires-clause-constants c =
 
 pub has_result-requires-clause-inductive : goal.has_result-requires-clause-inductive
 has_result-requires-clause-inductive c =
-    inductive_later c.args.pool.now c.supposes_cases.new.pool c.args.variable.now c.args.inductive c.in_ok-supposes.ensures.grows c.requires.inductive
+    inductive_later c.args.pool.now c.supposes_cases.new.pool c.args.inductive.now c.in_ok-supposes.ensures.grows c.requires.inductive
 
 pub returns-clause-shows : goal.returns-clause-shows
 returns-clause-shows c =
     let made : Tree = app c.args.generator.now (constant_terms (operators_from c.args.known.now.number 1 c.args.known.now.parts)) in
-    right_case c.args.variable.now (tree_in c.args.pool.now.trees c.args.inductive.sides.left) (tree_in c.args.pool.now.trees c.args.inductive.sides.right)
+    right_case c.args.inductive.now.variable.now (tree_in c.args.pool.now.trees c.args.inductive.now.sides.left) (tree_in c.args.pool.now.trees c.args.inductive.now.sides.right)
     c.args.generator.now (box_in c.args.pool.now c.args.known.now, stated_in c.args.pool.now c.args.stated.now)
     c.has_constants.result c.in_ok-supposes.supposes c.in_ok-results.results
     (c.has_constants.ensures c.args.pool.now ∙ ap (has_constants (box_in c.args.pool.now c.args.known.now)) c.domain.ensures)
     c.if-not-has_constants.false c.in_ok-supposes.ensures.supposes c.if-not-supposes.false
     (c.in_ok-results.ensures.result
     ∙ (λ i. same_statement (stated_same c.args.pool.now c.supposes_cases.new.pool c.args.stated.now c.in_ok-supposes.ensures.grows c.requires.stated i)
-    (with_same c.args.pool.now c.supposes_cases.new.pool c.args.variable.now c.args.inductive made c.in_ok-supposes.ensures.grows c.requires.inductive i)))
+    (with_same c.args.pool.now c.supposes_cases.new.pool c.args.inductive.now made c.in_ok-supposes.ensures.grows c.requires.inductive i)))

@@ -14,17 +14,17 @@ pub returns-then-not-supposes-clause-supposes : goal.returns-then-not-supposes-c
 returns-then-not-supposes-clause-supposes c =
     let k : c.loop-i.met < length c.as_slice-hypotheses.result.now = omega (arith, c.if-met-hypotheses.false) in
     sym (and_not_left c.in_ok-supposes.supposes
-    (left_same c.args.pool.now c.args.variable.now c.args.inductive c.args.known.now.number (c.loop-i.i + 1 + 1)
+    (left_same c.args.pool.now c.args.inductive.now c.args.known.now.number (c.loop-i.i + 1 + 1)
     (drop (c.loop-i.i + 1) c.as_slice-parts.result.now)
     (map (equated_in c.args.pool.now) (drop (c.loop-i.met + 1) c.as_slice-hypotheses.result.now))) c.if-not-supposes.true)
-    ∙ sym (next_met c.args.pool.now c.loop-i.pool c.constant_in.new.pool c.args.variable.now c.args.inductive c.args.known.now.number
+    ∙ sym (next_met c.args.pool.now c.loop-i.pool c.constant_in.new.pool c.args.inductive.now c.args.known.now.number
     c.as_slice-parts.result.now c.args.known.now.parts c.as_slice-hypotheses.result.now c.args.known.now.hypotheses
     c.loop-i.i c.loop-i.met c.in_ok-image.image c.index-parts-i.result none c.in_ok-supposes.supposes c.ne.result
     c.loop-i.invariant.grows c.in_ok-image.ensures.grows c.requires.inductive c.requires.known c.as_slice-hypotheses.ensures
     c.requires.constants c.as_slice-parts.ensures c.loop-i-test.true k c.index-parts-i.is c.ne.ensures c.if-ne.false
     c.in_ok-image.ensures.tree c.in_ok-supposes.ensures.instance)
     ∙ c.loop-i.invariant.rest
-    ∙ (λ j. left_same c.args.pool.now c.args.variable.now c.args.inductive c.args.known.now.number 1 (c.as_slice-parts.ensures j)
+    ∙ (λ j. left_same c.args.pool.now c.args.inductive.now c.args.known.now.number 1 (c.as_slice-parts.ensures j)
     (map (equated_in c.args.pool.now) (c.as_slice-hypotheses.ensures j)))
 
 pub loop-i-preserved : goal.loop-i-preserved
@@ -36,10 +36,10 @@ loop-i-preserved c =
           c.in_ok-supposes.ensures.grows;
       met = omega (arith, k);
       rest = sym (and_known_left c.in_ok-supposes.supposes
-          (left_same c.args.pool.now c.args.variable.now c.args.inductive c.args.known.now.number (c.loop-i.i + 1 + 1)
+          (left_same c.args.pool.now c.args.inductive.now c.args.known.now.number (c.loop-i.i + 1 + 1)
           (drop (c.loop-i.i + 1) c.as_slice-parts.result.now)
           (map (equated_in c.args.pool.now) (drop (c.loop-i.met + 1) c.as_slice-hypotheses.result.now))) c.if-not-supposes.false)
-          ∙ sym (next_met c.args.pool.now c.loop-i.pool c.constant_in.new.pool c.args.variable.now c.args.inductive c.args.known.now.number
+          ∙ sym (next_met c.args.pool.now c.loop-i.pool c.constant_in.new.pool c.args.inductive.now c.args.known.now.number
           c.as_slice-parts.result.now c.args.known.now.parts c.as_slice-hypotheses.result.now c.args.known.now.hypotheses
           c.loop-i.i c.loop-i.met c.in_ok-image.image c.index-parts-i.result none c.in_ok-supposes.supposes c.ne.result
           c.loop-i.invariant.grows c.in_ok-image.ensures.grows c.requires.inductive c.requires.known c.as_slice-hypotheses.ensures

@@ -9,6 +9,6 @@ abbrev pub invariant-loop-i : goal.invariant-loop-i
 invariant-loop-i l = record {
   grows : Grows l.fn.pool l.pool;
   met : l.met ≤ length l.hypotheses;
-  rest : left_same l.fn.pool l.variable l.inductive l.known.number (l.i + 1) (drop l.i l.parts) (map (equated_in l.fn.pool) (drop l.met l.hypotheses))
-      ≡ left_same l.fn.pool l.variable l.inductive l.known.number 1 l.parts (map (equated_in l.fn.pool) l.hypotheses);
+  rest : left_same l.fn.pool l.inductive l.known.number (l.i + 1) (drop l.i l.parts) (map (equated_in l.fn.pool) (drop l.met l.hypotheses))
+      ≡ left_same l.fn.pool l.inductive l.known.number 1 l.parts (map (equated_in l.fn.pool) l.hypotheses);
 }

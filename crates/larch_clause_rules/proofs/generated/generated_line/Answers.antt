@@ -11,12 +11,12 @@ use Rattle.larch_clause_rules.proofs.generated.generated_line.Goals as goal
 
 pub returns-in_default-clause-says : goal.returns-in_default-clause-says
 returns-in_default-clause-says c =
-    after_box (generated_by c.args.sort.now) (find_closed (history_of c.args.pool.now c.args.past.now) c.args.of_box) (own_operators c.args.theory.now c.args.operators.now) (c.in_default.ensures.known c.args.pool.now)
+    after_box (generated_by c.args.sort.now) (find_closed (history_of c.args.pool.now c.args.context.now.past.now) c.args.of_box) (own_operators c.args.context.now.theory.now c.args.operators.now) (c.in_default.ensures.known c.args.pool.now)
 
 pub returns-then-not-have_range-clause-says : goal.returns-then-not-have_range-clause-says
 returns-then-not-have_range-clause-says c =
-    after_both (generated_by c.args.sort.now) (find_closed (history_of c.args.pool.now c.args.past.now) c.args.of_box)
-    (box_in c.args.pool.now c.in-Some.known.now, stated_in c.args.pool.now c.in-Some.stated.now) (own_operators c.args.theory.now c.args.operators.now) (operators_in c.in-Some-generators.generators.items) _
+    after_both (generated_by c.args.sort.now) (find_closed (history_of c.args.pool.now c.args.context.now.past.now) c.args.of_box)
+    (box_in c.args.pool.now c.in-Some.known.now, stated_in c.args.pool.now c.in-Some.stated.now) (own_operators c.args.context.now.theory.now c.args.operators.now) (operators_in c.in-Some-generators.generators.items) _
     (c.in-Some.ensures.known c.args.pool.now) (ap (option_map (λ ks. operators_in ks.items)) (sym c.in-Some-generators.is) ∙ c.in_ok-generators.ensures.says)
     (not_all (list_all (λ f. bytes_eq f.range c.args.sort.now) (operators_in c.in-Some-generators.generators.items))
     (shows_generated c.args.sort.now (operators_in c.in-Some-generators.generators.items) (box_in c.args.pool.now c.in-Some.known.now) (stated_in c.args.pool.now c.in-Some.stated.now))
@@ -31,8 +31,8 @@ shows_generated-requires-clause-stated c = (c.in-Some.ensures.within c.args.pool
 
 pub returns-clause-says : goal.returns-clause-says
 returns-clause-says c =
-    after_both (generated_by c.args.sort.now) (find_closed (history_of c.args.pool.now c.args.past.now) c.args.of_box)
-    (box_in c.args.pool.now c.in-Some.known.now, stated_in c.args.pool.now c.in-Some.stated.now) (own_operators c.args.theory.now c.args.operators.now) (operators_in c.in-Some-generators.generators.items) _
+    after_both (generated_by c.args.sort.now) (find_closed (history_of c.args.pool.now c.args.context.now.past.now) c.args.of_box)
+    (box_in c.args.pool.now c.in-Some.known.now, stated_in c.args.pool.now c.in-Some.stated.now) (own_operators c.args.context.now.theory.now c.args.operators.now) (operators_in c.in-Some-generators.generators.items) _
     (c.in-Some.ensures.known c.args.pool.now) (ap (option_map (λ ks. operators_in ks.items)) (sym c.in-Some-generators.is) ∙ c.in_ok-generators.ensures.says)
     (ap Some (ap (stated_in c.shows_generated.new.pool) c.in_ok-clause.ensures ∙ ap (λ ks. Generated c.args.sort.now (operators_in ks)) c.deref-3.ensures.value)
     ∙ all_shown (list_all (λ f. bytes_eq f.range c.args.sort.now) (operators_in c.in-Some-generators.generators.items))

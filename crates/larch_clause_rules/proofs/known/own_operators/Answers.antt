@@ -9,7 +9,7 @@ use Rattle.larch_clause_rules.proofs.known.own_operators.Goals as goal
 
 pub returns-in_default-clause-says : goal.returns-in_default-clause-says
 returns-in_default-clause-says c =
-    own_missing c.args.theory.now.operators c.args.numbers.now c.loop-number.number-index c.loop-number-test.true
+    own_missing c.args.context.now.theory.now.operators c.args.numbers.now c.loop-number.number-index c.loop-number-test.true
     (ap (option_map (λ k. k.operator)) (sym c.in_default.is) ∙ c.in_ok-own.ensures.says)
 
 pub loop-number-preserved : goal.loop-number-preserved
@@ -18,6 +18,6 @@ loop-number-preserved c =
     record {
       known = known_pushed c.args.pool.now c.args.pool.now c.loop-number.known.items c.push.new.self.items c.in-Some.own (grows_refl c.args.pool.now) c.loop-number.invariant.known
           (subst (λ o. IfSome o (IsKnown c.args.pool.now)) c.in-Some.is c.in_ok-own.ensures.known) p;
-      says = own_more c.args.theory.now.operators c.args.numbers.now c.loop-number.number-index c.loop-number.known.items c.push.new.self.items c.in-Some.own c.loop-number-test.true
+      says = own_more c.args.context.now.theory.now.operators c.args.numbers.now c.loop-number.number-index c.loop-number.known.items c.push.new.self.items c.in-Some.own c.loop-number-test.true
           c.loop-number.invariant.says (ap (option_map (λ k. k.operator)) (sym c.in-Some.is) ∙ c.in_ok-own.ensures.says) p;
     }

@@ -7,5 +7,5 @@ use Rattle.larch_clause_rules.proofs.known.own_operators.Given as goal
 abbrev pub invariant-loop-number : goal.invariant-loop-number
 invariant-loop-number l = record {
   known : All (IsKnown l.pool) l.known.items;
-  says : each (numbered l.theory.operators) (take l.number-index l.numbers) ≡ Some (operators_in l.known.items);
+  says : each (numbered l.context.theory.now.operators) (take l.number-index l.numbers) ≡ Some (operators_in l.known.items);
 }

@@ -9,7 +9,7 @@ use Rattle.larch_clause_rules.proofs.observe.observe_line.Goals as goal
 
 pub returns-in_default-line-clause-says : goal.returns-in_default-line-clause-says
 returns-in_default-line-clause-says c =
-    after_operators (observed_equal (history_of c.args.pool.now c.args.past.now) c.args.lines.now)
-    (decode_equation (find_symbol c.args.theory.now (history_of c.args.pool.now c.args.past.now)) c.args.equation.now) (equated_in c.decode_equation.new.pool c.in-Some.sides)
-    (find_line (history_of c.args.pool.now c.args.past.now) c.args.clause)
+    after_operators (observed_equal (history_of c.args.pool.now c.args.context.now.past.now) c.args.lines.now)
+    (decode_equation (find_symbol c.args.context.now.theory.now (history_of c.args.pool.now c.args.context.now.past.now)) c.args.equation.now) (equated_in c.decode_equation.new.pool c.in-Some.sides)
+    (find_line (history_of c.args.pool.now c.args.context.now.past.now) c.args.clause)
     (ap (option_map (equated_in c.decode_equation.new.pool)) (sym c.in-Some.is) ∙ c.in_ok-sides.ensures.says) (c.in_default-line.ensures.line c.args.pool.now)

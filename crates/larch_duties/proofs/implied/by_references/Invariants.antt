@@ -7,5 +7,5 @@ use Rattle.larch_duties.proofs.implied.by_references.Given as goal
 -- the statements so far, with what the references that are left imply, are all
 abbrev pub invariant-loop-reference : goal.invariant-loop-reference
 invariant-loop-reference l =
-    all_taken (λ ref. all_behind (reference_implies l.sources (flat_with l.raw l.flat) ref)) (drop l.reference-index l.references) l.statements
-    ≡ all_taken (λ ref. all_behind (reference_implies l.sources (flat_with l.raw l.flat) ref)) l.references []
+    all_taken (λ ref. all_behind (reference_implies l.sources (flat_with l.own.text.now l.own.flat.now) ref)) (drop l.reference-index l.references) l.statements
+    ≡ all_taken (λ ref. all_behind (reference_implies l.sources (flat_with l.own.text.now l.own.flat.now) ref)) l.references []

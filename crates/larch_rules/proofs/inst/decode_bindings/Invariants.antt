@@ -10,5 +10,5 @@ abbrev pub invariant-loop-binding : goal.invariant-loop-binding
 invariant-loop-binding l = record {
   grows : Grows l.fn.pool l.pool;
   within : AreBindings l.pool.trees l.by.items;
-  says : each (decode_binding (find_symbol l.theory (history_of l.fn.pool l.past))) (take l.binding-index l.bindings) ≡ Some (entries_of l.pool.trees l.by.items);
+  says : each (decode_binding (find_symbol l.context.theory.now (history_of l.fn.pool l.context.past.now))) (take l.binding-index l.bindings) ≡ Some (entries_of l.pool.trees l.by.items);
 }

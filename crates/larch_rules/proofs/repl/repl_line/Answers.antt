@@ -6,12 +6,12 @@ use Rattle.larch_rules.proofs.repl.repl_line.Goals as goal
 
 pub returns-in_default-clause-says : goal.returns-in_default-clause-says
 returns-in_default-clause-says c =
-    first_nothing c.args.place.now (find_line (history_of c.args.pool.now c.args.past.now) c.args.line)
-    (find_line (history_of c.args.pool.now c.args.past.now) c.args.by) (c.in_default.ensures.says c.args.pool.now)
+    first_nothing c.args.place.now (find_line (history_of c.args.pool.now c.args.context.now.past.now) c.args.line)
+    (find_line (history_of c.args.pool.now c.args.context.now.past.now) c.args.by) (c.in_default.ensures.says c.args.pool.now)
 
 pub returns-in_default-equation_of-clause-says : goal.returns-in_default-equation_of-clause-says
 returns-in_default-equation_of-clause-says c =
-    second_nothing c.args.place.now (find_line (history_of c.args.pool.now c.args.past.now) c.args.line)
-    (find_line (history_of c.args.pool.now c.args.past.now) c.args.by)
+    second_nothing c.args.place.now (find_line (history_of c.args.pool.now c.args.context.now.past.now) c.args.line)
+    (find_line (history_of c.args.pool.now c.args.context.now.past.now) c.args.by)
     (tree_in c.args.pool.now.trees c.in-Some.changed.left) (tree_in c.args.pool.now.trees c.in-Some.changed.right)
     (c.in-Some.ensures.says c.args.pool.now) (c.in_default-equation_of.ensures.says c.args.pool.now)
