@@ -13,12 +13,12 @@ use Rattle.larch_redexes.specs.Rule.{left_of, right_of, reason_of}
 use Rattle.larch_redexes.specs.declared.rule.Reason.{Reason}
 use Rattle.larch_redexes.specs.Search.{IsBy}
 use Rattle.larch_redexes.specs.declared.rule.Rule.{Rule}
-use Rattle.larch_derive.specs.Predicates.{Known, Stands, HasEquation, Extends}
+use Rattle.larch_derive.specs.Predicates.{Known, HasNoBadLine, HasEquation, Extends}
 use Rattle.larch_derive.specs.declared.builder.Builder.{Builder}
 use Rattle.larch_derive.proofs.Growth.{known_stands}
 use Rattle.larch_derive_lines.specs.Rules.{variable_in, AreKnownEntries}
 use Rattle.larch_applying.specs.Applying.{IsTried}
-use Rattle.larch_applying.specs.Holding.{Says, RuleHolds}
+use Rattle.larch_applying.specs.Holding.{ReasonSays, RuleHolds}
 use Rattle.larch_applying.proofs.Entries.{known_entries, entries_stay, different}
 
 left_by : (rule : Rule) (exchanged : Bool) (t : Tree) (es : List Entry) → IsBy rule exchanged t es → (P : Type 0)
@@ -30,13 +30,13 @@ left_by rule true t es h P go =
 -- what is shown of the left side as it is tried is shown where it is the term under a substitution
 pub by_tried : (a : Builder) (rule : Rule) (exchanged : Bool) (t : Tree) (es : List Entry) (Q : Type 0) → Known a t
     → RuleHolds a rule → IsBy rule exchanged t es
-    → ((x : Tree) → Stands a → RuleHolds a rule → IsTried rule exchanged x → Q) → Q
+    → ((x : Tree) → HasNoBadLine a → RuleHolds a rule → IsTried rule exchanged x → Q) → Q
 by_tried a rule exchanged t es Q k r h go =
     left_by rule exchanged t es h Q (λ x p m. go x (known_stands a t k) r p)
 
 pub applied_says : (a b c : Builder) (rule : Rule) (exchanged : Bool) (t : Tree) (es : List Entry) (m n : ℕ) → Known a t
     → RuleHolds a rule → IsBy rule exchanged t es → Extends a b
-    → ((x : Tree) → Stands a → RuleHolds a rule → IsTried rule exchanged x → HasEquation b m x (right_of rule))
+    → ((x : Tree) → HasNoBadLine a → RuleHolds a rule → IsTried rule exchanged x → HasEquation b m x (right_of rule))
     → ((l r : Tree) → HasEquation b m l r → AreKnownEntries b es → all_different (map variable_in es) ≡ true
     → HasEquation c n (substituted es l) (substituted es r))
     → HasEquation c n t (substituted es (right_of rule))
@@ -48,7 +48,7 @@ applied_says a b c rule exchanged t es m n k r h x says inst =
 
 pub applied_extends : (a b c : Builder) (rule : Rule) (exchanged : Bool) (t : Tree) (es : List Entry) (m : ℕ) → Known a t
     → RuleHolds a rule → IsBy rule exchanged t es → Extends a b
-    → ((x : Tree) → Stands a → RuleHolds a rule → IsTried rule exchanged x → HasEquation b m x (right_of rule))
+    → ((x : Tree) → HasNoBadLine a → RuleHolds a rule → IsTried rule exchanged x → HasEquation b m x (right_of rule))
     → ((l r : Tree) → HasEquation b m l r → AreKnownEntries b es → all_different (map variable_in es) ≡ true
     → Extends b c)
     → Extends b c
@@ -70,8 +70,8 @@ tried_turned rule true x e p = p
 
 -- what a reason says of a rule, where it is the rule's
 pub says_by : (b : Builder) (rule : Rule) (w : Reason) → w ≡ reason_of rule → RuleHolds b rule
-    → Says b w (left_of rule) (right_of rule)
-says_by b rule w e h = subst (λ v. Says b v (left_of rule) (right_of rule)) (sym e) h
+    → ReasonSays b w (left_of rule) (right_of rule)
+says_by b rule w e h = subst (λ v. ReasonSays b v (left_of rule) (right_of rule)) (sym e) h
 
 pub left_same : (b : Builder) (n : ℕ) (l k r : Tree) → l ≡ k → HasEquation b n k r → HasEquation b n l r
 left_same b n l k r e h = subst (λ u. HasEquation b n u r) (sym e) h

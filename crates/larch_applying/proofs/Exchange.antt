@@ -19,7 +19,7 @@ use Rattle.larch_lines.specs.Rules.{row_says}
 use Rattle.larch_normal_forms.specs.Rewriting.{sort_at}
 use Rattle.larch_redexes.specs.Exchanged.{turned}
 use Rattle.larch_derive.specs.OpenBox.{naming}
-use Rattle.larch_derive.specs.Predicates.{written, Known, Stands, HasEquation, HasStatement, Extends}
+use Rattle.larch_derive.specs.Predicates.{written, Known, HasNoBadLine, HasEquation, HasStatement, Extends}
 use Rattle.larch_derive.specs.declared.builder.Builder.{Builder}
 use Rattle.larch_derive.specs.declared.open_box.OpenBox.{OpenBox}
 use Rattle.larch_derive.proofs.Growth.{known_left, known_stands, stays_said}
@@ -157,14 +157,14 @@ exchange_extends a b c m z s t es k e x h inst =
 -- what is shown of an exchange of two terms is shown where a line says an equality
 pub by_exchange : (a : Builder) (line : ℕ) (l x r : Tree) (z : List ℕ) (es : List Entry) (Q : Type 0)
     → IsExchange l z es → turned l ≡ Some x → HasEquation a line l r
-    → ((s t : Tree) → Stands a → AreKnownEntries a es → es ≡ pair_at z s t → Q) → Q
+    → ((s t : Tree) → HasNoBadLine a → AreKnownEntries a es → es ≡ pair_at z s t → Q) → Q
 by_exchange a line l x r z es Q i e h go =
     exchange_parts a line l x r z es i e h Q
     (λ s t xe le k p. go s t (known_stands a l (known_left a line l r h)) k p)
 
 pub exchanged_by : (a b : Builder) (line k : ℕ) (l x r : Tree) (z : List ℕ) (es : List Entry) → IsExchange l z es
     → turned l ≡ Some x → HasEquation a line l r
-    → ((s t : Tree) → Stands a → AreKnownEntries a es → es ≡ pair_at z s t
+    → ((s t : Tree) → HasNoBadLine a → AreKnownEntries a es → es ≡ pair_at z s t
     → HasEquation b k (equality z s t) (equality z t s))
     → HasEquation b k x l
 exchanged_by a b line k l x r z es i e h go =

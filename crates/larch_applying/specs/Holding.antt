@@ -11,13 +11,13 @@ use Rattle.larch_redexes.specs.declared.rule.Reason.TheVariants.{Row, Line}
 use Rattle.larch_redexes.specs.declared.rule.Rule.{Rule}
 
 -- the row or the line of a builder that a reason names says an equation
-abbrev pub Says : Builder → Reason → Tree → Tree → Type 0
-Says b (Row k z) l r = row_says k z ≡ Some (Equation l r)
-Says b (Line n) l r = HasEquation b n l r
+abbrev pub ReasonSays : Builder → Reason → Tree → Tree → Type 0
+ReasonSays b (Row k z) l r = row_says k z ≡ Some (Equation l r)
+ReasonSays b (Line n) l r = HasEquation b n l r
 
 -- it says the rule
 abbrev pub RuleHolds : Builder → Rule → Type 0
-RuleHolds b rule = Says b (reason_of rule) (left_of rule) (right_of rule)
+RuleHolds b rule = ReasonSays b (reason_of rule) (left_of rule) (right_of rule)
 
 abbrev pub RulesHold : Builder → List Rule → Type 0
 RulesHold b rules = All (RuleHolds b) rules

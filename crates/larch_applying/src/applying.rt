@@ -1,8 +1,8 @@
 ghost use Rattle.std.specs.Prelude.{◌≡◌, IfOk, IfErr};
 ghost use Rattle.larch_applying.specs.Applying.{MayRefuse, IsTried};
 ghost use Rattle.larch_applying.specs.Codes.{AreCodes, AreOfStore};
-ghost use Rattle.larch_applying.specs.Holding.{Says, RuleHolds};
-ghost use Rattle.larch_derive.specs.Predicates.{HasEquation, Extends, Known, Stands};
+ghost use Rattle.larch_applying.specs.Holding.{ReasonSays, RuleHolds};
+ghost use Rattle.larch_derive.specs.Predicates.{HasEquation, Extends, Known, HasNoBadLine};
 ghost use Rattle.larch_redexes.specs.Bound.{entries_of};
 ghost use Rattle.larch_redexes.specs.Rule.{right_of};
 ghost use Rattle.larch_redexes.specs.Search.{IsBoundIn, IsBy};
@@ -34,9 +34,9 @@ pub struct Applied {
 /// A line that says what a reason says. A refused line changes nothing.
 #[tactic(auto, using(larch_derive::proofs::Growth::extends_same))]
 pub fn reason_line(builder: &mut Builder, reason: &Reason) -> Result<u64, Memory>
-    ensures says { IfOk result (λ n. (l r : Tree) → Stands builder.old → Says builder.old reason.now l r
+    ensures says { IfOk result (λ n. (l r : Tree) → HasNoBadLine builder.old → ReasonSays builder.old reason.now l r
         → HasEquation builder.new n l r) }
-    ensures extends { (l r : Tree) → Stands builder.old → Says builder.old reason.now l r
+    ensures extends { (l r : Tree) → HasNoBadLine builder.old → ReasonSays builder.old reason.now l r
         → Extends builder.old builder.new }
 {
     match reason {
@@ -69,10 +69,10 @@ fn rule_line(
     rule: &Rule,
     exchanged: bool,
 ) -> Result<u64, Memory>
-    ensures says { IfOk result (λ n. (x : Tree) → Stands builder.old → RuleHolds builder.old rule.now
+    ensures says { IfOk result (λ n. (x : Tree) → HasNoBadLine builder.old → RuleHolds builder.old rule.now
         → IsTried rule.now exchanged x → HasEquation builder.new n x (right_of rule.now)) }
-    ensures extends { (x : Tree) → Stands builder.old → RuleHolds builder.old rule.now → IsTried rule.now exchanged x
-        → Extends builder.old builder.new }
+    ensures extends { (x : Tree) → HasNoBadLine builder.old → RuleHolds builder.old rule.now
+        → IsTried rule.now exchanged x → Extends builder.old builder.new }
 {
     let said = reason_line(builder, rule.reason())?;
     if !exchanged {

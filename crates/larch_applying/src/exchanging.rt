@@ -2,7 +2,7 @@ ghost use Rattle.std.specs.Prelude.{◌≡◌, ◌++◌, ◌∷◌, [], false, S
 ghost use Rattle.std.specs.List.{list_any};
 ghost use Rattle.larch_applying.specs.Exchanging.{IsExchange, pair_at};
 ghost use Rattle.larch_calculus.specs.Formula.{equality};
-ghost use Rattle.larch_derive.specs.Predicates.{HasEquation, Extends, Stands};
+ghost use Rattle.larch_derive.specs.Predicates.{HasEquation, Extends, HasNoBadLine};
 ghost use Rattle.larch_derive_lines.specs.Rules.{AreKnownEntries};
 ghost use Rattle.larch_redexes.specs.Exchanged.{turned};
 ghost use Rattle.larch_term.specs.Substitution.{is_entry_of};
@@ -52,10 +52,10 @@ pub(crate) fn exchange_line(
     builder: &mut Builder,
     exchange: Exchange,
 ) -> Result<u64, Memory>
-    ensures says { IfOk result (λ n. (s t : Tree) → Stands builder.old → AreKnownEntries builder.old exchange.by
+    ensures says { IfOk result (λ n. (s t : Tree) → HasNoBadLine builder.old → AreKnownEntries builder.old exchange.by
         → exchange.by ≡ pair_at exchange.sort s t
         → HasEquation builder.new n (equality exchange.sort s t) (equality exchange.sort t s)) }
-    ensures extends { (s t : Tree) → Stands builder.old → AreKnownEntries builder.old exchange.by
+    ensures extends { (s t : Tree) → HasNoBadLine builder.old → AreKnownEntries builder.old exchange.by
         → exchange.by ≡ pair_at exchange.sort s t → Extends builder.old builder.new }
 {
     let Exchange { sort, by } = exchange;

@@ -18,7 +18,7 @@ use Rattle.larch_derive.specs.declared.builder.Builder.{Builder}
 use Rattle.larch_derive.specs.declared.open_box.OpenBox.{OpenBox}
 use Rattle.larch_derive.specs.Builder.{shape_of, IsCodeIn}
 use Rattle.larch_derive.specs.Coding.{IsCodeOf}
-use Rattle.larch_derive.specs.Predicates.{shapes_of, written, written_statement, StandIn, KnownIn, SaysIn, Stands, Known, HasStatement, IsSaidBehind, IsBehind, LeadsOn, GrowsBy, AreAlike, Extends, Grows}
+use Rattle.larch_derive.specs.Predicates.{shapes_of, written, written_statement, StandIn, KnownIn, SaysIn, HasNoBadLine, Known, HasStatement, IsSaidBehind, IsBehind, LeadsOn, GrowsBy, AreAlike, Extends, Grows}
 
 -- ---- events behind
 
@@ -254,8 +254,8 @@ grown_known a b t x h =
     carried (λ u bs ls. (st : State) × KnownIn u bs ls st t) a b x.0
     (known_in_later a.theory a.boxes a.lines b.lines t h x.1)
 
-pub grown_stands : (a b : Builder) → Grows a b → Stands a → Stands b
-unfolding Grows Stands
+pub grown_stands : (a b : Builder) → Grows a b → HasNoBadLine a → HasNoBadLine b
+unfolding Grows HasNoBadLine
 grown_stands a b x h =
     carried (λ u bs ls. (st : State) × StandIn u bs ls st) a b x.0
     (stays_stand a.theory a.boxes a.lines b.lines h x.1)
@@ -274,12 +274,12 @@ pub known_right : (a : Builder) (n : ℕ) (l r : Tree) → HasStatement a n (Equ
 unfolding HasStatement Known
 known_right a n l r (st, h) = (st, record { stand = h.stand; over = h.over.1 })
 
-pub known_stands : (a : Builder) (t : Tree) → Known a t → Stands a
-unfolding Known Stands
+pub known_stands : (a : Builder) (t : Tree) → Known a t → HasNoBadLine a
+unfolding Known HasNoBadLine
 known_stands a t (st, h) = (st, h.stand)
 
-pub said_stands : (a : Builder) (n : ℕ) (s : Statement) → HasStatement a n s → Stands a
-unfolding HasStatement Stands
+pub said_stands : (a : Builder) (n : ℕ) (s : Statement) → HasStatement a n s → HasNoBadLine a
+unfolding HasStatement HasNoBadLine
 said_stands a n s (st, h) = (st, h.stand)
 
 pub grows_alike : (a b : Builder) → Grows a b → (b.theory ≡ a.theory) × (b.boxes ≡ a.boxes)

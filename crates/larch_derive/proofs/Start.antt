@@ -15,7 +15,7 @@ use Rattle.larch_lines.specs.Run.{run}
 use Rattle.larch_derive.specs.declared.builder.Builder.{Builder}
 use Rattle.larch_derive.specs.Builder.{IsEmpty, shape_of}
 use Rattle.larch_derive.specs.OpenBox.{naming}
-use Rattle.larch_derive.specs.Predicates.{AreOthers, operators_at, written, Stands, Known}
+use Rattle.larch_derive.specs.Predicates.{AreOthers, operators_at, written, HasNoBadLine, Known}
 use Rattle.larch_derive.proofs.Unchanged.{own_in_lines, known_in_boxes}
 
 named_plain : (n : List ℕ) (m : OperatorName) → plain n ≡ m → IsPlainName m
@@ -28,8 +28,8 @@ names_step fs i f n lt is e h =
     subst (All (λ g. IsPlainName g.name)) (sym (take_more fs i f lt ∙ ap (λ y. take i fs ++ y ∷ []) (sym is)))
     (All-push (λ g. IsPlainName g.name) (take i fs) f h (named_plain n f.name e))
 
-pub empty_stands : (t : Theory) (b : Builder) → IsEmpty t b → HasPlainNames t → Stands b
-unfolding Stands
+pub empty_stands : (t : Theory) (b : Builder) → IsEmpty t b → HasPlainNames t → HasNoBadLine b
+unfolding HasNoBadLine
 empty_stands t b e p = (
   start,
   record {
@@ -40,8 +40,8 @@ empty_stands t b e p = (
   },
 )
 
-pub known_own : (b : Builder) (a : Tree) → Stands b → IsTermOver b.theory.operators a → Known b a
-unfolding Stands Known
+pub known_own : (b : Builder) (a : Tree) → HasNoBadLine b → IsTermOver b.theory.operators a → Known b a
+unfolding HasNoBadLine Known
 known_own b a (st, h) w =
     let same : written b.boxes a ≡ a =
     renamed_alike_over (naming b.boxes) unchanged b.theory.operators

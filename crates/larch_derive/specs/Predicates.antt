@@ -63,8 +63,8 @@ pub record SaysIn (t : Theory) (bs : List OpenBox) (ls : List Line) (st : State)
   pub over : IsStatementOver (operators_at t st) (written_statement bs s)
 
 -- no line of the builder is bad
-unfoldable pub Stands : Builder → Type 0
-Stands b = (st : State) × StandIn b.theory b.boxes b.lines st
+unfoldable pub HasNoBadLine : Builder → Type 0
+HasNoBadLine b = (st : State) × StandIn b.theory b.boxes b.lines st
 
 -- and the term is well sorted over the operators of the theory and those that stand for constants of open boxes
 unfoldable pub Known : Builder → Tree → Type 0

@@ -1,7 +1,7 @@
 ghost use Rattle.std.specs.Prelude.{◌≡◌, suc, ◌-◌, ◌++◌, ◌∷◌, [], IfOk, OnErr, false, length, map, take, All};
 ghost use Rattle.larch_calculus.specs.Renaming.{IsPlainName};
 ghost use Rattle.larch_derive.specs.Coding.{IsSymbolOf};
-ghost use Rattle.larch_derive.specs.Predicates.{Stands};
+ghost use Rattle.larch_derive.specs.Predicates.{HasNoBadLine};
 ghost use Rattle.larch_derive.specs.Builder.{IsEmpty, IsPushed, IsOpened, IsBoxLine, IsCodeIn};
 ghost use Rattle.larch_derive.specs.Builder.{opens_box, part_for, boxes_in, lines_in, theory_in};
 
@@ -30,7 +30,7 @@ impl Builder {
     #[tactic(auto, using(crate::proofs::Start::empty_stands))]
     pub fn new(alloc: Global, theory: &Theory) -> Result<Builder, Memory>
         ensures empty { IfOk result (IsEmpty theory.now) }
-        ensures stands { IfOk result Stands }
+        ensures stands { IfOk result HasNoBadLine }
     {
         names_are_plain(theory.operators.as_slice());
         let theory = SharedTheory::new(alloc, theory)?;

@@ -11,7 +11,7 @@ ghost use Rattle.larch_term.specs.declared.statement.Theory.{Theory};
 ghost use Rattle.larch_term.specs.Tree.{Tree};
 ghost use Rattle.larch_term.specs.declared.statement.Statement.{Statement};
 ghost use Rattle.larch_derive.specs.declared.builder.Builder.{Builder};
-ghost use Rattle.larch_derive.specs.Predicates.{Stands, Known, HasStatement, HasEquation, Extends, Grows};
+ghost use Rattle.larch_derive.specs.Predicates.{HasNoBadLine, Known, HasStatement, HasEquation, Extends, Grows};
 
 /// A builder extends itself, and what extends one that extends it.
 pub fn extending()
@@ -31,7 +31,7 @@ pub fn growing()
 pub fn saying_stays()
     ensures said { (a b : Builder) (n : ℕ) (s : Statement) → Grows a b → HasStatement a n s → HasStatement b n s }
     ensures known { (a b : Builder) (t : Tree) → Grows a b → Known a t → Known b t }
-    ensures stands { (a b : Builder) → Grows a b → Stands a → Stands b }
+    ensures stands { (a b : Builder) → Grows a b → HasNoBadLine a → HasNoBadLine b }
     ensures said_still { (a b : Builder) (n : ℕ) (s : Statement) → Extends a b → HasStatement a n s
         → HasStatement b n s }
     ensures known_still { (a b : Builder) (t : Tree) → Extends a b → Known a t → Known b t }
@@ -41,8 +41,8 @@ pub fn saying_stays()
 pub fn sides_are_known()
     ensures left { (a : Builder) (n : ℕ) (l r : Tree) → HasEquation a n l r → Known a l }
     ensures right { (a : Builder) (n : ℕ) (l r : Tree) → HasEquation a n l r → Known a r }
-    ensures known { (a : Builder) (t : Tree) → Known a t → Stands a }
-    ensures said { (a : Builder) (n : ℕ) (s : Statement) → HasStatement a n s → Stands a }
+    ensures known { (a : Builder) (t : Tree) → Known a t → HasNoBadLine a }
+    ensures said { (a : Builder) (n : ℕ) (s : Statement) → HasStatement a n s → HasNoBadLine a }
 {}
 
 /// A line that says that a known term equals itself.
@@ -76,8 +76,8 @@ pub fn replacing()
 /// A builder without lines stands where no operator of the theory has the name of a box's constant, and no operator of
 /// the code has one. A term over the theory is known where no line is bad.
 pub fn beginning()
-    ensures stands { (t : Theory) (b : Builder) → IsEmpty t b → HasPlainNames t → Stands b }
-    ensures known { (b : Builder) (a : Tree) → Stands b → IsTermOver (theory_in b).operators a → Known b a }
+    ensures stands { (t : Theory) (b : Builder) → IsEmpty t b → HasPlainNames t → HasNoBadLine b }
+    ensures known { (b : Builder) (a : Tree) → HasNoBadLine b → IsTermOver (theory_in b).operators a → Known b a }
 {}
 
 /// Where no box is open, the lines are a certificate that is accepted for what the last of them says.

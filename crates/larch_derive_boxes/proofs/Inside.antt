@@ -33,7 +33,7 @@ use Rattle.larch_derive.specs.declared.builder.Builder.{Builder}
 use Rattle.larch_derive.specs.declared.open_box.OpenBox.{OpenBox}
 use Rattle.larch_derive.specs.Builder.{shape_of}
 use Rattle.larch_derive.specs.OpenBox.{naming}
-use Rattle.larch_derive.specs.Predicates.{AreOthers, shapes_of, written, written_statement, StandIn, KnownIn, Stands, Known}
+use Rattle.larch_derive.specs.Predicates.{AreOthers, shapes_of, written, written_statement, StandIn, KnownIn, HasNoBadLine, Known}
 use Rattle.larch_derive.proofs.Growth.{known_stands}
 use Rattle.larch_derive.proofs.Pushing.{one_state}
 use Rattle.larch_derive.proofs.Runs.{down_run}
@@ -81,9 +81,9 @@ inside_carries t bs h x p others opened o parts f (inl c) =
           x f (contains_right bs (x ∷ []) x (contains_here x [])) d (All-contains IsPart x.constants f parts d))
     ]
 
-pub known_own : (a : Builder) (x : OpenBox) (t : Tree) → Stands a → AreOthers a.theory x.constants
+pub known_own : (a : Builder) (x : OpenBox) (t : Tree) → HasNoBadLine a → AreOthers a.theory x.constants
     → All IsPart x.constants → IsTermOver (a.theory.operators ++ x.constants) t → KnownInside a x t
-unfolding Stands KnownInside
+unfolding HasNoBadLine KnownInside
 known_own a x t (st, h) o parts w =
     let xs = a.boxes ++ x ∷ [] in
     let faithful = naming_faithful a.theory xs h.plain (inside_others a.theory a.boxes x h.others o) in (
@@ -155,7 +155,7 @@ may_suppose_inside a x l r (st, k) m e =
       },
     )
 
-pub may_suppose_own : (a : Builder) (x : OpenBox) (s : Statement) → Stands a → AreOthers a.theory x.constants
+pub may_suppose_own : (a : Builder) (x : OpenBox) (s : Statement) → HasNoBadLine a → AreOthers a.theory x.constants
     → All IsPart x.constants → IsEquation s → IsStatementOver (a.theory.operators ++ x.constants) s → MaySuppose a x s
 may_suppose_own a x (Equation l r) h o parts e w =
     may_suppose_inside a x l r (known_own a x l h o parts w.0) (known_own a x r h o parts w.1) w.2
@@ -210,7 +210,7 @@ induction_supposed a x v s l r o k kl kr e =
 
 -- ---- hypotheses of clauses
 
-equations_supposed : (a : Builder) (x : OpenBox) → Stands a → AreOthers a.theory x.constants → All IsPart x.constants
+equations_supposed : (a : Builder) (x : OpenBox) → HasNoBadLine a → AreOthers a.theory x.constants → All IsPart x.constants
     → (hs : List Statement) → All IsEquation hs → All (IsStatementOver (a.theory.operators ++ x.constants)) hs
     → All (MaySuppose a x) hs
 equations_supposed a x h o parts [] e w = All-nil (MaySuppose a x)
@@ -221,7 +221,7 @@ equations_supposed a x h o parts (s ∷ hs) e w =
     (equations_supposed a x h o parts hs (All-tail IsEquation s hs e) (All-tail (IsStatementOver fs) s hs w))
 
 pub generation_supposed : (a : Builder) (x : OpenBox) (p : PlainOperator) (s : List ℕ) (fs : List PlainOperator)
-    → Stands a → AreOthers a.theory x.constants → x.constants ≡ p ∷ [] → p.domain ≡ s ∷ [] → p.range ≡ bool_sort
+    → HasNoBadLine a → AreOthers a.theory x.constants → x.constants ≡ p ∷ [] → p.domain ≡ s ∷ [] → p.range ≡ bool_sort
     → IsStatementOver a.theory.operators (Generated s fs) → All (MaySuppose a x) (generation_hypotheses p s fs)
 generation_supposed a x p s fs h o e d r w =
     equations_supposed a x h o (subst (All IsPart) (sym e) (All-cons IsPart p [] (inr (s, d, r)) (All-nil IsPart)))
@@ -231,7 +231,7 @@ generation_supposed a x p s fs h o e d r w =
     (generation_over a.theory p s fs w d r))
 
 pub observations_supposed : (a : Builder) (x : OpenBox) (c d : PlainOperator) (s : List ℕ) (os : List PlainOperator)
-    → Stands a → AreOthers a.theory x.constants → AreConstants x.constants → Contains x.constants c
+    → HasNoBadLine a → AreOthers a.theory x.constants → AreConstants x.constants → Contains x.constants c
     → Contains x.constants d → c.range ≡ s → d.range ≡ s → IsStatementOver a.theory.operators (Partitioned s os)
     → All (MaySuppose a x) (observations place_name s os (constant c) (constant d))
 observations_supposed a x c d s os h o k mc md rc rd w =

@@ -15,7 +15,7 @@ use Rattle.larch_derive.specs.declared.builder.Builder.{Builder}
 use Rattle.larch_derive.specs.declared.open_box.OpenBox.{OpenBox}
 use Rattle.larch_derive.specs.Builder.{part_for, part_sort, shape_of}
 use Rattle.larch_derive.specs.OpenBox.{place_from, constant_of, in_lines, name_in_lines}
-use Rattle.larch_derive.specs.Predicates.{shapes_of, Stands, Known}
+use Rattle.larch_derive.specs.Predicates.{shapes_of, HasNoBadLine, Known}
 use Rattle.larch_derive_boxes.specs.Boxes.{IsPart}
 
 -- ---- places
@@ -143,9 +143,9 @@ part_there t bs h opened x f c d e =
     (made r.box.number 1 r.box.constants f r.place r.placed) in
     subst (Contains (theory_of t h).operators) (part_in_lines bs f r.box.number r.place e r.named) known
 
-pub constant_known : (b : Builder) (x : OpenBox) (f : PlainOperator) → Stands b → Contains b.boxes x
+pub constant_known : (b : Builder) (x : OpenBox) (f : PlainOperator) → HasNoBadLine b → Contains b.boxes x
     → Contains x.constants f → f.domain ≡ [] → Known b (app f none)
-unfolding Stands Known
+unfolding HasNoBadLine Known
 constant_known b x f (st, h) c d e = (
   st,
   record {

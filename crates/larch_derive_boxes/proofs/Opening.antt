@@ -24,7 +24,7 @@ use Rattle.larch_derive.specs.declared.builder.Builder.{Builder}
 use Rattle.larch_derive.specs.declared.open_box.OpenBox.{OpenBox}
 use Rattle.larch_derive.specs.Builder.{IsOpened, part_for, shape_of}
 use Rattle.larch_derive.specs.Coding.{AreCodesOfEquations}
-use Rattle.larch_derive.specs.Predicates.{AreOthers, written, written_statement, StandIn, KnownIn, SaysIn, Stands, Known, HasStatement}
+use Rattle.larch_derive.specs.Predicates.{AreOthers, written, written_statement, StandIn, KnownIn, SaysIn, HasNoBadLine, Known, HasStatement}
 use Rattle.larch_derive.proofs.Decoding.{written_means}
 use Rattle.larch_derive.proofs.Growth.{run_further}
 use Rattle.larch_derive.proofs.Pushing.{one_state}
@@ -101,10 +101,10 @@ supposed_in a st x h hs w =
           (one_state a.theory a.lines st q.0 h.runs q.1.stand.runs) q.1.over,
     )) hs w
 
-pub opens : (a b : Builder) (n : ℕ) (cs : List PlainOperator) (hs : List Statement) → IsOpened a b cs hs n → Stands a
+pub opens : (a b : Builder) (n : ℕ) (cs : List PlainOperator) (hs : List Statement) → IsOpened a b cs hs n → HasNoBadLine a
     → AreOthers a.theory cs → All (MaySuppose a (record { number = n; constants = cs })) hs
     → Opens a b (record { number = n; constants = cs }) hs
-unfolding Stands Opens
+unfolding HasNoBadLine Opens
 opens a b n cs hs p (st, h) o w =
     let x : OpenBox = record { number = n; constants = cs } in
     let bs = a.boxes ++ x ∷ [] in
@@ -203,8 +203,8 @@ opened_said a b x hs n s o (st, h) =
       },
     )
 
-pub opened_stands : (a b : Builder) (x : OpenBox) (hs : List Statement) → Opens a b x hs → Stands b
-unfolding Opens Stands
+pub opened_stands : (a b : Builder) (x : OpenBox) (hs : List Statement) → Opens a b x hs → HasNoBadLine b
+unfolding Opens HasNoBadLine
 opened_stands a b x hs o =
     moved (λ u ys ls. (v : State) × StandIn u ys ls v) a b x o.theory o.boxes (
       record {

@@ -14,7 +14,7 @@ ghost use Rattle.larch_calculus.specs.Generation.{place_name, induction_hypothes
 ghost use Rattle.larch_calculus.specs.Observation.{observations};
 ghost use Rattle.larch_calculus.specs.Theories.{AreConstants};
 ghost use Rattle.larch_derive.specs.Builder.{IsOpened, theory_in, boxes_in};
-ghost use Rattle.larch_derive.specs.Predicates.{AreOthers, Stands, Known, HasStatement, Grows};
+ghost use Rattle.larch_derive.specs.Predicates.{AreOthers, HasNoBadLine, Known, HasStatement, Grows};
 ghost use Rattle.larch_derive.specs.declared.builder.Builder.{Builder};
 ghost use Rattle.larch_derive.specs.declared.open_box.OpenBox.{OpenBox};
 ghost use Rattle.larch_derive_boxes.specs.Boxes.{IsEquation, IsPart, KnownInside, AreKnownInside, MaySuppose, Opens};
@@ -24,7 +24,7 @@ ghost use Rattle.larch_derive_boxes.specs.Boxes.{IsOpen, HasResult, Closes};
 /// supposed.
 pub fn opening()
     ensures opens { (a b : Builder) (n : ℕ) (cs : List PlainOperator) (hs : List Statement) → IsOpened a b cs hs n
-        → Stands a → AreOthers (theory_in a) cs → All (MaySuppose a (record { number = n; constants = cs })) hs
+        → HasNoBadLine a → AreOthers (theory_in a) cs → All (MaySuppose a (record { number = n; constants = cs })) hs
         → Opens a b (record { number = n; constants = cs }) hs }
     ensures equation { (a : Builder) (x : OpenBox) (l r : Tree) → AreOthers (theory_in a) x.constants → Known a l
         → Known a r → sort_of l ≡ sort_of r → MaySuppose a x (Equation l r) }
@@ -36,7 +36,7 @@ pub fn opening()
 pub fn known_inside()
     ensures outside { (a : Builder) (x : OpenBox) (t : Tree) → AreOthers (theory_in a) x.constants → Known a t
         → KnownInside a x t }
-    ensures own { (a : Builder) (x : OpenBox) (t : Tree) → Stands a → AreOthers (theory_in a) x.constants
+    ensures own { (a : Builder) (x : OpenBox) (t : Tree) → HasNoBadLine a → AreOthers (theory_in a) x.constants
         → All IsPart x.constants → IsTermOver ((theory_in a).operators ++ x.constants) t → KnownInside a x t }
     ensures replaced { (a : Builder) (x : OpenBox) (es : List Entry) (t : Tree) → KnownInside a x t
         → AreKnownInside a x es → KnownInside a x (substituted es t) }
@@ -48,7 +48,7 @@ pub fn known_inside()
 pub fn supposing_inside()
     ensures equation { (a : Builder) (x : OpenBox) (l r : Tree) → KnownInside a x l → KnownInside a x r
         → sort_of l ≡ sort_of r → MaySuppose a x (Equation l r) }
-    ensures own { (a : Builder) (x : OpenBox) (s : Statement) → Stands a → AreOthers (theory_in a) x.constants
+    ensures own { (a : Builder) (x : OpenBox) (s : Statement) → HasNoBadLine a → AreOthers (theory_in a) x.constants
         → All IsPart x.constants → IsEquation s → IsStatementOver ((theory_in a).operators ++ x.constants) s
         → MaySuppose a x s }
 {}
@@ -59,11 +59,11 @@ pub fn supposing_cases()
         → AreConstants x.constants → Known a l → Known a r → sort_of l ≡ sort_of r
         → All (MaySuppose a x) (induction_hypotheses v s l r x.constants) }
     ensures generation { (a : Builder) (x : OpenBox) (p : PlainOperator) (s : List ℕ) (fs : List PlainOperator)
-        → Stands a → AreOthers (theory_in a) x.constants → x.constants ≡ p ∷ [] → p.domain ≡ s ∷ []
+        → HasNoBadLine a → AreOthers (theory_in a) x.constants → x.constants ≡ p ∷ [] → p.domain ≡ s ∷ []
         → p.range ≡ bool_sort → IsStatementOver (theory_in a).operators (Generated s fs)
         → All (MaySuppose a x) (generation_hypotheses p s fs) }
     ensures partition { (a : Builder) (x : OpenBox) (c d : PlainOperator) (s : List ℕ) (os : List PlainOperator)
-        → Stands a → AreOthers (theory_in a) x.constants → AreConstants x.constants → Contains x.constants c
+        → HasNoBadLine a → AreOthers (theory_in a) x.constants → AreConstants x.constants → Contains x.constants c
         → Contains x.constants d → c.range ≡ s → d.range ≡ s
         → IsStatementOver (theory_in a).operators (Partitioned s os)
         → All (MaySuppose a x) (observations place_name s os (constant c) (constant d)) }
@@ -75,7 +75,7 @@ pub fn inside()
         → HasStatement a n s → HasStatement b n s }
     ensures known { (a b : Builder) (x : OpenBox) (hs : List Statement) (t : Tree) → Opens a b x hs → Known a t
         → Known b t }
-    ensures stands { (a b : Builder) (x : OpenBox) (hs : List Statement) → Opens a b x hs → Stands b }
+    ensures stands { (a b : Builder) (x : OpenBox) (hs : List Statement) → Opens a b x hs → HasNoBadLine b }
     ensures boxes { (a b : Builder) (x : OpenBox) (hs : List Statement) → Opens a b x hs
         → (theory_in b ≡ theory_in a) × (boxes_in b ≡ boxes_in a ++ x ∷ []) }
 {}
@@ -99,7 +99,7 @@ pub fn closing()
 
 /// A constant of an open box is known.
 pub fn knowing()
-    ensures { (b : Builder) (x : OpenBox) (f : PlainOperator) → Stands b → Contains (boxes_in b) x
+    ensures { (b : Builder) (x : OpenBox) (f : PlainOperator) → HasNoBadLine b → Contains (boxes_in b) x
         → Contains x.constants f
         → f.domain ≡ [] → Known b (app f none) }
 {}

@@ -30,21 +30,21 @@ use Rattle.larch_lines.specs.Run.{judge}
 use Rattle.larch_derive.specs.declared.builder.Builder.{Builder}
 use Rattle.larch_derive.specs.Builder.{IsPushed}
 use Rattle.larch_derive.specs.OpenBox.{in_lines}
-use Rattle.larch_derive.specs.Predicates.{operators_at, written, written_statement, SaysIn, Stands, HasStatement, Extends}
+use Rattle.larch_derive.specs.Predicates.{operators_at, written, written_statement, SaysIn, HasNoBadLine, HasStatement, Extends}
 use Rattle.larch_derive.proofs.Pushing.{own_says, pushed_says, pushed_extends}
 use Rattle.larch_derive.proofs.Unchanged.{own_in_lines}
 
 -- ---- axiom, row
 
-pub axiom_says : (a b : Builder) (k n : ℕ) (s : Statement) → IsPushed a b (Axiom k) n → Stands a
+pub axiom_says : (a b : Builder) (k n : ℕ) (s : Statement) → IsPushed a b (Axiom k) n → HasNoBadLine a
     → slice_get (statement_zero ∷ a.theory.statements) k ≡ Some s → IsStatementOver a.theory.operators s
     → HasStatement b n s
-unfolding Stands
+unfolding HasNoBadLine
 axiom_says a b k n s p (st, h) e w = own_says a b (Axiom k) n st s p h e w
 
-pub axiom_extends : (a b : Builder) (k n : ℕ) (s : Statement) → IsPushed a b (Axiom k) n → Stands a
+pub axiom_extends : (a b : Builder) (k n : ℕ) (s : Statement) → IsPushed a b (Axiom k) n → HasNoBadLine a
     → slice_get (statement_zero ∷ a.theory.statements) k ≡ Some s → Extends a b
-unfolding Stands
+unfolding HasNoBadLine
 axiom_extends a b k n s p (st, h) e = pushed_extends a b (Axiom k) n st s p h.runs e
 
 identity_is_over : (fs : List PlainOperator) (s : Statement) → IsIdentityStatement s → IsStatementOver fs s
@@ -68,14 +68,14 @@ row_over fs k (Some z) s e =
     (identity_is_over fs row.given (row_identity z k row f)))
 
 pub row_line_says : (a b : Builder) (k n : ℕ) (z : Option (List ℕ)) (s : Statement) → IsPushed a b (Row k z) n
-    → Stands a → row_says k z ≡ Some s → HasStatement b n s
-unfolding Stands
+    → HasNoBadLine a → row_says k z ≡ Some s → HasStatement b n s
+unfolding HasNoBadLine
 row_line_says a b k n z s p (st, h) e =
     own_says a b (Row k z) n st s p h e (row_over a.theory.operators k z s e)
 
 pub row_line_extends : (a b : Builder) (k n : ℕ) (z : Option (List ℕ)) (s : Statement) → IsPushed a b (Row k z) n
-    → Stands a → row_says k z ≡ Some s → Extends a b
-unfolding Stands
+    → HasNoBadLine a → row_says k z ≡ Some s → Extends a b
+unfolding HasNoBadLine
 row_line_extends a b k n z s p (st, h) e = pushed_extends a b (Row k z) n st s p h.runs e
 
 -- ---- equal

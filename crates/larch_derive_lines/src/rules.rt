@@ -12,7 +12,7 @@ ghost use Rattle.larch_derive.specs.Builder.{IsCodeIn, theory_in};
 ghost use Rattle.larch_derive_lines.specs.Rules.{variable_in, AreKnownEntries, AreWritten};
 ghost use Rattle.larch_term.specs.Place.{at, put};
 ghost use Rattle.larch_term.specs.Tree.{Tree};
-ghost use Rattle.larch_derive.specs.Predicates.{Stands, Known, HasStatement, HasEquation, Extends};
+ghost use Rattle.larch_derive.specs.Predicates.{HasNoBadLine, Known, HasStatement, HasEquation, Extends};
 
 use larch_base::{Memory, Sequence};
 use larch_certificate::{Binding, Bindings, Line, Path};
@@ -142,10 +142,10 @@ fn write_entry(builder: &Builder, entry: &Entry) -> Result<Binding, Memory>
 /// by true and false. A refused line changes nothing.
 #[tactic(auto, using(crate::proofs::Stated::axiom_says, crate::proofs::Stated::axiom_extends))]
 pub fn axiom_line(builder: &mut Builder, statement: u64) -> Result<u64, Memory>
-    ensures says { IfOk result (λ n. (s : Statement) → Stands builder.old
+    ensures says { IfOk result (λ n. (s : Statement) → HasNoBadLine builder.old
         → slice_get (statement_zero ∷ (theory_in builder.old).statements) statement ≡ Some s
         → IsStatementOver (theory_in builder.old).operators s → HasStatement builder.new n s) }
-    ensures extends { OnOk result ((s : Statement) → Stands builder.old
+    ensures extends { OnOk result ((s : Statement) → HasNoBadLine builder.old
         → slice_get (statement_zero ∷ (theory_in builder.old).statements) statement ≡ Some s
         → Extends builder.old builder.new) }
     ensures err { OnErr result (builder.new ≡ builder.old) }
@@ -157,9 +157,9 @@ pub fn axiom_line(builder: &mut Builder, statement: u64) -> Result<u64, Memory>
 /// A line that says a built-in row, at a sort where the row has one. A refused line changes nothing.
 #[tactic(auto, using(crate::proofs::Stated::row_line_says, crate::proofs::Stated::row_line_extends))]
 pub fn row_line(builder: &mut Builder, row: u64, sort: Option<Sort>) -> Result<u64, Memory>
-    ensures says { IfOk result (λ n. (s : Statement) → Stands builder.old → row_says row sort ≡ Some s
+    ensures says { IfOk result (λ n. (s : Statement) → HasNoBadLine builder.old → row_says row sort ≡ Some s
         → HasStatement builder.new n s) }
-    ensures extends { OnOk result ((s : Statement) → Stands builder.old → row_says row sort ≡ Some s
+    ensures extends { OnOk result ((s : Statement) → HasNoBadLine builder.old → row_says row sort ≡ Some s
         → Extends builder.old builder.new) }
     ensures err { OnErr result (builder.new ≡ builder.old) }
 {

@@ -26,7 +26,7 @@ use Rattle.larch_flat.specs.Stops.{Stop, Refused, refused_if, surely}
 use Rattle.larch_gathered.specs.Keeping.{Keeps, KeepsAnswer, Leaves, Store}
 use Rattle.larch_sources.specs.Sources.{Table, files_in, name_at}
 use Rattle.larch_sources.proofs.Tables.{there_at}
-use Rattle.larch_flatten.specs.Known.{IsTarget, Knows, Takes, stop_told}
+use Rattle.larch_flatten.specs.Known.{IsTarget, Knows, LeavesFlat, stop_told}
 use Rattle.larch_flatten.specs.Parts.{flat_trait, parts_of, with_new, with_parts, with_reference}
 use Rattle.larch_flatten.proofs.Answering.{refused_surely}
 use Rattle.larch_flatten.proofs.Files.{bad_text}
@@ -80,7 +80,7 @@ pub parts_taken : (r : RawReference) (formals : List RawForm) (fs : List PlainOp
     → with_parts r formals fs fm g ≡ within r.target.name.pos (with_new r by fs fm g)
 parts_taken r formals fs fm g by e = ap (λ o. after o (λ by. within r.target.name.pos (with_new r by fs fm g))) e
 
-left_surely : {Value : Type 0} (store : Store) (result : Result Value TraitRefusal) (a : Result Gathered Fault) → Leaves store result a → Takes store result (surely a)
+left_surely : {Value : Type 0} (store : Store) (result : Result Value TraitRefusal) (a : Result Gathered Fault) → Leaves store result a → LeavesFlat store result (surely a)
 left_surely store (Ok v) (Ok g) h = h
 left_surely store (Ok v) (Err f) h = h
 left_surely store (Err r) a h = refused_surely (told r) a h
@@ -92,7 +92,7 @@ there_by sources name text e = ap is_some e
 pub target_flat : {Value : Type 0} (sources : Table) (known : List (Option (Result Gathered Fault))) (number found : ℕ) (r : RawReference) (raw : RawTrait) (flat g : Gathered) (store : Store)
     (result : Result Value TraitRefusal) → Knows sources known → IsTarget sources number r found → files_in sources (name_at sources found) ≡ Some (Ok raw)
     → get_or known found None ≡ Some (Ok flat) → Leaves store result (with_parts r raw.formals flat.operators flat.marked g)
-    → Takes store result (with_reference sources (name_at sources number) r g)
+    → LeavesFlat store result (with_reference sources (name_at sources number) r g)
 target_flat sources known number found r raw flat g store result knows is text at left =
     let there = there_by sources (name_at sources found) (Ok raw) text in
     let p = led sources (name_at sources found) there in
@@ -104,7 +104,7 @@ target_flat sources known number found r raw flat g store result knows is text a
     (is.away (suc (length sources)) p.0 p.1) raw.formals flat
     (subst (λ m. parts_of (flat_trait sources m) ≡ Ok flat) same (knows.flat found (Ok flat) at))
     (λ t f. ap (λ w. w.formals) (flat_raw (length sources) (files_in sources) (target r) raw t (subst (λ m. files_in sources m ≡ Some (Ok raw)) same text) f)) in
-    subst (Takes store result) (sym e) (left_surely store result (with_parts r raw.formals flat.operators flat.marked g) left)
+    subst (LeavesFlat store result) (sym e) (left_surely store result (with_parts r raw.formals flat.operators flat.marked g) left)
 
 -- or it is refused
 pub target_bad : (sources : Table) (known : List (Option (Result Gathered Fault))) (number found : ℕ) (r : RawReference) (f : Fault) (g : Gathered)

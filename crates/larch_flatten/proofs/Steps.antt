@@ -15,7 +15,7 @@ use Rattle.larch_flat.specs.Laws.{gathered_in}
 use Rattle.larch_flat.specs.Stops.{Stop, Refused, surely}
 use Rattle.larch_gathered.specs.Keeping.{Keeps, Store}
 use Rattle.larch_sources.specs.Sources.{Table, files_in, name_at}
-use Rattle.larch_flatten.specs.Known.{Knows, KeepsTold, Takes, is_known, stop_told}
+use Rattle.larch_flatten.specs.Known.{Knows, KeepsTold, LeavesFlat, is_known, stop_told}
 use Rattle.larch_flatten.specs.Parts.{IsFlat, flat_trait, parts_of, with_reference}
 use Rattle.larch_flatten.proofs.Answering.{answers_surely}
 use Rattle.larch_flatten.proofs.Files.{gathered_parts, own_parts, stopped_parts}

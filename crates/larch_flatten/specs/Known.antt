@@ -48,6 +48,6 @@ KeepsTold s (Ok g) = Keeps s g
 KeepsTold s (Err stop) = ⊥
 
 -- a call leaves a store that keeps what is answered, or a refusal that tells why nothing is
-abbrev pub Takes : {Value : Type 0} → Store → Result Value TraitRefusal → Result Gathered Stop → Type 0
-Takes s (Ok value) answer = KeepsTold s answer
-Takes s (Err refusal) answer = IfSome (stop_told refusal) (λ stop. answer ≡ Err stop)
+abbrev pub LeavesFlat : {Value : Type 0} → Store → Result Value TraitRefusal → Result Gathered Stop → Type 0
+LeavesFlat s (Ok value) answer = KeepsTold s answer
+LeavesFlat s (Err refusal) answer = IfSome (stop_told refusal) (λ stop. answer ≡ Err stop)

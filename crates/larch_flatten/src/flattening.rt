@@ -6,7 +6,7 @@ ghost use Rattle.larch_flat.specs.Gathered.{nothing};
 ghost use Rattle.larch_gathered.specs.Keeping.{Keeps};
 ghost use Rattle.larch_sources.specs.Links.{AreLinks};
 ghost use Rattle.larch_sources.specs.Sources.{files_in, name_at, targets_of};
-ghost use Rattle.larch_flatten.specs.Known.{AreAllKnown, Grows, Knows, Takes, is_known, stop_told};
+ghost use Rattle.larch_flatten.specs.Known.{AreAllKnown, Grows, Knows, LeavesFlat, is_known, stop_told};
 ghost use Rattle.larch_flatten.specs.Parts.{IsFlat, flat_trait, parts_of, with_reference};
 
 use crate::flat_traits::FlatTraits;
@@ -18,6 +18,13 @@ use larch_raw::{RawReference, RawTrait};
 use larch_sources::{Links, Sources, links_of};
 use std::alloc::Global;
 
+// What was read of files, with the links between them by their references.
+#[derive(Drop)]
+struct LinkedSources<'a> {
+    sources: &'a Sources,
+    links: &'a Links,
+}
+
 /// The flat traits of all files, or what is wrong with each first. Each file's own is worked out once, however many
 /// refer to it.
 pub fn flatten(alloc: Global, sources: &Sources) -> Result<FlatTraits, Memory>
@@ -25,8 +32,12 @@ pub fn flatten(alloc: Global, sources: &Sources) -> Result<FlatTraits, Memory>
 {
     let links = links_of(alloc, sources)?;
     let mut known = FlatTraits::none(alloc, sources.len())?;
+    let linked = LinkedSources {
+        sources,
+        links: &links,
+    };
     for number in 0..sources.len() {
-        see_to(alloc, sources, &links, &mut known, number)?;
+        see_to(alloc, &linked, &mut known, number)?;
     }
     Ok(known)
 }
@@ -35,22 +46,21 @@ pub fn flatten(alloc: Global, sources: &Sources) -> Result<FlatTraits, Memory>
 #[cycle(flatten)]
 fn see_to(
     alloc: Global,
-    sources: &Sources,
-    links: &Links,
+    linked: &LinkedSources<'_>,
     known: &mut FlatTraits,
     number: usize,
 ) -> Result<(), Memory>
-    requires number { number < length sources.now }
-    requires links { AreLinks sources.now links.now }
-    requires known { Knows sources.now known.old }
-    ensures known { Knows sources.now known.new }
+    requires number { number < length linked.now.sources.now }
+    requires links { AreLinks linked.now.sources.now linked.now.links.now }
+    requires known { Knows linked.now.sources.now known.old }
+    ensures known { Knows linked.now.sources.now known.new }
     ensures grows { Grows known.old known.new }
     ensures there { OnOk result (is_known known.new number ≡ true) }
 {
     if known.has(number) {
         return Ok(());
     }
-    let answer = told_of(alloc, sources, links, known, number)?;
+    let answer = told_of(alloc, linked, known, number)?;
     known.keep(number, answer);
     Ok(())
 }
@@ -59,20 +69,20 @@ fn see_to(
 #[cycle(flatten)]
 fn told_of(
     alloc: Global,
-    sources: &Sources,
-    links: &Links,
+    linked: &LinkedSources<'_>,
     known: &mut FlatTraits,
     number: usize,
 ) -> Result<Result<Flat, Fault>, Memory>
-    requires number { number < length sources.now }
-    requires links { AreLinks sources.now links.now }
-    requires known { Knows sources.now known.old }
-    ensures known { Knows sources.now known.new }
+    requires number { number < length linked.now.sources.now }
+    requires links { AreLinks linked.now.sources.now linked.now.links.now }
+    requires known { Knows linked.now.sources.now known.old }
+    ensures known { Knows linked.now.sources.now known.new }
     ensures grows { Grows known.old known.new }
-    ensures answer { IfOk result (λ answer. IsFlat sources.now (name_at sources.now number) answer) }
+    ensures answer { IfOk result (λ answer.
+        IsFlat linked.now.sources.now (name_at linked.now.sources.now number) answer) }
 {
-    match sources.text(number) {
-        Ok(raw) => match flat_of(alloc, sources, links, known, number, raw) {
+    match linked.sources.text(number) {
+        Ok(raw) => match flat_of(alloc, linked, known, number, raw) {
             Ok(flat) => Ok(Ok(flat)),
             Err(TraitRefusal::Wrong(pos, code)) => Ok(Err(Fault { pos, code })),
             Err(TraitRefusal::Memory) => Err(Memory),
@@ -85,26 +95,26 @@ fn told_of(
 #[cycle(flatten)]
 fn flat_of(
     alloc: Global,
-    sources: &Sources,
-    links: &Links,
+    linked: &LinkedSources<'_>,
     known: &mut FlatTraits,
     number: usize,
     raw: &RawTrait,
 ) -> Result<Flat, TraitRefusal>
-    requires number { number < length sources.now }
-    requires text { files_in sources.now (name_at sources.now number) ≡ Some (Ok raw.now) }
-    requires links { AreLinks sources.now links.now }
-    requires known { Knows sources.now known.old }
-    ensures known { Knows sources.now known.new }
+    requires number { number < length linked.now.sources.now }
+    requires text { files_in linked.now.sources.now (name_at linked.now.sources.now number) ≡ Some (Ok raw.now) }
+    requires links { AreLinks linked.now.sources.now linked.now.links.now }
+    requires known { Knows linked.now.sources.now known.old }
+    ensures known { Knows linked.now.sources.now known.new }
     ensures grows { Grows known.old known.new }
-    ensures answer { Answers stop_told result (parts_of (flat_trait sources.now (name_at sources.now number))) }
+    ensures answer { Answers stop_told result
+        (parts_of (flat_trait linked.now.sources.now (name_at linked.now.sources.now number))) }
 {
-    if is_misnamed(raw, sources.name(number)) {
+    if is_misnamed(raw, linked.sources.name(number)) {
         return Err(TraitRefusal::Wrong(raw.name.pos, Code::TraitName));
     }
     let mut store = Store::new(alloc);
     let references = raw.references.as_slice();
-    take_references(alloc, sources, links, known, number, references, &mut store)?;
+    take_references(alloc, linked, known, number, references, &mut store)?;
     let flat = store.take_rest(alloc, raw)?;
     Ok(flat)
 }
@@ -120,28 +130,27 @@ fn is_misnamed(raw: &RawTrait, name: &Name) -> bool
 #[cycle(flatten)]
 fn take_references(
     alloc: Global,
-    sources: &Sources,
-    links: &Links,
+    linked: &LinkedSources<'_>,
     known: &mut FlatTraits,
     number: usize,
     references: &[RawReference],
     store: &mut Store,
 ) -> Result<(), TraitRefusal>
-    requires number { number < length sources.now }
-    requires references { targets_of sources.now number ≡ map target references.now }
-    requires links { AreLinks sources.now links.now }
-    requires known { Knows sources.now known.old }
+    requires number { number < length linked.now.sources.now }
+    requires references { targets_of linked.now.sources.now number ≡ map target references.now }
+    requires links { AreLinks linked.now.sources.now linked.now.links.now }
+    requires known { Knows linked.now.sources.now known.old }
     requires store { Keeps store.old nothing }
-    ensures known { Knows sources.now known.new }
+    ensures known { Knows linked.now.sources.now known.new }
     ensures grows { Grows known.old known.new }
-    ensures taken { Takes store.new result
-        (all_taken (with_reference sources.now (name_at sources.now number)) references.now nothing) }
+    ensures taken { LeavesFlat store.new result (all_taken
+        (with_reference linked.now.sources.now (name_at linked.now.sources.now number)) references.now nothing) }
 {
-    let marks = links.leading_to(alloc, number)?;
+    let marks = linked.links.leading_to(alloc, number)?;
     for reference in references {
-        let found = target_of(sources, &marks, number, reference)?;
-        see_to(alloc, sources, links, known, found)?;
-        take_target(alloc, sources, known, found, reference, store)?;
+        let found = target_of(linked.sources, &marks, number, reference)?;
+        see_to(alloc, linked, known, found)?;
+        take_target(alloc, linked.sources, known, found, reference, store)?;
     }
     Ok(())
 }

@@ -2,7 +2,7 @@ ghost use Rattle.std.specs.Prelude.{◌≡◌, ℕ, ◌<◌, true, fold, length,
 ghost use Rattle.larch_flat.specs.Flat.{renamed_marked, within};
 ghost use Rattle.larch_flat.specs.Gathered.{Gathered, with_taken};
 ghost use Rattle.larch_gathered.specs.Keeping.{Keeps, Leaves};
-ghost use Rattle.larch_flatten.specs.Known.{IsTarget, Knows, Takes, is_known, stop_told};
+ghost use Rattle.larch_flatten.specs.Known.{IsTarget, Knows, LeavesFlat, is_known, stop_told};
 ghost use Rattle.larch_flatten.specs.Parts.{with_new, with_parts, with_reference};
 ghost use Rattle.larch_sources.specs.Links.{AreLeading};
 ghost use Rattle.larch_sources.specs.Sources.{name_at};
@@ -61,7 +61,7 @@ pub(crate) fn take_target(
     ensures { (number : ℕ) (g : Gathered) → Knows sources.now known.now
         → IsTarget sources.now number reference.now found
         → Keeps store.old g
-        → Takes store.new result (with_reference sources.now (name_at sources.now number) reference.now g) }
+        → LeavesFlat store.new result (with_reference sources.now (name_at sources.now number) reference.now g) }
 {
     match known.get(found) {
         Some(Ok(flat)) => match sources.text(found) {

@@ -6,7 +6,7 @@ use Rattle.std.proofs.lemmas.List.Elements.{All-take}
 use Rattle.std.proofs.KnownBytes.{Consumes-nil, Consumes-trans, Consumes-kept}
 use Rattle.std.specs.Io.{StartsWith, appended_bytes}
 use Rattle.std.specs.Io.KnownBytes.{Consumes, Keeps, IsAtEnd}
-use Rattle.larch_io.specs.Reader.{Taken, Reads, Takes}
+use Rattle.larch_io.specs.Reader.{Taken, ReadsBytes, Takes}
 use Rattle.larch_io.specs.Take.{HasNoNewline, IsLine, LineStands, TakesLine}
 
 -- what no byte of a front is, no byte of a shorter front is
@@ -32,7 +32,7 @@ either_ends : (old mid : Taken) (between after : Option (List ℕ)) (given : Lis
 either_ends old mid between after given first quiet (inl ended) = ends_by_either old.ended mid.ended between after (first ended) (quiet ended).1
 either_ends old mid between after given first quiet (inr end) = inr end
 
-reads_more : (old mid new : Taken) (before between after : Option (List ℕ)) (given more : List ℕ) → Reads old mid before between given → Reads mid new between after more → Reads old new before after (given ++ more)
+reads_more : (old mid new : Taken) (before between after : Option (List ℕ)) (given more : List ℕ) → ReadsBytes old mid before between given → ReadsBytes mid new between after more → ReadsBytes old new before after (given ++ more)
 reads_more old mid new before between after given more first second = record {
   gave = Consumes-trans before between after given more first.gave second.gave;
   quiet = λ ended.

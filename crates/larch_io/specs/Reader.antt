@@ -14,7 +14,7 @@ abbrev pub room_of : Taken → ℕ
 room_of reader = MAX_SOURCE_BYTES - reader.count
 
 -- the source gave these bytes in a call; a reader whose source has ended reads no more
-pub record Reads (old new : Taken) (before after : Option (List ℕ)) (given : List ℕ) : Type 0 where
+pub record ReadsBytes (old new : Taken) (before after : Option (List ℕ)) (given : List ℕ) : Type 0 where
   pub gave : Consumes before after given
   pub quiet : old.ended ≡ true → (given ≡ []) × (after ≡ before) × (new.ended ≡ true)
   pub ends : new.ended ≡ true → (old.ended ≡ true) ⊎ IsAtEnd after
@@ -23,6 +23,6 @@ pub record Reads (old new : Taken) (before after : Option (List ℕ)) (given : L
 -- keeps now.
 pub record Takes (old new : Taken) (before after : Option (List ℕ)) (bytes : List ℕ) : Type 0 where
   pub given : List ℕ
-  pub reads : Reads old new before after given
+  pub reads : ReadsBytes old new before after given
   pub moved : old.kept ++ given ≡ bytes ++ new.kept
   pub counted : new.count ≡ old.count + length bytes

@@ -5,7 +5,7 @@ use Rattle.std.proofs.KnownBytes.{Consumes-nil, Consumes-trans, Appends-nil, App
 use Rattle.larch_io.specs.Faults.{Rose}
 use Rattle.larch_io.specs.Folder.{FileMap}
 use Rattle.larch_io.specs.Put.{PutsFront}
-use Rattle.larch_io.specs.Reader.{Reads}
+use Rattle.larch_io.specs.Reader.{ReadsBytes}
 use Rattle.larch_main.specs.declared.progress.Move.TheVariants.{Goes, Stops}
 use Rattle.larch_main.specs.declared.progress.Progress.{Progress}
 use Rattle.larch_main.specs.declared.status.Status.{Status}
@@ -118,7 +118,7 @@ module _ (left held : Option (List ℕ)) where
   }
 
   -- the source ended, where a step read that it did
-  over_after : (p q : Progress) (leaves after holds : Option (List ℕ)) (given : List ℕ) → SoFar p left leaves held holds → Reads p.reader q.reader leaves after given → q.reader.ended ≡ true → IsAtEnd after
+  over_after : (p q : Progress) (leaves after holds : Option (List ℕ)) (given : List ℕ) → SoFar p left leaves held holds → ReadsBytes p.reader q.reader leaves after given → q.reader.ended ≡ true → IsAtEnd after
   over_after p q leaves after holds given s r e = elim (r.ends e) [
     | inl before ↦ subst IsAtEnd (sym (r.quiet before).1) (s.over before)
     | inr at_end ↦ at_end
@@ -148,7 +148,7 @@ module _ (left held : Option (List ℕ)) where
       (s.next ended (m.given ++ rest) text (with_status status) (state_of q) (may_follow_both m.given ended rest m.reads follows) (ends reply (m.step_is ended rest follows) says))
 
   -- what follows in the whole input
-  whole_follows : (p q : Progress) (leaves after holds : Option (List ℕ)) (given : List ℕ) → SoFar p left leaves held holds → Reads p.reader q.reader leaves after given → MayFollow q.reader.ended true (known_rest after)
+  whole_follows : (p q : Progress) (leaves after holds : Option (List ℕ)) (given : List ℕ) → SoFar p left leaves held holds → ReadsBytes p.reader q.reader leaves after given → MayFollow q.reader.ended true (known_rest after)
   whole_follows p q leaves after holds given s r = λ e. (refl, end_is after (over_after p q leaves after holds given s r e))
 
   pub so_far_answers : (told : Option FileMap) (p q : Progress) (leaves after holds kept : Option (List ℕ)) (text : List ℕ) (status : Status) → SoFar p left leaves held holds

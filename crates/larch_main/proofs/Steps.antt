@@ -4,7 +4,7 @@ use Rattle.std.specs.Io.KnownBytes.{IsAtEnd}
 use Rattle.std.proofs.lemmas.Bool.Decides.{nat_tests}
 use Rattle.std.proofs.KnownBytes.{Consumes-nil, Consumes-trans}
 use Rattle.larch_base.specs.declared.limits.TheConstants.{MAX_FILE_BYTES, MAX_LINE_BYTES, MAX_SOURCE_BYTES}
-use Rattle.larch_io.specs.Reader.{Taken, Reads, Takes, room_of}
+use Rattle.larch_io.specs.Reader.{Taken, ReadsBytes, Takes, room_of}
 use Rattle.larch_io.specs.Refusals.{LineRefused, BytesRefused}
 use Rattle.larch_io.specs.Take.{TakesLine}
 use Rattle.larch_traits.specs.Files.{Table, drop_file}
@@ -31,14 +31,14 @@ true_is_false : {P : Type 0} → true ≡ false → P
 true_is_false e = cc
 
 -- reading nothing
-pub reads_none : (reader : Taken) (left : Option (List ℕ)) → Reads reader reader left left []
+pub reads_none : (reader : Taken) (left : Option (List ℕ)) → ReadsBytes reader reader left left []
 reads_none reader left = record { gave = Consumes-nil left; quiet = λ e. (refl, refl, e); ends = λ e. inl e }
 
 nothing_and_nothing : (xs ys : List ℕ) → xs ≡ [] → ys ≡ [] → xs ++ ys ≡ []
 nothing_and_nothing xs ys p q = cc
 
 -- reading twice
-pub reads_then : {a b c : Taken} {x y z : Option (List ℕ)} (g h : List ℕ) → Reads a b x y g → Reads b c y z h → Reads a c x z (g ++ h)
+pub reads_then : {a b c : Taken} {x y z : Option (List ℕ)} (g h : List ℕ) → ReadsBytes a b x y g → ReadsBytes b c y z h → ReadsBytes a c x z (g ++ h)
 reads_then {a} {b} {c} {x} {y} {z} g h r s = record {
   gave = Consumes-trans x y z g h r.gave s.gave;
   quiet = λ e. let first = r.quiet e in let second = s.quiet first.2 in (nothing_and_nothing g h first.0 second.0, second.1 ∙ first.1, second.2);
@@ -54,11 +54,11 @@ reads_then {a} {b} {c} {x} {y} {z} g h r s = record {
 -- what one machine does on what was kept and given is what another does on what is kept now
 pub record Passes (first second : Machine) (old new : Taken) (before after : Option (List ℕ)) : Type 0 where
   pub given : List ℕ
-  pub reads : Reads old new before after given
+  pub reads : ReadsBytes old new before after given
   pub same : (ended : Bool) (rest : List ℕ) → MayFollow new.ended ended rest → first ended (old.kept ++ (given ++ rest)) ≡ second ended (new.kept ++ rest)
 
 -- what may follow what was given later may follow, with that, what was given earlier
-pub may_follow_both : {b c : Taken} {y z : Option (List ℕ)} (h : List ℕ) (ended : Bool) (rest : List ℕ) → Reads b c y z h → MayFollow c.ended ended rest → MayFollow b.ended ended (h ++ rest)
+pub may_follow_both : {b c : Taken} {y z : Option (List ℕ)} (h : List ℕ) (ended : Bool) (rest : List ℕ) → ReadsBytes b c y z h → MayFollow c.ended ended rest → MayFollow b.ended ended (h ++ rest)
 may_follow_both h ended rest s m = λ over.
     let quiet = s.quiet over in
     let follows = m quiet.2 in
@@ -94,7 +94,7 @@ moves_after p q r x y z (Err Memory) passes m = tt
 
 -- a machine that stops whatever follows
 stop_moves : (machine : Machine) (p q : Progress) (x y : Option (List ℕ)) (given : List ℕ) (reply : Reply) (status : Status) (result : Result Move Halt)
-    → Reads p.reader q.reader x y given → ((ended : Bool) (rest : List ℕ) → MayFollow q.reader.ended ended rest → machine ended (p.reader.kept ++ (given ++ rest)) ≡ stops (state_of q) reply status)
+    → ReadsBytes p.reader q.reader x y given → ((ended : Bool) (rest : List ℕ) → MayFollow q.reader.ended ended rest → machine ended (p.reader.kept ++ (given ++ rest)) ≡ stops (state_of q) reply status)
     → IsStop reply status result → Moves machine p q x y result
 stop_moves machine p q x y given reply status (Ok (Goes written)) reads stop is = absurd is
 stop_moves machine p q x y given reply status (Ok (Stops written ended)) reads stop is =

@@ -12,7 +12,7 @@ use Rattle.larch_lines.specs.Acceptance.{verdict}
 use Rattle.larch_claims.specs.Duties.{Duty}
 use Rattle.larch_words.specs.declared.call.Call.{Call}
 use Rattle.larch_words.specs.declared.call.Call.TheVariants as call_
-use Rattle.larch_main.specs.Answer.{Tells, answer_by, good_or_remains, said}
+use Rattle.larch_main.specs.Answer.{TellsAnswer, answer_by, good_or_remains, said}
 use Rattle.larch_main.specs.declared.answer.Answer.{Answer}
 use Rattle.larch_main.specs.declared.gather.Gathered.{Gathered}
 use Rattle.larch_main.specs.declared.gather.Gathered.TheVariants.{Whole, Absent, TooLarge}
@@ -203,7 +203,7 @@ module _ (call : Call) (reads : reads_folder call ≡ true) (told : Option FileM
 
   -- what is answered to a call that names files was to be written
   pub look_writes : (answered : Result Answer Halt) → IfOk answered (λ answer. Answered call told answer) → (left held kept : Option (List ℕ)) (before now : ℕ) (result : Status)
-      → Tells held kept before now answered result → Writes call told left left held kept result
+      → TellsAnswer held kept before now answered result → Writes call told left left held kept result
   look_writes (Ok answer) by left held kept before now result tells =
       said_writes call told left held kept by.folder answer.text answer.status by.is_folder (by.defined (known_rest left)) (answer_is_said answer by)
       before now result tells
@@ -215,7 +215,7 @@ module _ (call : Call) (reads : reads_folder call ≡ true) (told : Option FileM
       (subst (λ k. WritesFront call told left left held k) (sym tells.1) (nothing_written call told left held))
 
   pub look_sink : (answered : Result Answer Halt) → IfOk answered (λ answer. Answered call told answer) → (held kept : Option (List ℕ)) (before now : ℕ) (result : Status)
-      → Tells held kept before now answered result → Counts (sink_failed result) before now
+      → TellsAnswer held kept before now answered result → Counts (sink_failed result) before now
   look_sink (Ok answer) by held kept before now result tells =
       said_sink answer.status (answer_is_said answer by) held kept before now answer.text result tells
   look_sink (Err halt_.ReadFault) by held kept before now result tells = subst (λ r. Counts (sink_failed r) before now) (sym tells.0) tells.2
@@ -223,7 +223,7 @@ module _ (call : Call) (reads : reads_folder call ≡ true) (told : Option FileM
 
   pub look_folder : (answered : Result Answer Halt) → IfOk answered (λ answer. Answered call told answer) → (held kept : Option (List ℕ)) (before now : ℕ) (result : Status)
       (first last : ℕ) → OnOk answered (last ≡ first) → IfErr answered (λ halt. HaltFaults halt first last)
-      → Tells held kept before now answered result → Counts (folder_failed call result) first last
+      → TellsAnswer held kept before now answered result → Counts (folder_failed call result) first last
   look_folder (Ok answer) by held kept before now result first last fine failed tells =
       said_folder answer.status (answer_is_said answer by) call held kept before now answer.text result first last fine tells
   look_folder (Err halt_.ReadFault) by held kept before now result first last fine failed tells =

@@ -36,7 +36,7 @@ abbrev pub IsAnswer : Answer → List ℕ → Status → Type 0
 IsAnswer answer text status = (text ≡ answer.text) × (status ≡ answer.status)
 
 -- what becomes of what is answered: it is written as the last text; or nothing is, where there was no answer
-abbrev pub Tells : Option (List ℕ) → Option (List ℕ) → ℕ → ℕ → Result Answer Halt → Status → Type 0
-Tells held holds before now (Ok answer) result = Says held holds before now answer.text answer.status result
-Tells held holds before now (Err ReadFault) result = (result ≡ status_.ReadFault) × (holds ≡ held) × (now ≡ before)
-Tells held holds before now (Err Memory) result = (result ≡ status_.Memory) × (holds ≡ held) × (now ≡ before)
+abbrev pub TellsAnswer : Option (List ℕ) → Option (List ℕ) → ℕ → ℕ → Result Answer Halt → Status → Type 0
+TellsAnswer held holds before now (Ok answer) result = Says held holds before now answer.text answer.status result
+TellsAnswer held holds before now (Err ReadFault) result = (result ≡ status_.ReadFault) × (holds ≡ held) × (now ≡ before)
+TellsAnswer held holds before now (Err Memory) result = (result ≡ status_.Memory) × (holds ≡ held) × (now ≡ before)

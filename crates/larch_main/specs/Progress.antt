@@ -1,7 +1,7 @@
 -- What one step of the code is, in the words of the definition's step.
 use Rattle.std.specs.Prelude.{◌≡◌, ◌<◌, ◌≤◌, ℕ, Bool, true, false, List, [], ◌++◌, Option, Result, Ok, Err}
 use Rattle.larch_io.specs.Faults.{Rose}
-use Rattle.larch_io.specs.Reader.{Taken, Reads}
+use Rattle.larch_io.specs.Reader.{Taken, ReadsBytes}
 use Rattle.larch_io.specs.declared.refusal.TakeRefusal.{TakeRefusal}
 use Rattle.larch_io.specs.declared.refusal.TakeRefusal.TheVariants as take_
 use Rattle.larch_traits.specs.Files.{Table, put_file}
@@ -50,14 +50,14 @@ MayFollow over ended rest = over ≡ true → (ended ≡ true) × (rest ≡ [])
 pub record Makes (machine : Machine) (old new : Taken) (before after : Option (List ℕ)) (made : List ℕ → Step)
     : Type 0 where
   pub given : List ℕ
-  pub reads : Reads old new before after given
+  pub reads : ReadsBytes old new before after given
   pub step_is : (ended : Bool) (rest : List ℕ) → MayFollow new.ended ended rest
       → machine ended (old.kept ++ (given ++ rest)) ≡ made (new.kept ++ rest)
 
 -- on what was kept and given the machine waits for more
 pub record Wants (machine : Machine) (old new : Taken) (before after : Option (List ℕ)) : Type 0 where
   pub given : List ℕ
-  pub reads : Reads old new before after given
+  pub reads : ReadsBytes old new before after given
   pub open_still : new.ended ≡ false
   pub step_is : machine false (old.kept ++ given) ≡ waits
 

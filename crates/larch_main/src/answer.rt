@@ -1,5 +1,5 @@
 ghost use Rattle.std.specs.Prelude.{◌≡◌, IfOk};
-ghost use Rattle.larch_main.specs.Answer.{Tells, good_or_remains, no_file, said, size_passed};
+ghost use Rattle.larch_main.specs.Answer.{TellsAnswer, good_or_remains, no_file, said, size_passed};
 
 use crate::progress::Halt;
 use crate::say::say;
@@ -55,7 +55,7 @@ pub fn good_or_remains(good: bool) -> Status
 
 /// Writes what is answered and gives its status, or that there was nothing to write, or that it could not be written.
 pub fn tell<K: Sink>(sink: &mut K, answered: Result<Answer, Halt>) -> Status
-    ensures { Tells (K.held sink.old) (K.held sink.new) (K.faults sink.old) (K.faults sink.new) answered result }
+    ensures { TellsAnswer (K.held sink.old) (K.held sink.new) (K.faults sink.old) (K.faults sink.new) answered result }
 {
     match answered {
         Ok(answer) => say(sink, answer.text.bytes(), answer.status),

@@ -17,7 +17,7 @@ use Rattle.larch_calculus.specs.Formula.{falsity, formula, implication}
 use Rattle.larch_calculus.specs.Generation.{constant_terms}
 use Rattle.larch_calculus.specs.Observation.{Observation, observations_of}
 use Rattle.larch_derive.specs.Builder.{boxes_in, theory_in}
-use Rattle.larch_derive.specs.Predicates.{AreOthers, Stands}
+use Rattle.larch_derive.specs.Predicates.{AreOthers, HasNoBadLine}
 use Rattle.larch_derive.specs.declared.builder.Builder.{Builder}
 use Rattle.larch_derive.specs.declared.open_box.OpenBox.{OpenBox}
 use Rattle.larch_derive.proofs.Growth.{known_stands}
@@ -169,7 +169,7 @@ induction_begins b setting goal n v fs made h e g k o =
 
 -- ---- partition
 
-partition_subgoals_begin : (b : Builder) (l r : Tree) (taken : List (List ℕ)) (ws : List Observation) → Stands b
+partition_subgoals_begin : (b : Builder) (l r : Tree) (taken : List (List ℕ)) (ws : List Observation) → HasNoBadLine b
     → All (OtherConstants b) (partition_subgoals taken l r ws) → All (MayBegin b) (partition_subgoals taken l r ws)
 partition_subgoals_begin b l r taken [] st o = All-nil (MayBegin b)
 partition_subgoals_begin b l r taken (w ∷ ws) st o =
@@ -185,7 +185,7 @@ partition_subgoals_begin b l r taken (w ∷ ws) st o =
 
 pub partition_begins : (b : Builder) (setting : Setting) (goal l r : Tree) (os : List PlainOperator) (made : Plan)
     → plan setting goal Partition ≡ Ok made → two_arguments (λ f. is_built_in_as f Equal) goal ≡ Some (l, r)
-    → observers (sort_of l) setting.clauses ≡ Some os → Stands b → HasOtherConstants b made → MayBeginAll b made
+    → observers (sort_of l) setting.clauses ≡ Some os → HasNoBadLine b → HasOtherConstants b made → MayBeginAll b made
 partition_begins b setting goal l r os made h e g st o =
     let p = partition_planned setting goal l r os made h e g in
     subst (All (MayBegin b)) (sym p)
@@ -194,7 +194,7 @@ partition_begins b setting goal l r os made h e g st o =
 
 -- ---- clauses
 
-pub generation_begins : (b : Builder) (n s : List ℕ) (fs : List PlainOperator) → Stands b
+pub generation_begins : (b : Builder) (n s : List ℕ) (fs : List PlainOperator) → HasNoBadLine b
     → AreOthers (theory_in b) (predicate_named n s ∷ []) → IsStatementOver (theory_in b).operators (Generated s fs)
     → MayOpen b (generation_goal n s fs).constants (generation_goal n s fs).hypotheses
 generation_begins b n s fs st o w =
@@ -205,7 +205,7 @@ generation_begins b n s fs st o w =
           (predicate_named n s) s fs st o refl refl refl w;
     }
 
-pub partition_goal_begins : (b : Builder) (n m s : List ℕ) (os : List PlainOperator) → Stands b
+pub partition_goal_begins : (b : Builder) (n m s : List ℕ) (os : List PlainOperator) → HasNoBadLine b
     → AreOthers (theory_in b) (constant_named n s ∷ constant_named m s ∷ [])
     → IsStatementOver (theory_in b).operators (Partitioned s os)
     → MayOpen b (partition_goal n m s os).constants (partition_goal n m s os).hypotheses

@@ -8,7 +8,7 @@ use Rattle.larch_term.specs.Truth.{truth}
 use Rattle.larch_term.specs.declared.statement.Statement.TheVariants.{Generated}
 use Rattle.larch_term.specs.declared.variable.Variable.{Variable}
 use Rattle.larch_certificate.specs.declared.line.CodedVar.{CodedVar}
-use Rattle.larch_derive.specs.Predicates.{Extends, HasStatement, Known, Stands}
+use Rattle.larch_derive.specs.Predicates.{Extends, HasStatement, Known, HasNoBadLine}
 use Rattle.larch_derive.specs.declared.builder.Builder.{Builder}
 use Rattle.larch_derive.proofs.Growth.{extends_grows, known_stands}
 use Rattle.larch_derive_clauses.specs.Showing.{ShowCases}
@@ -21,8 +21,8 @@ use Rattle.larch_methods.proofs.Sharing.{value_known}
 -- what the line of the induction takes, where the clause is said
 pub induced : (a b : Builder) (clause said : ℕ) (v : Variable) (w : CodedVar) (g t : Tree) (boxes : List ℕ) (P : Type 0)
     → ByInduction a clause v g boxes → w ≡ written_variable v → t ≡ truth
-    → ((fs : List PlainOperator) → Stands a → IsStated a clause (Generated v.sort fs) → Extends a b)
-    → ((fs : List PlainOperator) → Stands a → IsStated a clause (Generated v.sort fs)
+    → ((fs : List PlainOperator) → HasNoBadLine a → IsStated a clause (Generated v.sort fs) → Extends a b)
+    → ((fs : List PlainOperator) → HasNoBadLine a → IsStated a clause (Generated v.sort fs)
     → HasStatement b said (Generated v.sort fs))
     → (Extends a b → (fs : List PlainOperator) → HasStatement b said (Generated w.sort fs) → ShowCases b w g t fs boxes
     → Known b g → Known b t → sort_of g ≡ sort_of t → P)

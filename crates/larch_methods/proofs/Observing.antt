@@ -18,7 +18,7 @@ use Rattle.larch_term_laws.proofs.Occurring.{listed_occurs}
 use Rattle.larch_calculus.specs.Observation.{Observation, observations_of, observed}
 use Rattle.larch_certificate.specs.declared.line.CodedVar.{CodedVar}
 use Rattle.larch_lines.specs.Matching.{are_apart, variable_of}
-use Rattle.larch_derive.specs.Predicates.{Extends, Grows, HasEquation, HasStatement, Known, Stands}
+use Rattle.larch_derive.specs.Predicates.{Extends, Grows, HasEquation, HasStatement, Known, HasNoBadLine}
 use Rattle.larch_derive.specs.declared.builder.Builder.{Builder}
 use Rattle.larch_derive.specs.declared.open_box.OpenBox.{OpenBox}
 use Rattle.larch_derive.proofs.Growth.{extends_grows, extends_refl, extends_trans, grown_stands, grows_alike, known_stands, stays_known}
@@ -198,8 +198,8 @@ pub partitioned_by : (a b c : Builder) (letters clause said : ℕ) (l r : Tree) 
     → AllZip (ShowsObservation a u v) ws boxes → ShowSame b u v ws ns)
     → ((u v : Tree) (ws : List Observation) → HasShorterNames letters u → HasShorterNames letters v
     → AllZip (ShowsObservation a u v) ws boxes → Extends a b)
-    → ((s : Statement) → Stands b → IsStated b clause s → HasStatement c said s)
-    → ((s : Statement) → Stands b → IsStated b clause s → Extends b c)
+    → ((s : Statement) → HasNoBadLine b → IsStated b clause s → HasStatement c said s)
+    → ((s : Statement) → HasNoBadLine b → IsStated b clause s → Extends b c)
     → (Extends a c → (os : List PlainOperator) → HasStatement c said (Partitioned (sort_of l) os)
     → ShowSame c l r (observations_of (sort_of l) os) ns → Known c l → Known c r → P)
     → P

@@ -18,7 +18,7 @@ use Rattle.larch_calculus.proofs.Observed.{observed_over}
 use Rattle.larch_calculus.proofs.RenamedHypotheses.{observed_renamed}
 use Rattle.larch_derive.specs.Builder.{IsOpened, boxes_in, theory_in}
 use Rattle.larch_derive.specs.OpenBox.{naming}
-use Rattle.larch_derive.specs.Predicates.{Known, Stands, operators_at, written}
+use Rattle.larch_derive.specs.Predicates.{Known, HasNoBadLine, operators_at, written}
 use Rattle.larch_derive.specs.declared.builder.Builder.{Builder}
 use Rattle.larch_derive.specs.declared.open_box.OpenBox.{OpenBox}
 use Rattle.larch_derive.proofs.Growth.{extends_grows, extends_refl, grown_known, grows_alike, known_stands}
@@ -46,7 +46,7 @@ pub begins_inside : (a b : Builder) (x : OpenBox) (vs : List Variable) → Opens
 begins_inside a b x vs o own e =
     record { opened = b; opens = o; grows = extends_grows b b (extends_refl b); own = own; sorts = e }
 
-pub may_open_bare : (b : Builder) (cs : List PlainOperator) → Stands b
+pub may_open_bare : (b : Builder) (cs : List PlainOperator) → HasNoBadLine b
     → All (λ c. IsKnown (theory_in b).operators c → ⊥) cs → MayOpen b cs []
 may_open_bare b cs st o =
     record { stands = st; others = o; supposed = λ n. All-nil (MaySuppose b (record { number = n; constants = cs })) }

@@ -21,7 +21,7 @@ use Rattle.larch_calculus.proofs.Freeing.{constants_close}
 use Rattle.larch_certificate.specs.declared.line.CodedVar.{CodedVar}
 use Rattle.larch_lines.specs.Matching.{variable_of}
 use Rattle.larch_derive.specs.Builder.{IsOpened, boxes_in}
-use Rattle.larch_derive.specs.Predicates.{Extends, Grows, HasEquation, Known, Stands}
+use Rattle.larch_derive.specs.Predicates.{Extends, Grows, HasEquation, Known, HasNoBadLine}
 use Rattle.larch_derive.specs.declared.builder.Builder.{Builder}
 use Rattle.larch_derive.specs.declared.open_box.OpenBox.{OpenBox}
 use Rattle.larch_derive.proofs.Growth.{grows_alike, grows_trans, known_stands, stays_known}
@@ -85,7 +85,7 @@ said_right b n l r s e h = subst (HasEquation b n l) e h
 
 -- ---- truth values
 
-pub value_known : (b : Builder) (v : Bool) → Stands b → Known b (value_term v)
+pub value_known : (b : Builder) (v : Bool) → HasNoBadLine b → Known b (value_term v)
 value_known b true h = known_own b truth h ((refl, tt), (inr (True, (bool_sort, refl)), tt))
 value_known b false h = known_own b falsity h ((refl, tt), (inr (False, (bool_sort, refl)), tt))
 

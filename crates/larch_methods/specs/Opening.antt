@@ -3,7 +3,7 @@ use Rattle.std.specs.Prelude.{◌≡◌, ℕ, List, map, All}
 use Rattle.larch_term.specs.Operator.{PlainOperator}
 use Rattle.larch_term.specs.declared.statement.Statement.{Statement}
 use Rattle.larch_derive.specs.Builder.{boxes_in, theory_in}
-use Rattle.larch_derive.specs.Predicates.{AreOthers, Stands}
+use Rattle.larch_derive.specs.Predicates.{AreOthers, HasNoBadLine}
 use Rattle.larch_derive.specs.declared.builder.Builder.{Builder}
 use Rattle.larch_derive.specs.declared.open_box.OpenBox.{OpenBox}
 use Rattle.larch_derive_boxes.specs.Boxes.{AreOwnConstants, HasResult, MaySuppose}
@@ -14,7 +14,7 @@ use Rattle.larch_replay.specs.Plans.{Plan, Subgoal}
 -- a box with these constants and hypotheses may be opened: the constants are neither the theory's nor built in, and
 -- each hypothesis may be supposed, whatever number the box gets
 pub record MayOpen (b : Builder) (cs : List PlainOperator) (hs : List Statement) : Type 0 where
-  pub stands : Stands b
+  pub stands : HasNoBadLine b
   pub others : AreOthers (theory_in b) cs
   pub supposed : (n : ℕ) → All (MaySuppose b (record { number = n; constants = cs })) hs
 

@@ -5,7 +5,7 @@ ghost use Rattle.larch_calculus.specs.Formula.{implication};
 ghost use Rattle.larch_calculus.specs.Observation.{observations_of};
 ghost use Rattle.larch_derive.specs.Builder.{boxes_in, theory_in};
 ghost use Rattle.larch_derive.specs.OpenBox.{constant_of};
-ghost use Rattle.larch_derive.specs.Predicates.{AreOthers, Grows, HasEquation, Known, Stands};
+ghost use Rattle.larch_derive.specs.Predicates.{AreOthers, Grows, HasEquation, Known, HasNoBadLine};
 ghost use Rattle.larch_derive.specs.declared.builder.Builder.{Builder};
 ghost use Rattle.larch_derive.specs.declared.open_box.OpenBox.{OpenBox};
 ghost use Rattle.larch_derive_boxes.specs.Boxes.{AreOwnConstants, HasResult, Opens};
@@ -37,7 +37,8 @@ ghost use Rattle.larch_term.specs.declared.variable.Variable.{Variable};
 /// which the method's end finds its subgoals. What is known is known there with its constants in the places of
 /// variables.
 pub fn shared_boxes()
-    ensures opens { (b : Builder) (cs : List PlainOperator) → Stands b → AreOthers (theory_in b) cs → MayOpen b cs [] }
+    ensures opens { (b : Builder) (cs : List PlainOperator) → HasNoBadLine b → AreOthers (theory_in b) cs
+        → MayOpen b cs [] }
     ensures cases { (a b : Builder) (x : OpenBox) (setting : Setting) (goal f : Tree) (made : Plan)
         → plan setting goal (Cases f) ≡ Ok made → Opens a b x [] → x.constants ≡ made.constants
         → AreOwnConstants (boxes_in a) x → IsInside a b x (variables_of f) }
@@ -69,7 +70,7 @@ pub fn subgoals_begin()
         → IsKnownFormula b goal → HasOtherConstants b made → MayBeginAll b made }
     ensures partition { (b : Builder) (setting : Setting) (goal l r : Tree) (os : List PlainOperator) (made : Plan)
         → plan setting goal Partition ≡ Ok made → two_arguments (λ f. is_built_in_as f Equal) goal ≡ Some (l, r)
-        → observers (sort_of l) setting.clauses ≡ Some os → Stands b → HasOtherConstants b made
+        → observers (sort_of l) setting.clauses ≡ Some os → HasNoBadLine b → HasOtherConstants b made
         → MayBeginAll b made }
 {}
 
@@ -123,7 +124,7 @@ pub fn subgoals_show()
 /// The box in which a clause is shown may be opened, and a line there that says that its goal is true is what its end
 /// takes.
 pub fn clauses_begin_and_show()
-    ensures generation_begins { (b : Builder) (n s : List ℕ) (fs : List PlainOperator) → Stands b
+    ensures generation_begins { (b : Builder) (n s : List ℕ) (fs : List PlainOperator) → HasNoBadLine b
         → AreOthers (theory_in b) (predicate_named n s ∷ [])
         → IsStatementOver (theory_in b).operators (Generated s fs)
         → MayOpen b (generation_goal n s fs).constants (generation_goal n s fs).hypotheses }
@@ -132,7 +133,7 @@ pub fn clauses_begin_and_show()
         → constant_of (boxes_in a) (predicate_named n s) ≡ None
         → IsStatementOver (theory_in a).operators (Generated s fs)
         → HasEquation b line (generation_goal n s fs).goal truth → ByPredicate a b s fs x.number line }
-    ensures partition_begins { (b : Builder) (n m s : List ℕ) (os : List PlainOperator) → Stands b
+    ensures partition_begins { (b : Builder) (n m s : List ℕ) (os : List PlainOperator) → HasNoBadLine b
         → AreOthers (theory_in b) (constant_named n s ∷ constant_named m s ∷ [])
         → IsStatementOver (theory_in b).operators (Partitioned s os)
         → MayOpen b (partition_goal n m s os).constants (partition_goal n m s os).hypotheses }

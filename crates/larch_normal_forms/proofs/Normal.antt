@@ -6,7 +6,7 @@ use Rattle.larch_term.specs.Tree.{Tree, Forest, var, app, none, more}
 use Rattle.larch_normal_forms.specs.Work.{Work, Made, OverLimit, OverSize, then_work, within_size, formed, is_large}
 use Rattle.larch_normal_forms.specs.Sides.{Sides}
 use Rattle.larch_normal_forms.specs.Rewriting.{rewritten_once}
-use Rattle.larch_normal_forms.specs.NormalForm.{Onward, applied_or, at_root, pass, pass_all, normal_by, normal, Stands, IsNormal, AreNormal}
+use Rattle.larch_normal_forms.specs.NormalForm.{Onward, applied_or, at_root, pass, pass_all, normal_by, normal, IsNormalAtRoot, IsNormal, AreNormal}
 use Rattle.larch_normal_forms.proofs.NormalForms.{normal_unfold}
 
 -- ---- what is normal stays
@@ -14,7 +14,7 @@ use Rattle.larch_normal_forms.proofs.NormalForms.{normal_unfold}
 formed_small : {A : Type 0} (t : Tree) (w : Work A) → is_large t ≡ false → formed t w ≡ w
 formed_small t w h = ap (λ b. within_size b w) h
 
-stands_stays : (next : Onward) (rules : List Sides) (t : Tree) (b : ℕ) → Stands rules t
+stands_stays : (next : Onward) (rules : List Sides) (t : Tree) (b : ℕ) → IsNormalAtRoot rules t
     → at_root next rules t b ≡ Made t b
 stands_stays next rules t b h =
     formed_small t (applied_or next t b (rewritten_once rules t)) h.0 ∙ ap (applied_or next t b) h.1
@@ -56,7 +56,7 @@ abbrev HasNormalArguments : List Sides → Tree → Type 0
 HasNormalArguments rules (var n s) = Unit {0}
 HasNormalArguments rules (app f ts) = AreNormal rules ts
 
-whole_normal : (rules : List Sides) (t : Tree) → HasNormalArguments rules t → Stands rules t → IsNormal rules t
+whole_normal : (rules : List Sides) (t : Tree) → HasNormalArguments rules t → IsNormalAtRoot rules t → IsNormal rules t
 whole_normal rules (var n s) a h = h
 whole_normal rules (app f ts) a h = (a, h)
 

@@ -51,14 +51,14 @@ LeavesAtMost b OverLimit = Unit {0}
 LeavesAtMost b OverSize = Unit {0}
 
 -- no rule applies at the root of a term that is small enough
-abbrev pub Stands : List Sides → Tree → Type 0
-Stands rules t = (is_large t ≡ false) × (rewritten_once rules t ≡ None)
+abbrev pub IsNormalAtRoot : List Sides → Tree → Type 0
+IsNormalAtRoot rules t = (is_large t ≡ false) × (rewritten_once rules t ≡ None)
 
 abbrev mutual
   -- no rule applies anywhere in a term
   pub IsNormal : List Sides → Tree → Type 0
-  IsNormal rules (var n s) = Stands rules (var n s)
-  IsNormal rules (app f ts) = AreNormal rules ts × Stands rules (app f ts)
+  IsNormal rules (var n s) = IsNormalAtRoot rules (var n s)
+  IsNormal rules (app f ts) = AreNormal rules ts × IsNormalAtRoot rules (app f ts)
 
   pub AreNormal : List Sides → Forest → Type 0
   AreNormal rules none = Unit {0}

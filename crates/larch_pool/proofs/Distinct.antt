@@ -7,7 +7,7 @@ use Rattle.std.proofs.lemmas.Map.Keys.{apart_from_distinct}
 use Rattle.larch_term.specs.Operator.{PlainOperator}
 use Rattle.larch_term.specs.Tree.{Tree}
 use Rattle.larch_term.proofs.TreeLists.{same_parts}
-use Rattle.larch_pool.specs.Pooled.{Pooled, pooled, name_of, operator_of, no_operator, tree_in, operator_in, node_tree, trees_behind, Stands, AllStand}
+use Rattle.larch_pool.specs.Pooled.{Pooled, pooled, name_of, operator_of, no_operator, tree_in, operator_in, node_tree, trees_behind, StandsBehind, AllStandBehind}
 use Rattle.larch_pool.specs.declared.node.Node.{Node}
 use Rattle.larch_pool.specs.declared.node.Node.TheVariants.{Var, App}
 use Rattle.larch_pool.specs.declared.symbol.Symbol.{Symbol}
@@ -74,7 +74,7 @@ same_arguments ts k l (c ∷ cs) (d ∷ ds) a b h e =
     let y : cs ≡ ds = same_arguments ts k l cs ds (All-tail (λ n. n < k) c cs a) (All-tail (λ n. n < l) d ds b) h q in
     λ i. x i ∷ y i
 
-same_nodes : (fs : List PlainOperator) (ts : List Tree) (k l : ℕ) (x y : Node) → Apart fs → Stands (length fs) k x → Stands (length fs) l y
+same_nodes : (fs : List PlainOperator) (ts : List Tree) (k l : ℕ) (x y : Node) → Apart fs → StandsBehind (length fs) k x → StandsBehind (length fs) l y
     → ((c d : ℕ) → c < k → d < l → tree_in ts c ≡ tree_in ts d → c ≡ d) → node_tree fs ts x ≡ node_tree fs ts y → x ≡ y
 same_nodes fs ts k l (Var n s) (Var m r) p a b h e = let u : n ≡ m = cc in let v : s ≡ r = cc in λ i. Var (u i) (v i)
 same_nodes fs ts k l (Var n s) (App g ds) p a b h e = absurd cc
@@ -85,15 +85,15 @@ same_nodes fs ts k l (App f cs) (App g ds) p a b h e =
     let v : cs ≡ ds = same_arguments ts k l cs ds a.1 b.1 h q.1 in
     λ i. App (u i) (v i)
 
-trees_apart_below : (fs : List PlainOperator) (ns : List Node) (m : Node) → Apart fs → IsDistinct node_eq.ghosts.eq ns → AllStand (length fs) 0 ns
+trees_apart_below : (fs : List PlainOperator) (ns : List Node) (m : Node) → Apart fs → IsDistinct node_eq.ghosts.eq ns → AllStandBehind (length fs) 0 ns
     → (b i j : ℕ) → i < b → i < length ns → j < length ns → tree_in (trees_behind fs [] ns) i ≡ tree_in (trees_behind fs [] ns) j → i ≡ j
 trees_apart_below fs ns m p u h zero i j lb li lj e = absurd (omega arith)
 trees_apart_below fs ns m p u h (suc b) i j lb li lj e =
     let ts : List Tree = trees_behind fs [] ns in
     let x : Node = get_or ns i m in
     let y : Node = get_or ns j m in
-    let a : Stands (length fs) i x = subst (λ k. Stands (length fs) k x) (omega arith) (stands_at (length fs) 0 ns i m h li) in
-    let c : Stands (length fs) j y = subst (λ k. Stands (length fs) k y) (omega arith) (stands_at (length fs) 0 ns j m h lj) in
+    let a : StandsBehind (length fs) i x = subst (λ k. StandsBehind (length fs) k x) (omega arith) (stands_at (length fs) 0 ns i m h li) in
+    let c : StandsBehind (length fs) j y = subst (λ k. StandsBehind (length fs) k y) (omega arith) (stands_at (length fs) 0 ns j m h lj) in
     let s : x ≡ y =
     same_nodes fs ts i j x y p a c (λ v w lv lw. trees_apart_below fs ns m p u h b v w (omega arith) (omega arith) (omega arith))
     (sym (tree_behind (length fs) fs [] ns i m h li) ∙ e ∙ tree_behind (length fs) fs [] ns j m h lj) in
@@ -103,7 +103,7 @@ trees_apart_below fs ns m p u h (suc b) i j lb li lj e =
 abbrev pub TreesApart : Pooled → Type 0
 TreesApart p = (i j : ℕ) → i < length p.trees → j < length p.trees → tree_in p.trees i ≡ tree_in p.trees j → i ≡ j
 
-pub trees_apart : (ss : List Symbol) (ns : List Node) (p : Pooled) → pooled ss ns ≡ p → IsDistinct symbol_eq.ghosts.eq ss → IsDistinct node_eq.ghosts.eq ns → AllStand (length (map operator_of ss)) 0 ns → TreesApart p
+pub trees_apart : (ss : List Symbol) (ns : List Node) (p : Pooled) → pooled ss ns ≡ p → IsDistinct symbol_eq.ghosts.eq ss → IsDistinct node_eq.ghosts.eq ns → AllStandBehind (length (map operator_of ss)) 0 ns → TreesApart p
 trees_apart ss ns p e u v h =
     subst TreesApart e
     (λ i j li lj s. trees_apart_below (map operator_of ss) ns (Var [] []) (operators_apart ss u) v h (suc i) i j (omega arith)

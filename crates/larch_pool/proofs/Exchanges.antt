@@ -6,7 +6,7 @@ use Rattle.std.proofs.lemmas.Option.{slice_get-get_or, get_or_from_slice_get, sa
 use Rattle.larch_term.specs.Operator.{PlainOperator}
 use Rattle.larch_term.specs.Tree.{Tree, var, app, more, forest_of}
 use Rattle.larch_pool.specs.Exchanging.{mapped, ExchangesAt, IsExchange, Exchanged, IsWithin}
-use Rattle.larch_pool.specs.Pooled.{tree_in, no_tree, operator_in, node_tree, Stands}
+use Rattle.larch_pool.specs.Pooled.{tree_in, no_tree, operator_in, node_tree, StandsBehind}
 use Rattle.larch_pool.specs.Exchanging.{Told}
 use Rattle.larch_pool.specs.declared.exchanging.Ready.TheVariants.{Variable, Application}
 use Rattle.larch_pool.specs.declared.node.Node.{Node}
@@ -59,7 +59,7 @@ none_at us F o t e h = subst (λ p. ExchangesAt us F p t) e h
 
 -- an application is rebuilt
 pub told_rebuilt : (fs : List PlainOperator) (us vs : List Tree) (F : Tree → Tree) (table g : ℕ → Option ℕ) (q : ℕ) (n : Node) (f : ℕ) (ns : List ℕ) → take (length us) vs ≡ us → q < length us
-    → node_tree fs vs n ≡ tree_in vs q → Stands (length fs) q n → IsExchange us table F → table q ≡ None → Exchanged us vs F g → Told n g (Application f ns)
+    → node_tree fs vs n ≡ tree_in vs q → StandsBehind (length fs) q n → IsExchange us table F → table q ≡ None → Exchanged us vs F g → Told n g (Application f ns)
     → F (tree_in us q) ≡ app (operator_in fs f) (forest_of (map (tree_in vs) ns))
 told_rebuilt fs us vs F table g q (Var n s) f ns front lt is stands ex miss h t = absurd t
 told_rebuilt fs us vs F table g q (App k cs) f ns front lt is stands ex miss h t =

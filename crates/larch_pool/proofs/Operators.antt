@@ -3,7 +3,7 @@ use Rattle.std.proofs.Common.{◌≡◌, ℕ, Bool, true, false, List, [], ◌�
 use Rattle.std.proofs.lemmas.List.{append-nil, map_push, take_at, length-append}
 use Rattle.std.proofs.lemmas.Option.{slice_get-map}
 use Rattle.larch_term.specs.Operator.{PlainOperator}
-use Rattle.larch_pool.specs.Pooled.{pooled, operator_of, trees_behind, Tells, IsPool, Grows}
+use Rattle.larch_pool.specs.Pooled.{pooled, operator_of, trees_behind, AreMarked, IsPool, Grows}
 use Rattle.larch_pool.specs.declared.node.Marks.{Marks}
 use Rattle.larch_pool.specs.declared.node.Node.{Node}
 use Rattle.larch_pool.specs.declared.symbol.Symbol.{Symbol}
@@ -30,7 +30,7 @@ same_trees ks ls ns bs h b = ap (λ fs. trees_behind fs [] ns) b.is ∙ behind_f
 pub still_pool : (ks ls : List Symbol) (ns : List Node) (bs : List Marks) → IsPool ks ns bs → Behind ks ls → IsPool ls ns bs
 still_pool ks ls ns bs h b =
     let e = ap length b.is ∙ length-append (map operator_of ks) b.more in
-    (stand_later (length (map operator_of ks)) (length (map operator_of ls)) 0 ns (omega (arith, e)) h.0, subst (λ ts. Tells bs ts) (sym (same_trees ks ls ns bs h b)) h.1)
+    (stand_later (length (map operator_of ks)) (length (map operator_of ls)) 0 ns (omega (arith, e)) h.0, subst (λ ts. AreMarked bs ts) (sym (same_trees ks ls ns bs h b)) h.1)
 
 pub operators_grow : (ks ls : List Symbol) (ns : List Node) (bs : List Marks) → IsPool ks ns bs → Behind ks ls → Grows (pooled ks ns) (pooled ls ns)
 operators_grow ks ls ns bs h b = (

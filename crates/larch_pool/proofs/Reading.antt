@@ -1,7 +1,7 @@
 -- What the tables tell of a number, in the words of contracts.
 use Rattle.std.proofs.Common.{◌≡◌, ℕ, ◌<◌, List, [], length, map, get_or, sym, ◌∙◌, ap, subst, arith}
 use Rattle.std.proofs.lemmas.List.{length-map, get_or-map}
-use Rattle.larch_pool.specs.Pooled.{Pooled, pooled, operator_of, no_operator, operator_in, tree_in, node_tree, trees_behind, Stands, Marked, IsPool}
+use Rattle.larch_pool.specs.Pooled.{Pooled, pooled, operator_of, no_operator, operator_in, tree_in, node_tree, trees_behind, StandsBehind, Marked, IsPool}
 use Rattle.larch_pool.specs.declared.node.Marks.{Marks}
 use Rattle.larch_pool.specs.declared.node.Node.{Node}
 use Rattle.larch_pool.specs.declared.symbol.Symbol.{Symbol}
@@ -16,20 +16,20 @@ node_within ss ns p i e lt =
 -- what stands at a number
 pub record Read (p : Pooled) (ss : List Symbol) (i : ℕ) (m : Node) : Type 0 where
   pub tree : tree_in p.trees i ≡ node_tree p.operators p.trees m
-  pub stands : Stands (length ss) i m
-  pub stands_there : Stands (length p.operators) i m
+  pub stands : StandsBehind (length ss) i m
+  pub stands_there : StandsBehind (length p.operators) i m
 
 pub node_read : (ss : List Symbol) (ns : List Node) (bs : List Marks) (p : Pooled) (i : ℕ) (m : Node) → pooled ss ns ≡ p → IsPool ss ns bs → i < length p.trees → m ≡ get_or ns i m → Read p ss i m
 node_read ss ns bs p i m e h lt is =
     let w : i < length ns = node_within ss ns p i e lt in
     let a : tree_in (pooled ss ns).trees i ≡ node_tree (pooled ss ns).operators (pooled ss ns).trees m =
     tree_behind (length (map operator_of ss)) (map operator_of ss) [] ns i m h.0 w ∙ ap (node_tree (pooled ss ns).operators (pooled ss ns).trees) (sym is) in
-    let b : Stands (length (map operator_of ss)) i (get_or ns i m) =
-    subst (λ k. Stands (length (map operator_of ss)) k (get_or ns i m)) (omega arith) (stands_at (length (map operator_of ss)) 0 ns i m h.0 w) in
+    let b : StandsBehind (length (map operator_of ss)) i (get_or ns i m) =
+    subst (λ k. StandsBehind (length (map operator_of ss)) k (get_or ns i m)) (omega arith) (stands_at (length (map operator_of ss)) 0 ns i m h.0 w) in
     record {
       tree = subst (λ (q : Pooled). tree_in q.trees i ≡ node_tree q.operators q.trees m) e a;
-      stands_there = subst (λ (q : Pooled). Stands (length q.operators) i m) e (subst (Stands (length (map operator_of ss)) i) (sym is) b);
-      stands = subst (λ n. Stands n i m) (length-map ss operator_of) (subst (Stands (length (map operator_of ss)) i) (sym is) b);
+      stands_there = subst (λ (q : Pooled). StandsBehind (length q.operators) i m) e (subst (StandsBehind (length (map operator_of ss)) i) (sym is) b);
+      stands = subst (λ n. StandsBehind n i m) (length-map ss operator_of) (subst (StandsBehind (length (map operator_of ss)) i) (sym is) b);
     }
 
 pub mark_within : (ss : List Symbol) (ns : List Node) (bs : List Marks) (p : Pooled) (i : ℕ) → pooled ss ns ≡ p → IsPool ss ns bs → i < length p.trees → i < length bs

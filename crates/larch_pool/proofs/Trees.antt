@@ -4,7 +4,7 @@ use Rattle.std.proofs.lemmas.List.{get_or_append_left, length_push}
 use Rattle.std.proofs.lemmas.List.Elements.{All-head, All-tail, All-weaker}
 use Rattle.larch_term.specs.Operator.{PlainOperator}
 use Rattle.larch_term.specs.Tree.{Tree, app, forest_of}
-use Rattle.larch_pool.specs.Pooled.{no_tree, no_operator, tree_in, operator_in, node_tree, trees_behind, Stands, AllStand}
+use Rattle.larch_pool.specs.Pooled.{no_tree, no_operator, tree_in, operator_in, node_tree, trees_behind, StandsBehind, AllStandBehind}
 use Rattle.larch_pool.specs.declared.node.Node.{Node}
 use Rattle.larch_pool.specs.declared.node.Node.TheVariants.{Var, App}
 
@@ -35,52 +35,52 @@ arguments_front ts us (c ∷ cs) a =
     λ i. get_or_append_left ts us no_tree c (All-head P c cs a) i ∷ arguments_front ts us cs (All-tail P c cs a) i
 
 -- trees behind those that a node stands on change nothing
-pub node_front : (o : ℕ) (fs : List PlainOperator) (ts us : List Tree) (n : Node) → Stands o (length ts) n → node_tree fs (ts ++ us) n ≡ node_tree fs ts n
+pub node_front : (o : ℕ) (fs : List PlainOperator) (ts us : List Tree) (n : Node) → StandsBehind o (length ts) n → node_tree fs (ts ++ us) n ≡ node_tree fs ts n
 node_front o fs ts us (Var n s) h = refl
 node_front o fs ts us (App f cs) h = ap (λ xs. app (operator_in fs f) (forest_of xs)) (arguments_front ts us cs h.1)
 
 -- nor do operators behind those that it has
-pub operators_front : (k : ℕ) (fs gs : List PlainOperator) (ts : List Tree) (n : Node) → Stands (length fs) k n → node_tree (fs ++ gs) ts n ≡ node_tree fs ts n
+pub operators_front : (k : ℕ) (fs gs : List PlainOperator) (ts : List Tree) (n : Node) → StandsBehind (length fs) k n → node_tree (fs ++ gs) ts n ≡ node_tree fs ts n
 operators_front k fs gs ts (Var n s) h = refl
 operators_front k fs gs ts (App f cs) h = ap (λ g. app g (forest_of (map (tree_in ts) cs))) (get_or_append_left fs gs no_operator f h.0)
 
-pub behind_front : (k : ℕ) (fs gs : List PlainOperator) (ts : List Tree) (ns : List Node) → AllStand (length fs) k ns → trees_behind (fs ++ gs) ts ns ≡ trees_behind fs ts ns
-unfolding trees_behind AllStand
+pub behind_front : (k : ℕ) (fs gs : List PlainOperator) (ts : List Tree) (ns : List Node) → AllStandBehind (length fs) k ns → trees_behind (fs ++ gs) ts ns ≡ trees_behind fs ts ns
+unfolding trees_behind AllStandBehind
 behind_front k fs gs ts [] h = refl
 behind_front k fs gs ts (n ∷ ns) h =
     let e : node_tree (fs ++ gs) ts n ≡ node_tree fs ts n = operators_front k fs gs ts n h.0 in
     ap (λ t. t ∷ trees_behind (fs ++ gs) (ts ++ t ∷ []) ns) e ∙ ap (λ us. node_tree fs ts n ∷ us) (behind_front (k + 1) fs gs (ts ++ node_tree fs ts n ∷ []) ns h.1)
 
 -- the tree at a number is that of the node at the number
-pub tree_behind : (o : ℕ) (fs : List PlainOperator) (ts : List Tree) (ns : List Node) (i : ℕ) (m : Node) → AllStand o (length ts) ns → i < length ns
+pub tree_behind : (o : ℕ) (fs : List PlainOperator) (ts : List Tree) (ns : List Node) (i : ℕ) (m : Node) → AllStandBehind o (length ts) ns → i < length ns
     → tree_in (trees_behind fs ts ns) i ≡ node_tree fs (ts ++ trees_behind fs ts ns) (get_or ns i m)
-unfolding trees_behind AllStand
+unfolding trees_behind AllStandBehind
 tree_behind o fs ts [] i m h lt = absurd (omega arith)
 tree_behind o fs ts (n ∷ ns) zero m h lt = sym (node_front o fs ts (trees_behind fs ts (n ∷ ns)) n h.0)
 tree_behind o fs ts (n ∷ ns) (suc i) m h lt =
     let t : Tree = node_tree fs ts n in
-    let s : AllStand o (length (ts ++ t ∷ [])) ns = subst (λ k. AllStand o k ns) (sym (length_push ts t)) h.1 in
+    let s : AllStandBehind o (length (ts ++ t ∷ [])) ns = subst (λ k. AllStandBehind o k ns) (sym (length_push ts t)) h.1 in
     tree_behind o fs (ts ++ t ∷ []) ns i m s (omega arith) ∙ ap (λ us. node_tree fs us (get_or ns i m)) (append_assoc ts (t ∷ []) (trees_behind fs (ts ++ t ∷ []) ns))
 
 -- one node more stands
-pub stand_pushed : (o k : ℕ) (ns : List Node) (n : Node) → AllStand o k ns → Stands o (k + length ns) n → AllStand o k (ns ++ n ∷ [])
-unfolding AllStand
-stand_pushed o k [] n h s = (subst (λ j. Stands o j n) (omega arith) s, tt)
-stand_pushed o k (m ∷ ns) n h s = (h.0, stand_pushed o (k + 1) ns n h.1 (subst (λ j. Stands o j n) (omega arith) s))
+pub stand_pushed : (o k : ℕ) (ns : List Node) (n : Node) → AllStandBehind o k ns → StandsBehind o (k + length ns) n → AllStandBehind o k (ns ++ n ∷ [])
+unfolding AllStandBehind
+stand_pushed o k [] n h s = (subst (λ j. StandsBehind o j n) (omega arith) s, tt)
+stand_pushed o k (m ∷ ns) n h s = (h.0, stand_pushed o (k + 1) ns n h.1 (subst (λ j. StandsBehind o j n) (omega arith) s))
 
-pub stands_later : (o p k l : ℕ) (n : Node) → o ≤ p → k ≤ l → Stands o k n → Stands p l n
+pub stands_later : (o p k l : ℕ) (n : Node) → o ≤ p → k ≤ l → StandsBehind o k n → StandsBehind p l n
 stands_later o p k l (Var n s) a b h = tt
 stands_later o p k l (App f cs) a b h = (omega arith, All-weaker (λ c. c < k) (λ c. c < l) (λ c lt. omega arith) cs h.1)
 
 -- more operators
-pub stand_later : (o p k : ℕ) (ns : List Node) → o ≤ p → AllStand o k ns → AllStand p k ns
-unfolding AllStand
+pub stand_later : (o p k : ℕ) (ns : List Node) → o ≤ p → AllStandBehind o k ns → AllStandBehind p k ns
+unfolding AllStandBehind
 stand_later o p k [] a h = tt
 stand_later o p k (n ∷ ns) a h = (stands_later o p k k n a (omega arith) h.0, stand_later o p (k + 1) ns a h.1)
 
 -- a node in the list stands
-pub stands_at : (o k : ℕ) (ns : List Node) (i : ℕ) (m : Node) → AllStand o k ns → i < length ns → Stands o (k + i) (get_or ns i m)
-unfolding AllStand
+pub stands_at : (o k : ℕ) (ns : List Node) (i : ℕ) (m : Node) → AllStandBehind o k ns → i < length ns → StandsBehind o (k + i) (get_or ns i m)
+unfolding AllStandBehind
 stands_at o k [] i m h lt = absurd (omega arith)
-stands_at o k (n ∷ ns) zero m h lt = subst (λ j. Stands o j n) (omega arith) h.0
-stands_at o k (n ∷ ns) (suc i) m h lt = subst (λ j. Stands o j (get_or ns i m)) (omega arith) (stands_at o (k + 1) ns i m h.1 (omega arith))
+stands_at o k (n ∷ ns) zero m h lt = subst (λ j. StandsBehind o j n) (omega arith) h.0
+stands_at o k (n ∷ ns) (suc i) m h lt = subst (λ j. StandsBehind o j (get_or ns i m)) (omega arith) (stands_at o (k + 1) ns i m h.1 (omega arith))

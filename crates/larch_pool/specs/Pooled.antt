@@ -58,22 +58,22 @@ abbrev pub pooled : List Symbol → List Node → Pooled
 pooled ss ns = record { operators = map operator_of ss; trees = trees_behind (map operator_of ss) [] ns }
 
 -- a node has an operator and arguments before it
-abbrev pub Stands : ℕ → ℕ → Node → Type 0
-Stands o k (Var n s) = Unit {0}
-Stands o k (App f cs) = (f < o) × All (λ c. c < k) cs
+abbrev pub StandsBehind : ℕ → ℕ → Node → Type 0
+StandsBehind o k (Var n s) = Unit {0}
+StandsBehind o k (App f cs) = (f < o) × All (λ c. c < k) cs
 
 -- each node stands on what is before it
-unfoldable pub AllStand : ℕ → ℕ → List Node → Type 0
-AllStand o k [] = Unit {0}
-AllStand o k (n ∷ ns) = Stands o k n × AllStand o (k + 1) ns
+unfoldable pub AllStandBehind : ℕ → ℕ → List Node → Type 0
+AllStandBehind o k [] = Unit {0}
+AllStandBehind o k (n ∷ ns) = StandsBehind o k n × AllStandBehind o (k + 1) ns
 
 -- marks tell of a tree whether it is well sorted and whether it has no variables
 abbrev pub Marked : Marks → Tree → Type 0
 Marked m t = (IsTrue m.is_well_sorted ↔ WellSorted t) × (IsTrue m.is_ground ↔ (occurrences t ≡ []))
 
 -- the marks beside the nodes tell of each tree
-abbrev pub Tells : List Marks → List Tree → Type 0
-Tells ms ts = AllZip Marked ms ts
+abbrev pub AreMarked : List Marks → List Tree → Type 0
+AreMarked ms ts = AllZip Marked ms ts
 
 -- a pool keeps its operators and trees under their numbers
 abbrev pub Grows : Pooled → Pooled → Type 0
@@ -91,4 +91,4 @@ Kept ks bs k b n ls cs =
 
 -- what holds of a pool's tables
 abbrev pub IsPool : List Symbol → List Node → List Marks → Type 0
-IsPool ss ns bs = AllStand (length (map operator_of ss)) 0 ns × Tells bs (trees_behind (map operator_of ss) [] ns)
+IsPool ss ns bs = AllStandBehind (length (map operator_of ss)) 0 ns × AreMarked bs (trees_behind (map operator_of ss) [] ns)

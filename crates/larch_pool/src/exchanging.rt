@@ -2,7 +2,7 @@ ghost use Rattle.std.specs.Prelude.{◌≡◌, ℕ, ◌<◌, List, nat_eq, lengt
 ghost use Rattle.std.specs.Prelude.{slice_get};
 ghost use Rattle.std.specs.HashMap.{get};
 ghost use Rattle.larch_term.specs.Tree.{Tree, app, forest_of};
-ghost use Rattle.larch_pool.specs.Pooled.{name_of, operator_in, tree_in, Stands, Grows, HasTree};
+ghost use Rattle.larch_pool.specs.Pooled.{name_of, operator_in, tree_in, StandsBehind, Grows, HasTree};
 ghost use Rattle.larch_pool.specs.Exchanging.{image_by, image_in, constant_image, IsRule, IsExchange, Exchanged};
 ghost use Rattle.larch_pool.specs.Exchanging.{IsWithin, Told};
 
@@ -175,8 +175,8 @@ fn make_ready(
     waiting: &mut Vec<u32>,
 ) -> Result<Ready, Memory>
     ensures told { IfOk result (λ r. Told node.now (get nat_eq done.now) r) }
-    ensures waiting { OnOk result ((o b : ℕ) → Stands o b node.now → number < b → All (λ q. q < b) waiting.old.items
-        → All (λ q. q < b) waiting.new.items) }
+    ensures waiting { OnOk result ((o b : ℕ) → StandsBehind o b node.now → number < b
+        → All (λ q. q < b) waiting.old.items → All (λ q. q < b) waiting.new.items) }
 {
     match node {
         Node::Var(_, _) => Ok(Ready::Variable),

@@ -4,7 +4,7 @@ ghost use Rattle.larch_term.specs.Tree.{var, app, forest_of};
 ghost use Rattle.larch_term.specs.Sorts.{WellSorted, AllWellSorted, sort_of, sorts_of};
 ghost use Rattle.larch_term.specs.Variable.{occurrences, occurrences_in};
 ghost use Rattle.larch_pool.specs.Pooled.{Pooled, Marked, name_of, operator_of, operator_in, tree_in, node_tree};
-ghost use Rattle.larch_pool.specs.Pooled.{Stands, Grows, HasTree, Kept};
+ghost use Rattle.larch_pool.specs.Pooled.{StandsBehind, Grows, HasTree, Kept};
 
 use crate::node::{Marks, Node};
 use crate::numbers::Numbers;
@@ -55,7 +55,7 @@ const VARIABLE: Marks = Marks {
 
 impl Pool {
     /// A pool without nodes. It takes no memory.
-    #[tactic(auto, unfolding(crate::specs::Pooled::trees_behind, crate::specs::Pooled::AllStand))]
+    #[tactic(auto, unfolding(crate::specs::Pooled::trees_behind, crate::specs::Pooled::AllStandBehind))]
     pub fn new(alloc: Global) -> Pool
         ensures operators { result.operators ≡ [] }
         ensures trees { result.trees ≡ [] }
@@ -111,7 +111,7 @@ impl Pool {
     pub fn node(&self, number: u32) -> &Node
         requires { number < length self.now.trees }
         ensures tree { node_tree self.now.operators self.now.trees result.now ≡ tree_in self.now.trees number }
-        ensures stands { Stands (length self.now.operators) number result.now }
+        ensures stands { StandsBehind (length self.now.operators) number result.now }
     {
         &self.nodes.as_slice()[number as usize]
     }
@@ -263,7 +263,7 @@ impl Pool {
 
     // The number of a node.
     fn intern(&mut self, node: Node, mark: Marks) -> Result<u32, Memory>
-        requires stands { Stands (length self.old.operators) (length self.old.trees) node }
+        requires stands { StandsBehind (length self.old.operators) (length self.old.trees) node }
         requires mark { Marked mark (node_tree self.old.operators self.old.trees node) }
         ensures tree { IfOk result (λ n. HasTree self.new n (node_tree self.old.operators self.old.trees node)) }
         ensures grows { Grows self.old self.new }

@@ -15,7 +15,7 @@ use Rattle.larch_lines.specs.Context.{theory_of}
 use Rattle.larch_lines.specs.Events.{Event}
 use Rattle.larch_derive.specs.Builder.{shape_of}
 use Rattle.larch_derive.specs.OpenBox.{naming}
-use Rattle.larch_derive.specs.Predicates.{AreOthers, Known, Stands, operators_at, shapes_of}
+use Rattle.larch_derive.specs.Predicates.{AreOthers, Known, HasNoBadLine, operators_at, shapes_of}
 use Rattle.larch_derive.specs.declared.builder.Builder.{Builder}
 use Rattle.larch_derive.specs.declared.open_box.OpenBox.{OpenBox}
 use Rattle.larch_derive.proofs.Unchanged.{known_in_boxes, naming_faithful, own_in_lines}
@@ -44,9 +44,9 @@ open_carries t bs h p others opened parts f (inl c) =
           inl (part_there t bs h opened x.0 f x.1 x.2 (All-contains IsPart (made_in bs) f parts d))
     ]
 
-pub open_known : (b : Builder) (a : Tree) → Stands b → All IsPart (open_constants b)
+pub open_known : (b : Builder) (a : Tree) → HasNoBadLine b → All IsPart (open_constants b)
     → IsTermOver (b.theory.operators ++ open_constants b) a → Known b a
-unfolding Stands Known
+unfolding HasNoBadLine Known
 open_known b a (st, h) parts w =
     let faithful = naming_faithful b.theory b.boxes h.plain h.others in (
       st,

@@ -7,7 +7,7 @@ use Rattle.larch_term.specs.Tree.{Tree}
 use Rattle.larch_term.specs.declared.statement.Statement.{Statement}
 use Rattle.larch_term.specs.declared.statement.Statement.TheVariants.{Equation}
 use Rattle.larch_term.specs.declared.statement.Theory.{Theory}
-use Rattle.larch_derive.specs.Predicates.{Grows, Known, Stands}
+use Rattle.larch_derive.specs.Predicates.{Grows, Known, HasNoBadLine}
 use Rattle.larch_derive.specs.declared.builder.Builder.{Builder}
 use Rattle.larch_derive.specs.declared.open_box.OpenBox.{OpenBox}
 use Rattle.larch_derive.proofs.Growth.{grows_alike, said_stands}
@@ -32,7 +32,7 @@ proof_grows s b c p ks g h =
     }
 
 -- where levels are held, no line is bad
-pub holding_stands : (t : Theory) (s : Statement) (b : Builder) (ks : List Kept) → Holds t s b ks → Stands b
+pub holding_stands : (t : Theory) (s : Statement) (b : Builder) (ks : List Kept) → Holds t s b ks → HasNoBadLine b
 holding_stands t s b [] h = absurd h
 holding_stands t s b (k ∷ ks) h =
     said_stands b k.book.way (Equation k.book.first k.level.goal) (current_held t s b k ks h).way

@@ -14,7 +14,7 @@ use Rattle.larch_calculus.specs.Observation.{observations}
 use Rattle.larch_calculus.specs.Theories.{with_statements}
 use Rattle.larch_lines.specs.Acceptance.{Accepts}
 use Rattle.larch_derive.specs.Builder.{boxes_in, lines_in, theory_in}
-use Rattle.larch_derive.specs.Predicates.{Grows, HasEquation, Stands}
+use Rattle.larch_derive.specs.Predicates.{Grows, HasEquation, HasNoBadLine}
 use Rattle.larch_derive.specs.declared.builder.Builder.{Builder}
 use Rattle.larch_derive.specs.declared.open_box.OpenBox.{OpenBox}
 use Rattle.larch_derive_boxes.specs.Boxes.{AreOwnConstants, HasResult, IsOpen, IsPart, Opens}
@@ -188,7 +188,7 @@ Begins (Partitioned s os) k =
 pub record IsStart (t : Theory) (b : Builder) : Type 0 where
   pub theory : theory_in b ≡ t
   pub boxes : boxes_in b ≡ []
-  pub stands : Stands b
+  pub stands : HasNoBadLine b
 
 -- What a builder holds of levels, the current one first. Of those below an earlier builder held it, before the boxes of
 -- the current one were opened; so a command touches the current level alone, and when its boxes are closed, all is held

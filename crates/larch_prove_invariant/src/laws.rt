@@ -9,7 +9,7 @@ ghost use Rattle.larch_term.specs.declared.statement.Theory.{Theory};
 ghost use Rattle.larch_calculus.specs.Theories.{AreConstants};
 ghost use Rattle.larch_lines.specs.Acceptance.{Accepts};
 ghost use Rattle.larch_derive.specs.Builder.{boxes_in, lines_in, theory_in};
-ghost use Rattle.larch_derive.specs.Predicates.{Grows, HasEquation, HasStatement, Known, Stands};
+ghost use Rattle.larch_derive.specs.Predicates.{Grows, HasEquation, HasStatement, Known, HasNoBadLine};
 ghost use Rattle.larch_derive.specs.declared.builder.Builder.{Builder};
 ghost use Rattle.larch_derive.specs.declared.open_box.OpenBox.{OpenBox};
 ghost use Rattle.larch_derive_boxes.specs.Boxes.{AreOwnConstants, HasResult, IsPart};
@@ -30,7 +30,7 @@ pub fn growing_keeps_levels()
         → Holds t s c ks }
     ensures proof { (s : Statement) (b c : Builder) (p : Proof) (ks : List Kept) → Grows b c → HoldsProof s b p ks
         → HoldsProof s c p ks }
-    ensures stands { (t : Theory) (s : Statement) (b : Builder) (ks : List Kept) → Holds t s b ks → Stands b }
+    ensures stands { (t : Theory) (s : Statement) (b : Builder) (ks : List Kept) → Holds t s b ks → HasNoBadLine b }
 {}
 
 /// The boxes that are open are those of the levels, in order, and their hypotheses can be cited.
@@ -118,7 +118,7 @@ pub fn constants_are_apart()
 
 /// Terms over the theory's operators and the constants of open boxes can be written.
 pub fn open_terms_are_known()
-    ensures builder { (b : Builder) (a : Tree) → Stands b → All IsPart (open_constants b)
+    ensures builder { (b : Builder) (a : Tree) → HasNoBadLine b → All IsPart (open_constants b)
         → IsTermOver ((theory_in b).operators ++ open_constants b) a → Known b a }
     ensures proof { (s : Statement) (b : Builder) (p : Proof) (ks : List Kept) (a : Tree) → HoldsProof s b p ks
         → IsTermOver (p.theory.operators ++ open_constants b) a → Known b a }

@@ -5,7 +5,7 @@ use Rattle.std.proofs.lemmas.List.Elements.{All-nil, All-push, All-weaker}
 use Rattle.larch_term.specs.Tree.{Tree, AllOf, forest_of}
 use Rattle.larch_applying.specs.Codes.{AreCodes}
 use Rattle.larch_applying.specs.declared.code.Code.{Code}
-use Rattle.larch_applying.specs.Holding.{RuleHolds, RulesHold, Says as ReasonSays}
+use Rattle.larch_applying.specs.Holding.{RuleHolds, RulesHold, ReasonSays}
 use Rattle.larch_applying.proofs.Entries.{known_arguments}
 use Rattle.larch_derive.specs.Builder.{IsCodeIn}
 use Rattle.larch_derive.specs.Predicates.{Extends, HasEquation, Known}

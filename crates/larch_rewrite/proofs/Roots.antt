@@ -4,7 +4,7 @@ use Rattle.std.proofs.Common.{arith, ap, ap₂, sym, subst, ◌∙◌}
 use Rattle.std.proofs.lemmas.List.Elements.{All-append, All-contains, All-weaker}
 use Rattle.larch_term.specs.Tree.{Tree, nodes}
 use Rattle.larch_applying.specs.Applying.{MayRefuse as MayRefuseApplication}
-use Rattle.larch_applying.specs.Holding.{RuleHolds, RulesHold, Says as ReasonSays}
+use Rattle.larch_applying.specs.Holding.{RuleHolds, RulesHold, ReasonSays}
 use Rattle.larch_applying.specs.declared.refusal.ApplyRefusal.{ApplyRefusal}
 use Rattle.larch_applying.specs.declared.refusal.ApplyRefusal.TheVariants.{TooLarge as application_too_large, Memory as application_memory}
 use Rattle.larch_derive.specs.declared.builder.Builder.{Builder}
@@ -24,7 +24,7 @@ use Rattle.larch_store.specs.Numbered.{Numbered, term_of}
 use Rattle.larch_store.specs.Stored.{most_nodes}
 use Rattle.larch_ways.specs.Way.{Leads}
 use Rattle.larch_rewrite.specs.Kept.{IsForm}
-use Rattle.larch_rewrite.specs.Refusals.{Tells, from_application}
+use Rattle.larch_rewrite.specs.Refusals.{TellsEvent, from_application}
 use Rattle.larch_rewrite.specs.declared.kept.KeptForm.{KeptForm}
 use Rattle.larch_rewrite.specs.declared.refusal.RewriteRefusal.{RewriteRefusal}
 use Rattle.larch_rewrite.proofs.Levels.{small_is}
@@ -70,8 +70,8 @@ root_is_made rules x t u v b c h e n p q =
 
 pub root_tells : (rules : List Sides) (x : Numbered) (t u : Tree) (b : ℕ) (e : RewriteRefusal)
     → nodes (term_of x) ≤ most_nodes → t ≡ term_of x → rewritten_once rules t ≡ Some u
-    → ((rs : List Sides) (y : Tree) → is_large y ≡ false → rewritten_once rs y ≡ Some u → Tells (root_work rs y b) e)
-    → Tells (root_work rules (term_of x) b) e
+    → ((rs : List Sides) (y : Tree) → is_large y ≡ false → rewritten_once rs y ≡ Some u → TellsEvent (root_work rs y b) e)
+    → TellsEvent (root_work rules (term_of x) b) e
 root_tells rules x t u b e h p n go =
     go rules (term_of x) (small_is (term_of x) h) (ap (rewritten_once rules) (sym p) ∙ n)
 
@@ -90,7 +90,7 @@ made_large rules t u b z h n l =
     ap (root_work rules t) (before b z) ∙ root_made rules t u (b - 1) h n ∙ begins_large rules u (b - 1) l
 
 pub application_tells : (rules : List Sides) (t u : Tree) (b : ℕ) (e : ApplyRefusal) → (b ≡ 0 → ⊥) → is_large t ≡ false
-    → rewritten_once rules t ≡ Some u → MayRefuseApplication u e → Tells (root_work rules t b) (from_application e)
+    → rewritten_once rules t ≡ Some u → MayRefuseApplication u e → TellsEvent (root_work rules t b) (from_application e)
 application_tells rules t u b application_too_large z h n l = made_large rules t u b z h n l
 application_tells rules t u b application_memory z h n l = tt
 
@@ -113,7 +113,7 @@ kept_is_made rules kept k x y b c h m e p q =
 
 pub kept_tells : (rules : List Sides) (kept : List KeptForm) (k : KeptForm) (x : Numbered) (b : ℕ) (e : RewriteRefusal)
     → All (IsForm rules) kept → Contains kept k → term_of k.start ≡ term_of x
-    → ((rs : List Sides) → IsForm rs k → Tells (normal rs (term_of k.start) b) e)
-    → Tells (normal rules (term_of x) b) e
+    → ((rs : List Sides) → IsForm rs k → TellsEvent (normal rs (term_of k.start) b) e)
+    → TellsEvent (normal rules (term_of x) b) e
 kept_tells rules kept k x b e h m p go =
-    subst (λ t. Tells (normal rules t b) e) p (go rules (All-contains (IsForm rules) kept k h m))
+    subst (λ t. TellsEvent (normal rules t b) e) p (go rules (All-contains (IsForm rules) kept k h m))

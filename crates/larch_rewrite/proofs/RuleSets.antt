@@ -5,7 +5,7 @@ use Rattle.std.proofs.Math.Seq.{take-append_seam}
 use Rattle.std.proofs.lemmas.List.{length-append, length-drop, length-take-le, length_push, map-append, take-map, drop-map}
 use Rattle.std.proofs.lemmas.Option.{slice_get_within}
 use Rattle.std.proofs.lemmas.List.Elements.{All-append, All-cons, All-drop, All-head, All-nil, All-push, All-tail, All-take, All-weaker}
-use Rattle.larch_applying.specs.Holding.{RuleHolds, RulesHold, Says as ReasonSays}
+use Rattle.larch_applying.specs.Holding.{RuleHolds, RulesHold, ReasonSays}
 use Rattle.larch_base.specs.declared.fact_name.FactName.{FactName}
 use Rattle.larch_derive.specs.Predicates.{Extends, HasEquation, Known}
 use Rattle.larch_derive.specs.declared.builder.Builder.{Builder}
@@ -17,7 +17,7 @@ use Rattle.larch_redexes.specs.declared.rule.Reason.TheVariants.{Row, Line}
 use Rattle.larch_redexes.specs.declared.rule.Rule.{Rule}
 use Rattle.larch_term.specs.Tree.{Tree}
 use Rattle.larch_rewrite.specs.Kept.{IsForm, IsFront, IsLed}
-use Rattle.larch_rewrite.specs.Refusals.{IsMade, Tells}
+use Rattle.larch_rewrite.specs.Refusals.{IsMade, TellsEvent}
 use Rattle.larch_rewrite.specs.RuleSet.{AreRules, Carries, IsByLine, IsLineRule, IsRemoved, Lined, RuleSet, line_of, lined, sides_in, sides_of_lined, without_at}
 use Rattle.larch_rewrite.specs.Ways.{MayBegin}
 use Rattle.larch_rewrite.specs.declared.kept.KeptForm.{KeptForm}
@@ -128,9 +128,9 @@ made_now set names rules kept budget k u t e h =
 
 pub tells_now : (set : RuleSet) (names : List FactName) (rules : List Rule) (kept : List KeptForm) (budget : ℕ)
     (t : Tree) (x : RewriteRefusal) → record { names = names; rules = map lined rules; kept = kept } ≡ set
-    → Tells (normal (all_sides rules) t budget) x → Tells (normal (sides_in set) t budget) x
+    → TellsEvent (normal (all_sides rules) t budget) x → TellsEvent (normal (sides_in set) t budget) x
 tells_now set names rules kept budget t x e h =
-    subst (λ ss. Tells (normal ss t budget) x) (sym (sides_now set names rules kept e)) h
+    subst (λ ss. TellsEvent (normal ss t budget) x) (sym (sides_now set names rules kept e)) h
 
 -- where all that the rules carry is said the machine may begin
 pub may_begin : (b : Builder) (set : RuleSet) (names : List FactName) (rules : List Rule) (kept : List KeptForm)

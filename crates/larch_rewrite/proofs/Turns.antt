@@ -14,7 +14,7 @@ use Rattle.larch_normal_laws.specs.Stacked.{Wait}
 use Rattle.larch_store.specs.Numbered.{Numbered, term_of}
 use Rattle.larch_rewrite.specs.Kept.{IsForm, IsKeptAt, IsKeptBehind, kept_of}
 use Rattle.larch_rewrite.specs.Levels.{HaveOneStart, IsApplication, IsArgument, IsLast, Works, arguments_left, begun_of, further_of, level_of, operator_of, start_of, waiting_of, work_at}
-use Rattle.larch_rewrite.specs.Refusals.{IsMade, Tells}
+use Rattle.larch_rewrite.specs.Refusals.{IsMade, TellsEvent}
 use Rattle.larch_rewrite.specs.declared.kept.KeptForm.{KeptForm}
 use Rattle.larch_rewrite.specs.declared.level.Level.{Level}
 use Rattle.larch_rewrite.specs.declared.level.Frame.{Frame}
@@ -50,7 +50,7 @@ works_on rules whole budget kept frames turn next b c same e h = record {
 -- an event of the work on a start is the event of the whole
 pub tells_whole : (rules : List Sides) (whole : Tree) (budget : ℕ) (kept : List KeptForm) (frames : List Frame)
     (turn : Turn) (b : ℕ) (e : RewriteRefusal) → Works rules whole budget kept frames turn b
-    → Tells (work_at rules turn b) e → Tells (normal rules whole budget) e
+    → TellsEvent (work_at rules turn b) e → TellsEvent (normal rules whole budget) e
 tells_whole rules whole budget kept frames turn b Limit h t =
     waiting_limit rules whole (start_of turn) budget (begun_of turn) (map waiting_of (reverse frames)) h.wait (h.work ∙ t)
 tells_whole rules whole budget kept frames turn b TooLarge h t =

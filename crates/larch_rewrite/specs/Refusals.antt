@@ -15,10 +15,10 @@ abbrev pub IsMade : ℕ → ℕ → Tree → Work Tree → Type 0
 IsMade budget k u work = (k ≤ budget) × (work ≡ Made u (budget - k))
 
 -- a refusal tells the event in which work ends; out of memory it tells nothing
-abbrev pub Tells : Work Tree → RewriteRefusal → Type 0
-Tells work Limit = work ≡ OverLimit
-Tells work TooLarge = work ≡ OverSize
-Tells work Memory = Unit {0}
+abbrev pub TellsEvent : Work Tree → RewriteRefusal → Type 0
+TellsEvent work Limit = work ≡ OverLimit
+TellsEvent work TooLarge = work ≡ OverSize
+TellsEvent work Memory = Unit {0}
 
 -- what is refused for the reason for which a rule isn't applied, or a term isn't taken
 abbrev pub from_application : ApplyRefusal → RewriteRefusal

@@ -10,7 +10,7 @@ ghost use Rattle.larch_redexes.specs.Rule.{IsRule, all_sides, right_of};
 ghost use Rattle.larch_redexes.specs.Bound.{entries_of};
 ghost use Rattle.larch_redexes.specs.Search.{IsBoundIn, IsBy};
 ghost use Rattle.larch_rewrite.specs.Levels.{HaveOneStart, IsTurnOf, work_at};
-ghost use Rattle.larch_rewrite.specs.Refusals.{Tells};
+ghost use Rattle.larch_rewrite.specs.Refusals.{TellsEvent};
 ghost use Rattle.larch_rewrite.specs.Ways.{IsWayTo};
 ghost use Rattle.larch_rewrite.specs.declared.level.Turn.TheVariants.{Root as at_root};
 ghost use Rattle.larch_store.specs.Numbered.{term_of};
@@ -47,7 +47,7 @@ pub(crate) fn rewrite(
     ensures turn { IfOk result (IsTurnOf store.new) }
     ensures work { IfOk result (λ t.
         work_at (all_sides rules.now) (at_root level) means.old.left ≡ work_at (all_sides rules.now) t means.new.left) }
-    ensures refused { IfErr result (Tells (work_at (all_sides rules.now) (at_root level) means.old.left)) }
+    ensures refused { IfErr result (TellsEvent (work_at (all_sides rules.now) (at_root level) means.old.left)) }
     ensures says { IfOk result (λ t. (x : Tree) → RulesHold builder.old rules.now
         → IsWayTo builder.old x (at_root level) → AreCodes builder.old means.old.codes → IsWayTo builder.new x t) }
     ensures extends { (x : Tree) → RulesHold builder.old rules.now → IsWayTo builder.old x (at_root level)
@@ -87,7 +87,7 @@ fn apply<'a>(
     ensures spent { OnOk result (means.old.left ≡ means.new.left + 1) }
     ensures refused { IfErr result (λ e. (rs : List Sides) (t : Tree) → is_large t ≡ false
         → rewritten_once rs t ≡ Some (substituted (entries_of found.now.by) (right_of found.now.rule.now))
-        → Tells (root_work rs t means.old.left) e) }
+        → TellsEvent (root_work rs t means.old.left) e) }
     ensures says { IfOk result (λ l. (s t : Tree) → Known builder.old t → RuleHolds builder.old found.now.rule.now
         → IsBy found.now.rule.now found.now.exchanged t (entries_of found.now.by) → AreCodes builder.old means.old.codes
         → Leads builder.old level.way s t → Leads builder.new l.way s (term_of l.term)) }

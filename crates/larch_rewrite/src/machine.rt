@@ -8,7 +8,7 @@ ghost use Rattle.larch_redexes.specs.Rule.{IsRule, all_sides};
 ghost use Rattle.larch_redexes.specs.declared.rule.Rule.{Rule as is_rule};
 ghost use Rattle.larch_rewrite.specs.Kept.{IsForm, IsFront, IsLed, IsOfStore};
 ghost use Rattle.larch_rewrite.specs.Levels.{IsFrameOf, IsLast, IsStored, IsTurnOf, Works, level_of, start_of};
-ghost use Rattle.larch_rewrite.specs.Refusals.{IsMade, Tells};
+ghost use Rattle.larch_rewrite.specs.Refusals.{IsMade, TellsEvent};
 ghost use Rattle.larch_rewrite.specs.Ways.{MayBegin, Says};
 ghost use Rattle.larch_rewrite.specs.declared.kept.KeptForm.{KeptForm};
 ghost use Rattle.larch_rewrite.specs.declared.level.Turn.TheVariants.{Arguments as among_arguments, Finish as finished};
@@ -67,7 +67,7 @@ fn step(
         → Works (all_sides rules.now) whole budget kept.new pending.new.frames.items t pending.new.means.left) }
     ensures refused { IfErr result (λ e. (whole : Tree) (budget : ℕ)
         → Works (all_sides rules.now) whole budget kept.old pending.old.frames.items turn pending.old.means.left
-        → Tells (normal (all_sides rules.now) whole budget) e) }
+        → TellsEvent (normal (all_sides rules.now) whole budget) e) }
     ensures says { IfOk result (λ t. Says builder.old rules.now kept.old pending.old.frames.items turn
         → AreCodes builder.old pending.old.means.codes
         → Says builder.new rules.now kept.new pending.new.frames.items t) }
@@ -113,7 +113,7 @@ fn go_on(store: &mut Store, pending: &mut Pending, frame: Frame) -> Result<Turn,
         → Works rs whole budget kept pending.new.frames.items t pending.new.means.left) }
     ensures refused { IfErr result (λ e. (rs : List Sides) (whole : Tree) (budget : ℕ) (kept : List KeptForm)
         → Works rs whole budget kept pending.old.frames.items (among_arguments frame) pending.old.means.left
-        → Tells (normal rs whole budget) e) }
+        → TellsEvent (normal rs whole budget) e) }
     ensures says { IfOk result (λ t. (b : is_builder) (rules : List is_rule) (kept : List KeptForm)
         → Says b rules kept pending.old.frames.items (among_arguments frame)
         → Says b rules kept pending.new.frames.items t) }
@@ -207,7 +207,7 @@ pub(crate) fn run(
     ensures belongs { IfOk result (λ n. Belongs store.new n.form) }
     ensures made { IfOk result (λ n. IsMade budget n.cost (term_of n.form)
         (normal (all_sides rules.now) (term_of term.now) budget)) }
-    ensures refused { IfErr result (Tells (normal (all_sides rules.now) (term_of term.now) budget)) }
+    ensures refused { IfErr result (TellsEvent (normal (all_sides rules.now) (term_of term.now) budget)) }
     ensures grows { Grows store.old store.new }
     ensures front { IsFront kept.old kept.new }
     ensures kept { OnOk result (All (IsOfStore store.new) kept.new) }

@@ -3,7 +3,7 @@ ghost use Rattle.larch_derive.specs.Predicates.{Extends, HasEquation, Known};
 ghost use Rattle.larch_normal_forms.specs.NormalForm.{normal};
 ghost use Rattle.larch_rewrite.specs.RuleSet.{BelongsTo, Carries, IsLineRule, IsRemoved, empty, line_of, lined, sides_in, with_rule, without_kept};
 ghost use Rattle.larch_redexes.specs.Rule.{left_of, reason_of, right_of};
-ghost use Rattle.larch_rewrite.specs.Refusals.{IsMade, MayRefuse, Tells};
+ghost use Rattle.larch_rewrite.specs.Refusals.{IsMade, MayRefuse, TellsEvent};
 ghost use Rattle.larch_store.specs.Numbered.{term_of};
 ghost use Rattle.larch_store.specs.Stored.{Belongs, Grows, most_nodes};
 ghost use Rattle.larch_term.specs.Tree.{nodes};
@@ -142,7 +142,7 @@ impl Rules {
         requires kept { BelongsTo store.old self.old }
         ensures made { IfOk result (λ n. IsMade budget n.cost (term_of n.form)
             (normal (sides_in self.old) (term_of term.now) budget)) }
-        ensures refused { IfErr result (Tells (normal (sides_in self.old) (term_of term.now) budget)) }
+        ensures refused { IfErr result (TellsEvent (normal (sides_in self.old) (term_of term.now) budget)) }
         ensures belongs { IfOk result (λ n. Belongs store.new n.form) }
         ensures grows { Grows store.old store.new }
         ensures says { IfOk result (λ n. Known builder.old (term_of term.now) → Carries builder.old self.old

@@ -4,7 +4,7 @@ ghost use Rattle.larch_normal_forms.specs.NormalForm.{normal};
 ghost use Rattle.larch_normal_forms.specs.Sides.{Sides};
 ghost use Rattle.larch_rewrite.specs.Kept.{IsForm, IsLed, IsOfStore};
 ghost use Rattle.larch_rewrite.specs.Levels.{HaveOneStart, IsArgument, IsTurnOf, level_of, work_at};
-ghost use Rattle.larch_rewrite.specs.Refusals.{Tells};
+ghost use Rattle.larch_rewrite.specs.Refusals.{TellsEvent};
 ghost use Rattle.larch_rewrite.specs.Ways.{IsWayTo, reached};
 ghost use Rattle.larch_rewrite.specs.declared.level.Turn.TheVariants.{Begin, Arguments as among_arguments};
 ghost use Rattle.larch_store.specs.Numbered.{children_of, term_of};
@@ -53,7 +53,7 @@ pub(crate) fn begin(
     ensures work { IfOk result (λ t. (rs : List Sides) → All (IsForm rs) kept.now
         → work_at rs (Begin level) left.old ≡ work_at rs t left.new) }
     ensures refused { IfErr result (λ e. (rs : List Sides) → All (IsForm rs) kept.now
-        → Tells (work_at rs (Begin level) left.old) e) }
+        → TellsEvent (work_at rs (Begin level) left.old) e) }
     ensures says { IfOk result (λ t. (x : Tree) → All (IsLed builder.old) kept.now
         → IsWayTo builder.old x (Begin level) → IsWayTo builder.new x t) }
     ensures extends { (x : Tree) → All (IsLed builder.old) kept.now → IsWayTo builder.old x (Begin level)
@@ -82,7 +82,7 @@ fn charge(
     ensures level { IfOk result (λ l. (l.start ≡ level.start) × (l.begun ≡ level.begun) × (l.term ≡ kept.now.form)) }
     ensures spent { OnOk result (left.old ≡ left.new + kept.now.cost) }
     ensures refused { IfErr result (λ e. (rs : List Sides) → IsForm rs kept.now
-        → Tells (normal rs (term_of kept.now.start) left.old) e) }
+        → TellsEvent (normal rs (term_of kept.now.start) left.old) e) }
     ensures says { IfOk result (λ l. (s : Tree) → IsLed builder.old kept.now
         → Leads builder.old level.way s (term_of kept.now.start) → Leads builder.new l.way s (term_of kept.now.form)) }
     ensures extends { (s : Tree) → IsLed builder.old kept.now → Leads builder.old level.way s (term_of kept.now.start)
@@ -152,7 +152,8 @@ pub(crate) fn form(store: &mut Store, frame: Frame) -> Result<Turn, RewriteRefus
     ensures turn { IfOk result (IsTurnOf store.new) }
     ensures work { IfOk result (λ t. (rs : List Sides) (b : ℕ)
         → work_at rs (among_arguments frame) b ≡ work_at rs t b) }
-    ensures refused { IfErr result (λ e. (rs : List Sides) (b : ℕ) → Tells (work_at rs (among_arguments frame) b) e) }
+    ensures refused { IfErr result (λ e. (rs : List Sides) (b : ℕ)
+        → TellsEvent (work_at rs (among_arguments frame) b) e) }
     ensures reached { IfOk result (λ t. reached t ≡ reached (among_arguments frame)) }
     ensures grows { Grows store.old store.new }
 {

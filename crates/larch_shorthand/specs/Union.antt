@@ -6,7 +6,7 @@ use Rattle.larch_term.specs.Tree.{var}
 use Rattle.larch_term.specs.declared.statement.Statement.{Statement}
 use Rattle.larch_term.specs.declared.statement.Statement.TheVariants.{Equation, Generated, Partitioned}
 use Rattle.larch_shorthand.specs.Enumeration.{enumeration}
-use Rattle.larch_shorthand.specs.Expansion.{joined}
+use Rattle.larch_shorthand.specs.Expansion.{followed_by}
 use Rattle.larch_shorthand.specs.Operators.{operator, constant, on}
 use Rattle.larch_shorthand.specs.Tuple.{getter}
 use Rattle.larch_shorthand.specs.declared.expansion.Expansion.{Expansion}
@@ -64,7 +64,7 @@ names_of fields = map (λ f. f.name.name) fields
 -- a union of a sort with these fields: the enumeration of its tags comes first
 abbrev pub union_ : List ℕ → List RawField → Expansion
 union_ sort fields =
-    joined (enumeration (tag_sort sort) (names_of fields))
+    followed_by (enumeration (tag_sort sort) (names_of fields))
     (record {
       operators = union_operators sort fields;
       statements = united sort (map (case_of sort) fields);

@@ -2,7 +2,7 @@ ghost use Rattle.std.specs.Prelude.{◌≡◌, ◌∷◌, [], ◌++◌, codes, m
 ghost use Rattle.larch_term.specs.Tree.{var};
 ghost use Rattle.larch_term.specs.declared.statement.Statement.TheVariants.{Generated, Partitioned};
 ghost use Rattle.larch_shorthand.specs.Enumeration.{enumeration};
-ghost use Rattle.larch_shorthand.specs.Expansion.{joined};
+ghost use Rattle.larch_shorthand.specs.Expansion.{followed_by};
 ghost use Rattle.larch_shorthand.specs.Operators.{on};
 ghost use Rattle.larch_shorthand.specs.Tuple.{getter};
 ghost use Rattle.larch_shorthand.specs.Union.{case_of, injection, is_back, is_tagged, names_of, tag, tag_of};
@@ -45,7 +45,7 @@ pub(crate) fn union_(alloc: Global, sort: &Sort, fields: &[RawField]) -> Result<
     let tags = tags(alloc, sort, fields)?;
     let statements = united(alloc, sort, fields)?;
     let operators = own_operators(alloc, sort, fields)?;
-    joined(
+    followed_by(
         tags,
         Expansion {
             operators,
@@ -55,8 +55,8 @@ pub(crate) fn union_(alloc: Global, sort: &Sort, fields: &[RawField]) -> Result<
 }
 
 // One expansion behind another.
-fn joined(first: Expansion, second: Expansion) -> Result<Expansion, Memory>
-    ensures { IfOk result (λ e. e ≡ joined first second) }
+fn followed_by(first: Expansion, second: Expansion) -> Result<Expansion, Memory>
+    ensures { IfOk result (λ e. e ≡ followed_by first second) }
 {
     let operators = append(first.operators, second.operators)?;
     let statements = append(first.statements, second.statements)?;

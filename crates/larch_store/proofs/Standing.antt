@@ -10,7 +10,7 @@ use Rattle.larch_term.specs.Tree.{var, app, more, nodes, nodes_all, forest_of}
 use Rattle.larch_store.specs.Numbered.{Numbered, Several, leaf, branch, nothing, further, term_of, terms_of, number_of, size_of, several, listed, children_of}
 use Rattle.larch_store.specs.Keys.{key_of}
 use Rattle.larch_store.specs.SharedView.{view_shared}
-use Rattle.larch_store.specs.Stored.{Belongs, AllBelong, Grows, most_nodes, Stands, AllStand, IsStore}
+use Rattle.larch_store.specs.Stored.{Belongs, AllBelong, Grows, most_nodes, StandsBehind, AllStandBehind, IsStore}
 use Rattle.larch_store.specs.declared.key.Key.{Key}
 use Rattle.larch_store.specs.declared.shared.SharedNode.{SharedNode}
 use Rattle.larch_store.specs.declared.shared.SharedNode.TheVariants.{Variable, Application}
@@ -34,30 +34,30 @@ terms_several (x ∷ xs) = ap (more (term_of x)) (terms_several xs)
 abbrev pub IsPlaced : ℕ → List Numbered → Numbered → Type 0
 IsPlaced i s x = (number_of x ≡ i) × (size_of x ≡ nodes (term_of x)) × (nodes (term_of x) ≤ most_nodes) × AllBelong s (children_of x)
 
-placed_behind : (b s : List Numbered) (i : ℕ) (x : Numbered) → AllStand b s → slice_get s i ≡ Some x → IsPlaced (length b + i) (b ++ s) x
-unfolding AllStand
+placed_behind : (b s : List Numbered) (i : ℕ) (x : Numbered) → AllStandBehind b s → slice_get s i ≡ Some x → IsPlaced (length b + i) (b ++ s) x
+unfolding AllStandBehind
 placed_behind b [] i x h e = absurd (none-some x e)
 placed_behind b (y ∷ ys) zero x h e =
     let p : y ≡ x = cc in
-    let w : Stands b x = subst (Stands b) p h.0 in
+    let w : StandsBehind b x = subst (StandsBehind b) p h.0 in
     (omega (arith, w.0), w.1, w.2, all_belong_stay b (b ++ y ∷ ys) (children_of x) (grows_append b (y ∷ ys)) w.3)
 placed_behind b (y ∷ ys) (suc i) x h e =
     let w : IsPlaced (length (b ++ y ∷ []) + i) ((b ++ y ∷ []) ++ ys) x = placed_behind (b ++ y ∷ []) ys i x h.1 e in
     (omega (arith, w.0, length_push b y), w.1, w.2, subst (λ s. AllBelong s (children_of x)) (append_assoc b (y ∷ []) ys) w.3)
 
-pub placed : (s : List Numbered) (i : ℕ) (x : Numbered) → AllStand [] s → slice_get s i ≡ Some x → IsPlaced i s x
+pub placed : (s : List Numbered) (i : ℕ) (x : Numbered) → AllStandBehind [] s → slice_get s i ≡ Some x → IsPlaced i s x
 placed s i x h e = subst (λ k. IsPlaced k s x) (omega arith) (placed_behind [] s i x h e)
 
 -- one more stands
-stand_pushed : (b s : List Numbered) (x : Numbered) → AllStand b s → Stands (b ++ s) x → AllStand b (s ++ x ∷ [])
-unfolding AllStand
-stand_pushed b [] x h w = (subst (λ u. Stands u x) (append-nil b) w, tt)
-stand_pushed b (y ∷ ys) x h w = (h.0, stand_pushed (b ++ y ∷ []) ys x h.1 (subst (λ u. Stands u x) (sym (append_assoc b (y ∷ []) ys)) w))
+stand_pushed : (b s : List Numbered) (x : Numbered) → AllStandBehind b s → StandsBehind (b ++ s) x → AllStandBehind b (s ++ x ∷ [])
+unfolding AllStandBehind
+stand_pushed b [] x h w = (subst (λ u. StandsBehind u x) (append-nil b) w, tt)
+stand_pushed b (y ∷ ys) x h w = (h.0, stand_pushed (b ++ y ∷ []) ys x h.1 (subst (λ u. StandsBehind u x) (sym (append_assoc b (y ∷ []) ys)) w))
 
-pub store_pushed : (ks ls : List Key) (s u : List Numbered) (x : Numbered) → IsStore ks s → Stands s x → ls ≡ ks ++ key_of x ∷ [] → u ≡ s ++ x ∷ [] → IsStore ls u
+pub store_pushed : (ks ls : List Key) (s u : List Numbered) (x : Numbered) → IsStore ks s → StandsBehind s x → ls ≡ ks ++ key_of x ∷ [] → u ≡ s ++ x ∷ [] → IsStore ls u
 store_pushed ks ls s u x h w p q = (
   p ∙ ap (λ js. js ++ key_of x ∷ []) h.0 ∙ sym (map_push key_of s x) ∙ ap (map key_of) (sym q),
-  subst (AllStand []) (sym q) (stand_pushed [] s x h.1 w),
+  subst (AllStandBehind []) (sym q) (stand_pushed [] s x h.1 w),
 )
 
 -- what stands under a number has that number

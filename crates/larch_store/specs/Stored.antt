@@ -22,16 +22,16 @@ abbrev pub most_nodes : ℕ
 most_nodes = 5000
 
 -- a shared term stands behind others: its number is next, its size is its term's, and its arguments are among them
-abbrev pub Stands : List Numbered → Numbered → Type 0
-Stands store x =
+abbrev pub StandsBehind : List Numbered → Numbered → Type 0
+StandsBehind store x =
     (number_of x ≡ length store) × (size_of x ≡ nodes (term_of x)) × (nodes (term_of x) ≤ most_nodes)
     × AllBelong store (children_of x)
 
 -- each of them stands behind those before it
-unfoldable pub AllStand : List Numbered → List Numbered → Type 0
-AllStand store [] = Unit {0}
-AllStand store (x ∷ xs) = Stands store x × AllStand (store ++ x ∷ []) xs
+unfoldable pub AllStandBehind : List Numbered → List Numbered → Type 0
+AllStandBehind store [] = Unit {0}
+AllStandBehind store (x ∷ xs) = StandsBehind store x × AllStandBehind (store ++ x ∷ []) xs
 
 -- a store's shared terms, with the keys by which they are found
 abbrev pub IsStore : List Key → List Numbered → Type 0
-IsStore keys store = (keys ≡ map key_of store) × AllStand [] store
+IsStore keys store = (keys ≡ map key_of store) × AllStandBehind [] store

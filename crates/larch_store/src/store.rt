@@ -54,7 +54,7 @@ impl Model for Store {
 
 impl Store {
     /// A store without terms.
-    #[tactic(auto, unfolding(crate::specs::Stored::AllStand))]
+    #[tactic(auto, unfolding(crate::specs::Stored::AllStandBehind))]
     pub fn new(alloc: Global) -> Result<Store, Memory>
         ensures { IfOk result (λ store. store ≡ []) }
     {

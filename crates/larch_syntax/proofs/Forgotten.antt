@@ -15,7 +15,7 @@ use Rattle.larch_grammar.specs.declared.machine.Whole.{Whole}
 use Rattle.larch_grammar.specs.declared.terminal.Terminal.{Terminal}
 use Rattle.larch_heads.specs.Outcome.{Settles, handed, outcome, settled, stepped}
 use Rattle.larch_heads.specs.declared.outcome.Outcome.{Outcome}
-use Rattle.larch_syntax.specs.Step.{without_whole}
+use Rattle.larch_syntax.specs.Implied.{without_whole}
 
 forgotten : (taking : Taking) (whole : Option Whole) → settled (without_whole (outcome taking whole)) ≡ outcome taking None
 forgotten None whole = refl

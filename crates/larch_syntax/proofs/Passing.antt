@@ -8,7 +8,7 @@ use Rattle.larch_grammar.specs.declared.terminal.Terminal.TheVariants.{Colon, Co
 use Rattle.larch_heads.specs.Outcome.{Settles, handed}
 use Rattle.larch_heads.specs.declared.outcome.Outcome.{Outcome}
 use Rattle.larch_heads.specs.declared.outcome.Outcome.TheVariants.{Taken, Handed, Stops}
-use Rattle.larch_syntax.specs.Step.{hands_on}
+use Rattle.larch_syntax.specs.Hand.{hands_on}
 
 pub handed_on : (r : RawTree) (f : Frame) (k : List Frame) (t : Terminal) → hands_on f t ≡ true → handed r (f ∷ k) t ≡ handed r k t
 handed_on r InFields k (Dot p) e = absurd cc

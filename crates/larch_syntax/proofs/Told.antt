@@ -10,7 +10,7 @@ use Rattle.larch_raw.specs.declared.equation.RawEquation.{RawEquation}
 use Rattle.larch_raw.specs.declared.equation.RawTrait.{RawTrait}
 use Rattle.larch_grammar.specs.Answers.{MeansTrait, reference_answer, term_answer, trait_answer}
 use Rattle.larch_grammar.proofs.Law.{reference_law, term_law, trait_law}
-use Rattle.larch_syntax.specs.Read.{MeansFrom, MeansReference, Says, from_there, reference_of, term_of, trait_of, with_fault}
+use Rattle.larch_syntax.specs.Read.{MeansFrom, MeansReference, ClaimHolds, from_there, reference_of, term_of, trait_of, with_fault}
 use Rattle.larch_syntax.specs.Refusals.{code_of, fault_of, flaw_told, told}
 use Rattle.larch_syntax.specs.declared.refusal.SyntaxRefusal.{SyntaxRefusal}
 use Rattle.larch_syntax.specs.declared.refusal.SyntaxRefusal.TheVariants.{Syntax, Mixed, Deep, Large, Memory}
@@ -55,7 +55,7 @@ said a (Large pos) C k e = k _ (err_back a (flaw.Large, pos) e)
 said a Memory C k e = tt
 
 pub trait_said : (tokens : TokenList) (r : Result RawTrait SyntaxRefusal) → Answers told r (trait_of tokens)
-    → Says (MeansTrait tokens) r
+    → ClaimHolds (MeansTrait tokens) r
 trait_said tokens (Ok raw) e = trait_law tokens (Ok raw) (ok_back (trait_answer tokens) raw e)
 trait_said tokens (Err refusal) e =
     said (trait_answer tokens) refusal (λ f. MeansTrait tokens (Err f)) (λ f q. trait_law tokens (Err f) q) e
@@ -79,7 +79,7 @@ front_flaw : (tokens : TokenList) (from : ℕ) (f : Flaw × Pos) → term_of tok
 front_flaw tokens from f e = (term_law tokens from (Err f)).0 (from_back from (term_answer tokens from) f e)
 
 pub front_said : (tokens : TokenList) (from : ℕ) (r : Result (RawEquation × ℕ) SyntaxRefusal) → Answers told r (term_of tokens from)
-    → Says (MeansFrom tokens from) r
+    → ClaimHolds (MeansFrom tokens from) r
 front_said tokens from (Ok read) e = front_read tokens from read e
 front_said tokens from (Err (Syntax pos)) e = front_flaw tokens from (flaw.Syntax, pos) e
 front_said tokens from (Err (Mixed pos)) e = front_flaw tokens from (flaw.Mixed, pos) e
@@ -96,7 +96,7 @@ reference_flaw : (tokens : TokenList) (from : ℕ) (f : Flaw × Pos) → referen
 reference_flaw tokens from f e = (reference_law tokens from (Err f)).0 (from_back from (reference_answer tokens from) f e)
 
 pub reference_said : (tokens : TokenList) (from : ℕ) (r : Result (RawOpRef × ℕ) SyntaxRefusal) → Answers told r (reference_of tokens from)
-    → Says (MeansReference tokens from) r
+    → ClaimHolds (MeansReference tokens from) r
 reference_said tokens from (Ok read) e = reference_read tokens from read e
 reference_said tokens from (Err (Syntax pos)) e = reference_flaw tokens from (flaw.Syntax, pos) e
 reference_said tokens from (Err (Mixed pos)) e = reference_flaw tokens from (flaw.Mixed, pos) e

@@ -1,4 +1,5 @@
+pub mod Hand
+pub mod Implied
 pub mod Read
 pub mod Refusals
 pub mod Refused
-pub mod Step

@@ -51,9 +51,9 @@ abbrev pub reference_of : TokenList → ℕ → Result (RawOpRef × ℕ) Fault
 reference_of tokens from = from_there from (with_fault (reference_answer tokens from))
 
 -- what the grammar claims of an answer holds of what is answered; out of memory is free
-abbrev pub Says : {Value : Type 0} → (Result Value (Flaw × Pos) → Type 0) → Result Value SyntaxRefusal → Type 0
-Says claim (Ok value) = claim (Ok value)
-Says claim (Err refusal) = IfSome (flaw_told refusal) (λ found. claim (Err found))
+abbrev pub ClaimHolds : {Value : Type 0} → (Result Value (Flaw × Pos) → Type 0) → Result Value SyntaxRefusal → Type 0
+ClaimHolds claim (Ok value) = claim (Ok value)
+ClaimHolds claim (Err refusal) = IfSome (flaw_told refusal) (λ found. claim (Err found))
 
 -- the equation is that of the longest front of the tokens from this one on, with the number of the token behind it; or
 -- the flaw stands where the grammar of equations says of that front

@@ -2,7 +2,7 @@ ghost use Rattle.std.specs.Prelude.{◌≡◌, ◌∷◌, IfOk};
 ghost use Rattle.larch_grammar.specs.declared.machine.Frame.TheVariants.{InFields, InIf, InLeft, InList};
 ghost use Rattle.larch_grammar.specs.declared.machine.Frame.TheVariants.{InParentheses, InThen};
 ghost use Rattle.larch_heads.specs.Outcome.{Leaves, Settles, handed, settled, stepped};
-ghost use Rattle.larch_syntax.specs.Step.{hands_on};
+ghost use Rattle.larch_syntax.specs.Hand.{hands_on};
 
 use crate::begin::{begin_post, open_bracket, opens};
 use crate::chains::{in_connectives, in_equalities, in_infixes, in_postfixes, in_strays};

@@ -4,7 +4,7 @@ ghost use Rattle.larch_grammar.specs.Terminals.{ends_reference};
 ghost use Rattle.larch_grammar.specs.declared.machine.Waiting.TheVariants.{Item};
 ghost use Rattle.larch_grammar.specs.declared.machine.Whole.TheVariants.{Trait as whole_trait};
 ghost use Rattle.larch_heads.specs.Outcome.{Settles, outcome, settled, stepped};
-ghost use Rattle.larch_syntax.specs.Step.{without_whole};
+ghost use Rattle.larch_syntax.specs.Implied.{without_whole};
 
 use crate::begin::word_frames;
 use crate::hand::{after_word, hand};

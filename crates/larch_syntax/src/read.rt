@@ -4,7 +4,7 @@ ghost use Rattle.larch_fronts.specs.Answer.{at_front};
 ghost use Rattle.larch_fronts.specs.Mark.{admitted};
 ghost use Rattle.larch_grammar.specs.Answers.{MeansTrait, reference_from, term_from, trait_by};
 ghost use Rattle.larch_grammar.specs.Machine.{as_equation, as_reference, as_trait};
-ghost use Rattle.larch_syntax.specs.Read.{MeansFrom, MeansReference, Says, fault_at, reference_of, taken_at, term_of};
+ghost use Rattle.larch_syntax.specs.Read.{MeansFrom, MeansReference, ClaimHolds, fault_at, reference_of, taken_at, term_of};
 ghost use Rattle.larch_syntax.specs.Read.{trait_of, with_fault};
 ghost use Rattle.larch_syntax.specs.Refusals.{told};
 
@@ -26,7 +26,7 @@ pub fn read_trait(alloc: Global, tokens: &Tokens) -> Result<RawTrait, SyntaxRefu
     ensures answer { Answers told result (trait_of tokens.now) }
 
     // The grammar says the same without a machine.
-    ensures grammar { Says (MeansTrait tokens.now) result }
+    ensures grammar { ClaimHolds (MeansTrait tokens.now) result }
 {
     either_reading(alloc, tokens)
 }
@@ -110,7 +110,7 @@ pub fn read_term(
     ensures answer { Answers told result (term_of tokens.now from) }
 
     // The grammar says the same without a machine.
-    ensures grammar { Says (MeansFrom tokens.now from) result }
+    ensures grammar { ClaimHolds (MeansFrom tokens.now from) result }
 {
     front_by_steps(alloc, tokens, from)
 }
@@ -189,7 +189,7 @@ pub fn read_reference(
     ensures answer { Answers told result (reference_of tokens.now from) }
 
     // The grammar says the same without a machine.
-    ensures grammar { Says (MeansReference tokens.now from) result }
+    ensures grammar { ClaimHolds (MeansReference tokens.now from) result }
 {
     reference_by_steps(alloc, tokens, from)
 }

@@ -15,7 +15,7 @@ use Rattle.larch_flatten.proofs.flattening.+flatten.Goals as goal
 pub take_references-returns-in_err-found-clause-taken : goal.take_references-returns-in_err-found-clause-taken
 take_references-returns-in_err-found-clause-taken t c =
     let p = err_from_is_err_and c.from_residual-in_err-found.result c.from_residual-in_err-found.ensures.1 in
-    let sources = c.args.sources.now in
+    let sources = c.args.linked.now.sources.now in
     let left = c.loop-reference.invariant.left in
     rw (p.1, p.2)
     (step_refused (with_reference sources (name_at sources c.args.number)) c.args.references.now c.loop-reference.reference-index c.reference-item.result left.0 _
@@ -23,14 +23,14 @@ take_references-returns-in_err-found-clause-taken t c =
 
 pub take_references-see_to-requires : goal.take_references-see_to-requires
 take_references-see_to-requires t c =
-    let f = fewer c.args.sources.now c.args.number c.args.references.now c.loop-reference.reference-index c.reference-item.result c.in_ok-found.found
+    let f = fewer c.args.linked.now.sources.now c.args.number c.args.references.now c.loop-reference.reference-index c.reference-item.result c.in_ok-found.found
     c.requires.references c.loop-reference-test.true c.reference-item.is c.in_ok-found.ensures.found in
     (omega (arith, f), (c.in_ok-found.ensures.found.within, (c.requires.links, c.loop-reference.invariant.knows)))
 
 pub take_references-returns-in_err-take_target-clause-taken : goal.take_references-returns-in_err-take_target-clause-taken
 take_references-returns-in_err-take_target-clause-taken t c =
     let p = err_from_is_err_and c.from_residual-in_err-take_target.result c.from_residual-in_err-take_target.ensures.1 in
-    let sources = c.args.sources.now in
+    let sources = c.args.linked.now.sources.now in
     let left = c.loop-reference.invariant.left in
     rw (p.1, p.2)
     (step_refused (with_reference sources (name_at sources c.args.number)) c.args.references.now c.loop-reference.reference-index c.reference-item.result left.0 _
@@ -39,7 +39,7 @@ take_references-returns-in_err-take_target-clause-taken t c =
 
 pub take_references-loop-reference-preserved : goal.take_references-loop-reference-preserved
 take_references-loop-reference-preserved t c =
-    let sources = c.args.sources.now in
+    let sources = c.args.linked.now.sources.now in
     let left = c.loop-reference.invariant.left in
     let p = told_kept c.take_target.new.store (with_reference sources (name_at sources c.args.number) c.reference-item.result left.0)
     (c.in_ok-take_target.ensures c.args.number left.0 c.see_to.ensures.known c.in_ok-found.ensures.found left.1) in
@@ -56,7 +56,7 @@ take_references-loop-reference-preserved t c =
 
 pub flat_of-returns-then-is_misnamed-clause-answer : goal.flat_of-returns-then-is_misnamed-clause-answer
 flat_of-returns-then-is_misnamed-clause-answer t c =
-    let sources = c.args.sources.now in
+    let sources = c.args.linked.now.sources.now in
     let name = name_at sources c.args.number in
     let named = subst (λ n. c.is_misnamed.result ≡ not (bytes_eq c.args.raw.now.name.name n)) c.name.ensures c.is_misnamed.ensures in
     other_name sources name c.args.raw.now (unfolded sources name) c.requires.text (sym named ∙ c.if-is_misnamed.true)
@@ -64,7 +64,7 @@ flat_of-returns-then-is_misnamed-clause-answer t c =
 pub flat_of-returns-in_err-take_references-clause-answer : goal.flat_of-returns-in_err-take_references-clause-answer
 flat_of-returns-in_err-take_references-clause-answer t c =
     let p = err_from_is_err_and c.from_residual.result c.from_residual.ensures.1 in
-    let sources = c.args.sources.now in
+    let sources = c.args.linked.now.sources.now in
     let name = name_at sources c.args.number in
     let named = subst (λ n. c.is_misnamed.result ≡ not (bytes_eq c.args.raw.now.name.name n)) c.name.ensures c.is_misnamed.ensures in
     rw (p.1, p.2)
@@ -75,7 +75,7 @@ flat_of-returns-in_err-take_references-clause-answer t c =
 pub flat_of-returns-in_err-flat-clause-answer : goal.flat_of-returns-in_err-flat-clause-answer
 flat_of-returns-in_err-flat-clause-answer t c =
     let p = err_from_is_err_and c.from_residual-in_err-flat.result c.from_residual-in_err-flat.ensures.1 in
-    let sources = c.args.sources.now in
+    let sources = c.args.linked.now.sources.now in
     let name = name_at sources c.args.number in
     let named = subst (λ n. c.is_misnamed.result ≡ not (bytes_eq c.args.raw.now.name.name n)) c.name.ensures c.is_misnamed.ensures in
     rw (p.1, p.2)
@@ -85,7 +85,7 @@ flat_of-returns-in_err-flat-clause-answer t c =
 
 pub flat_of-returns-clause-answer : goal.flat_of-returns-clause-answer
 flat_of-returns-clause-answer t c =
-    let sources = c.args.sources.now in
+    let sources = c.args.linked.now.sources.now in
     let name = name_at sources c.args.number in
     let named = subst (λ n. c.is_misnamed.result ≡ not (bytes_eq c.args.raw.now.name.name n)) c.name.ensures c.is_misnamed.ensures in
     rest_told sources name c.args.raw.now c.take_references.new.store (Ok c.in_ok-flat.flat) c.requires.text (sym named ∙ c.if-is_misnamed.false)
@@ -94,6 +94,6 @@ flat_of-returns-clause-answer t c =
 
 pub told_of-returns-in-Err-clause-answer : goal.told_of-returns-in-Err-clause-answer
 told_of-returns-in-Err-clause-answer t c =
-    let sources = c.args.sources.now in
+    let sources = c.args.linked.now.sources.now in
     let name = name_at sources c.args.number in
     ap parts_of (bad_text sources name c.in-Err.fault (unfolded sources name) (c.text.ensures ∙ ap Some c.in-Err.is))

@@ -1,7 +1,7 @@
 -- A frame that hands on leaves what is handed first.
 use Rattle.std.proofs.Common.{◌≡◌, true, ◌∷◌, sym, ◌∙◌, ap}
 use Rattle.larch_heads.specs.Outcome.{handed}
-use Rattle.larch_syntax.specs.Step.{hands_on}
+use Rattle.larch_syntax.specs.Hand.{hands_on}
 use Rattle.larch_syntax.proofs.Passing.{handed_on}
 use Rattle.larch_syntax.proofs.Stacks.{stack_of_top}
 use Rattle.larch_syntax.proofs.hand.hand.Goals as goal

@@ -1,7 +1,7 @@
 use Rattle.std.proofs.Common.{◌≡◌, List, [], length, map, take, sym, subst, arith}
 use Rattle.std.proofs.lemmas.List.{take_all}
 use Rattle.larch_term.specs.Operator.{PlainOperator}
-use Rattle.larch_pool.specs.Pooled.{Pooled, operator_of, node_tree, trees_behind, Stands, Marked}
+use Rattle.larch_pool.specs.Pooled.{Pooled, operator_of, node_tree, trees_behind, StandsBehind, Marked}
 use Rattle.larch_pool.proofs.Interned.{kept_stand, kept_tells, kept_tree, kept_front}
 use Rattle.larch_pool.proofs.Trees.{length_behind}
 use Rattle.larch_pool.proofs.pool.Pool.intern.Goals as goal
@@ -9,11 +9,11 @@ use Rattle.larch_pool.proofs.pool.Pool.intern.Goals as goal
 pub invariant_of-self-2 : goal.invariant_of-self-2
 invariant_of-self-2 c =
     let fs : List PlainOperator = map operator_of c.self.inside.symbols.keys in
-    let stands : Stands (length fs) (length (trees_behind fs [] c.self.inside.nodes.keys)) c.args.node =
-    subst (λ (p : Pooled). Stands (length p.operators) (length p.trees) c.args.node) (sym c.self.view_is) c.requires.stands in
+    let stands : StandsBehind (length fs) (length (trees_behind fs [] c.self.inside.nodes.keys)) c.args.node =
+    subst (λ (p : Pooled). StandsBehind (length p.operators) (length p.trees) c.args.node) (sym c.self.view_is) c.requires.stands in
     let mark : Marked c.args.mark (node_tree fs (trees_behind fs [] c.self.inside.nodes.keys) c.args.node) =
     subst (λ (p : Pooled). Marked c.args.mark (node_tree p.operators p.trees c.args.node)) (sym c.self.view_is) c.requires.mark in (
-      kept_stand (length fs) _ _ _ _ _ _ _ c.self.invariant.0 (subst (λ k. Stands (length fs) k c.args.node) (length_behind fs [] c.self.inside.nodes.keys) stands) c.in_ok-number.ensures.kept,
+      kept_stand (length fs) _ _ _ _ _ _ _ c.self.invariant.0 (subst (λ k. StandsBehind (length fs) k c.args.node) (length_behind fs [] c.self.inside.nodes.keys) stands) c.in_ok-number.ensures.kept,
       kept_tells fs _ _ _ _ _ _ _ c.self.invariant.1 mark c.in_ok-number.ensures.kept,
     )
 

@@ -1,7 +1,7 @@
 use Rattle.std.proofs.Common.{◌≡◌, ◌<◌, length, get_or, sym, ap, ◌∙◌}
 use Rattle.larch_term.specs.Operator.{PlainOperator}
 use Rattle.larch_term.specs.Sorts.{sort_of}
-use Rattle.larch_pool.specs.Pooled.{node_tree, Stands}
+use Rattle.larch_pool.specs.Pooled.{node_tree, StandsBehind}
 use Rattle.larch_pool.specs.declared.symbol.Symbol.{Symbol}
 use Rattle.larch_pool.proofs.Reading.{node_within, node_read, operator_read, Read}
 use Rattle.larch_pool.proofs.pool.Pool.sort_of.Goals as goal
@@ -13,7 +13,7 @@ pub bounds-as_slice-operator : goal.bounds-as_slice-operator
 bounds-as_slice-operator c =
     let r : Read c.args.self.now c.self.inside.symbols.keys c.args.number c.index-as_slice-number.result =
     node_read _ _ _ _ _ _ c.self.view_is c.self.invariant c.requires (rw c.as_slice.ensures.keys at c.index-as_slice-number.is) in
-    let s : Stands (length c.self.inside.symbols.keys) c.args.number c.index-as_slice-number.result = r.stands in
+    let s : StandsBehind (length c.self.inside.symbols.keys) c.args.number c.index-as_slice-number.result = r.stands in
     rw c.as_slice-in-App.ensures.keys (rw c.in-App.is at s).0
 
 pub returns-in-Var : goal.returns-in-Var
@@ -26,7 +26,7 @@ pub returns-in-App : goal.returns-in-App
 returns-in-App c =
     let r : Read c.args.self.now c.self.inside.symbols.keys c.args.number c.index-as_slice-number.result =
     node_read _ _ _ _ _ _ c.self.view_is c.self.invariant c.requires (rw c.as_slice.ensures.keys at c.index-as_slice-number.is) in
-    let s : Stands (length c.self.inside.symbols.keys) c.args.number c.index-as_slice-number.result = r.stands in
+    let s : StandsBehind (length c.self.inside.symbols.keys) c.args.number c.index-as_slice-number.result = r.stands in
     let l : c.in-App.operator < length c.self.inside.symbols.keys = (rw c.in-App.is at s).0 in
     let is : c.index-as_slice-operator.result ≡ get_or c.self.inside.symbols.keys c.in-App.operator c.index-as_slice-operator.result = rw c.as_slice-in-App.ensures.keys at c.index-as_slice-operator.is in
     ap (λ (x : Symbol). x.range) (sym c.index-as_slice-operator.is)

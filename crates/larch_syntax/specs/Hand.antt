@@ -1,17 +1,9 @@
--- Outcomes where no whole ends, and frames that hand on what they get.
+-- Frames that hand on what they get.
 use Rattle.std.specs.Prelude.{Bool, true, false, None}
 use Rattle.larch_grammar.specs.declared.machine.Frame.{Frame}
 use Rattle.larch_grammar.specs.declared.machine.Frame.TheVariants.{InConnectives, InEqualities, InFields, InInfixes}
 use Rattle.larch_grammar.specs.declared.terminal.Terminal.{Terminal}
 use Rattle.larch_grammar.specs.declared.terminal.Terminal.TheVariants.{Colon, Connective, Dot, Equality, OpenBracket, Symbol}
-use Rattle.larch_heads.specs.declared.outcome.Outcome.{Outcome}
-use Rattle.larch_heads.specs.declared.outcome.Outcome.TheVariants.{Handed, Stops, Taken}
-
--- the same outcome, where no whole ends before the token
-abbrev pub without_whole : Outcome → Outcome
-without_whole (Taken mark after) = Taken mark after
-without_whole (Handed term frames terminal) = Handed term frames terminal
-without_whole (Stops whole) = Stops None
 
 -- a frame hands on the term and the token as they are
 abbrev pub hands_on : Frame → Terminal → Bool
