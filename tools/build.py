@@ -1,43 +1,82 @@
 #!/usr/bin/env python3
 """Builds the program `larch`, with as many crates proved side by side as the machine has cores.
 
-A crate is begun as soon as those that it stands on are built, and gets its share of the cores then. `rt` keeps what it
-proved, so a later run does only what changed. Says on standard error which crate is begun and which is done; ends with
-1 where a crate is not proved.
+`rt` locks the folders of all crates below the one that it proves, so two runs in one checkout wait for each other. What
+one checkout proved another takes over in a second. So the crates are proved in as many copies of the tree as there are
+cores, the longest chain of crates first, and the checkout takes them at the end. A crate is begun as soon as those that
+it stands on are built; it gets the cores that no other crate waits for. `rt` keeps what it proved, so a later run does
+only what changed. Says on standard error which crate is begun and which is done; ends with 1 where a crate is not
+proved. `--crates` has it prove every crate of crates.txt, programs left out, in place of those of the program.
 """
+import concurrent.futures
 import os
 import pathlib
+import shutil
 import subprocess
 import sys
-import threading
+import tempfile
+import time
 
 TOP = pathlib.Path(__file__).resolve().parent.parent
 PROGRAM = "larch"
+# The parts of a crate that a proof reads.
+PARTS = ("src", "specs", "proofs")
 
 
-def crates_below(name):
-    """The crate and all that it stands on, each with those of the repository that it names in crates.txt."""
+def needs_of_crates():
+    """Each crate of crates.txt with those of the repository that it names."""
     named = {}
     for line in (TOP / "crates.txt").read_text().splitlines():
         head, colon, needs = line.partition("#")[0].partition(":")
         if colon:
             named[head.split()[0]] = needs.split()
-    below, waiting = {}, [name]
-    while waiting:
-        crate = waiting.pop()
-        if crate not in below:
-            below[crate] = [need for need in named[crate] if need in named]
-            waiting += below[crate]
-    return below
+    return {crate: [need for need in needs if need in named] for crate, needs in named.items()}
 
 
-def build(crate, jobs):
-    """Proves and builds one crate, whose libraries are built; what it printed, where it failed."""
-    command = ["rt", "run", "--jobs", jobs, "--", "--build"] if crate == PROGRAM else ["rt", "lib", "--jobs", jobs]
-    run = subprocess.run(command, cwd=TOP / "crates" / crate, stdin=subprocess.DEVNULL, text=True,
-                         stdout=subprocess.PIPE, stderr=subprocess.STDOUT)
-    # The program is run with words that mean no command: it says so with status 2.
-    return "" if run.returncode == (2 if crate == PROGRAM else 0) else run.stdout
+def crates_below(name, needs):
+    """The crate and all that it stands on, lowest first."""
+    found = {}
+
+    def visit(crate):
+        if crate not in found:
+            for need in needs[crate]:
+                visit(need)
+            found[crate] = needs[crate]
+
+    visit(name)
+    return found
+
+
+def is_program(crate):
+    return (TOP / "crates" / crate / "src" / "main.rt").is_file()
+
+
+def lines_of(crate):
+    """How many lines a proof of the crate reads, a measure of its time."""
+    return sum(file.read_bytes().count(b"\n") for part in PARTS
+               for file in (TOP / "crates" / crate / part).rglob("*") if file.is_file())
+
+
+def weights(crates):
+    """Of each crate the lines of the longest chain of crates that begins with it and goes up."""
+    weight = {crate: lines_of(crate) for crate in crates}
+    chain = dict(weight)
+    for crate in reversed(list(crates)):
+        for need in crates[crate]:
+            chain[need] = max(chain[need], weight[need] + chain[crate])
+    return chain
+
+
+def copy_tree(to):
+    """A copy of what proofs read."""
+    for crate in needs_of_crates():
+        for part in PARTS:
+            if (TOP / "crates" / crate / part).is_dir():
+                shutil.copytree(TOP / "crates" / crate / part, to / "crates" / crate / part)
+    for name in ("crates.txt", "HANDLES"):
+        shutil.copy(TOP / name, to / name)
+    # The top of a repository, as the tool asks.
+    (to / ".git").mkdir()
 
 
 def say(text):
@@ -45,47 +84,67 @@ def say(text):
     sys.stderr.flush()
 
 
-def build_all(below):
-    """Builds each crate as soon as all below it are built; what failed, with what was printed."""
+def prove(top, crate, jobs):
+    """Proves and builds one crate in this copy; what was printed, where it failed."""
+    program = is_program(crate)
+    command = ["rt", "run", "--jobs", str(jobs), "--", "--build"] if program else ["rt", "lib", "--jobs", str(jobs)]
+    run = subprocess.run(command, cwd=top / "crates" / crate, stdin=subprocess.DEVNULL, text=True,
+                         stdout=subprocess.PIPE, stderr=subprocess.STDOUT)
+    # The program is run with words that mean no command: it says so with status 2.
+    return "" if run.returncode == (2 if program else 0) else run.stdout
+
+
+def prove_side_by_side(crates, copies):
+    """Proves the crates, each once those below it are proved; what failed, with what was printed."""
+    cores = len(copies)
+    chain, free, left = weights(crates), list(copies), dict(crates)
+    done, failed, running = set(), {}, {}
+    with concurrent.futures.ThreadPoolExecutor(cores) as pool:
+        while running or (left and not failed):
+            ready = sorted((crate for crate in left if done.issuperset(left[crate])), key=lambda it: -chain[it])
+            for at, crate in enumerate(ready):
+                idle = cores - sum(jobs for _, _, jobs in running.values())
+                if failed or idle <= 0 or not free:
+                    break
+                del left[crate]
+                jobs, copy = max(1, idle // (len(ready) - at)), free.pop()
+                say(f"proving {crate}" + (f" on {jobs} cores" if jobs > 1 else ""))
+                running[pool.submit(prove, copy, crate, jobs)] = crate, copy, jobs
+            for it in concurrent.futures.wait(running, return_when=concurrent.futures.FIRST_COMPLETED).done:
+                crate, copy, _ = running.pop(it)
+                free.append(copy)
+                if it.result():
+                    failed[crate] = it.result()
+                else:
+                    done.add(crate)
+                    say(f"{crate} is proved, {len(done)} of {len(crates)}")
+    return failed
+
+
+def build(crates):
+    """Proves the crates in copies of the tree, and then the program in the checkout; what failed."""
+    libraries = {crate: needs for crate, needs in crates.items() if not is_program(crate)}
     cores = len(os.sched_getaffinity(0))
-    slots, counting, running = threading.Semaphore(cores), threading.Lock(), set()
-    built = {crate: threading.Event() for crate in below}
-    failed = {}
-
-    def prove(crate):
-        with counting:
-            running.add(crate)
-            jobs = max(1, cores // len(running))
-        say(f"proving {crate}")
-        printed = build(crate, str(jobs))
-        with counting:
-            running.remove(crate)
-        if printed:
-            failed[crate] = printed
-        else:
-            say(f"{crate} is proved")
-
-    def work(crate):
-        for need in below[crate]:
-            built[need].wait()
-        with slots:
-            if not failed:
-                prove(crate)
-        built[crate].set()
-
-    threads = [threading.Thread(target=work, args=[crate]) for crate in below]
-    for thread in threads:
-        thread.start()
-    for thread in threads:
-        thread.join()
+    with tempfile.TemporaryDirectory(prefix="larch-build-") as room:
+        copies = [pathlib.Path(room) / str(number) for number in range(cores)]
+        for copy in copies:
+            copy.mkdir()
+            copy_tree(copy)
+        failed = prove_side_by_side(libraries, copies)
+        if not failed:
+            say("linking the program")
+            failed = {PROGRAM: printed for printed in [prove(TOP, PROGRAM, cores)] if printed}
     return failed
 
 
 def main():
-    failed = build_all(crates_below(PROGRAM))
+    needs, start = needs_of_crates(), time.monotonic()
+    failed = build(needs if "--crates" in sys.argv[1:] else crates_below(PROGRAM, needs))
     for crate, printed in failed.items():
         say(f"{crate} could not be built; the last lines of what rt said:")
         sys.stderr.write("\n".join(printed.splitlines()[-15:]) + "\n")
+    used = os.times()
+    say(f"{time.monotonic() - start:.0f} s, {used.children_user + used.children_system:.0f} s of processor time")
     return 1 if failed else 0
 
 
