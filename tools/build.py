@@ -5,8 +5,9 @@
 one checkout proved another takes over in a second. So the crates are proved in as many copies of the tree as there are
 cores, the longest chain of crates first, and the checkout takes them at the end. A crate is begun as soon as those that
 it stands on are built; it gets the cores that no other crate waits for. `rt` keeps what it proved, so a later run does
-only what changed. Says on standard error which crate is begun and which is done; ends with 1 where a crate is not
-proved. `--crates` has it prove every crate of crates.txt, programs left out, in place of those of the program.
+only what changed, also after one that was cut off. Says on standard error which crate is begun and which is done; ends
+with 1 where a crate is not proved. `--crates` has it prove every crate of crates.txt, programs left out, in place of
+those of the program.
 """
 import concurrent.futures
 import os
@@ -68,15 +69,24 @@ def weights(crates):
 
 
 def copy_tree(to):
-    """A copy of what proofs read."""
+    """A copy of what proofs read, over an older one; what was proved there stays."""
     for crate in needs_of_crates():
         for part in PARTS:
+            shutil.rmtree(to / "crates" / crate / part, ignore_errors=True)
             if (TOP / "crates" / crate / part).is_dir():
                 shutil.copytree(TOP / "crates" / crate / part, to / "crates" / crate / part)
     for name in ("crates.txt", "HANDLES"):
         shutil.copy(TOP / name, to / name)
     # The top of a repository, as the tool asks.
-    (to / ".git").mkdir()
+    (to / ".git").mkdir(exist_ok=True)
+
+
+def room_for_copies():
+    """Where the copies lie: in git's own folder, where a build that was cut off finds them again."""
+    git = subprocess.run(["git", "rev-parse", "--absolute-git-dir"], cwd=TOP, text=True, capture_output=True)
+    if git.returncode:
+        return pathlib.Path(tempfile.mkdtemp(prefix="larch-build-"))
+    return pathlib.Path(git.stdout.strip()) / "larch-build"
 
 
 def say(text):
@@ -102,12 +112,14 @@ def prove_side_by_side(crates, copies):
     with concurrent.futures.ThreadPoolExecutor(cores) as pool:
         while running or (left and not failed):
             ready = sorted((crate for crate in left if done.issuperset(left[crate])), key=lambda it: -chain[it])
+            longest = max(chain[crate] for crate in crates if crate not in done)
             for at, crate in enumerate(ready):
                 idle = cores - sum(jobs for _, _, jobs in running.values())
                 if failed or idle <= 0 or not free:
                     break
                 del left[crate]
-                jobs, copy = max(1, idle // (len(ready) - at)), free.pop()
+                # All waits for the longest chain, so its crate gets a second core even where none is idle.
+                jobs, copy = max(2 if chain[crate] == longest else 1, idle // (len(ready) - at)), free.pop()
                 say(f"proving {crate}" + (f" on {jobs} cores" if jobs > 1 else ""))
                 running[pool.submit(prove, copy, crate, jobs)] = crate, copy, jobs
             for it in concurrent.futures.wait(running, return_when=concurrent.futures.FIRST_COMPLETED).done:
@@ -124,16 +136,17 @@ def prove_side_by_side(crates, copies):
 def build(crates):
     """Proves the crates in copies of the tree, and then the program in the checkout; what failed."""
     libraries = {crate: needs for crate, needs in crates.items() if not is_program(crate)}
-    cores = len(os.sched_getaffinity(0))
-    with tempfile.TemporaryDirectory(prefix="larch-build-") as room:
-        copies = [pathlib.Path(room) / str(number) for number in range(cores)]
-        for copy in copies:
-            copy.mkdir()
-            copy_tree(copy)
-        failed = prove_side_by_side(libraries, copies)
-        if not failed:
-            say("linking the program")
-            failed = {PROGRAM: printed for printed in [prove(TOP, PROGRAM, cores)] if printed}
+    cores, room = len(os.sched_getaffinity(0)), room_for_copies()
+    copies = [room / str(number) for number in range(cores)]
+    for copy in copies:
+        copy.mkdir(parents=True, exist_ok=True)
+        copy_tree(copy)
+    failed = prove_side_by_side(libraries, copies)
+    if not failed:
+        say("proving and linking the program")
+        failed = {PROGRAM: printed for printed in [prove(TOP, PROGRAM, cores)] if printed}
+    if not failed:
+        shutil.rmtree(room)
     return failed
 
 

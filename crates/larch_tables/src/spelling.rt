@@ -1,5 +1,6 @@
 ghost use Rattle.std.specs.Prelude.{◌≡◌, ◌≤◌, ◌-◌, IfOk, None, length};
 ghost use Rattle.std.specs.List.{slice_get};
+ghost use Rattle.larch_term.specs.BuiltIn.{bool_sort};
 ghost use Rattle.larch_term.specs.Tree.{var};
 ghost use Rattle.larch_tables.specs.Spelling.{words, variables, arity, word_before, before, spelled, only};
 ghost use Rattle.larch_tables.specs.Spelling.{spelled_side, equation_of};
@@ -132,11 +133,10 @@ fn variable(alloc: Global, code: u8, sort: &Sort) -> Result<Option<Term>, Memory
     requires { length words ≤ code }
     ensures { IfOk result (λ variable. variable ≡ slice_get (variables sort.now) (code - length words)) }
 {
-    let truth = bool_sort(alloc)?;
     let variable = match code {
-        10 => named(alloc, b"x", &truth)?,
-        11 => named(alloc, b"y", &truth)?,
-        12 => named(alloc, b"z", &truth)?,
+        10 => truth_value(alloc, b"x")?,
+        11 => truth_value(alloc, b"y")?,
+        12 => truth_value(alloc, b"z")?,
         13 => named(alloc, b"a", sort)?,
         14 => named(alloc, b"b", sort)?,
         _ => return Ok(None),
@@ -144,6 +144,16 @@ fn variable(alloc: Global, code: u8, sort: &Sort) -> Result<Option<Term>, Memory
     Ok(Some(variable))
 }
 
+// The variable of truth values with a name.
+fn truth_value(alloc: Global, name: &[u8]) -> Result<Term, Memory>
+    ensures { IfOk result (λ variable. variable ≡ var name.now bool_sort) }
+{
+    let truth = bool_sort(alloc)?;
+    let variable = named(alloc, name, &truth)?;
+    Ok(variable)
+}
+
+// The variable with a name and a sort.
 fn named(alloc: Global, name: &[u8], sort: &Sort) -> Result<Term, Memory>
     ensures { IfOk result (λ variable. variable ≡ var name.now sort.now) }
 {
