@@ -1,4 +1,4 @@
-ghost use Rattle.std.specs.Prelude.{◌≡◌, List, Some};
+ghost use Rattle.std.specs.Prelude.{◌≡◌, ◌++◌, ◌∷◌, [], IfOk, List, Some};
 ghost use Rattle.larch_grammar.specs.Machine.{begin_claim};
 ghost use Rattle.larch_grammar.specs.declared.machine.Frame.{Frame};
 ghost use Rattle.larch_grammar.specs.declared.machine.Naming.TheVariants.{Formal};
@@ -6,7 +6,7 @@ ghost use Rattle.larch_grammar.specs.declared.machine.Whole.TheVariants.{Trait a
 ghost use Rattle.larch_heads.specs.Outcome.{Leaves, Settles, outcome, settled, stepped};
 
 use crate::outcome::{Outcome, ends, outside, stops};
-use larch_base::{Memory, Sequence};
+use larch_base::{Memory, Sequence, let_go};
 use larch_grammar::{Draft, Naming, RefKind, State, Terminal, implying, named};
 use larch_raw::{RawForm, RawForms, RawWord};
 use std::alloc::Global;
@@ -43,13 +43,24 @@ pub fn after_formal(
 ) -> Result<Outcome, Memory>
     ensures { Settles result (stepped (State.AfterForm (Formal name formals) form) terminal) }
 {
-    let mut formals = formals;
-    formals.push(form)?;
+    let formals = match with_formal(formals, form) {
+        Ok(formals) => formals,
+        Err(error) => return Err(let_go(error, (name, terminal))),
+    };
     match terminal {
         Terminal::Comma => Ok(outside(State::NeedForm(Naming::Formal(name, formals)))),
         Terminal::Close => Ok(outside(State::AfterFormals(name, formals))),
-        _ => Ok(stops()),
+        other => Ok(let_go(stops(), (name, formals, other))),
     }
+}
+
+// The formals with one more.
+fn with_formal(formals: RawForms, form: RawForm) -> Result<RawForms, Memory>
+    ensures { IfOk result (λ more. more ≡ formals ++ form ∷ []) }
+{
+    let mut formals = formals;
+    formals.push(form)?;
+    Ok(formals)
 }
 
 /// A name with its formals is read.
@@ -76,7 +87,7 @@ pub fn need_trait(
             let raw = named(alloc, name, formals)?;
             Ok(outside(State::AfterHead(raw)))
         }
-        _ => Ok(stops()),
+        other => Ok(let_go(stops(), (name, formals, other))),
     }
 }
 

@@ -4,7 +4,7 @@ ghost use Rattle.larch_grammar.specs.declared.machine.Naming.TheVariants.{Actual
 ghost use Rattle.larch_heads.specs.Outcome.{Settles, outcome, settled, stepped};
 
 use crate::outcome::{Outcome, outside, stops};
-use larch_base::Memory;
+use larch_base::{Memory, let_go};
 use larch_grammar::{
     Draft, Naming, OpenRef, RefKind, Signing, State, Terminal, close_ref, with_actual,
 };
@@ -36,7 +36,7 @@ fn after_actual(reference: OpenRef, terminal: Terminal) -> Result<Outcome, Memor
     match terminal {
         Terminal::Comma => Ok(outside(State::NeedForm(Naming::Actual(reference)))),
         Terminal::Close => ends_reference(reference),
-        _ => Ok(stops()),
+        other => Ok(let_go(stops(), (reference, other))),
     }
 }
 
@@ -47,7 +47,7 @@ pub fn after_rename(reference: OpenRef, terminal: Terminal) -> Result<Outcome, M
     match terminal {
         Terminal::Comma => Ok(outside(State::NeedForm(Naming::Renaming(reference)))),
         Terminal::Close => ends_reference(reference),
-        _ => Ok(stops()),
+        other => Ok(let_go(stops(), (reference, other))),
     }
 }
 
@@ -58,10 +58,10 @@ pub fn after_plain(reference: OpenRef, form: RawForm, terminal: Terminal) -> Res
 {
     match terminal {
         Terminal::For => Ok(outside(State::NeedForm(Naming::Renamed(reference, form)))),
-        other => {
-            let reference = with_actual(reference, RawActual::Plain(form))?;
-            after_actual(reference, other)
-        }
+        other => match with_actual(reference, RawActual::Plain(form)) {
+            Ok(reference) => after_actual(reference, other),
+            Err(error) => Err(let_go(error, other)),
+        },
     }
 }
 
@@ -89,9 +89,9 @@ pub fn after_renamed(
         Terminal::Colon(_pos) => Ok(outside(State::NeedSig(Signing::Replacement(
             reference, renamed, form,
         )))),
-        other => {
-            let reference = with_actual(reference, RawActual::Replace(renamed, form, None))?;
-            after_rename(reference, other)
-        }
+        other => match with_actual(reference, RawActual::Replace(renamed, form, None)) {
+            Ok(reference) => after_rename(reference, other),
+            Err(error) => Err(let_go(error, other)),
+        },
     }
 }

@@ -3,7 +3,7 @@ ghost use Rattle.larch_heads.specs.Outcome.{Settles, settled, stepped};
 
 use crate::head::after_head;
 use crate::outcome::{Outcome, outside, stops};
-use larch_base::{Memory, Sequence};
+use larch_base::{Memory, Sequence, let_go};
 use larch_grammar::{
     Draft, FieldsKind, OpenFields, State, Terminal, close_fields, open_fields, with_fields,
     with_shorthand, with_word,
@@ -43,11 +43,11 @@ pub fn need_constant(
     ensures { Settles result (stepped (State.NeedConstant raw sort constants) terminal) }
 {
     match terminal {
-        Terminal::Word(word) => {
-            let constants = with_word(constants, word)?;
-            Ok(outside(State::AfterConstant(raw, sort, constants)))
-        }
-        _ => Ok(stops()),
+        Terminal::Word(word) => match with_word(constants, word) {
+            Ok(constants) => Ok(outside(State::AfterConstant(raw, sort, constants))),
+            Err(error) => Err(let_go(error, (raw, sort))),
+        },
+        other => Ok(let_go(stops(), (raw, sort, constants, other))),
     }
 }
 
@@ -64,10 +64,10 @@ pub fn after_constant(
 {
     match terminal {
         Terminal::Comma => Ok(outside(State::NeedConstant(raw, sort, constants))),
-        other => {
-            let raw = with_shorthand(raw, RawShorthand::Enumeration(sort, constants))?;
-            Ok(after_head(alloc, raw, other))
-        }
+        other => match with_shorthand(raw, RawShorthand::Enumeration(sort, constants)) {
+            Ok(raw) => Ok(after_head(alloc, raw, other)),
+            Err(error) => Err(let_go(error, other)),
+        },
     }
 }
 
@@ -96,11 +96,11 @@ pub fn need_name(
     ensures { Settles result (stepped (State.NeedName shorthand) terminal) }
 {
     match terminal {
-        Terminal::Word(name) => {
-            let names = with_word(Sequence::new(alloc), name)?;
-            Ok(outside(State::AfterNames(shorthand, names)))
-        }
-        _ => Ok(stops()),
+        Terminal::Word(name) => match with_word(Sequence::new(alloc), name) {
+            Ok(names) => Ok(outside(State::AfterNames(shorthand, names))),
+            Err(error) => Err(let_go(error, shorthand)),
+        },
+        other => Ok(let_go(stops(), (shorthand, other))),
     }
 }
 
@@ -124,11 +124,11 @@ pub fn need_further_name(
     ensures { Settles result (stepped (State.NeedFurtherName shorthand names) terminal) }
 {
     match terminal {
-        Terminal::Word(name) => {
-            let names = with_word(names, name)?;
-            Ok(outside(State::AfterNames(shorthand, names)))
-        }
-        _ => Ok(stops()),
+        Terminal::Word(name) => match with_word(names, name) {
+            Ok(names) => Ok(outside(State::AfterNames(shorthand, names))),
+            Err(error) => Err(let_go(error, shorthand)),
+        },
+        other => Ok(let_go(stops(), (shorthand, names, other))),
     }
 }
 
@@ -145,7 +145,7 @@ pub fn need_names_sort(
             let shorthand = with_fields(shorthand, &names, &sort)?;
             Ok(outside(State::AfterField(shorthand)))
         }
-        _ => Ok(stops()),
+        other => Ok(let_go(stops(), (shorthand, names, other))),
     }
 }
 
@@ -160,9 +160,9 @@ pub fn after_field(
 {
     match terminal {
         Terminal::Comma => Ok(outside(State::NeedName(shorthand))),
-        other => {
-            let raw = close_fields(shorthand)?;
-            Ok(after_head(alloc, raw, other))
-        }
+        other => match close_fields(shorthand) {
+            Ok(raw) => Ok(after_head(alloc, raw, other)),
+            Err(error) => Err(let_go(error, other)),
+        },
     }
 }

@@ -3,11 +3,11 @@ ghost use Rattle.larch_grammar.specs.Depth.{depth_of};
 ghost use Rattle.larch_grammar.specs.Machine.{at_head, open_bracket, plainly, word_frames};
 ghost use Rattle.larch_grammar.specs.Terms.{opens, opens_head};
 ghost use Rattle.larch_grammar.specs.Trees.{bracket_tree};
-ghost use Rattle.larch_grammar.specs.declared.machine.Frame.TheVariants.{Prefixed};
+ghost use Rattle.larch_grammar.specs.declared.machine.Frame.TheVariants.{InConnectives, InEqualities, InLeft, Prefixed};
 ghost use Rattle.larch_grammar.specs.declared.machine.State.TheVariants.{NeedPrefixed};
 ghost use Rattle.larch_heads.specs.Outcome.{Settles, closes, outcome, settled, stepped};
 
-use larch_base::{Memory, Pos};
+use larch_base::{Memory, Pos, let_go};
 use larch_fronts::Mark;
 use larch_grammar::{
     Bracket, Frame, Listing, Stack, State, Terminal, Waiting, bracket_tree, no_terms, position_of,
@@ -55,7 +55,7 @@ pub(crate) fn begin_post(terminal: Terminal, stack: Stack) -> Result<Outcome, Me
             Ok(Outcome::Taken(mark, State::NeedTerm(inside)))
         }
         Terminal::OpenBracket(bracket, pos) => Ok(open_bracket(bracket, pos, None, stack)),
-        _ => Ok(stops()),
+        other => Ok(let_go(stops(), (stack, other))),
     }
 }
 
@@ -74,7 +74,10 @@ pub(crate) fn begin_prefixed(terminal: Terminal, stack: Stack) -> Result<Outcome
 {
     match terminal {
         Terminal::Symbol(symbol) | Terminal::Not(symbol) => begin_prefix(symbol, stack),
-        other => begin_post(other, stack.with(Frame::InStrays)?),
+        other => match stack.with(Frame::InStrays) {
+            Ok(stack) => begin_post(other, stack),
+            Err(error) => Err(let_go(error, other)),
+        },
     }
 }
 
@@ -85,7 +88,10 @@ pub(crate) fn begin_operand(terminal: Terminal, stack: Stack) -> Result<Outcome,
 {
     match terminal {
         Terminal::Symbol(symbol) | Terminal::Not(symbol) => begin_prefix(symbol, stack),
-        other => begin_post(other, stack.with(Frame::InInfixes(None))?),
+        other => match stack.with(Frame::InInfixes(None)) {
+            Ok(stack) => begin_post(other, stack),
+            Err(error) => Err(let_go(error, other)),
+        },
     }
 }
 
@@ -100,13 +106,21 @@ pub(crate) fn begin_term(terminal: Terminal, stack: Stack) -> Result<Outcome, Me
             let condition = stack.with(Frame::InIf(pos))?;
             Ok(Outcome::Taken(mark, State::NeedTerm(condition)))
         }
-        other => {
-            let chains = stack
-                .with(Frame::InConnectives(None))?
-                .with(Frame::InEqualities(None))?;
-            begin_operand(other, chains)
-        }
+        other => match with_outer_chains(stack) {
+            Ok(chains) => begin_operand(other, chains),
+            Err(error) => Err(let_go(error, other)),
+        },
     }
+}
+
+// These frames, and in front of them the two outer chains that a term begins.
+fn with_outer_chains(stack: Stack) -> Result<Stack, Memory>
+    ensures { IfOk result (λ chains. chains ≡ InEqualities None ∷ (InConnectives None ∷ stack)) }
+{
+    let chains = stack
+        .with(Frame::InConnectives(None))?
+        .with(Frame::InEqualities(None))?;
+    Ok(chains)
 }
 
 // The first token of an equation.
@@ -117,9 +131,22 @@ pub(crate) fn begin_equation(
 ) -> Result<Outcome, Memory>
     ensures { Settles result (stepped (State.NeedEquation waiting) terminal) }
 {
-    let left = Frame::InLeft(position_of(&terminal), waiting);
-    let stack = Stack::with_room(alloc)?.with(left)?;
-    begin_term(terminal, stack)
+    match left_of(alloc, position_of(&terminal), waiting) {
+        Ok(stack) => begin_term(terminal, stack),
+        Err(error) => Err(let_go(error, terminal)),
+    }
+}
+
+// The frame of the left side of an equation that begins there.
+fn left_of(alloc: Global, first: Pos, waiting: Waiting) -> Result<Stack, Memory>
+    ensures { IfOk result (λ stack. stack ≡ InLeft first waiting ∷ []) }
+{
+    let stack = match Stack::with_room(alloc) {
+        Ok(stack) => stack,
+        Err(error) => return Err(let_go(error, waiting)),
+    };
+    let stack = stack.with(Frame::InLeft(first, waiting))?;
+    Ok(stack)
 }
 
 // A bracket is open: it ends, or its first term begins.
@@ -133,7 +160,10 @@ pub(crate) fn begin_bracket(
 ) -> Result<Outcome, Memory>
     ensures { Settles result (stepped (State.NeedFirst bracket front pos stack) terminal) }
 {
-    let stack = stack.with(Frame::InFields)?;
+    let stack = match stack.with(Frame::InFields) {
+        Ok(stack) => stack,
+        Err(error) => return Err(let_go(error, (front, terminal))),
+    };
     if closes(bracket, &terminal) {
         end_bracket(alloc, bracket, front, pos, stack)
     } else {
@@ -179,18 +209,16 @@ fn begin_first(
         (stepped (State.NeedTerm (Frame.InList (Listing.Bracketed bracket front pos) [] ∷ stack)) terminal) }
 {
     let listing = Listing::Bracketed(bracket, front, pos);
-    let inside = stack.with(Frame::InList(listing, no_terms(alloc)))?;
-    begin_term(terminal, inside)
+    match stack.with(Frame::InList(listing, no_terms(alloc))) {
+        Ok(inside) => begin_term(terminal, inside),
+        Err(error) => Err(let_go(error, terminal)),
+    }
 }
 
 // The frames of an equation that begins with a word.
 pub(crate) fn word_frames(alloc: Global, word: &RawWord, waiting: Waiting) -> Result<Stack, Memory>
     ensures { IfOk result (λ stack. stack ≡ word_frames word.now waiting) }
 {
-    let frames = Stack::with_room(alloc)?
-        .with(Frame::InLeft(word.pos, waiting))?
-        .with(Frame::InConnectives(None))?
-        .with(Frame::InEqualities(None))?
-        .with(Frame::InInfixes(None))?;
+    let frames = left_of(alloc, word.pos, waiting)?.with_chains()?;
     Ok(frames)
 }

@@ -6,7 +6,7 @@ ghost use Rattle.larch_grammar.specs.declared.machine.Frame.TheVariants.{InConne
 ghost use Rattle.larch_grammar.specs.declared.machine.Frame.TheVariants.{InPostfixes, InStrays};
 ghost use Rattle.larch_heads.specs.Outcome.{Leaves, Settles, handed};
 
-use larch_base::Memory;
+use larch_base::{Memory, let_go};
 use larch_fronts::Mark;
 use larch_grammar::{Frame, Link, Stack, State, Terminal, chain_tree, postfix_tree};
 use larch_heads::{Outcome, at_head};
@@ -72,10 +72,10 @@ pub(crate) fn in_infixes(
             let stack = stack.with(Frame::InInfixes(Some(link)))?;
             Ok(Outcome::Taken(mark, State::NeedPost(stack)))
         }
-        (Some(link), other) => {
-            let whole = chain_tree(alloc, Some(link), term)?;
-            Ok(Outcome::Handed(whole, stack, other))
-        }
+        (Some(link), other) => match chain_tree(alloc, Some(link), term) {
+            Ok(whole) => Ok(Outcome::Handed(whole, stack, other)),
+            Err(error) => Err(let_go(error, (stack, other))),
+        },
     }
 }
 
@@ -114,10 +114,10 @@ pub(crate) fn in_equalities(
             let stack = stack.with(Frame::InEqualities(Some(link)))?;
             Ok(Outcome::Taken(mark, State::NeedOperand(stack)))
         }
-        other => {
-            let whole = chain_tree(alloc, link, term)?;
-            Ok(Outcome::Handed(whole, stack, other))
-        }
+        other => match chain_tree(alloc, link, term) {
+            Ok(whole) => Ok(Outcome::Handed(whole, stack, other)),
+            Err(error) => Err(let_go(error, (stack, other))),
+        },
     }
 }
 
@@ -140,9 +140,9 @@ pub(crate) fn in_connectives(
                 .with(Frame::InEqualities(None))?;
             Ok(Outcome::Taken(mark, State::NeedOperand(stack)))
         }
-        other => {
-            let whole = chain_tree(alloc, link, term)?;
-            Ok(Outcome::Handed(whole, stack, other))
-        }
+        other => match chain_tree(alloc, link, term) {
+            Ok(whole) => Ok(Outcome::Handed(whole, stack, other)),
+            Err(error) => Err(let_go(error, (stack, other))),
+        },
     }
 }

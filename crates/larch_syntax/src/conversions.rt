@@ -7,7 +7,7 @@ ghost use Rattle.larch_grammar.specs.declared.machine.Whole.TheVariants.{Trait a
 ghost use Rattle.larch_heads.specs.Outcome.{Leaves, Settles, handed, outcome, settled, stepped};
 
 use crate::begin::begin_term;
-use larch_base::{Memory, Pos, Sequence};
+use larch_base::{Memory, Pos, Sequence, let_go};
 use larch_grammar::{
     Draft, Frame, Naming, OpenConversion, Scope, Signing, Stack, State, Terminal, close_conversion,
     formula_of, open_conversion, position_of, with_converted, with_exempted, with_reference,
@@ -42,10 +42,10 @@ pub(crate) fn after_converted_form(
 {
     match terminal {
         Terminal::Colon(_pos) => Ok(outside(State::NeedSig(Signing::Conversion(raw, refs, form)))),
-        other => {
-            let refs = with_reference(refs, form)?;
-            after_converted(alloc, raw, refs, other)
-        }
+        other => match with_reference(refs, form) {
+            Ok(refs) => after_converted(alloc, raw, refs, other),
+            Err(error) => Err(let_go(error, (raw, other))),
+        },
     }
 }
 
@@ -62,10 +62,10 @@ pub(crate) fn after_converted(
     match terminal {
         Terminal::Comma => Ok(outside(State::NeedForm(Naming::Converted(raw, refs)))),
         Terminal::Exempting => Ok(outside(State::NeedExempted(raw, refs))),
-        other => {
-            let raw = with_converted(alloc, raw, refs)?;
-            Ok(begin_conversion(alloc, raw, other))
-        }
+        other => match with_converted(alloc, raw, refs) {
+            Ok(raw) => Ok(begin_conversion(alloc, raw, other)),
+            Err(error) => Err(let_go(error, other)),
+        },
     }
 }
 
@@ -100,8 +100,10 @@ pub(crate) fn begin_exempted(
     ensures { Settles result (stepped (State.NeedFurtherExempted conversion) terminal) }
 {
     let frame = Frame::InExempted(position_of(&terminal), conversion);
-    let stack = Stack::new(alloc).with(frame)?;
-    begin_term(terminal, stack)
+    match Stack::new(alloc).with(frame) {
+        Ok(stack) => begin_term(terminal, stack),
+        Err(error) => Err(let_go(error, terminal)),
+    }
 }
 
 // A term that is exempted is read.
@@ -116,12 +118,15 @@ pub(crate) fn in_exempted(
         → Settles result (handed term (InExempted pos conversion ∷ frames) terminal) }
     ensures frames { (frames : List Frame) → IfOk result (Leaves frames) }
 {
-    let conversion = with_exempted(conversion, formula_of(term, pos))?;
+    let conversion = match with_exempted(conversion, formula_of(term, pos)) {
+        Ok(conversion) => conversion,
+        Err(error) => return Err(let_go(error, terminal)),
+    };
     match terminal {
         Terminal::Comma => Ok(outside(State::NeedFurtherExempted(conversion))),
-        other => {
-            let raw = close_conversion(conversion)?;
-            Ok(begin_conversion(alloc, raw, other))
-        }
+        other => match close_conversion(conversion) {
+            Ok(raw) => Ok(begin_conversion(alloc, raw, other)),
+            Err(error) => Err(let_go(error, other)),
+        },
     }
 }

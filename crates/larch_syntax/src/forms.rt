@@ -1,15 +1,17 @@
-ghost use Rattle.std.specs.Prelude.{◌≡◌, IfOk, None};
+ghost use Rattle.std.specs.Prelude.{◌≡◌, ◌++◌, ◌∷◌, [], IfOk, None};
+ghost use Rattle.larch_grammar.specs.Composition.{with_actual};
 ghost use Rattle.larch_grammar.specs.Machine.{end_marks, hand_sig};
+ghost use Rattle.larch_grammar.specs.Traits.{with_declaration};
 ghost use Rattle.larch_grammar.specs.declared.machine.Naming.TheVariants.{Declared, Lone, Referred};
 ghost use Rattle.larch_heads.specs.Outcome.{Settles, outcome, settled, stepped};
 
 use crate::conversions::after_converted_form;
 use crate::items::begin_item;
-use larch_base::{Memory, Pos, Sequence};
+use larch_base::{Memory, Pos, Sequence, let_go};
 use larch_grammar::{
-    Bracket, Clause, Draft, FormBracket, Naming, Signing, State, Terminal, Whole, bracket_form,
-    field_form, infix_form, plain_form, postfix_form, prefix_form, with_actual, with_clause,
-    with_declaration, with_reference, with_word,
+    Bracket, Clause, Draft, FormBracket, Naming, OpenRef, Signing, State, Terminal, Whole,
+    bracket_form, field_form, infix_form, plain_form, postfix_form, prefix_form, with_actual,
+    with_clause, with_declaration, with_reference, with_word,
 };
 use larch_heads::{
     Outcome, after_formal, after_plain, after_renamed, after_renaming, outside, stops,
@@ -36,7 +38,7 @@ pub(crate) fn begin_form(naming: Naming, terminal: Terminal) -> Outcome
                 pos,
             }))
         }
-        _ => stops(),
+        other => let_go(stops(), (naming, other)),
     }
 }
 
@@ -50,14 +52,14 @@ pub(crate) fn after_symbol_form(
     ensures { Settles result (stepped (State.AfterSymbolForm naming symbol) terminal) }
 {
     match terminal {
-        Terminal::Marker(_pos) => {
-            let form = prefix_form(alloc, symbol)?;
-            Ok(outside(State::AfterForm(naming, form)))
-        }
-        other => {
-            let form = infix_form(alloc, symbol.pos, symbol)?;
-            after_form(alloc, naming, form, other)
-        }
+        Terminal::Marker(_pos) => match prefix_form(alloc, symbol) {
+            Ok(form) => Ok(outside(State::AfterForm(naming, form))),
+            Err(error) => Err(let_go(error, naming)),
+        },
+        other => match infix_form(alloc, symbol.pos, symbol) {
+            Ok(form) => after_form(alloc, naming, form, other),
+            Err(error) => Err(let_go(error, (naming, other))),
+        },
     }
 }
 
@@ -71,11 +73,11 @@ pub(crate) fn after_dot_form(
     ensures { Settles result (stepped (State.AfterDotForm naming pos) terminal) }
 {
     match terminal {
-        Terminal::Word(word) => {
-            let form = field_form(alloc, pos, word)?;
-            Ok(outside(State::AfterForm(naming, form)))
-        }
-        _ => Ok(stops()),
+        Terminal::Word(word) => match field_form(alloc, pos, word) {
+            Ok(form) => Ok(outside(State::AfterForm(naming, form))),
+            Err(error) => Err(let_go(error, naming)),
+        },
+        other => Ok(let_go(stops(), (naming, other))),
     }
 }
 
@@ -94,7 +96,7 @@ pub(crate) fn after_marker(naming: Naming, pos: Pos, terminal: Terminal) -> Outc
                 pos,
             }))
         }
-        _ => stops(),
+        other => let_go(stops(), (naming, other)),
     }
 }
 
@@ -109,14 +111,14 @@ pub(crate) fn after_marker_symbol(
     ensures { Settles result (stepped (State.AfterMarkerSymbol naming pos symbol) terminal) }
 {
     match terminal {
-        Terminal::Marker(_behind) => {
-            let form = infix_form(alloc, pos, symbol)?;
-            Ok(outside(State::AfterForm(naming, form)))
-        }
-        other => {
-            let form = postfix_form(alloc, pos, symbol)?;
-            after_form(alloc, naming, form, other)
-        }
+        Terminal::Marker(_behind) => match infix_form(alloc, pos, symbol) {
+            Ok(form) => Ok(outside(State::AfterForm(naming, form))),
+            Err(error) => Err(let_go(error, naming)),
+        },
+        other => match postfix_form(alloc, pos, symbol) {
+            Ok(form) => after_form(alloc, naming, form, other),
+            Err(error) => Err(let_go(error, (naming, other))),
+        },
     }
 }
 
@@ -138,10 +140,12 @@ fn end_marks(
     match (bracket, terminal) {
         (Bracket::Square, Terminal::CloseBracket(Bracket::Square))
         | (Bracket::Curly, Terminal::CloseBracket(Bracket::Curly)) => {
-            let form = bracket_form(alloc, behind, bracket, markers, pos)?;
-            Ok(outside(State::AfterForm(naming, form)))
+            match bracket_form(alloc, behind, bracket, markers, pos) {
+                Ok(form) => Ok(outside(State::AfterForm(naming, form))),
+                Err(error) => Err(let_go(error, naming)),
+            }
         }
-        _ => Ok(stops()),
+        (_, other) => Ok(let_go(stops(), (naming, other))),
     }
 }
 
@@ -183,11 +187,11 @@ pub(crate) fn need_mark(
     ensures { Settles result (stepped (State.NeedMark form markers) terminal) }
 {
     match terminal {
-        Terminal::Marker(_marker) => {
-            let more = markers.checked_add(1).ok_or(Memory)?;
-            Ok(outside(State::AfterMark(form, more)))
-        }
-        _ => Ok(stops()),
+        Terminal::Marker(_marker) => match markers.checked_add(1) {
+            Some(more) => Ok(outside(State::AfterMark(form, more))),
+            None => Err(let_go(Memory, form)),
+        },
+        other => Ok(let_go(stops(), (form, other))),
     }
 }
 
@@ -218,7 +222,10 @@ fn after_lone(form: RawForm, terminal: Terminal) -> Outcome
 {
     match terminal {
         Terminal::Colon(_pos) => outside(State::NeedSig(Signing::LoneForm(form))),
-        _ => Outcome::Stops(Some(Whole::Reference(RawOpRef { form, sig: None }))),
+        other => {
+            let reference = RawOpRef { form, sig: None };
+            let_go(Outcome::Stops(Some(Whole::Reference(reference))), other)
+        }
     }
 }
 
@@ -231,13 +238,24 @@ fn after_declared(
 ) -> Result<Outcome, Memory>
     ensures { Settles result (stepped (State.AfterForm (Declared raw forms) form) terminal) }
 {
-    let mut forms = forms;
-    forms.push(form)?;
+    let forms = match with_form(forms, form) {
+        Ok(forms) => forms,
+        Err(error) => return Err(let_go(error, (raw, terminal))),
+    };
     match terminal {
         Terminal::Comma => Ok(outside(State::NeedForm(Naming::Declared(raw, forms)))),
         Terminal::Colon(_pos) => Ok(outside(State::NeedSig(Signing::Declaration(raw, forms)))),
-        _ => Ok(stops()),
+        other => Ok(let_go(stops(), (raw, forms, other))),
     }
+}
+
+// The forms with one more.
+fn with_form(forms: RawForms, form: RawForm) -> Result<RawForms, Memory>
+    ensures { IfOk result (λ more. more ≡ forms ++ form ∷ []) }
+{
+    let mut forms = forms;
+    forms.push(form)?;
+    Ok(forms)
 }
 
 // A form of a reference is read.
@@ -255,10 +273,10 @@ fn after_referred(
         Terminal::Colon(_pos) => Ok(outside(State::NeedSig(Signing::Reference(
             clause, refs, form,
         )))),
-        other => {
-            let refs = with_reference(refs, form)?;
-            after_reference(alloc, clause, refs, other)
-        }
+        other => match with_reference(refs, form) {
+            Ok(refs) => after_reference(alloc, clause, refs, other),
+            Err(error) => Err(let_go(error, (clause, other))),
+        },
     }
 }
 
@@ -278,10 +296,10 @@ pub(crate) fn after_reference(
             let raw = with_clause(clause, refs)?;
             Ok(outside(State::InItems(raw)))
         }
-        other => {
-            let raw = with_clause(clause, refs)?;
-            begin_item(alloc, raw, other)
-        }
+        other => match with_clause(clause, refs) {
+            Ok(raw) => begin_item(alloc, raw, other),
+            Err(error) => Err(let_go(error, other)),
+        },
     }
 }
 
@@ -294,12 +312,12 @@ pub(crate) fn need_sig(
     ensures { Settles result (stepped (State.NeedSig signing) terminal) }
 {
     match terminal {
-        Terminal::Word(word) => {
-            let sorts = with_word(Sequence::new(alloc), word)?;
-            Ok(outside(State::AfterSort(signing, sorts)))
-        }
+        Terminal::Word(word) => match with_word(Sequence::new(alloc), word) {
+            Ok(sorts) => Ok(outside(State::AfterSort(signing, sorts))),
+            Err(error) => Err(let_go(error, signing)),
+        },
         Terminal::Arrow => Ok(outside(State::NeedRange(signing, Sequence::new(alloc)))),
-        _ => Ok(stops()),
+        other => Ok(let_go(stops(), (signing, other))),
     }
 }
 
@@ -310,7 +328,7 @@ pub(crate) fn after_sort(signing: Signing, sorts: RawWords, terminal: Terminal) 
     match terminal {
         Terminal::Comma => outside(State::NeedSort(signing, sorts)),
         Terminal::Arrow => outside(State::NeedRange(signing, sorts)),
-        _ => stops(),
+        other => let_go(stops(), (signing, sorts, other)),
     }
 }
 
@@ -323,11 +341,11 @@ pub(crate) fn need_sort(
     ensures { Settles result (stepped (State.NeedSort signing sorts) terminal) }
 {
     match terminal {
-        Terminal::Word(word) => {
-            let sorts = with_word(sorts, word)?;
-            Ok(outside(State::AfterSort(signing, sorts)))
-        }
-        _ => Ok(stops()),
+        Terminal::Word(word) => match with_word(sorts, word) {
+            Ok(sorts) => Ok(outside(State::AfterSort(signing, sorts))),
+            Err(error) => Err(let_go(error, signing)),
+        },
+        other => Ok(let_go(stops(), (signing, sorts, other))),
     }
 }
 
@@ -344,7 +362,7 @@ pub(crate) fn need_range(
             let after = hand_sig(signing, RawSig { domain, range })?;
             Ok(outside(after))
         }
-        _ => Ok(stops()),
+        other => Ok(let_go(stops(), (signing, domain, other))),
     }
 }
 
@@ -353,30 +371,66 @@ fn hand_sig(signing: Signing, sig: RawSig) -> Result<State, Memory>
     ensures { IfOk result (λ state. state ≡ hand_sig signing sig) }
 {
     match signing {
-        Signing::Declaration(raw, forms) => {
-            let raw = with_declaration(raw, RawDecl { forms, sig })?;
-            Ok(State::InPart(raw))
-        }
+        Signing::Declaration(raw, forms) => declared(raw, RawDecl { forms, sig }),
         Signing::Reference(clause, refs, form) => {
-            let mut refs = refs;
             let sig = Some(sig);
-            refs.push(RawOpRef { form, sig })?;
-            Ok(State::AfterReference(clause, refs))
+            referred(clause, refs, RawOpRef { form, sig })
         }
         Signing::Replacement(reference, renamed, form) => {
-            let actual = RawActual::Replace(renamed, form, Some(sig));
-            let reference = with_actual(reference, actual)?;
-            Ok(State::AfterRename(reference))
+            replaced(reference, RawActual::Replace(renamed, form, Some(sig)))
         }
         Signing::Conversion(raw, refs, form) => {
-            let mut refs = refs;
             let sig = Some(sig);
-            refs.push(RawOpRef { form, sig })?;
-            Ok(State::AfterConverted(raw, refs))
+            converted(raw, refs, RawOpRef { form, sig })
         }
         Signing::LoneForm(form) => {
             let sig = Some(sig);
             Ok(State::AfterLone(RawOpRef { form, sig }))
         }
     }
+}
+
+// A declaration is read.
+fn declared(raw: Draft, declaration: RawDecl) -> Result<State, Memory>
+    ensures { IfOk result (λ state. state ≡ State.InPart (with_declaration raw declaration)) }
+{
+    let raw = with_declaration(raw, declaration)?;
+    Ok(State::InPart(raw))
+}
+
+// A replacement of an actual is read.
+fn replaced(reference: OpenRef, actual: RawActual) -> Result<State, Memory>
+    ensures { IfOk result (λ state. state ≡ State.AfterRename (with_actual reference actual)) }
+{
+    let reference = with_actual(reference, actual)?;
+    Ok(State::AfterRename(reference))
+}
+
+// A reference of a clause with its signature is read.
+fn referred(clause: Clause, refs: RawOpRefs, reference: RawOpRef) -> Result<State, Memory>
+    ensures { IfOk result (λ state. state ≡ State.AfterReference clause (refs ++ reference ∷ [])) }
+{
+    match with_signed(refs, reference) {
+        Ok(refs) => Ok(State::AfterReference(clause, refs)),
+        Err(error) => Err(let_go(error, clause)),
+    }
+}
+
+// A reference of a conversion with its signature is read.
+fn converted(raw: Draft, refs: RawOpRefs, reference: RawOpRef) -> Result<State, Memory>
+    ensures { IfOk result (λ state. state ≡ State.AfterConverted raw (refs ++ reference ∷ [])) }
+{
+    match with_signed(refs, reference) {
+        Ok(refs) => Ok(State::AfterConverted(raw, refs)),
+        Err(error) => Err(let_go(error, raw)),
+    }
+}
+
+// The references with one more.
+fn with_signed(refs: RawOpRefs, reference: RawOpRef) -> Result<RawOpRefs, Memory>
+    ensures { IfOk result (λ more. more ≡ refs ++ reference ∷ []) }
+{
+    let mut refs = refs;
+    refs.push(reference)?;
+    Ok(refs)
 }

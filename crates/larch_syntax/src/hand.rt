@@ -1,14 +1,16 @@
-ghost use Rattle.std.specs.Prelude.{◌≡◌, ◌∷◌, IfOk};
+ghost use Rattle.std.specs.Prelude.{◌≡◌, ◌∷◌, IfOk, None};
+ghost use Rattle.larch_grammar.specs.Machine.{plainly};
+ghost use Rattle.larch_grammar.specs.Trees.{bracket_tree, postfix_tree};
 ghost use Rattle.larch_grammar.specs.declared.machine.Frame.TheVariants.{InFields, InIf, InLeft, InList};
-ghost use Rattle.larch_grammar.specs.declared.machine.Frame.TheVariants.{InParentheses, InThen};
-ghost use Rattle.larch_heads.specs.Outcome.{Leaves, Settles, handed, settled, stepped};
+ghost use Rattle.larch_grammar.specs.declared.machine.Frame.TheVariants.{InParentheses, InPostfixes, InThen};
+ghost use Rattle.larch_heads.specs.Outcome.{Leaves, Settles, handed, outcome, settled, stepped};
 ghost use Rattle.larch_syntax.specs.Hand.{hands_on};
 
 use crate::begin::{begin_post, open_bracket, opens};
 use crate::chains::{in_connectives, in_equalities, in_infixes, in_postfixes, in_strays};
 use crate::conversions::in_exempted;
 use crate::items::hand_equation;
-use larch_base::{Memory, Pos};
+use larch_base::{Memory, Pos, let_go};
 use larch_grammar::{
     Bracket, Frame, Link, Listing, Stack, State, Terminal, Waiting, bracket_tree, call_tree,
     equation_of, field_tree, formula_of, if_tree, no_terms, postfix_tree, prefix_tree, qualified,
@@ -83,10 +85,10 @@ fn pass(
     match frame {
         Frame::InFields => Ok(in_fields(term, stack, terminal)),
         Frame::InStrays => in_strays(alloc, term, stack, terminal),
-        Frame::Prefixed(symbol) => {
-            let whole = prefix_tree(alloc, symbol, term)?;
-            Ok(Outcome::Handed(whole, stack, terminal))
-        }
+        Frame::Prefixed(symbol) => match prefix_tree(alloc, symbol, term) {
+            Ok(whole) => Ok(Outcome::Handed(whole, stack, terminal)),
+            Err(error) => Err(let_go(error, (stack, terminal))),
+        },
         Frame::InPostfixes => in_postfixes(alloc, term, stack, terminal),
         Frame::InInfixes(link) => in_infixes(alloc, link, term, stack, terminal),
         Frame::InEqualities(link) => in_equalities(alloc, link, term, stack, terminal),
@@ -96,8 +98,10 @@ fn pass(
         Frame::InIf(pos) => in_if(pos, term, stack, terminal),
         Frame::InThen(pos, condition) => in_then(pos, condition, term, stack, terminal),
         Frame::InElse(pos, condition, first) => {
-            let whole = if_tree(alloc, pos, condition, first, term)?;
-            Ok(Outcome::Handed(whole, stack, terminal))
+            match if_tree(alloc, pos, condition, first, term) {
+                Ok(whole) => Ok(Outcome::Handed(whole, stack, terminal)),
+                Err(error) => Err(let_go(error, (stack, terminal))),
+            }
         }
         Frame::InLeft(pos, waiting) => in_left(alloc, pos, waiting, term, stack, terminal),
         Frame::InRight(pos, left, equates, waiting) => {
@@ -114,8 +118,8 @@ fn in_fields(term: RawTerm, stack: Stack, terminal: Terminal) -> Outcome
     ensures frames { Leaves stack result }
 {
     match terminal {
-        Terminal::Dot(pos) => (at_head(State::NeedField(term, pos, stack))),
-        Terminal::Colon(pos) => (at_head(State::NeedSortOf(term, pos, stack))),
+        Terminal::Dot(pos) => at_head(State::NeedField(term, pos, stack)),
+        Terminal::Colon(pos) => at_head(State::NeedSortOf(term, pos, stack)),
         Terminal::OpenBracket(bracket, pos) => open_bracket(bracket, pos, Some(term), stack),
         other => Outcome::Handed(term, stack, other),
     }
@@ -127,8 +131,8 @@ fn in_parentheses(term: RawTerm, stack: Stack, terminal: Terminal) -> Outcome
     ensures frames { Leaves stack result }
 {
     match terminal {
-        Terminal::Close => (plainly(State::Have(term, stack))),
-        _ => stops(),
+        Terminal::Close => plainly(State::Have(term, stack)),
+        other => let_go(stops(), (term, stack, other)),
     }
 }
 
@@ -144,7 +148,10 @@ fn in_list(
     ensures outcome { Settles result (handed term (InList listing terms ∷ stack) terminal) }
     ensures frames { IfOk result (Leaves stack) }
 {
-    let terms = with_term(terms, term)?;
+    let terms = match with_term(terms, term) {
+        Ok(terms) => terms,
+        Err(error) => return Err(let_go(error, (listing, stack, terminal))),
+    };
     match (listing, terminal) {
         (listing, Terminal::Comma) => {
             let stack = stack.with(Frame::InList(listing, terms))?;
@@ -159,17 +166,28 @@ fn in_list(
         (
             Listing::Bracketed(Bracket::Square, front, pos),
             Terminal::CloseBracket(Bracket::Square),
-        ) => {
-            let whole = bracket_tree(alloc, Bracket::Square, front, pos, terms)?;
-            Ok(plainly(State::Have(whole, stack)))
-        }
+        ) => { end_list(alloc, Bracket::Square, front, pos, terms, stack) }
         (Listing::Bracketed(Bracket::Curly, front, pos), Terminal::CloseBracket(Bracket::Curly)) =>
-            {
-                let whole = bracket_tree(alloc, Bracket::Curly, front, pos, terms)?;
-                Ok(plainly(State::Have(whole, stack)))
-            }
-        _ => Ok(stops()),
+            { end_list(alloc, Bracket::Curly, front, pos, terms, stack) }
+        (listing, other) => Ok(let_go(stops(), (listing, terms, stack, other))),
     }
+}
+
+// A bracket with these terms ends.
+fn end_list(
+    alloc: Global,
+    bracket: Bracket,
+    front: Option<RawTerm>,
+    pos: Pos,
+    terms: RawTerms,
+    stack: Stack,
+) -> Result<Outcome, Memory>
+    ensures outcome { Settles result
+        (outcome (plainly (State.Have (bracket_tree bracket front pos terms) stack)) None) }
+    ensures frames { IfOk result (Leaves stack) }
+{
+    let whole = bracket_tree(alloc, bracket, front, pos, terms)?;
+    Ok(plainly(State::Have(whole, stack)))
 }
 
 // `if`: its condition ends with `then`.
@@ -182,7 +200,7 @@ fn in_if(pos: Pos, term: RawTerm, stack: Stack, terminal: Terminal) -> Result<Ou
             let stack = stack.with(Frame::InThen(pos, term))?;
             Ok(plainly(State::NeedTerm(stack)))
         }
-        _ => Ok(stops()),
+        other => Ok(let_go(stops(), (term, stack, other))),
     }
 }
 
@@ -202,7 +220,7 @@ fn in_then(
             let stack = stack.with(Frame::InElse(pos, condition, term))?;
             Ok(plainly(State::NeedTerm(stack)))
         }
-        _ => Ok(stops()),
+        other => Ok(let_go(stops(), (condition, term, stack, other))),
     }
 }
 
@@ -223,7 +241,7 @@ fn in_left(
             let stack = stack.with(Frame::InRight(pos, term, equates, waiting))?;
             Ok(at_head(State::NeedTerm(stack)))
         }
-        other => { hand_equation(alloc, formula_of(term, pos), waiting, other) }
+        other => hand_equation(alloc, formula_of(term, pos), waiting, other),
     }
 }
 
@@ -243,7 +261,7 @@ pub(crate) fn need_field(
             let stack = stack.with(Frame::InFields)?;
             Ok(plainly(State::Have(whole, stack)))
         }
-        _ => Ok(stops()),
+        other => Ok(let_go(stops(), (term, stack, other))),
     }
 }
 
@@ -262,7 +280,7 @@ pub(crate) fn need_sort_of(
             let whole = qualified(alloc, term, sort, pos)?;
             Ok(plainly(State::Have(whole, stack)))
         }
-        _ => Ok(stops()),
+        other => Ok(let_go(stops(), (term, stack, other))),
     }
 }
 
@@ -279,14 +297,14 @@ pub(crate) fn after_word(
     match terminal {
         Terminal::Open(_pos) => {
             let mark = opens(&stack);
-            let arguments = Frame::InList(Listing::Call(word), no_terms(alloc));
-            let stack = stack.with(Frame::InFields)?.with(arguments)?;
-            Ok(Outcome::Taken(mark, State::NeedTerm(stack)))
+            let fields = stack.with(Frame::InFields)?;
+            let inside = fields.with(Frame::InList(Listing::Call(word), no_terms(alloc)))?;
+            Ok(Outcome::Taken(mark, State::NeedTerm(inside)))
         }
-        other => {
-            let stack = stack.with(Frame::InFields)?;
-            Ok(Outcome::Handed(call_tree(word, no_terms(alloc)), stack, other))
-        }
+        other => match stack.with(Frame::InFields) {
+            Ok(stack) => Ok(Outcome::Handed(call_tree(word, no_terms(alloc)), stack, other)),
+            Err(error) => Err(let_go(error, (word, other))),
+        },
     }
 }
 
@@ -304,13 +322,29 @@ pub(crate) fn after_symbol(
     match terminal {
         Terminal::Word(_) | Terminal::Open(_) | Terminal::OpenBracket(_, _) => {
             let link = Link { symbol, left: term };
-            let stack = stack.with(Frame::InInfixes(Some(link)))?;
-            begin_post(terminal, stack)
+            match stack.with(Frame::InInfixes(Some(link))) {
+                Ok(stack) => begin_post(terminal, stack),
+                Err(error) => Err(let_go(error, terminal)),
+            }
         }
-        other => {
-            let whole = postfix_tree(alloc, symbol, term)?;
-            let stack = stack.with(Frame::InPostfixes)?;
-            Ok(Outcome::Handed(whole, stack, other))
-        }
+        other => match behind_postfix(alloc, symbol, term, stack) {
+            Ok((whole, stack)) => Ok(Outcome::Handed(whole, stack, other)),
+            Err(error) => Err(let_go(error, other)),
+        },
     }
+}
+
+// What a postfix symbol makes of a term, and the stack where others may follow.
+fn behind_postfix(
+    alloc: Global,
+    symbol: RawWord,
+    term: RawTerm,
+    stack: Stack,
+) -> Result<(RawTerm, Stack), Memory>
+    ensures whole { IfOk result (λ both. both.0 ≡ postfix_tree symbol term) }
+    ensures stack { IfOk result (λ both. both.1 ≡ InPostfixes ∷ stack) }
+{
+    let whole = postfix_tree(alloc, symbol, term)?;
+    let stack = stack.with(Frame::InPostfixes)?;
+    Ok((whole, stack))
 }

@@ -1,6 +1,7 @@
-ghost use Rattle.std.specs.Prelude.{◌≡◌, [], cond, true, IfOk, None, Some};
+ghost use Rattle.std.specs.Prelude.{◌≡◌, ◌∷◌, [], cond, true, IfOk, None, Some};
 ghost use Rattle.larch_grammar.specs.Machine.{after_word, behind_refs, open_item, word_frames};
 ghost use Rattle.larch_grammar.specs.Terminals.{ends_reference};
+ghost use Rattle.larch_grammar.specs.declared.machine.Frame.TheVariants.{InFields};
 ghost use Rattle.larch_grammar.specs.declared.machine.Waiting.TheVariants.{Item};
 ghost use Rattle.larch_grammar.specs.declared.machine.Whole.TheVariants.{Trait as whole_trait};
 ghost use Rattle.larch_heads.specs.Outcome.{Settles, outcome, settled, stepped};
@@ -9,7 +10,7 @@ ghost use Rattle.larch_syntax.specs.Implied.{without_whole};
 use crate::begin::word_frames;
 use crate::hand::{after_word, hand};
 use crate::items::{begin_item, clause_word, first_of_item};
-use larch_base::Memory;
+use larch_base::{Memory, let_go};
 use larch_fronts::Mark;
 use larch_grammar::{
     Draft, Frame, Listing, Naming, RefKind, Stack, State, Terminal, call_tree, close_ref,
@@ -33,10 +34,10 @@ pub(crate) fn after_ref_name(
     let reference = open_ref(alloc, raw, kind, name);
     match terminal {
         Terminal::Open(_pos) => Ok(outside(State::NeedForm(Naming::Actual(reference)))),
-        other => {
-            let raw = close_ref(reference)?;
-            after_ref(alloc, raw, kind, other)
-        }
+        other => match close_ref(reference) {
+            Ok(raw) => after_ref(alloc, raw, kind, other),
+            Err(error) => Err(let_go(error, other)),
+        },
     }
 }
 
@@ -146,9 +147,12 @@ fn behind_word(
         (after_word true word (word_frames word (Item (open_item raw [] []))) terminal)) None) }
 {
     if ends_reference(&terminal) {
-        return Ok(stops());
+        return Ok(let_go(stops(), (raw, word, terminal)));
     }
-    let frames = word_frames(alloc, &word, first_of_item(alloc, raw))?;
+    let frames = match word_frames(alloc, &word, first_of_item(alloc, raw)) {
+        Ok(frames) => frames,
+        Err(error) => return Err(let_go(error, (word, terminal))),
+    };
     let found = after_word(alloc, word, frames, terminal)?;
     forgetting(alloc, found)
 }
@@ -164,10 +168,22 @@ pub(crate) fn behind_first(
     ensures { Settles result (stepped (State.BehindFirst raw word terms) terminal) }
 {
     if ends_reference(&terminal) {
-        return Ok(stops());
+        return Ok(let_go(stops(), (raw, word, terms, terminal)));
     }
-    let frames = word_frames(alloc, &word, first_of_item(alloc, raw))?;
-    let frames = frames.with(Frame::InFields)?;
+    let frames = match first_frames(alloc, &word, raw) {
+        Ok(frames) => frames,
+        Err(error) => return Err(let_go(error, (word, terms, terminal))),
+    };
     let found = hand(alloc, call_tree(word, terms), frames, terminal)?;
     Ok(forget(found))
+}
+
+// The frames of a first equation that begins with a word and its arguments.
+fn first_frames(alloc: Global, word: &RawWord, raw: Draft) -> Result<Stack, Memory>
+    ensures { IfOk result (λ frames. frames
+        ≡ InFields ∷ word_frames word.now (Item (open_item raw [] []))) }
+{
+    let frames = word_frames(alloc, word, first_of_item(alloc, raw))?;
+    let frames = frames.with(Frame::InFields)?;
+    Ok(frames)
 }

@@ -1,4 +1,4 @@
-ghost use Rattle.std.specs.Prelude.{◌≡◌, [], IfOk, List, None, Some};
+ghost use Rattle.std.specs.Prelude.{◌≡◌, ◌++◌, ◌∷◌, [], IfOk, List, None, Some};
 ghost use Rattle.larch_grammar.specs.Machine.{begin_part, begin_quantified, end_equation, hand_equation};
 ghost use Rattle.larch_grammar.specs.Machine.{open_item, word_frames};
 ghost use Rattle.larch_grammar.specs.Traits.{with_equations};
@@ -10,7 +10,7 @@ use crate::begin::{begin_equation, word_frames};
 use crate::conversions::begin_exempted;
 use crate::forms::begin_form;
 use crate::hand::after_word;
-use larch_base::{Memory, Sequence};
+use larch_base::{Memory, Sequence, let_go};
 use larch_grammar::{
     Clause, Draft, Naming, OpenItem, Scope, State, Terminal, Waiting, Whole, open_conversion,
     with_equations, with_group, with_word,
@@ -113,6 +113,15 @@ fn close_item(item: OpenItem) -> Result<Draft, Memory>
     with_equations(raw, variables, equations)
 }
 
+// The item with one equation more.
+fn with_equation(item: OpenItem, equation: RawEquation) -> Result<OpenItem, Memory>
+    ensures { IfOk result (λ more. more ≡ open_item item.raw item.variables (item.equations ++ equation ∷ [])) }
+{
+    let mut item = item;
+    item.equations.push(equation)?;
+    Ok(item)
+}
+
 // The same where it is the last equation of this item.
 fn behind_equation(
     alloc: Global,
@@ -124,8 +133,10 @@ fn behind_equation(
         (outcome (hand_equation equation (Item item) terminal) (end_equation equation (Item item))) }
     ensures frames { (frames : List Frame) → IfOk result (Leaves frames) }
 {
-    let mut item = item;
-    item.equations.push(equation)?;
+    let item = match with_equation(item, equation) {
+        Ok(item) => item,
+        Err(error) => return Err(let_go(error, terminal)),
+    };
     match terminal {
         Terminal::Semicolon => Ok(outside(State::AfterSemicolon(item))),
         Terminal::Word(word) => {
@@ -133,13 +144,15 @@ fn behind_equation(
             Ok(outside(State::ClauseWord(raw, word)))
         }
         Terminal::ForAll | Terminal::Asserts | Terminal::Implies(_) | Terminal::Converts => {
-            let raw = close_item(item)?;
-            Ok(begin_part(alloc, raw, terminal))
+            match close_item(item) {
+                Ok(raw) => Ok(begin_part(alloc, raw, terminal)),
+                Err(error) => Err(let_go(error, terminal)),
+            }
         }
-        _ => {
-            let raw = close_item(item)?;
-            Ok(ends(raw))
-        }
+        other => match close_item(item) {
+            Ok(raw) => Ok(let_go(ends(raw), other)),
+            Err(error) => Err(let_go(error, other)),
+        },
     }
 }
 
@@ -168,8 +181,10 @@ fn word_of_equation(
 ) -> Result<Outcome, Memory>
     ensures { Settles result (stepped (State.AfterWord word (word_frames word waiting)) terminal) }
 {
-    let frames = word_frames(alloc, &word, waiting)?;
-    after_word(alloc, word, frames, terminal)
+    match word_frames(alloc, &word, waiting) {
+        Ok(frames) => after_word(alloc, word, frames, terminal),
+        Err(error) => Err(let_go(error, (word, terminal))),
+    }
 }
 
 // A word behind the `;` of these equations is read.
@@ -183,10 +198,10 @@ pub(crate) fn word_behind(
     ensures { Settles result (stepped (State.WordBehind item word) terminal) }
 {
     match terminal {
-        Terminal::Generated | Terminal::Partitioned => {
-            let raw = close_item(item)?;
-            Ok(clause_word(raw, word, terminal))
-        }
+        Terminal::Generated | Terminal::Partitioned => match close_item(item) {
+            Ok(raw) => Ok(clause_word(raw, word, terminal)),
+            Err(error) => Err(let_go(error, (word, terminal))),
+        },
         other => { word_of_equation(alloc, word, Waiting::Item(item), other) }
     }
 }
@@ -227,18 +242,20 @@ pub(crate) fn after_semicolon(
     match terminal {
         Terminal::Word(word) => Ok(at_head(State::WordBehind(item, word))),
         Terminal::ForAll | Terminal::Asserts | Terminal::Implies(_) | Terminal::Converts => {
-            let raw = close_item(item)?;
-            Ok(begin_part(alloc, raw, terminal))
+            match close_item(item) {
+                Ok(raw) => Ok(begin_part(alloc, raw, terminal)),
+                Err(error) => Err(let_go(error, terminal)),
+            }
         }
         Terminal::Symbol(_)
         | Terminal::Not(_)
         | Terminal::Open(_)
         | Terminal::OpenBracket(_, _)
         | Terminal::If(_) => { begin_equation(alloc, terminal, Waiting::Item(item)) }
-        _ => {
-            let raw = close_item(item)?;
-            Ok(ends(raw))
-        }
+        other => match close_item(item) {
+            Ok(raw) => Ok(let_go(ends(raw), other)),
+            Err(error) => Err(let_go(error, other)),
+        },
     }
 }
 
@@ -252,11 +269,11 @@ pub(crate) fn need_variable(
     ensures { Settles result (stepped (State.NeedVariable scope variables) terminal) }
 {
     match terminal {
-        Terminal::Word(name) => {
-            let names = with_word(Sequence::new(alloc), name)?;
-            Ok(outside(State::AfterVariable(scope, variables, names)))
-        }
-        _ => Ok(stops()),
+        Terminal::Word(name) => match with_word(Sequence::new(alloc), name) {
+            Ok(names) => Ok(outside(State::AfterVariable(scope, variables, names))),
+            Err(error) => Err(let_go(error, (scope, variables))),
+        },
+        other => Ok(let_go(stops(), (scope, variables, other))),
     }
 }
 
@@ -272,7 +289,7 @@ pub(crate) fn after_variable(
     match terminal {
         Terminal::Comma => outside(State::NeedFurtherVariable(scope, variables, names)),
         Terminal::Colon(_pos) => outside(State::NeedVariableSort(scope, variables, names)),
-        _ => stops(),
+        other => let_go(stops(), (scope, variables, names, other)),
     }
 }
 
@@ -286,11 +303,11 @@ pub(crate) fn need_further_variable(
     ensures { Settles result (stepped (State.NeedFurtherVariable scope variables names) terminal) }
 {
     match terminal {
-        Terminal::Word(name) => {
-            let names = with_word(names, name)?;
-            Ok(outside(State::AfterVariable(scope, variables, names)))
-        }
-        _ => Ok(stops()),
+        Terminal::Word(name) => match with_word(names, name) {
+            Ok(names) => Ok(outside(State::AfterVariable(scope, variables, names))),
+            Err(error) => Err(let_go(error, (scope, variables))),
+        },
+        other => Ok(let_go(stops(), (scope, variables, names, other))),
     }
 }
 
@@ -304,11 +321,11 @@ pub(crate) fn need_variable_sort(
     ensures { Settles result (stepped (State.NeedVariableSort scope variables names) terminal) }
 {
     match terminal {
-        Terminal::Word(sort) => {
-            let variables = with_group(variables, &names, &sort)?;
-            Ok(outside(State::AfterGroup(scope, variables)))
-        }
-        _ => Ok(stops()),
+        Terminal::Word(sort) => match with_group(variables, &names, &sort) {
+            Ok(variables) => Ok(outside(State::AfterGroup(scope, variables))),
+            Err(error) => Err(let_go(error, scope)),
+        },
+        other => Ok(let_go(stops(), (scope, variables, names, other))),
     }
 }
 

@@ -2,7 +2,7 @@
 use Rattle.std.proofs.Common.{◌≡◌, ℕ, ◌<◌, zero, suc, List, [], ◌∷◌, length, map, get_or, Bool, true, false, ◌&&◌, if◌then◌else◌, Option, Some, None, is_some, unwrap_or, IsSomeAnd, refl, sym, ◌∙◌, ap, ap₂, arith}
 use Rattle.std.specs.List.{list_all}
 use Rattle.std.specs.Option.{option_map}
-use Rattle.clap.specs.Words.{App, Row, Text, all_of, fault_of, first_of, first_value, found_of, is_simple, is_simple_and_free, matched_of, matches_of, raw_values, rows_of}
+use Rattle.clap.specs.Words.{App, Row, Text, all_of, fault_of, first_of, first_value, is_simple, is_simple_and_free, matched_of, matches_of, raw_values, rows_of}
 use Rattle.clap.specs.declared.parser.matches.Found.{Found}
 use Rattle.clap.specs.declared.builder.range.ValueRange.{ValueRange}
 use Rattle.clap.proofs.OnLiterals.{clap_on_literals}

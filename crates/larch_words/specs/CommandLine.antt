@@ -1,5 +1,5 @@
 -- The command line: a command, words, and three options, as `clap` reads them.
-use Rattle.std.specs.Prelude.{true, ℕ, if◌then◌else◌, List, [], Option, Some, None, is_some, codes, ◌||◌}
+use Rattle.std.specs.Prelude.{true, ℕ, if◌then◌else◌, List, [], Option, Some, None, codes}
 use Rattle.std.specs.Prelude.{unwrap_or}
 use Rattle.clap.specs.Lexer.{usize_max}
 use Rattle.clap.specs.Simple.{on_top}
@@ -22,18 +22,23 @@ words_rule =
 abbrev pub option_rule : List ℕ → Rule
 option_rule name = record (new_rule name) { long = Some name; action = Some Set }
 
--- the command line; none of the words is the program's name
-abbrev pub command_line : App
-command_line =
+-- the command and the words behind it; none of the words is the program's name
+abbrev pub command_and_words : App
+command_and_words =
     with_rule
-    (with_rule
-    (with_rule
-    (with_rule
     (with_rule (on_top (λ shape. record shape { no_binary_name = true }) (new_app (codes "larch"))) command_rule)
-    words_rule)
-    (option_rule (codes "limit")))
-    (option_rule (codes "seed")))
+    words_rule
+
+-- the same with the three options
+abbrev pub with_options : App → App
+with_options app =
+    with_rule
+    (with_rule (with_rule app (option_rule (codes "limit"))) (option_rule (codes "seed")))
     (option_rule (codes "size"))
+
+-- the command line
+abbrev pub command_line : App
+command_line = with_options command_and_words
 
 -- a command, the words behind it, and whether an option was given
 pub record Request : Type 0 where

@@ -5,9 +5,9 @@ use Rattle.larch_heads.specs.Outcome.{outcome, stepped}
 use Rattle.larch_heads.proofs.Defaults.{other_constant}
 use Rattle.larch_heads.proofs.shorthands.after_constant.Goals as goal
 
-pub returns-in_ok-raw-in_default : goal.returns-in_ok-raw-in_default
-returns-in_ok-raw-in_default c =
+pub returns-in-Ok : goal.returns-in-Ok
+returns-in-Ok c =
     c.after_head.ensures
-    ∙ ap (λ raw. stepped (AfterHead raw) c.args.terminal) c.in_ok-raw-in_default.ensures
+    ∙ ap (λ raw. stepped (AfterHead raw) c.args.terminal) c.in-Ok.ensures
     ∙ ap (λ taking. outcome taking (final (AfterConstant c.args.raw c.args.sort c.args.constants)))
     (sym (other_constant c.args.raw c.args.sort c.args.constants c.args.terminal c.in_default.not-Comma))

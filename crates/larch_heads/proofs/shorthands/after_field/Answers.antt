@@ -5,9 +5,9 @@ use Rattle.larch_heads.specs.Outcome.{outcome, stepped}
 use Rattle.larch_heads.proofs.Defaults.{other_field}
 use Rattle.larch_heads.proofs.shorthands.after_field.Goals as goal
 
-pub returns-in_ok-raw-in_default : goal.returns-in_ok-raw-in_default
-returns-in_ok-raw-in_default c =
+pub returns-in-Ok : goal.returns-in-Ok
+returns-in-Ok c =
     c.after_head.ensures
-    ∙ ap (λ raw. stepped (AfterHead raw) c.args.terminal) c.in_ok-raw-in_default.ensures
+    ∙ ap (λ raw. stepped (AfterHead raw) c.args.terminal) c.in-Ok.ensures
     ∙ ap (λ taking. outcome taking (final (AfterField c.args.shorthand)))
     (sym (other_field c.args.shorthand c.args.terminal c.in_default.not-Comma))

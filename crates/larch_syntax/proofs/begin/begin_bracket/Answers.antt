@@ -9,7 +9,7 @@ use Rattle.larch_syntax.proofs.begin.begin_bracket.Goals as goal
 pub returns-else-closes : goal.returns-else-closes
 returns-else-closes c =
     let is_open : closes c.args.bracket c.args.terminal ≡ false = sym c.closes.ensures ∙ c.if-closes.false in
-    let inside : c.in_ok-stack.stack ≡ InFields ∷ c.args.stack = c.in_ok-stack.ensures in
+    let inside : c.in-Ok.stack ≡ InFields ∷ c.args.stack = c.in-Ok.ensures in
     subst (Settles c.begin_first.result)
     (ap (λ taking. outcome taking None)
     (ap (λ k. begin_term c.args.terminal (InList (Bracketed c.args.bracket c.args.front c.args.pos) [] ∷ k)) inside ∙ sym (bracket_open c.args.bracket c.args.front c.args.pos c.args.stack c.args.terminal is_open)))

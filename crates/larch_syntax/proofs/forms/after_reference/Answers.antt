@@ -5,9 +5,9 @@ use Rattle.larch_heads.specs.Outcome.{Settles, outcome, stepped}
 use Rattle.larch_syntax.proofs.Defaults.{other_reference}
 use Rattle.larch_syntax.proofs.forms.after_reference.Goals as goal
 
-pub returns-in_ok-raw-in_default : goal.returns-in_ok-raw-in_default
-returns-in_ok-raw-in_default c =
+pub returns-in-Ok : goal.returns-in-Ok
+returns-in-Ok c =
     subst (Settles c.begin_item.result)
-    (ap (λ raw. stepped (InItems raw) c.args.terminal) c.in_ok-raw-in_default.ensures
+    (ap (λ raw. stepped (InItems raw) c.args.terminal) c.in-Ok.ensures
     ∙ ap (λ taking. outcome taking (final (AfterReference c.args.clause c.args.refs))) (sym (other_reference c.args.clause c.args.refs c.args.terminal c.in_default.not-Comma c.in_default.not-Semicolon)))
     c.begin_item.ensures

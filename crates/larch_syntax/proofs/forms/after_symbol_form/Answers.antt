@@ -5,10 +5,10 @@ use Rattle.larch_heads.specs.Outcome.{Settles, outcome, stepped}
 use Rattle.larch_syntax.proofs.FormDefaults.{other_symbol_form}
 use Rattle.larch_syntax.proofs.forms.after_symbol_form.Goals as goal
 
-pub returns-in_ok-form-in_default : goal.returns-in_ok-form-in_default
-returns-in_ok-form-in_default c =
+pub returns-in-Ok-infix_form : goal.returns-in-Ok-infix_form
+returns-in-Ok-infix_form c =
     subst (Settles c.after_form.result)
-    (ap (λ form. stepped (AfterForm c.args.naming form) c.args.terminal) c.in_ok-form-in_default.ensures
+    (ap (λ form. stepped (AfterForm c.args.naming form) c.args.terminal) c.in-Ok-infix_form.ensures
     ∙ ap (λ taking. outcome taking (final (AfterSymbolForm c.args.naming c.args.symbol)))
     (sym (other_symbol_form c.args.naming c.args.symbol c.args.terminal c.in_default.not-Marker)))
     c.after_form.ensures

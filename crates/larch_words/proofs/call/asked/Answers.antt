@@ -1,4 +1,4 @@
-use Rattle.std.proofs.Common.{rules, ◌∙◌, sym, codes, map, false, ◌≡◌, []}
+use Rattle.std.proofs.Common.{rules, codes, map, false, ◌≡◌, []}
 use Rattle.clap.specs.Words.{found_of, rows_of}
 use Rattle.larch_words.specs.Call.{has_option}
 use Rattle.larch_words.specs.CommandLine.{Request, request_in}

@@ -1,4 +1,4 @@
-use Rattle.std.proofs.Common.{rules, ◌∙◌, ap, sym, [], ◌≡◌}
+use Rattle.std.proofs.Common.{rules, ◌∙◌, ap, sym, []}
 use Rattle.std.specs.Result.{IsErrOf}
 use Rattle.std.proofs.lemmas.Result.{err_from_is_err_and}
 use Rattle.larch_base.specs.FileNames.{is_file_name}
