@@ -20,11 +20,21 @@ pub(crate) struct Seen {
 
 /// Operators by what references of clauses ask for: by themselves, by name and range, and by name and a sort of the
 /// domain.
-#[derive(Drop)]
 pub(crate) struct Index {
     pub(crate) themselves: IndexMap<Operator, Seen>,
     pub(crate) made: IndexMap<Operator, Seen>,
     pub(crate) taking: IndexMap<Operator, Seen>,
+}
+
+// By a call, so that a proof takes an index apart in one place alone.
+impl Drop for Index {
+    fn drop(self) {
+        let Index {
+            themselves: _themselves,
+            made: _made,
+            taking: _taking,
+        } = self;
+    }
 }
 
 impl Index {

@@ -19,12 +19,23 @@ use std::alloc::Global;
 
 /// What a reference of a clause is looked for as: the clause's kind and sort, the reference's name, and the one
 /// operator that it means where it has a signature.
-#[derive(Drop)]
 pub(crate) struct Wanted {
     kind: ClauseKind,
     sort: Sort,
     name: Name,
     exact: Option<Operator>,
+}
+
+// By a call, so that a proof takes one apart in one place alone.
+impl Drop for Wanted {
+    fn drop(self) {
+        let Wanted {
+            kind: _kind,
+            sort: _sort,
+            name: _name,
+            exact: _exact,
+        } = self;
+    }
 }
 
 // The operators that the references of a clause name, in order, by an index of the signature where there is one.

@@ -9,9 +9,15 @@ use std::alloc::Global;
 use std::marker::Model;
 
 /// Sorts in the order in which they came, each once. Contracts see them as a list.
-#[derive(Drop)]
 pub struct SortSet {
     sorts: IndexSet<Sort>,
+}
+
+// By a call, so that a proof takes a set apart in one place alone.
+impl Drop for SortSet {
+    fn drop(self) {
+        let SortSet { sorts: _sorts } = self;
+    }
 }
 
 impl Model for SortSet {

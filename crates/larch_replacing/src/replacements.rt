@@ -148,14 +148,14 @@ impl Replacements {
         requires { lookup (bytes_eq old.now) self.sorts ≡ None }
         ensures { IfOk result (λ by. by ≡ these (self.sorts ++ (old.now, new.now) ∷ []) self.operators) }
     {
+        let old = old.copy()?;
+        let new = new.copy()?;
         let Replacements {
             sorts,
             operators,
             names,
         } = self;
         let mut sorts = sorts;
-        let old = old.copy()?;
-        let new = new.copy()?;
         sorts.insert(old, new)?;
         Ok(Replacements {
             sorts,
@@ -183,17 +183,17 @@ impl Replacements {
     pub fn with_operator(self, operator: &Operator, name: &Name) -> Result<Replacements, Memory>
         ensures { IfOk result (λ by. by ≡ these self.sorts (self.operators ++ (operator.now, name.now) ∷ [])) }
     {
+        let copied = operator.copy()?;
+        let word = name.copy()?;
         let Replacements {
             sorts,
             operators,
             names,
         } = self;
+        let mut operators = operators;
+        operators.push((copied, word))?;
         let mut names = names;
         keep_name(&mut names, operator, name)?;
-        let mut operators = operators;
-        let operator = operator.copy()?;
-        let name = name.copy()?;
-        operators.push((operator, name))?;
         Ok(Replacements {
             sorts,
             operators,

@@ -1,4 +1,6 @@
 ghost use Rattle.std.specs.Prelude.{◌≡◌, ◌++◌, IfErr, IfOk, IfSome, None};
+ghost use Rattle.larch_sorts.specs.Counted.{counts_in};
+ghost use Rattle.larch_sorts.specs.Counts.{AreCounts, AreRead, TellsUnread};
 ghost use Rattle.larch_sorts.specs.Found.{Tells};
 ghost use Rattle.larch_sorts.specs.Narrow.{ReadsAt};
 ghost use Rattle.larch_sorts.specs.Parts.{parts};
@@ -8,7 +10,7 @@ ghost use Rattle.larch_sorts.specs.Sides.{ReadBoth, ReadsFormula, ReadsSides};
 ghost use Rattle.larch_sorts.specs.Tabulate.{Unread};
 
 use crate::count::Count;
-use crate::counts::counts_of;
+use crate::counts::{Counted, counts_of};
 use crate::found::{Found, Sides};
 use crate::numbers::Numbers;
 use crate::pick::picked_at;
@@ -19,9 +21,26 @@ use crate::sides::truth;
 use crate::signature::Signature;
 use crate::tally::{count_at, meeting, total};
 use crate::width::{are_wide, is_wide};
+use larch_base::{Memory, let_go};
 use larch_raw::{RawEquation, RawTerm};
 use larch_term::{Sort, bool_sort};
 use std::alloc::Global;
+
+// What was counted of both sides of an equation.
+struct Both {
+    left: Counted,
+    right: Counted,
+}
+
+// By a call, so that a proof takes one apart in one place alone.
+impl Drop for Both {
+    fn drop(self) {
+        let Both {
+            left: _left,
+            right: _right,
+        } = self;
+    }
+}
 
 // What a term reads as at a sort, where it is worth counting and counts tell, or the head token of the first part that
 // has no reading.
@@ -172,34 +191,83 @@ fn counted_both(
     if !are_wide(signature, scope, left, right)? {
         return Ok(None);
     }
-    let Some(lefts) = counts_of(alloc, numbers, scope, left)? else {
-        return Ok(None);
-    };
-    let Some(rights) = counts_of(alloc, numbers, scope, right)? else {
+    let Some(both) = counts_of_both(alloc, numbers, scope, left, right)? else {
         return Ok(None);
     };
     match meeting(
         numbers.len(),
-        lefts.counts.as_slice(),
-        rights.counts.as_slice(),
+        both.left.counts.as_slice(),
+        both.right.counts.as_slice(),
     ) {
         None => Ok(None),
         Some(Count::Never) => Ok(Some(None)),
         Some(Count::Often) => Ok(Some(Some(Found::Several))),
         Some(Count::Once) => {
-            let Some(sort) = sort_met(numbers, lefts.counts.as_slice(), rights.counts.as_slice())
-            else {
+            let Some(sides) = picked_both(alloc, signature, scope, left, right, &both)? else {
                 return Ok(None);
             };
-            let Some(left) = picked_at(alloc, signature, scope, left, &lefts, sort)? else {
-                return Ok(None);
-            };
-            let Some(right) = picked_at(alloc, signature, scope, right, &rights, sort)? else {
-                return Ok(None);
-            };
-            Ok(Some(Some(Found::One(Sides { left, right }))))
+            Ok(Some(Some(Found::One(sides))))
         }
     }
+}
+
+// What was counted of both sides, where both are counted, or the head token of the first part in them that has no
+// reading.
+fn counts_of_both(
+    alloc: Global,
+    numbers: &Numbers,
+    scope: &Scope,
+    left: &RawTerm,
+    right: &RawTerm,
+) -> Result<Option<Both>, ReadRefusal>
+    ensures counts { IfOk result (λ found. IfSome found (λ both.
+        AreCounts numbers.now scope.now left.now (counts_in both.left)
+        × AreCounts numbers.now scope.now right.now (counts_in both.right))) }
+    ensures read { IfOk result (λ found. IfSome found (λ _.
+        AreRead numbers.now scope.now (parts left.now) × AreRead numbers.now scope.now (parts right.now))) }
+    ensures unread { IfErr result (TellsUnread numbers.now scope.now (parts left.now ++ parts right.now)) }
+{
+    let Some(lefts) = counts_of(alloc, numbers, scope, left)? else {
+        return Ok(None);
+    };
+    match counts_of(alloc, numbers, scope, right) {
+        Ok(Some(rights)) => Ok(Some(Both {
+            left: lefts,
+            right: rights,
+        })),
+        Ok(None) => Ok(let_go(None, lefts)),
+        Err(refusal) => Err(let_go(refusal, lefts)),
+    }
+}
+
+// The sides that two terms read as, found by their counts where there is one reading of each.
+fn picked_both(
+    alloc: Global,
+    signature: &Signature,
+    scope: &Scope,
+    left: &RawTerm,
+    right: &RawTerm,
+    both: &Both,
+) -> Result<Option<Sides>, Memory>
+    ensures { IfOk result (λ found. IfSome found (ReadBoth signature.now scope.now left.now right.now)) }
+{
+    let Some(numbers) = signature.numbers() else {
+        return Ok(None);
+    };
+    let Some(sort) = sort_met(
+        numbers,
+        both.left.counts.as_slice(),
+        both.right.counts.as_slice(),
+    ) else {
+        return Ok(None);
+    };
+    let Some(left) = picked_at(alloc, signature, scope, left, &both.left, sort)? else {
+        return Ok(None);
+    };
+    let Some(right) = picked_at(alloc, signature, scope, right, &both.right, sort)? else {
+        return Ok(None);
+    };
+    Ok(Some(Sides { left, right }))
 }
 
 // The first sort that is counted in both.

@@ -19,12 +19,23 @@ use std::marker::Model;
 const FEW: usize = 4;
 
 /// The operators of one name, with what it reads as without arguments. Contracts see them as a list.
-#[derive(Drop)]
 pub(crate) struct Overloads {
     operators: Operators,
     constants: Table,
     places: Option<Places>,
     makers: Option<Makers>,
+}
+
+// By a call, so that a proof takes one apart in one place alone.
+impl Drop for Overloads {
+    fn drop(self) {
+        let Overloads {
+            operators: _operators,
+            constants: _constants,
+            places: _places,
+            makers: _makers,
+        } = self;
+    }
 }
 
 impl Model for Overloads {

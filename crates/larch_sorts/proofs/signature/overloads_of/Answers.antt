@@ -15,9 +15,3 @@ loop-name-preserved-in_ok-insert c = λ n.
     one_kept c.loop-name.index.entries c.insert.new.self.entries c.args.named.now.entries c.in_ok-name.name c.next.new.self c.in_ok-overloads.overloads
     (c.in_ok-overloads.ensures ∙ c.in_ok-operators.ensures ∙ ap (kept_under c.args.named.now.entries) (sym c.in_ok-name.ensures)) c.in_ok-insert.ensures.updates.0 n
     (subst (λ ns. Contains ns n ⊎ (kept_under c.loop-name.index.entries n ≡ kept_under c.args.named.now.entries n)) (c.in-Some.ensures.steps ∙ ap (λ m. m ∷ c.next.new.self) (sym c.in_ok-name.ensures)) (c.loop-name.invariant n))
-
-pub loop-name-preserved-in_ok-insert-2 : goal.loop-name-preserved-in_ok-insert-2
-loop-name-preserved-in_ok-insert-2 c = λ n.
-    one_kept c.loop-name.index.entries c.insert.new.self.entries c.args.named.now.entries c.in_ok-name.name c.next.new.self c.in_ok-overloads.overloads
-    (c.in_ok-overloads.ensures ∙ c.in_ok-operators.ensures ∙ ap (kept_under c.args.named.now.entries) (sym c.in_ok-name.ensures)) c.in_ok-insert.ensures.updates.0 n
-    (subst (λ ns. Contains ns n ⊎ (kept_under c.loop-name.index.entries n ≡ kept_under c.args.named.now.entries n)) (c.in-Some.ensures.steps ∙ ap (λ m. m ∷ c.next.new.self) (sym c.in_ok-name.ensures)) (c.loop-name.invariant n))
