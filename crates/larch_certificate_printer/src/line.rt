@@ -1,7 +1,8 @@
 ghost use Rattle.std.specs.Prelude.{◌≡◌, ◌++◌, ◌∷◌, [], codes, OnOk};
 ghost use Rattle.std.specs.List.{join_with_byte};
-ghost use Rattle.larch_certificate.specs.declared.line.Line.TheVariants.{Axiom, Hyp, Row, Inst, Repl, BoxLine};
-ghost use Rattle.larch_certificate.specs.declared.line.Line.TheVariants.{Fresh, Cases, Induct, Observe};
+ghost use Rattle.larch_certificate.specs.declared.line.Line.TheVariants.{Axiom, Hyp, Row, Refl, Sym, Inst, Repl};
+ghost use Rattle.larch_certificate.specs.declared.line.Line.TheVariants.{Equal, BoxLine, Fresh, Cases, Induct, Observe};
+ghost use Rattle.larch_certificate.specs.declared.line.Line.TheVariants.{Generated, Partitioned};
 ghost use Rattle.larch_certificate_text.specs.LineText.{goal_text, line_text, named_ref, operators_text, rule_fields};
 ghost use Rattle.larch_certificate_text.specs.LineText.{variable_text};
 ghost use Rattle.larch_certificate_text.specs.ListText.{named};
@@ -13,7 +14,8 @@ use crate::part::{
 };
 use larch_base::Memory;
 use larch_certificate::{
-    Bindings, BoxParts, CodedEquation, CodedEquations, CodedVar, CodedVars, Line, Numbers, Path,
+    Bindings, BoxParts, Coded, CodedEquation, CodedEquations, CodedVar, CodedVars, Line, Numbers,
+    Path,
 };
 use larch_certificate_text::{Here, Text};
 use larch_term::Sort;
@@ -53,20 +55,11 @@ fn write_rule(alloc: Global, text: &mut Text, here: Here, line: &Line) -> Result
         Line::Axiom(number) => write_axiom(alloc, text, here, *number),
         Line::Hyp(opened, number) => write_hyp(alloc, text, here, *opened, *number),
         Line::Row(number, sort) => write_row(alloc, text, here, *number, sort),
-        Line::Refl(term) => {
-            text.append(b"refl ")?;
-            write_term_part(alloc, text, here, b"term", term)
-        }
-        Line::Sym(line) => {
-            text.append(b"sym ")?;
-            write_ref_part(alloc, text, here, b"line", *line)
-        }
+        Line::Refl(term) => write_refl(alloc, text, here, term),
+        Line::Sym(line) => write_sym(alloc, text, here, *line),
         Line::Inst(line, by) => write_inst(alloc, text, here, *line, by),
         Line::Repl(line, place, other) => write_repl(alloc, text, here, *line, place, *other),
-        Line::Equal(line) => {
-            text.append(b"equal ")?;
-            write_ref_part(alloc, text, here, b"line", *line)
-        }
+        Line::Equal(line) => write_equal(alloc, text, here, *line),
         Line::BoxLine(parts, hyps) => write_box(alloc, text, here, parts, hyps),
         Line::Done => text.append(b"done"),
         Line::Fresh(closed, by) => write_fresh(alloc, text, here, *closed, by),
@@ -77,22 +70,51 @@ fn write_rule(alloc: Global, text: &mut Text, here: Here, line: &Line) -> Result
         }
         Line::Observe(line, goal, lines) => write_observe(alloc, text, here, *line, goal, lines),
         Line::Generated(closed, sort, operators) => {
-            let clause = Clause {
-                closed: *closed,
-                sort,
-                operators,
-            };
-            write_clause(alloc, text, here, b"generated", &clause)
+            write_generated(alloc, text, here, *closed, sort, operators)
         }
         Line::Partitioned(closed, sort, operators) => {
-            let clause = Clause {
-                closed: *closed,
-                sort,
-                operators,
-            };
-            write_clause(alloc, text, here, b"partitioned", &clause)
+            write_partitioned(alloc, text, here, *closed, sort, operators)
         }
     }
+}
+
+// A word, and the line or box that a rule names first, with a blank behind each.
+fn write_opening(
+    alloc: Global,
+    text: &mut Text,
+    here: Here,
+    word: &[u8],
+    label: &[u8],
+    line: u64,
+) -> Result<(), Memory>
+    ensures { OnOk result (text.new ≡ text.old
+        ++ (word.now ++ (32 ∷ (named_ref here label.now line ++ (32 ∷ []))))) }
+{
+    text.append(word)?;
+    text.push(b' ')?;
+    write_ref_part(alloc, text, here, label, line)?;
+    text.push(b' ')
+}
+
+fn write_refl(alloc: Global, text: &mut Text, here: Here, term: &Coded) -> Result<(), Memory>
+    ensures { OnOk result (text.new ≡ text.old ++ join_with_byte 32 (rule_fields here (Refl term.now))) }
+{
+    text.append(b"refl ")?;
+    write_term_part(alloc, text, here, b"term", term)
+}
+
+fn write_sym(alloc: Global, text: &mut Text, here: Here, line: u64) -> Result<(), Memory>
+    ensures { OnOk result (text.new ≡ text.old ++ join_with_byte 32 (rule_fields here (Sym line))) }
+{
+    text.append(b"sym ")?;
+    write_ref_part(alloc, text, here, b"line", line)
+}
+
+fn write_equal(alloc: Global, text: &mut Text, here: Here, line: u64) -> Result<(), Memory>
+    ensures { OnOk result (text.new ≡ text.old ++ join_with_byte 32 (rule_fields here (Equal line))) }
+{
+    text.append(b"equal ")?;
+    write_ref_part(alloc, text, here, b"line", line)
 }
 
 fn write_axiom(alloc: Global, text: &mut Text, here: Here, number: u64) -> Result<(), Memory>
@@ -111,9 +133,7 @@ fn write_hyp(
 ) -> Result<(), Memory>
     ensures { OnOk result (text.new ≡ text.old ++ join_with_byte 32 (rule_fields here (Hyp opened number))) }
 {
-    text.append(b"hyp ")?;
-    write_ref_part(alloc, text, here, b"box", opened)?;
-    text.push(b' ')?;
+    write_opening(alloc, text, here, b"hyp", b"box", opened)?;
     write_number_part(alloc, text, here, b"number", number)
 }
 
@@ -144,9 +164,7 @@ fn write_inst(
 ) -> Result<(), Memory>
     ensures { OnOk result (text.new ≡ text.old ++ join_with_byte 32 (rule_fields here (Inst line by.now))) }
 {
-    text.append(b"inst ")?;
-    write_ref_part(alloc, text, here, b"line", line)?;
-    text.push(b' ')?;
+    write_opening(alloc, text, here, b"inst", b"line", line)?;
     write_list_part(alloc, text, here, b"by", b';', by.as_slice())
 }
 
@@ -160,9 +178,7 @@ fn write_repl(
 ) -> Result<(), Memory>
     ensures { OnOk result (text.new ≡ text.old ++ join_with_byte 32 (rule_fields here (Repl line place.now other))) }
 {
-    text.append(b"repl ")?;
-    write_ref_part(alloc, text, here, b"line", line)?;
-    text.push(b' ')?;
+    write_opening(alloc, text, here, b"repl", b"line", line)?;
     write_place_part(alloc, text, here, place.as_slice())?;
     text.push(b' ')?;
     write_ref_part(alloc, text, here, b"with", other)
@@ -196,18 +212,14 @@ fn write_fresh(
 ) -> Result<(), Memory>
     ensures { OnOk result (text.new ≡ text.old ++ join_with_byte 32 (rule_fields here (Fresh closed by.now))) }
 {
-    text.append(b"fresh ")?;
-    write_ref_part(alloc, text, here, b"box", closed)?;
-    text.push(b' ')?;
+    write_opening(alloc, text, here, b"fresh", b"box", closed)?;
     write_list_part(alloc, text, here, b"by", b';', by.as_slice())
 }
 
 fn write_cases(alloc: Global, text: &mut Text, here: Here, yes: u64, no: u64) -> Result<(), Memory>
     ensures { OnOk result (text.new ≡ text.old ++ join_with_byte 32 (rule_fields here (Cases yes no))) }
 {
-    text.append(b"cases ")?;
-    write_ref_part(alloc, text, here, b"true", yes)?;
-    text.push(b' ')?;
+    write_opening(alloc, text, here, b"cases", b"true", yes)?;
     write_ref_part(alloc, text, here, b"false", no)
 }
 
@@ -222,9 +234,7 @@ fn write_induct(
     ensures { OnOk result (text.new ≡ text.old
         ++ join_with_byte 32 (rule_fields here (Induct line aim.now.variable.now aim.now.goal.now boxes.now))) }
 {
-    text.append(b"induct ")?;
-    write_ref_part(alloc, text, here, b"line", line)?;
-    text.push(b' ')?;
+    write_opening(alloc, text, here, b"induct", b"line", line)?;
     write_aim(alloc, text, here, aim)?;
     text.push(b' ')?;
     write_numbers_part(
@@ -258,9 +268,7 @@ fn write_observe(
     ensures { OnOk result (text.new ≡ text.old
         ++ join_with_byte 32 (rule_fields here (Observe line goal.now lines.now))) }
 {
-    text.append(b"observe ")?;
-    write_ref_part(alloc, text, here, b"line", line)?;
-    text.push(b' ')?;
+    write_opening(alloc, text, here, b"observe", b"line", line)?;
     write_equation_part(alloc, text, here, b"goal", goal)?;
     text.push(b' ')?;
     write_numbers_part(
@@ -271,6 +279,44 @@ fn write_observe(
         NumberKind::Line,
         lines.as_slice(),
     )
+}
+
+fn write_generated(
+    alloc: Global,
+    text: &mut Text,
+    here: Here,
+    closed: u64,
+    sort: &Sort,
+    operators: &Numbers,
+) -> Result<(), Memory>
+    ensures { OnOk result (text.new ≡ text.old
+        ++ join_with_byte 32 (rule_fields here (Generated closed sort.now operators.now))) }
+{
+    let clause = Clause {
+        closed,
+        sort,
+        operators,
+    };
+    write_clause(alloc, text, here, b"generated", &clause)
+}
+
+fn write_partitioned(
+    alloc: Global,
+    text: &mut Text,
+    here: Here,
+    closed: u64,
+    sort: &Sort,
+    operators: &Numbers,
+) -> Result<(), Memory>
+    ensures { OnOk result (text.new ≡ text.old
+        ++ join_with_byte 32 (rule_fields here (Partitioned closed sort.now operators.now))) }
+{
+    let clause = Clause {
+        closed,
+        sort,
+        operators,
+    };
+    write_clause(alloc, text, here, b"partitioned", &clause)
 }
 
 // A rule that states a clause: its word, and what it names.
@@ -285,10 +331,7 @@ fn write_clause(
         ++ (word.now ++ (32 ∷ join_with_byte 32 (named_ref here (codes "box") clause.now.closed
         ∷ named here (codes "sort") clause.now.sort.now ∷ operators_text here clause.now.operators.now ∷ [])))) }
 {
-    text.append(word)?;
-    text.push(b' ')?;
-    write_ref_part(alloc, text, here, b"box", clause.closed)?;
-    text.push(b' ')?;
+    write_opening(alloc, text, here, word, b"box", clause.closed)?;
     write_sort_part(text, here, b"sort", clause.sort)?;
     text.push(b' ')?;
     write_numbers_part(

@@ -1,12 +1,13 @@
-ghost use Rattle.std.specs.Prelude.{◌≡◌, ◌<◌, ◌+◌, ◌*◌, ◌-◌, ◌++◌, [], length, Some, None, IfOk, OnOk};
+ghost use Rattle.std.specs.Prelude.{◌≡◌, ◌<◌, ◌+◌, ◌*◌, ◌-◌, ◌++◌, ◌∷◌, [], length, Some, None, IfOk, OnOk};
 ghost use Rattle.larch_certificate_printer.specs.Pending.{pending, next_text, waits, next_waits};
 ghost use Rattle.larch_certificate_text.specs.TermText.{term_text};
 ghost use Rattle.larch_certificate.specs.Coded.{coded_nodes};
 
 use crate::number::write_symbol;
-use larch_base::Memory;
+use larch_base::{Memory, Name};
 use larch_certificate::{Coded, CodedNode};
 use larch_certificate_text::{Here, Stack, Text};
+use larch_term::Sort;
 use std::alloc::Global;
 
 /// Puts a term at the end. What waits is kept in memory and not on the stack, so a term may be of any depth.
@@ -53,9 +54,7 @@ fn write_head<'a>(
 {
     match term.node() {
         CodedNode::Var(name, sort) => {
-            text.append(name.bytes())?;
-            text.push(b':')?;
-            text.append(sort.bytes())?;
+            write_leaf(text, name, sort)?;
             Ok(None)
         }
         CodedNode::App(symbol, arguments) => {
@@ -68,6 +67,15 @@ fn write_head<'a>(
             Ok(Some(first))
         }
     }
+}
+
+// Puts a variable at the end: its name and its sort with a colon between them.
+fn write_leaf(text: &mut Text, name: &Name, sort: &Sort) -> Result<(), Memory>
+    ensures { OnOk result (text.new ≡ text.old ++ (name.now ++ (58 ∷ sort.now))) }
+{
+    text.append(name.bytes())?;
+    text.push(b':')?;
+    text.append(sort.bytes())
 }
 
 // Puts a comma, and answers the argument behind it, or puts the parenthesis that closes the arguments.

@@ -3,14 +3,12 @@ use Rattle.std.proofs.Common.{◌≡◌, ℕ, ◌<◌, ◌==◌, cond, Bool, tru
 use Rattle.std.specs.Prelude.{decimal, bytes_eq, option_map, option_and_then}
 use Rattle.std.proofs.lemmas.Bool.{cases_Bool, cases_eq, eq-eqb, ne_eqb}
 use Rattle.std.proofs.lemmas.Option.{none-some, same_Some}
-use Rattle.std.proofs.lemmas.Slice.Eq.{HasBytesAt, bytes_eq-Decides, text_from_reads}
+use Rattle.std.proofs.lemmas.Slice.Eq.{bytes_eq-Decides}
 use Rattle.std.proofs.lemmas.List.Splits.{length-slice_split}
 use Rattle.larch_certificate_text.specs.declared.here.Here.{Here}
-use Rattle.larch_certificate_text.specs.declared.rule_word.RuleWord.{RuleWord}
-use Rattle.larch_certificate_text.specs.declared.rule_word.RuleWord.TheVariants as word
 use Rattle.larch_certificate_text.specs.ListText.{split_at}
 use Rattle.larch_certificate_text.specs.Parts.{IsSmall, cut_at, read_number}
-use Rattle.larch_certificate_text.specs.LineText.{one_of, two_of, three_of, four_of, barred, barred_by, behind, read_done, read_rule, read_rule_word, read_fields, read_line, word_text}
+use Rattle.larch_certificate_text.specs.LineText.{one_of, two_of, three_of, four_of, barred, barred_by, behind, read_done, read_rule, read_fields, read_line}
 use Rattle.larch_certificate_reader.proofs.ListSteps.{split_cut, split_uncut}
 use Rattle.larch_certificate_text.proofs.Numbers.{number_again, number_read}
 
@@ -94,26 +92,3 @@ number_test text k n s e =
 
 pub number_test_none : (text : List ℕ) (k : ℕ) → IsSmall k → None ≡ read_number text → false ≡ bytes_eq text (decimal k)
 number_test_none text k s e = sym (number_is_not text k s (λ o. none-some k (e ∙ o)))
-
--- each word of a rule is read
-word_read : (k : RuleWord) → Some k ≡ read_rule_word (word_text k)
-word_read word.Axiom = refl
-word_read word.Hyp = refl
-word_read word.Row = refl
-word_read word.Refl = refl
-word_read word.Sym = refl
-word_read word.Inst = refl
-word_read word.Repl = refl
-word_read word.Equal = refl
-word_read word.BoxLine = refl
-word_read word.Done = refl
-word_read word.Fresh = refl
-word_read word.Cases = refl
-word_read word.Induct = refl
-word_read word.Observe = refl
-word_read word.Generated = refl
-word_read word.Partitioned = refl
-
--- a text with the length and the bytes of a word is that word
-pub word_found : (text : List ℕ) (k : RuleWord) → length text ≡ length (word_text k) → HasBytesAt text 0 (word_text k) → Some k ≡ read_rule_word text
-word_found text k l b = word_read k ∙ ap read_rule_word (sym (text_from_reads text (word_text k) l b))

@@ -4,3 +4,4 @@ pub mod Fields
 pub mod FirstCut
 pub mod Lines
 pub mod ListSteps
+pub mod RuleWords

@@ -4,6 +4,7 @@ use Rattle.larch_certificate.specs.declared.line.Line.{Line}
 use Rattle.larch_certificate_text.specs.CertificateText.{here, Reading, put_before, lines_by, ending, read_lines, version_of, Versioned, with_version, read_by, read_pieces, read_certificate, header, IsTextOf}
 use Rattle.larch_certificate_text.specs.ListText.{split_at}
 use Rattle.larch_certificate_text.specs.Parts.{cut_at}
+use Rattle.larch_certificate_reader.specs.JoinedLines.{joined}
 use Rattle.larch_certificate_reader.specs.Refusals.{IfForm}
 use Rattle.larch_certificate_text.specs.LineText.{read_line}
 use Rattle.larch_certificate_reader.specs.declared.certificate.FormRefusal.{FormRefusal}
@@ -33,10 +34,18 @@ by_nothing (Some v) = refl
 pub header_uncut : (either : Bool) (text : List ℕ) → None ≡ cut_at 10 text → read_pieces either (split_at 10 text) ≡ Err 1
 header_uncut either text e = ap (read_pieces either) (split_uncut 10 text (sym e)) ∙ by_nothing (version_of either text)
 
--- the lines so far and those to come
-abbrev pub joined : List Line → Reading → Reading
-joined xs (Ok ys) = Ok (xs ++ ys)
-joined xs (Err k) = Err k
+pub joined_none : (o : Reading) → joined [] o ≡ o
+joined_none (Ok ys) = refl
+joined_none (Err k) = refl
+
+joined_err : (xs : List Line) (o : Reading) (k : ℕ) → joined xs o ≡ Err k → o ≡ Err k
+joined_err xs (Ok ys) k e = absurd cc
+joined_err xs (Err n) k e = e
+
+-- what is wrong behind other lines is wrong without them
+pub form_joined : (refusal : FormRefusal) (xs : List Line) (o : Reading) → IfForm refusal (λ n. joined xs o ≡ Err n) → IfForm refusal (λ n. o ≡ Err n)
+form_joined (Form n) xs o e = joined_err xs o n e
+form_joined Memory xs o e = tt
 
 lines_more : (v : Bool) (n : ℕ) (x : List ℕ) (ys : List (List ℕ)) → 0 < length ys → read_lines v n (x ∷ ys) ≡ lines_by n (read_line (here v n) x) (read_lines v (n + 1) ys)
 lines_more v n x [] l = absurd (omega (arith, l))

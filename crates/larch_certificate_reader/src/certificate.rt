@@ -1,5 +1,6 @@
-ghost use Rattle.std.specs.Prelude.{◌≡◌, Ok, Err, List, Bool, true, false, IfOk, IfErr};
+ghost use Rattle.std.specs.Prelude.{◌≡◌, Ok, Err, List, Bool, true, false, IfOk, IfErr, OnOk};
 ghost use Rattle.larch_certificate.specs.declared.line.Line.{Line};
+ghost use Rattle.larch_certificate_reader.specs.JoinedLines.{joined};
 ghost use Rattle.larch_certificate_reader.specs.Refusals.{IfForm};
 ghost use Rattle.larch_certificate_reader.specs.declared.certificate.FormRefusal.TheVariants.{Memory as wants_memory};
 ghost use Rattle.larch_certificate_text.specs.CertificateText.{IsFirstOutside, IsTextOf, read_certificate, read_lines};
@@ -9,7 +10,7 @@ ghost use Rattle.larch_certificate_text.specs.ListText.{split_at};
 use crate::line::read_line;
 use crate::names::Names;
 use crate::parts::cut_at;
-use larch_base::{Memory, Sequence};
+use larch_base::{Memory, Sequence, let_go};
 use larch_certificate::Certificate;
 use larch_certificate_text::Here;
 use std::alloc::Global;
@@ -97,13 +98,31 @@ fn version_of(either: bool, line: &[u8]) -> Option<bool>
     None
 }
 
-#[tactic(auto, using(crate::proofs::Lines::line_bad, crate::proofs::Lines::lines_end, crate::proofs::ListSteps::cut_shorter))]
+#[tactic(auto, using(crate::proofs::Lines::joined_none))]
 fn read_lines(alloc: Global, relative: bool, text: &[u8]) -> Result<Certificate, FormRefusal>
     ensures ok { IfOk result (λ lines. read_lines relative 1 (split_at 10 text.now) ≡ Ok lines) }
     ensures err { IfErr result (λ refusal. IfForm refusal (λ n. read_lines relative 1 (split_at 10 text.now) ≡ Err n)) }
 {
     let mut names = Names::new(alloc)?;
     let mut lines = Sequence::new(alloc);
+    match read_onto(&mut names, relative, text, &mut lines) {
+        Ok(()) => Ok(let_go(lines, names)),
+        Err(refusal) => Err(let_go(refusal, (names, lines))),
+    }
+}
+
+// Puts the lines of the text behind those that are there.
+#[tactic(auto, using(crate::proofs::Lines::line_bad, crate::proofs::Lines::lines_end, crate::proofs::ListSteps::cut_shorter))]
+fn read_onto(
+    names: &mut Names,
+    relative: bool,
+    text: &[u8],
+    lines: &mut Certificate,
+) -> Result<(), FormRefusal>
+    ensures ok { OnOk result (joined lines.old (read_lines relative 1 (split_at 10 text.now)) ≡ Ok lines.new) }
+    ensures err { IfErr result (λ refusal. IfForm refusal (λ n.
+        joined lines.old (read_lines relative 1 (split_at 10 text.now)) ≡ Err n)) }
+{
     let mut number: u64 = 1;
     let mut rest = text;
     'lines: while let Some((first, others)) = cut_at(b'\n', rest) {
@@ -111,7 +130,7 @@ fn read_lines(alloc: Global, relative: bool, text: &[u8]) -> Result<Certificate,
             relative,
             line: number,
         };
-        let Some(line) = read_line(&mut names, here, first)? else {
+        let Some(line) = read_line(names, here, first)? else {
             return Err(FormRefusal::Form(number + 1));
         };
         lines.push(line)?;
@@ -121,5 +140,5 @@ fn read_lines(alloc: Global, relative: bool, text: &[u8]) -> Result<Certificate,
     if !rest.is_empty() {
         return Err(FormRefusal::Form(number + 1));
     }
-    Ok(lines)
+    Ok(())
 }

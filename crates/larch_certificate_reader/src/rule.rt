@@ -1,10 +1,11 @@
-ghost use Rattle.std.specs.Prelude.{◌≡◌, ◌∷◌, IfOk, option_and_then};
+ghost use Rattle.std.specs.Prelude.{◌≡◌, ◌∷◌, codes, IfOk, Some, option_and_then};
+ghost use Rattle.larch_certificate.specs.declared.line.Line.TheVariants.{Induct};
 ghost use Rattle.larch_certificate_reader.specs.Views.{parts_of};
-ghost use Rattle.larch_certificate_text.specs.LineText.{axiom_of, box_by, box_of, cases_of, equal_of, four_of, fresh_of};
-ghost use Rattle.larch_certificate_text.specs.LineText.{generated_of, hyp_of, induct_of, inst_of, observe_of};
-ghost use Rattle.larch_certificate_text.specs.LineText.{one_of, partitioned_of, read_by_word, read_done, refl_of};
-ghost use Rattle.larch_certificate_text.specs.LineText.{repl_of, row_at_of, row_by, row_of, sym_of, three_of};
-ghost use Rattle.larch_certificate_text.specs.LineText.{two_of};
+ghost use Rattle.larch_certificate_text.specs.LineText.{axiom_of, box_by, box_of, cases_of, equal_of, four};
+ghost use Rattle.larch_certificate_text.specs.LineText.{four_of, fresh_of, generated_of, goal_part, hyp_of};
+ghost use Rattle.larch_certificate_text.specs.LineText.{induct_of, inst_of, observe_of, one_of, partitioned_of};
+ghost use Rattle.larch_certificate_text.specs.LineText.{read_by_word, read_done, refl_of, refs_part, repl_of};
+ghost use Rattle.larch_certificate_text.specs.LineText.{row_at_of, row_by, row_of, sym_of, three_of, two_of};
 
 use crate::count::{box_by, four, one, three, two};
 use crate::named::{
@@ -12,8 +13,8 @@ use crate::named::{
     sort_part, sorts_part, term_part, variable_part, variables_part,
 };
 use crate::names::Names;
-use larch_base::Memory;
-use larch_certificate::Line;
+use larch_base::{Memory, let_go};
+use larch_certificate::{CodedVar, Line};
 use larch_certificate_text::{Here, RuleWord};
 
 /// What the parts behind the word of a rule say.
@@ -176,9 +177,10 @@ fn box_of(names: &mut Names, here: Here, sorts: &[u8], hyps: &[u8]) -> Result<Op
     let Some(sorts) = sorts_part(names, here, sorts)? else {
         return Ok(None);
     };
-    match hyps_part(names, here, hyps)? {
-        Some(hyps) => Ok(Some(Line::BoxLine(sorts, hyps))),
-        None => Ok(None),
+    match hyps_part(names, here, hyps) {
+        Ok(Some(hyps)) => Ok(Some(Line::BoxLine(sorts, hyps))),
+        Ok(None) => Ok(let_go(None, sorts)),
+        Err(memory) => Err(let_go(memory, sorts)),
     }
 }
 
@@ -279,15 +281,34 @@ fn induct_of(
     let Some(line) = ref_part(here, b"line", line) else {
         return Ok(None);
     };
-    let Some(variable) = variable_part(names, here, variable)? else {
-        return Ok(None);
-    };
-    let Some(goal) = goal_part(names, here, goal)? else {
-        return Ok(None);
-    };
-    match refs_part(names, here, b"boxes", boxes)? {
-        Some(boxes) => Ok(Some(Line::Induct(line, variable, goal, boxes))),
+    match variable_part(names, here, variable)? {
+        Some(variable) => induct_over(names, here, line, variable, goal, boxes),
         None => Ok(None),
+    }
+}
+
+// The induction of a line over a variable, with what the further parts say.
+fn induct_over(
+    names: &mut Names,
+    here: Here,
+    line: u64,
+    variable: CodedVar,
+    goal: &[u8],
+    boxes: &[u8],
+) -> Result<Option<Line>, Memory>
+    ensures { IfOk result (λ found. found
+        ≡ four (λ m x e bs. Induct m x e bs) (Some line) (Some variable) (goal_part here goal.now)
+        (refs_part here (codes "boxes") boxes.now)) }
+{
+    let goal = match goal_part(names, here, goal) {
+        Ok(Some(goal)) => goal,
+        Ok(None) => return Ok(let_go(None, variable)),
+        Err(memory) => return Err(let_go(memory, variable)),
+    };
+    match refs_part(names, here, b"boxes", boxes) {
+        Ok(Some(boxes)) => Ok(Some(Line::Induct(line, variable, goal, boxes))),
+        Ok(None) => Ok(let_go(None, (variable, goal))),
+        Err(memory) => Err(let_go(memory, (variable, goal))),
     }
 }
 
@@ -315,9 +336,10 @@ fn observe_of(
     let Some(goal) = goal_part(names, here, goal)? else {
         return Ok(None);
     };
-    match refs_part(names, here, b"lines", lines)? {
-        Some(lines) => Ok(Some(Line::Observe(line, goal, lines))),
-        None => Ok(None),
+    match refs_part(names, here, b"lines", lines) {
+        Ok(Some(lines)) => Ok(Some(Line::Observe(line, goal, lines))),
+        Ok(None) => Ok(let_go(None, goal)),
+        Err(memory) => Err(let_go(memory, goal)),
     }
 }
 
@@ -349,9 +371,10 @@ fn generated_of(
     let Some(sort) = sort_part(names, here, sort)? else {
         return Ok(None);
     };
-    match operators_part(names, here, operators)? {
-        Some(operators) => Ok(Some(Line::Generated(closed, sort, operators))),
-        None => Ok(None),
+    match operators_part(names, here, operators) {
+        Ok(Some(operators)) => Ok(Some(Line::Generated(closed, sort, operators))),
+        Ok(None) => Ok(let_go(None, sort)),
+        Err(memory) => Err(let_go(memory, sort)),
     }
 }
 
@@ -383,8 +406,9 @@ fn partitioned_of(
     let Some(sort) = sort_part(names, here, sort)? else {
         return Ok(None);
     };
-    match operators_part(names, here, operators)? {
-        Some(operators) => Ok(Some(Line::Partitioned(closed, sort, operators))),
-        None => Ok(None),
+    match operators_part(names, here, operators) {
+        Ok(Some(operators)) => Ok(Some(Line::Partitioned(closed, sort, operators))),
+        Ok(None) => Ok(let_go(None, sort)),
+        Err(memory) => Err(let_go(memory, sort)),
     }
 }

@@ -73,6 +73,10 @@ still_open (Partitioned b s ks) bs = bs
 abbrev pub IsEmpty : Theory → Builder → Type 0
 IsEmpty t b = (b.theory ≡ t) × (b.lines ≡ []) × (b.boxes ≡ [])
 
+-- the second builder has one line more, and these boxes are open
+abbrev pub IsPushedOnto : Builder → Builder → Line → List OpenBox → Type 0
+IsPushedOnto a b line boxes = (b.theory ≡ a.theory) × (b.lines ≡ a.lines ++ line ∷ []) × (b.boxes ≡ boxes)
+
 -- the second builder has one line more, which has the number
 pub record IsPushed (a b : Builder) (line : Line) (n : ℕ) : Type 0 where
   pub theory : b.theory ≡ a.theory

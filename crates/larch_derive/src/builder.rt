@@ -1,16 +1,16 @@
-ghost use Rattle.std.specs.Prelude.{◌≡◌, suc, ◌-◌, ◌++◌, ◌∷◌, [], IfOk, OnErr, false, length, map, take, All};
+ghost use Rattle.std.specs.Prelude.{◌≡◌, suc, ◌-◌, ◌++◌, ◌∷◌, [], IfOk, OnErr, OnOk, false, length, map, take, All};
 ghost use Rattle.larch_calculus.specs.Renaming.{IsPlainName};
 ghost use Rattle.larch_derive.specs.Coding.{IsSymbolOf};
 ghost use Rattle.larch_derive.specs.Predicates.{HasNoBadLine};
-ghost use Rattle.larch_derive.specs.Builder.{IsEmpty, IsPushed, IsOpened, IsBoxLine, IsCodeIn};
-ghost use Rattle.larch_derive.specs.Builder.{opens_box, part_for, boxes_in, lines_in, theory_in};
+ghost use Rattle.larch_derive.specs.Builder.{IsEmpty, IsPushed, IsPushedOnto, IsOpened, IsBoxLine, IsCodeIn};
+ghost use Rattle.larch_derive.specs.Builder.{opens_box, still_open, part_for, boxes_in, lines_in, theory_in};
 
 use crate::coding::{code, code_equations, symbol_of};
 use crate::copying::copy_line;
 use crate::open_box::{OpenBox, OpenBoxes, copy_boxes};
 use crate::shared_list::SharedList;
 use crate::shared_theory::SharedTheory;
-use larch_base::{Memory, Sequence};
+use larch_base::{Memory, Sequence, let_go};
 use larch_certificate::{BoxPart, BoxParts, Certificate, Coded, Line, Symbol};
 use larch_term::{Operator, Operators, Statements, Term, Theory, copy_operators};
 use std::alloc::Global;
@@ -47,15 +47,20 @@ impl Builder {
         ensures { IfOk result (λ copied. copied ≡ self.now) }
     {
         let alloc = self.alloc;
-        let theory = self.theory.copy()?;
-        let lines = self.lines.copy()?;
         let boxes = copy_boxes(alloc, self.boxes.as_slice())?;
-        Ok(Builder {
-            alloc,
-            theory,
-            lines,
-            boxes,
-        })
+        let lines = match self.lines.copy() {
+            Ok(lines) => lines,
+            Err(memory) => return Err(let_go(memory, boxes)),
+        };
+        match self.theory.copy() {
+            Ok(theory) => Ok(Builder {
+                alloc,
+                theory,
+                lines,
+                boxes,
+            }),
+            Err(memory) => Err(let_go(memory, (boxes, lines))),
+        }
     }
 
     /// The lines so far, in order.
@@ -92,15 +97,51 @@ impl Builder {
         ensures ok { IfOk result (IsPushed self.old self.new line) }
         ensures err { OnErr result (self.new ≡ self.old) }
     {
-        let number = self.next_number()?;
+        match self.next_number() {
+            Ok(number) => self.push_numbered(number, line),
+            Err(memory) => Err(let_go(memory, line)),
+        }
+    }
+
+    // Puts a line that opens no box behind the others, and answers this number.
+    fn push_numbered(&mut self, number: u64, line: Line) -> Result<u64, Memory>
+        requires { opens_box line ≡ false }
+        ensures number { IfOk result (λ n. n ≡ number) }
+        ensures ok { OnOk result (IsPushedOnto self.old self.new line (still_open line self.old.boxes)) }
+        ensures err { OnErr result (self.new ≡ self.old) }
+    {
         if let Line::Done = &line {
-            let boxes = copy_boxes(self.alloc, outer(self.boxes.as_slice()))?;
-            self.lines.push(line)?;
-            self.boxes = boxes;
+            self.push_closing(line)?;
         } else {
             self.lines.push(line)?;
         }
         Ok(number)
+    }
+
+    // Puts a line behind the others, and closes the innermost box.
+    fn push_closing(&mut self, line: Line) -> Result<(), Memory>
+        ensures ok { OnOk result (IsPushedOnto self.old self.new line
+            (take (length self.old.boxes - 1) self.old.boxes)) }
+        ensures err { OnErr result (self.new ≡ self.old) }
+    {
+        match copy_boxes(self.alloc, outer(self.boxes.as_slice())) {
+            Ok(boxes) => self.push_leaving(line, boxes),
+            Err(memory) => Err(let_go(memory, line)),
+        }
+    }
+
+    // Puts a line behind the others, with these boxes open behind it.
+    fn push_leaving(&mut self, line: Line, boxes: OpenBoxes) -> Result<(), Memory>
+        ensures ok { OnOk result (IsPushedOnto self.old self.new line boxes) }
+        ensures err { OnErr result (self.new ≡ self.old) }
+    {
+        match self.lines.push(line) {
+            Ok(()) => {
+                self.boxes = boxes;
+                Ok(())
+            }
+            Err(memory) => Err(let_go(memory, boxes)),
+        }
     }
 
     // The number of the next line.
@@ -126,8 +167,7 @@ impl Builder {
         let number = self.next_number()?;
         let boxes = self.boxes_with(number, constants)?;
         let line = self.box_line(constants, boxes.as_slice(), hypotheses)?;
-        self.lines.push(line)?;
-        self.boxes = boxes;
+        self.push_leaving(line, boxes)?;
         Ok(number)
     }
 
@@ -136,10 +176,11 @@ impl Builder {
         ensures { IfOk result (λ boxes.
             boxes ≡ boxes_in self.now ++ record { number = number; constants = constants.now } ∷ []) }
     {
-        let mut boxes = copy_boxes(self.alloc, self.boxes.as_slice())?;
         let constants = copy_operators(self.alloc, constants.as_slice())?;
-        boxes.push(OpenBox { number, constants })?;
-        Ok(boxes)
+        match copy_boxes(self.alloc, self.boxes.as_slice()) {
+            Ok(boxes) => with_box(boxes, OpenBox { number, constants }),
+            Err(memory) => Err(let_go(memory, constants)),
+        }
     }
 
     // The line that opens a box, with hypotheses that are written where these boxes are open.
@@ -152,8 +193,10 @@ impl Builder {
         ensures { IfOk result (IsBoxLine boxes.now (theory_in self.now).operators constants.now hypotheses.now) }
     {
         let equations = code_equations(self.alloc, &self.theory, boxes, hypotheses.as_slice())?;
-        let parts = parts_for(self.alloc, constants.as_slice())?;
-        Ok(Line::BoxLine(parts, equations))
+        match parts_for(self.alloc, constants.as_slice()) {
+            Ok(parts) => Ok(Line::BoxLine(parts, equations)),
+            Err(memory) => Err(let_go(memory, equations)),
+        }
     }
 }
 
@@ -164,6 +207,15 @@ fn names_are_plain(operators: &[Operator])
     for operator in operators {
         let _ = operator.name();
     }
+}
+
+// The boxes and one more.
+fn with_box(boxes: OpenBoxes, further: OpenBox) -> Result<OpenBoxes, Memory>
+    ensures { IfOk result (λ more. more ≡ boxes ++ further ∷ []) }
+{
+    let mut boxes = boxes;
+    boxes.push(further)?;
+    Ok(boxes)
 }
 
 // All boxes but the innermost.

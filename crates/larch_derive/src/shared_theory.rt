@@ -3,7 +3,7 @@ ghost use Rattle.larch_derive.specs.OpenBox.{place_from};
 ghost use Rattle.larch_derive.specs.Index.{IsIndex};
 
 use indexmap::IndexMap;
-use larch_base::Memory;
+use larch_base::{Memory, let_go};
 use larch_term::{Operator, Theory, copy_theory};
 use std::alloc::Global;
 use std::marker::Model;
@@ -35,11 +35,11 @@ impl SharedTheory {
     pub(crate) fn new(alloc: Global, theory: &Theory) -> Result<SharedTheory, Memory>
         ensures { IfOk result (λ shared. shared ≡ theory.now) }
     {
-        let places = places_in(alloc, theory.operators.as_slice())?;
-        let places = Rc::new(alloc, places)?;
-        let theory = copy_theory(alloc, theory)?;
-        let theory = Rc::new(alloc, theory)?;
-        Ok(SharedTheory { theory, places })
+        let places = shared_places(alloc, theory.operators.as_slice())?;
+        match shared_copy(alloc, theory) {
+            Ok(theory) => Ok(SharedTheory { theory, places }),
+            Err(memory) => Err(let_go(memory, places)),
+        }
     }
 
     // The same theory once more. It takes no memory of its own, but there may be too many copies.
@@ -47,8 +47,10 @@ impl SharedTheory {
         ensures { IfOk result (λ shared. shared ≡ self.now) }
     {
         let theory = self.theory.clone()?;
-        let places = self.places.clone()?;
-        Ok(SharedTheory { theory, places })
+        match self.places.clone() {
+            Ok(places) => Ok(SharedTheory { theory, places }),
+            Err(refused) => Err(let_go(Memory::from(refused), theory)),
+        }
     }
 
     // The place of an operator among the theory's own, counted from 1. It takes no memory.
@@ -57,6 +59,27 @@ impl SharedTheory {
     {
         self.places.as_ref().get(operator).copied()
     }
+}
+
+// A copy of the theory, to be shared.
+fn shared_copy(alloc: Global, theory: &Theory) -> Result<Rc<Theory>, Memory>
+    ensures { IfOk result (λ shared. shared.value ≡ theory.now) }
+{
+    let theory = copy_theory(alloc, theory)?;
+    let theory = Rc::new(alloc, theory)?;
+    Ok(theory)
+}
+
+// The index of these operators, to be shared.
+fn shared_places(
+    alloc: Global,
+    operators: &[Operator],
+) -> Result<Rc<IndexMap<Operator, u64>>, Memory>
+    ensures { IfOk result (λ places. IsIndex places.value.entries operators.now) }
+{
+    let places = places_in(alloc, operators)?;
+    let places = Rc::new(alloc, places)?;
+    Ok(places)
 }
 
 // The place of each operator, from the last to the first: where an operator stands twice, the lower place counts.

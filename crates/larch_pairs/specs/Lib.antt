@@ -1,3 +1,4 @@
+pub mod Clashes
 pub mod Demand
 pub mod Refusals
 pub mod Resolved

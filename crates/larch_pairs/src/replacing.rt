@@ -3,12 +3,12 @@ ghost use Rattle.larch_base.specs.Answering.{Answers};
 ghost use Rattle.larch_pairs.specs.Refusals.{told};
 ghost use Rattle.larch_pairs.specs.Unify.{is_large, within};
 ghost use Rattle.larch_term.specs.Substitution.{image, substituted, substituted_all};
-ghost use Rattle.larch_term.specs.Tree.{forest_of, nodes, nodes_all, var};
+ghost use Rattle.larch_term.specs.Tree.{app, forest_of, nodes, nodes_all, var};
 
 use crate::refusal::PairRefusal;
 use larch_base::limits::MAX_TERM_NODES;
-use larch_base::{Memory, Name};
-use larch_term::{Entry, Node, Sort, Substitution, Term, Terms, copy, size};
+use larch_base::{Memory, Name, let_go};
+use larch_term::{Entry, Node, Operator, Sort, Substitution, Term, Terms, copy, size};
 use std::alloc::Global;
 
 /// The term under a substitution; `TooLarge` where it then has more than 5,000 nodes, which are counted first. It takes
@@ -94,15 +94,11 @@ pub(crate) fn replaced(alloc: Global, term: &Term, by: &[Entry]) -> Result<Term,
     ensures { IfOk result (λ t. t ≡ substituted by.now term.now) }
 {
     match term.node() {
-        Node::Var(name, sort) => {
-            let image = image(alloc, by, name, sort)?;
-            Ok(image)
-        }
-        Node::App(operator, arguments) => {
-            let arguments = replaced_all(alloc, arguments.as_slice(), by)?;
-            let operator = operator.copy()?;
-            Ok(Term::app(operator, arguments))
-        }
+        Node::Var(name, sort) => image(alloc, by, name, sort),
+        Node::App(operator, arguments) => match replaced_all(alloc, arguments.as_slice(), by) {
+            Ok(arguments) => application(operator, arguments),
+            Err(memory) => Err(memory),
+        },
     }
 }
 
@@ -125,11 +121,27 @@ fn image(alloc: Global, by: &[Entry], name: &Name, sort: &Sort) -> Result<Term, 
 {
     for entry in by {
         if entry.name == *name && entry.sort == *sort {
-            let image = copy(alloc, &entry.term)?;
-            return Ok(image);
+            return copy(alloc, &entry.term);
         }
     }
+    variable(name, sort)
+}
+
+// The variable with this name and sort, from copies of both.
+fn variable(name: &Name, sort: &Sort) -> Result<Term, Memory>
+    ensures { IfOk result (λ t. t ≡ var name.now sort.now) }
+{
     let name = name.copy()?;
     let sort = sort.copy()?;
     Ok(Term::var(name, sort))
+}
+
+// The operator with these arguments, from a copy of it.
+fn application(operator: &Operator, arguments: Terms) -> Result<Term, Memory>
+    ensures { IfOk result (λ t. t ≡ app operator.now (forest_of arguments)) }
+{
+    match operator.copy() {
+        Ok(operator) => Ok(Term::app(operator, arguments)),
+        Err(memory) => Err(let_go(memory, arguments)),
+    }
 }

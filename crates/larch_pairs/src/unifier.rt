@@ -3,6 +3,7 @@ ghost use Rattle.std.specs.List.{list_any};
 ghost use Rattle.larch_base.specs.Answering.{Answers};
 ghost use Rattle.larch_term.specs.Substitution.{is_entry_of, substituted};
 ghost use Rattle.larch_pairs.specs.Refusals.{told};
+ghost use Rattle.larch_pairs.specs.Clashes.{unless_clash};
 ghost use Rattle.larch_pairs.specs.Resolved.{resolved};
 ghost use Rattle.larch_pairs.specs.Unify.{a_term_is_too_large, is_large, sides_under, variables_of_both};
 ghost use Rattle.larch_pairs.specs.Unify.{unify, unify_from};
@@ -11,7 +12,7 @@ ghost use Rattle.larch_term.specs.Tree.{nodes};
 use crate::demand::{Demand, Equations, Sides, demand_of, first_demand, occurs};
 use crate::refusal::PairRefusal;
 use crate::replacing::{is_large_under, replaced, replaced_within};
-use larch_base::{Memory, Sequence};
+use larch_base::{Memory, Sequence, let_go};
 use larch_term::{Entry, Substitution, Term, Variable, Variables, add_variables, size, variables};
 use std::alloc::Global;
 use std::slice;
@@ -63,7 +64,10 @@ fn unify_from(alloc: Global, count: u64, demand: Demand) -> Result<Option<Entrie
     let mut bound = Sequence::new(alloc);
     while let Demand::Bind(variable, term, equations) = asked {
         if left == 0 {
-            return Err(PairRefusal::TooLarge);
+            return Err(let_go(
+                PairRefusal::TooLarge,
+                ((variable, term), (equations, bound)),
+            ));
         }
         left -= 1;
         let entry = Entry {
@@ -72,16 +76,37 @@ fn unify_from(alloc: Global, count: u64, demand: Demand) -> Result<Option<Entrie
             term,
         };
         if some_side_is_large(equations.as_slice(), slice::from_ref(&entry)) {
-            return Err(PairRefusal::TooLarge);
+            return Err(let_go(PairRefusal::TooLarge, (equations, (entry, bound))));
         }
-        let equations = sides_under(alloc, equations, &entry)?;
-        bound.push(entry)?;
-        asked = first_demand(alloc, equations)?;
+        let equations = match sides_under(alloc, equations, &entry) {
+            Ok(equations) => equations,
+            Err(memory) => return Err(let_go(PairRefusal::from(memory), (entry, bound))),
+        };
+        if let Err(memory) = bound.push(entry) {
+            return Err(let_go(PairRefusal::from(memory), (equations, bound)));
+        }
+        asked = match first_demand(alloc, equations) {
+            Ok(asked) => asked,
+            Err(memory) => return Err(let_go(PairRefusal::from(memory), bound)),
+        };
     }
-    let bound = resolved(alloc, bound)?;
+    match resolved(alloc, bound) {
+        Ok(bound) => Ok(unless_clash(asked, bound)),
+        Err(refusal) => Err(let_go(refusal, asked)),
+    }
+}
+
+// The bindings, unless what is asked is what no substitution does.
+fn unless_clash(asked: Demand, bound: Entries) -> Option<Entries>
+    ensures { result ≡ unless_clash asked bound }
+{
     match asked {
-        Demand::Clash => Ok(None),
-        _ => Ok(Some(bound)),
+        Demand::Clash => let_go(None, bound),
+        Demand::Nothing => Some(bound),
+        Demand::Bind(variable, term, equations) => let_go(
+            Some(bound),
+            ((variable, term), equations),
+        ),
     }
 }
 

@@ -6,7 +6,7 @@ use crate::numbers::Numbers;
 use crate::pool::Pool;
 use crate::symbol::{SortList, Symbol, SymbolName};
 use larch_base::Memory;
-use larch_term::{Node, Operator, Term, Terms};
+use larch_term::{Node, Operator, Sort, Term, Terms};
 use std::alloc::Global;
 
 /// The number of a term that is built of nodes of its own. It goes down the term by recursion, a level of the stack
@@ -79,16 +79,24 @@ fn intern_terms(alloc: Global, pool: &mut Pool, terms: &Terms) -> Result<Numbers
 fn symbol_of(alloc: Global, operator: &Operator) -> Result<Symbol, Memory>
     ensures { IfOk result (λ s. operator_of s ≡ operator.now) }
 {
-    let mut sorts = Vec::with_capacity(alloc, operator.domain().len())?;
-    for sort in operator.domain() {
-        let sort = sort.copy()?;
-        sorts.push(sort)?;
-    }
     let name = operator.name().copy()?;
     let range = operator.range().copy()?;
+    let domain = copied(alloc, operator.domain())?;
     Ok(Symbol {
         name: SymbolName::Plain(name),
-        domain: SortList::from_vec(sorts),
+        domain,
         range,
     })
+}
+
+// The same sorts.
+fn copied(alloc: Global, sorts: &[Sort]) -> Result<SortList, Memory>
+    ensures { IfOk result (λ copied. copied ≡ sorts.now) }
+{
+    let mut copied = Vec::with_capacity(alloc, sorts.len())?;
+    for sort in sorts {
+        let sort = sort.copy()?;
+        copied.push(sort)?;
+    }
+    Ok(SortList::from_vec(copied))
 }

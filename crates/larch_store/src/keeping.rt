@@ -5,9 +5,9 @@ ghost use Rattle.larch_store.specs.Stored.{Belongs, AllBelong, Grows, IsStore, m
 
 use crate::key::{Key, application_key, variable_key};
 use crate::shared::Shared;
-use crate::table::{application_node, find, put, variable_node};
+use crate::table::{find, put_application, put_variable};
 use indexmap::IndexSet;
-use larch_base::{Memory, Name};
+use larch_base::{Memory, Name, let_go};
 use larch_term::{Operator, Sort};
 
 /// The shared term that is a variable, from a store's tables.
@@ -25,11 +25,14 @@ pub fn keep_variable(
     ensures grows { Grows shared.old.items shared.new.items }
 {
     let key = variable_key(name, sort)?;
-    if let Some(found) = find(keys, shared.as_slice(), &key)? {
-        return Ok(found);
+    let kept = match find(keys, shared.as_slice(), &key) {
+        Ok(kept) => kept,
+        Err(memory) => return Err(let_go(memory, key)),
+    };
+    if let Some(found) = kept {
+        return Ok(let_go(found, key));
     }
-    let node = variable_node(name, sort)?;
-    let new = put(keys, shared, key, node, 1)?;
+    let new = put_variable(keys, shared, key, name, sort)?;
     Ok(new)
 }
 
@@ -51,12 +54,14 @@ pub fn keep_application(
     ensures belongs { IfOk result (λ x. Belongs shared.new.items x) }
     ensures grows { Grows shared.old.items shared.new.items }
 {
-    let alloc = *shared.allocator();
-    let key = application_key(alloc, operator, arguments)?;
-    if let Some(found) = find(keys, shared.as_slice(), &key)? {
-        return Ok(found);
+    let key = application_key(*shared.allocator(), operator, arguments)?;
+    let kept = match find(keys, shared.as_slice(), &key) {
+        Ok(kept) => kept,
+        Err(memory) => return Err(let_go(memory, key)),
+    };
+    if let Some(found) = kept {
+        return Ok(let_go(found, key));
     }
-    let node = application_node(alloc, operator, arguments)?;
-    let new = put(keys, shared, key, node, size)?;
+    let new = put_application(keys, shared, key, operator, arguments, size)?;
     Ok(new)
 }

@@ -87,12 +87,17 @@ fn copy(key: &Key) -> Result<Key, Memory>
 {
     match key {
         Key::Var(name, sort) => variable_key(name, sort),
-        Key::App(operator, numbers) => {
-            let operator = operator.copy()?;
-            let items = numbers.items.clone()?;
-            Ok(Key::App(operator, Numbers { items }))
-        }
+        Key::App(operator, numbers) => copy_application(operator, numbers),
     }
+}
+
+// What an operator with arguments of these numbers is found by.
+fn copy_application(operator: &Operator, numbers: &Numbers) -> Result<Key, Memory>
+    ensures { IfOk result (λ key. key ≡ App operator.now numbers.now) }
+{
+    let items = numbers.items.clone()?;
+    let operator = operator.copy()?;
+    Ok(Key::App(operator, Numbers { items }))
 }
 
 /// What a variable is found by.

@@ -1,10 +1,10 @@
 ghost use Rattle.std.specs.Prelude.{◌≡◌, map, IfOk};
-ghost use Rattle.larch_term.specs.Tree.{var};
+ghost use Rattle.larch_term.specs.Tree.{app, forest_of, var};
 ghost use Rattle.larch_store.specs.Numbered.{term_of};
 
 use crate::shared::{Shared, SharedList, SharedNode};
-use larch_base::{Memory, Name};
-use larch_term::{Sort, Term, Terms};
+use larch_base::{Memory, Name, let_go};
+use larch_term::{Operator, Sort, Term, Terms};
 use std::alloc::Global;
 
 /// The term that a shared term is. It goes down the term by recursion.
@@ -20,9 +20,19 @@ pub fn term_from(alloc: Global, shared: &Shared) -> Result<Term, Memory>
         }
         SharedNode::Application(operator, arguments) => {
             let terms = terms_from(alloc, arguments)?;
-            let operator = operator.copy()?;
-            Ok(Term::app(operator, terms))
+            let term = application_from(operator, terms)?;
+            Ok(term)
         }
+    }
+}
+
+// The operator with these arguments, from a copy of it.
+fn application_from(operator: &Operator, arguments: Terms) -> Result<Term, Memory>
+    ensures { IfOk result (λ term. term ≡ app operator.now (forest_of arguments)) }
+{
+    match operator.copy() {
+        Ok(operator) => Ok(Term::app(operator, arguments)),
+        Err(memory) => Err(let_go(memory, arguments)),
     }
 }
 

@@ -11,7 +11,7 @@ use crate::key::Key;
 use crate::shared::{Shared, SharedList, SharedNode};
 use indexmap::IndexSet;
 use larch_base::limits::MAX_TERM_NODES;
-use larch_base::{Memory, Name};
+use larch_base::{Memory, Name, let_go};
 use larch_term::{Operator, Sort};
 use std::alloc::Global;
 
@@ -30,9 +30,9 @@ pub fn find(keys: &IndexSet<Key>, shared: &[Shared], key: &Key) -> Result<Option
     Ok(Some(found))
 }
 
-/// Puts a shared term with this root and size behind the others, under a key that is none of theirs. Where memory is
-/// wanting nothing changes.
-pub fn put(
+// Puts a shared term with this root and size behind the others, under a key that is none of theirs. Where memory is
+// wanting nothing changes.
+fn put(
     keys: &mut IndexSet<Key>,
     shared: &mut Vec<Shared>,
     key: Key,
@@ -47,18 +47,108 @@ pub fn put(
     ensures keys_stay { OnErr result (keys.new.keys ≡ keys.old.keys) }
     ensures shared_stay { OnErr result (shared.new.items ≡ shared.old.items) }
 {
-    let new = Shared::new(*shared.allocator(), node, shared.len() as u64, size)?;
-    let copied = new.copy()?;
-    shared.push(new)?;
-    let Ok(_is_new) = keys.insert(key) else {
-        let _ = shared.pop();
-        return Err(Memory);
-    };
-    Ok(copied)
+    match Shared::new(*shared.allocator(), node, shared.len() as u64, size) {
+        Ok(new) => put_new(keys, shared, key, new),
+        Err(memory) => Err(let_go(memory, key)),
+    }
 }
 
-/// The root of a variable.
-pub fn variable_node(name: &Name, sort: &Sort) -> Result<SharedNode, Memory>
+// Puts a shared term behind the others, under a key that is none of theirs, and answers it.
+fn put_new(
+    keys: &mut IndexSet<Key>,
+    shared: &mut Vec<Shared>,
+    key: Key,
+    new: Shared,
+) -> Result<Shared, Memory>
+    requires { list_any (key_eq.ghosts.eq key) keys.old.keys ≡ false }
+    ensures result { IfOk result (λ x. x ≡ new) }
+    ensures keys { OnOk result (keys.new.keys ≡ keys.old.keys ++ key ∷ []) }
+    ensures shared { OnOk result (shared.new.items ≡ shared.old.items ++ new ∷ []) }
+    ensures keys_stay { OnErr result (keys.new.keys ≡ keys.old.keys) }
+    ensures shared_stay { OnErr result (shared.new.items ≡ shared.old.items) }
+{
+    let copied = match new.copy() {
+        Ok(copied) => copied,
+        Err(memory) => return Err(let_go(memory, (key, new))),
+    };
+    match put_both(keys, shared, key, new) {
+        Ok(()) => Ok(copied),
+        Err(memory) => Err(let_go(memory, copied)),
+    }
+}
+
+// Puts a shared term and its key, which is none of the others, behind the others.
+fn put_both(
+    keys: &mut IndexSet<Key>,
+    shared: &mut Vec<Shared>,
+    key: Key,
+    new: Shared,
+) -> Result<(), Memory>
+    requires { list_any (key_eq.ghosts.eq key) keys.old.keys ≡ false }
+    ensures keys { OnOk result (keys.new.keys ≡ keys.old.keys ++ key ∷ []) }
+    ensures shared { OnOk result (shared.new.items ≡ shared.old.items ++ new ∷ []) }
+    ensures keys_stay { OnErr result (keys.new.keys ≡ keys.old.keys) }
+    ensures shared_stay { OnErr result (shared.new.items ≡ shared.old.items) }
+{
+    if let Err(refused) = shared.push(new) {
+        return Err(let_go(Memory, (key, refused)));
+    }
+    if let Err(refused) = keys.insert(key) {
+        let _ = shared.pop();
+        return Err(let_go(Memory, refused));
+    }
+    Ok(())
+}
+
+/// Puts the shared term that is a variable behind the others, under a key that is none of theirs.
+pub fn put_variable(
+    keys: &mut IndexSet<Key>,
+    shared: &mut Vec<Shared>,
+    key: Key,
+    name: &Name,
+    sort: &Sort,
+) -> Result<Shared, Memory>
+    requires { list_any (key_eq.ghosts.eq key) keys.old.keys ≡ false }
+    ensures result { IfOk result (λ x. x ≡ view_shared (length shared.old.items) 1 (Variable name.now sort.now)) }
+    ensures keys { OnOk result (keys.new.keys ≡ keys.old.keys ++ key ∷ []) }
+    ensures shared { OnOk result (shared.new.items
+        ≡ shared.old.items ++ view_shared (length shared.old.items) 1 (Variable name.now sort.now) ∷ []) }
+    ensures keys_stay { OnErr result (keys.new.keys ≡ keys.old.keys) }
+    ensures shared_stay { OnErr result (shared.new.items ≡ shared.old.items) }
+{
+    match variable_node(name, sort) {
+        Ok(node) => put(keys, shared, key, node, 1),
+        Err(memory) => Err(let_go(memory, key)),
+    }
+}
+
+/// Puts the shared term that is an operator with arguments and has this size behind the others, under a key that is
+/// none of theirs.
+pub fn put_application(
+    keys: &mut IndexSet<Key>,
+    shared: &mut Vec<Shared>,
+    key: Key,
+    operator: &Operator,
+    arguments: &[Shared],
+    size: u64,
+) -> Result<Shared, Memory>
+    requires { list_any (key_eq.ghosts.eq key) keys.old.keys ≡ false }
+    ensures result { IfOk result (λ x.
+        x ≡ view_shared (length shared.old.items) size (Application operator.now arguments.now)) }
+    ensures keys { OnOk result (keys.new.keys ≡ keys.old.keys ++ key ∷ []) }
+    ensures shared { OnOk result (shared.new.items ≡ shared.old.items
+        ++ view_shared (length shared.old.items) size (Application operator.now arguments.now) ∷ []) }
+    ensures keys_stay { OnErr result (keys.new.keys ≡ keys.old.keys) }
+    ensures shared_stay { OnErr result (shared.new.items ≡ shared.old.items) }
+{
+    match application_node(*shared.allocator(), operator, arguments) {
+        Ok(node) => put(keys, shared, key, node, size),
+        Err(memory) => Err(let_go(memory, key)),
+    }
+}
+
+// The root of a variable.
+fn variable_node(name: &Name, sort: &Sort) -> Result<SharedNode, Memory>
     ensures { IfOk result (λ node. node ≡ Variable name.now sort.now) }
 {
     let name = name.copy()?;
@@ -66,17 +156,19 @@ pub fn variable_node(name: &Name, sort: &Sort) -> Result<SharedNode, Memory>
     Ok(SharedNode::Variable(name, sort))
 }
 
-/// The root of an operator with arguments.
-pub fn application_node(
+// The root of an operator with arguments.
+fn application_node(
     alloc: Global,
     operator: &Operator,
     arguments: &[Shared],
 ) -> Result<SharedNode, Memory>
     ensures { IfOk result (λ node. node ≡ Application operator.now arguments.now) }
 {
-    let arguments = copy_all(alloc, arguments)?;
     let operator = operator.copy()?;
-    Ok(SharedNode::Application(operator, SharedList::from_vec(arguments)))
+    match copy_all(alloc, arguments) {
+        Ok(arguments) => Ok(SharedNode::Application(operator, SharedList::from_vec(arguments))),
+        Err(memory) => Err(let_go(memory, operator)),
+    }
 }
 
 /// The same shared terms once more.

@@ -16,10 +16,10 @@ terms_from-term_from-requires t c =
     let m : f x ≤ sum_by f c.args.list.now = omega (arith, k, ap f is) in
     (omega (arith, m, c.decreases), tt)
 
-pub term_from-returns-in_ok-operator-in-Application : goal.term_from-returns-in_ok-operator-in-Application
-term_from-returns-in_ok-operator-in-Application t c =
+pub term_from-returns-in_ok-term-in-Application : goal.term_from-returns-in_ok-term-in-Application
+term_from-returns-in_ok-term-in-Application t c =
     let s : Numbered = c.args.shared.now in
     let v : branch (number_of s) (size_of s) c.in-Application.operator (several c.in-Application.arguments) ≡ s =
     subst (λ n. view_shared (number_of s) (size_of s) n ≡ s) c.in-Application.is c.node.ensures in
-    c.app.ensures ∙ (λ i. app (c.in_ok-operator-in-Application.ensures i) (forest_of (c.in_ok-terms-in-Application.ensures i)))
+    c.in_ok-term-in-Application.ensures ∙ (λ i. app c.in-Application.operator (forest_of (c.in_ok-terms-in-Application.ensures i)))
     ∙ sym (branch_term (number_of s) (size_of s) c.in-Application.operator c.in-Application.arguments) ∙ ap term_of v
