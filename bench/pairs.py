@@ -1,7 +1,7 @@
 #!/usr/bin/env python3
 """Times unification and critical pairs: python3 bench/pairs.py [PROGRAM] [--count N]
 
-PROGRAM is the built `larch_pair_table`. For the axioms of groups, for their complete set and for a theory of sets, all
+PROGRAM is the built `larch_term_table`. For the axioms of groups, for their complete set and for a theory of sets, all
 critical pairs are found N times (20 by default), of each rule with itself and with each other one in both orders; the
 time of reading the rules alone is taken away. Then two terms with a chain of bindings are unified, `f(x1, x2, ..)` with
 `f(g(x2), g(x3), ..)`, and the same from the last argument on; and two chains that grow to the right, of which each level
@@ -125,7 +125,7 @@ def bindings(program, length):
 
 def main():
     words = argparse.ArgumentParser(description=__doc__.splitlines()[0])
-    words.add_argument("program", nargs="?", default=str(TOP / "crates/larch_pair_table/out/larch_pair_table"))
+    words.add_argument("program", nargs="?", default=str(TOP / "crates/larch_term_table/out/larch_term_table"))
     words.add_argument("--count", type=int, default=20)
     said = words.parse_args()
     pairs(said.program, "the axioms of groups", rules_of(GROUPS), said.count)

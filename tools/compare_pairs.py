@@ -3,7 +3,7 @@
 
     compare_pairs.py PROGRAM REFERENCE [--count N] [--seed N]
 
-PROGRAM is the built `larch_pair_table`. REFERENCE is the folder with a Python package `larchref`, whose modules `nodes`
+PROGRAM is the built `larch_term_table`. REFERENCE is the folder with a Python package `larchref`, whose modules `nodes`
 and `pairs` have terms, unification and critical pairs; it is no part of the repository, and where it isn't there nothing
 is compared. N pairs of terms and N pairs of rules are made (20,000 of each): terms of two sorts, with equal names at both
 and an overloaded operator; instances of one term; terms that grow to more than 5,000 nodes by doubling, with and without

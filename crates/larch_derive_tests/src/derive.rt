@@ -2,6 +2,7 @@ use crate::numbers::empty;
 use larch_base::Memory;
 use larch_certificate::Line;
 use larch_derive::{Builder, SharedList};
+use std::alloc::Global;
 
 // How many lines there are.
 fn count(builder: &Builder) -> Result<usize, Memory> {
@@ -11,12 +12,23 @@ fn count(builder: &Builder) -> Result<usize, Memory> {
 
 #[test]
 fn copies_are_independent(rt: HostRuntime) -> Result<(), Memory> {
-    let mut builder = empty(rt.alloc())?;
-    builder.push(Line::Axiom(1))?;
+    let mut builder = with_line(rt.alloc())?;
     let copied = builder.copy()?;
-    builder.push(Line::Axiom(2))?;
-    assert_eq!(rt; count(&copied)?, 1);
+    assert_eq!(rt; count_after(&mut builder, &copied)?, 1);
     Ok(())
+}
+
+// A builder with one line.
+fn with_line(alloc: Global) -> Result<Builder, Memory> {
+    let mut builder = empty(alloc)?;
+    builder.push(Line::Axiom(1))?;
+    Ok(builder)
+}
+
+// How many lines a copy has when the builder gets another one.
+fn count_after(builder: &mut Builder, copied: &Builder) -> Result<usize, Memory> {
+    builder.push(Line::Axiom(2))?;
+    count(copied)
 }
 
 // In a run in which an allocation fails, one of the lines may be refused.

@@ -1,16 +1,22 @@
 use crate::numbers::empty;
 use larch_base::Memory;
+use larch_derive::Builder;
 use larch_derive_lines::refl_line;
 use larch_formulas::equated_line;
 use larch_plans::truth;
+use larch_term::Term;
 use std::alloc::Global;
 
 // The number of the line that says that true is equivalent to itself.
 fn line_for_truth(alloc: Global) -> Result<u64, Memory> {
-    let mut builder = empty(alloc)?;
     let truth = truth(alloc)?;
-    let line = refl_line(&mut builder, &truth)?;
-    equated_line(alloc, &mut builder, &truth, line)
+    let mut builder = empty(alloc)?;
+    line_for(alloc, &mut builder, &truth)
+}
+
+fn line_for(alloc: Global, builder: &mut Builder, term: &Term) -> Result<u64, Memory> {
+    let line = refl_line(builder, term)?;
+    equated_line(alloc, builder, term, line)
 }
 
 #[test]

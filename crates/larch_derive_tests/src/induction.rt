@@ -1,5 +1,5 @@
 use crate::numbers::{constants, empty, for_both, hypotheses, nought_for_x, sum, word, x_term};
-use larch_base::{Memory, Sequence};
+use larch_base::{Bytes, Memory, Sequence};
 use larch_certificate::{CodedVar, Numbers, Path};
 use larch_certificate_printer::print_certificate;
 use larch_derive::Builder;
@@ -23,10 +23,15 @@ fn state(builder: &mut Builder) -> Result<(), Memory> {
 // The box of 0: its number.
 fn first_case(alloc: Global, builder: &mut Builder) -> Result<u64, Memory> {
     let number = builder.open_box(&Sequence::new(alloc), &Sequence::new(alloc))?;
-    let by = nought_for_x(alloc)?;
-    let line = inst_line(alloc, builder, 2, &by)?;
+    let line = show_first_case(alloc, builder)?;
     close_box(alloc, builder, line)?;
     Ok(number)
+}
+
+// What is shown in the box of 0: the line's number.
+fn show_first_case(alloc: Global, builder: &mut Builder) -> Result<u64, Memory> {
+    let by = nought_for_x(alloc)?;
+    inst_line(alloc, builder, 2, &by)
 }
 
 // The box of s is opened: its number.
@@ -46,11 +51,16 @@ fn place(alloc: Global) -> Result<Path, Memory> {
 
 // What is shown in the box of s: the line's number.
 fn show_second_case(alloc: Global, builder: &mut Builder, number: u64) -> Result<u64, Memory> {
-    let by = for_both(alloc)?;
-    let line = inst_line(alloc, builder, 3, &by)?;
+    let line = stated_line(alloc, builder)?;
     let supposed = hyp_line(builder, number, 1)?;
     let place = place(alloc)?;
     repl_line(builder, line, place, supposed)
+}
+
+// What the third statement says in the box of s: the line's number.
+fn stated_line(alloc: Global, builder: &mut Builder) -> Result<u64, Memory> {
+    let by = for_both(alloc)?;
+    inst_line(alloc, builder, 3, &by)
 }
 
 // The box of s: its number.
@@ -97,8 +107,13 @@ fn writes_an_induction(rt: HostRuntime) -> Result<(), Memory> {
     let mut builder = empty(rt.alloc())?;
     let last = prove(rt.alloc(), &mut builder)?;
     assert_eq!(rt; last, 14);
-    let certificate = builder.certificate()?;
-    let printed = print_certificate(rt.alloc(), &certificate)?;
+    let printed = printed(rt.alloc(), &builder)?;
     assert_eq!(rt; printed.bytes(), EXPECTED);
     Ok(())
+}
+
+// The certificate's text.
+fn printed(alloc: Global, builder: &Builder) -> Result<Bytes, Memory> {
+    let certificate = builder.certificate()?;
+    print_certificate(alloc, &certificate)
 }

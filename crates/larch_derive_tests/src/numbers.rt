@@ -1,32 +1,36 @@
 use larch_base::{Memory, Name, Sequence};
 use larch_derive::Builder;
-use larch_term::{Operator, Operators, Statement, Statements, Substitution, Term, Terms, Theory};
+use larch_term::{
+    Operator, Operators, Sorts, Statement, Statements, Substitution, Term, Terms, Theory,
+};
 use std::alloc::Global;
 
 // A word as a sort or as the name of a variable.
 pub(crate) fn word(alloc: Global, bytes: &[u8]) -> Result<Name, Memory> {
-    let word = Name::new(alloc, bytes)?;
-    Ok(word)
+    Name::new(alloc, bytes)
 }
 
 // An operator from a number of numbers to the numbers.
 pub(crate) fn operator(alloc: Global, form: &[u8], arguments: usize) -> Result<Operator, Memory> {
-    let mut domain = Sequence::new(alloc);
-    for _ in 0..arguments {
-        let sort = Name::new(alloc, b"N")?;
-        domain.push(sort)?;
-    }
     let form = Name::new(alloc, form)?;
     let range = Name::new(alloc, b"N")?;
+    let domain = numbers(alloc, arguments)?;
     Operator::new(alloc, form, domain, range)
+}
+
+// N so many times.
+fn numbers(alloc: Global, count: usize) -> Result<Sorts, Memory> {
+    let mut sorts = Sequence::new(alloc);
+    for _ in 0..count {
+        let sort = Name::new(alloc, b"N")?;
+        sorts.push(sort)?;
+    }
+    Ok(sorts)
 }
 
 // The operators 0, s and plus. The lines name statements by their numbers, so the theory states nothing here.
 pub(crate) fn theory(alloc: Global) -> Result<Theory, Memory> {
-    let mut operators = Sequence::new(alloc);
-    operators.push(operator(alloc, b"0", 0)?)?;
-    operators.push(operator(alloc, b"s", 1)?)?;
-    operators.push(operator(alloc, b"__ + __", 2)?)?;
+    let operators = operators(alloc)?;
     let statements = Sequence::new(alloc);
     Ok(Theory {
         operators,
@@ -34,11 +38,21 @@ pub(crate) fn theory(alloc: Global) -> Result<Theory, Memory> {
     })
 }
 
+const OPERATORS: [(&[u8], usize); 3] = [(b"0", 0), (b"s", 1), (b"__ + __", 2)];
+
+fn operators(alloc: Global) -> Result<Operators, Memory> {
+    let mut operators = Sequence::new(alloc);
+    for (form, arguments) in &OPERATORS {
+        let operator = operator(alloc, form, *arguments)?;
+        operators.push(operator)?;
+    }
+    Ok(operators)
+}
+
 // A builder without lines, over these operators.
 pub(crate) fn empty(alloc: Global) -> Result<Builder, Memory> {
     let theory = theory(alloc)?;
-    let builder = Builder::new(alloc, &theory)?;
-    Ok(builder)
+    Builder::new(alloc, &theory)
 }
 
 pub(crate) fn nought(alloc: Global) -> Result<Term, Memory> {

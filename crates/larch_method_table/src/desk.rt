@@ -1,8 +1,8 @@
 use crate::given::{Given, Source, fact_of, first_instance, instance_line};
-use crate::problem::{Problem, joined};
+use crate::problem::Problem;
 use crate::stop::Stop;
 use crate::told::{Told, refusal_word};
-use larch_base::{Bytes, Memory, Name};
+use larch_base::{Bytes, Memory, Name, let_go};
 use larch_certificate_printer::print_certificate;
 use larch_derive::{Builder, OpenBox};
 use larch_derive_boxes::close_box;
@@ -41,25 +41,32 @@ impl Desk {
     /// No line is written yet. Taken are the names of the theory's operators and the problem's constants, and those
     /// that the problem has.
     pub fn new(alloc: Global, problem: &Problem) -> Result<Desk, Memory> {
-        let theory = copy_theory(alloc, &problem.theory)?;
-        let builder = Builder::new(alloc, &theory)?;
-        let operators = joined(
-            alloc,
-            theory.operators.as_slice(),
-            problem.constants.as_slice(),
-        )?;
-        let mut desk = Desk {
-            alloc,
-            theory,
-            builder,
-            told: Told::new(alloc),
-            given: Vec::new(alloc),
-            names: Vec::new(alloc),
-        };
-        desk.take(operators.as_slice())?;
-        desk.take_names(problem.names.as_slice())?;
-        desk.give_axioms(problem.theory.statements.as_slice())?;
+        let mut desk = Desk::over(alloc, &problem.theory)?;
+        desk.prepare(problem)?;
         Ok(desk)
+    }
+
+    // No name is taken, and nothing given.
+    fn over(alloc: Global, theory: &Theory) -> Result<Desk, Memory> {
+        let builder = Builder::new(alloc, theory)?;
+        match copy_theory(alloc, theory) {
+            Ok(theory) => Ok(Desk {
+                alloc,
+                theory,
+                builder,
+                told: Told::new(alloc),
+                given: Vec::new(alloc),
+                names: Vec::new(alloc),
+            }),
+            Err(memory) => Err(let_go(memory, builder)),
+        }
+    }
+
+    fn prepare(&mut self, problem: &Problem) -> Result<(), Memory> {
+        self.take(problem.theory.operators.as_slice())?;
+        self.take(problem.constants.as_slice())?;
+        self.take_names(problem.names.as_slice())?;
+        self.give_axioms(problem.theory.statements.as_slice())
     }
 
     // From now on operators are told of, and their names are taken.

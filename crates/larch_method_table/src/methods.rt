@@ -1,6 +1,6 @@
 use crate::desk::Desk;
 use crate::stop::Stop;
-use larch_base::{Memory, Name, Sequence};
+use larch_base::{Memory, Name, Sequence, let_go};
 use larch_certificate::Numbers;
 use larch_derive::{OpenBox, OpenBoxes};
 use larch_derive_lines::{inst_line, refl_line, row_line, trans_line};
@@ -13,7 +13,7 @@ use larch_plans::{
     Method, Pair, Plan, Subgoal, closed_by, closed_implication, equality_in, generating_clause,
     induction_variable, partitioning_clause,
 };
-use larch_term::{Node, Sort, Substitution, Term, copy, sort_of};
+use larch_term::{Node, Sort, Substitution, Term, Variable, copy, sort_of};
 use larch_ways::argument_line;
 use std::alloc::Global;
 
@@ -63,20 +63,35 @@ fn carry_out(
 
 #[cycle(prove)]
 fn by_cases(desk: &mut Desk, formula: &Term, plan: &Plan, further: &[Method]) -> Result<u64, Stop> {
-    let shared = open_constants(desk.alloc, &mut desk.builder, &plan.constants)?;
+    let shared = open_shared(desk, plan)?;
     let boxes = in_boxes(desk, plan, further, &Ending::Shown)?;
-    let [first, second] = boxes.as_slice() else {
+    cases_line(desk, formula, shared, boxes.as_slice())
+}
+
+fn cases_line(
+    desk: &mut Desk,
+    formula: &Term,
+    shared: u64,
+    boxes: &[OpenBox],
+) -> Result<u64, Stop> {
+    let [first, second] = boxes else {
         return Err(Stop::Open);
     };
     let line = finish_cases(
         desk.alloc,
         &mut desk.builder,
         formula,
-        shared.number,
+        shared,
         first.number,
         second.number,
     )?;
     Ok(line)
+}
+
+// Opens the box of a plan's constants: its number.
+fn open_shared(desk: &mut Desk, plan: &Plan) -> Result<u64, Memory> {
+    let shared = open_constants(desk.alloc, &mut desk.builder, &plan.constants)?;
+    Ok(shared.number)
 }
 
 #[cycle(prove)]
@@ -86,20 +101,36 @@ fn by_implication(
     plan: &Plan,
     further: &[Method],
 ) -> Result<u64, Stop> {
-    let shared = open_constants(desk.alloc, &mut desk.builder, &plan.constants)?;
-    let Some(closed) = closed_implication(desk.alloc, goal, shared.constants.as_slice())? else {
-        return Err(Stop::Open);
-    };
+    let (shared, closed) = open_implication(desk, goal, plan)?;
     let boxes = in_boxes(desk, plan, further, &Ending::Implied(&closed))?;
-    let [opened] = boxes.as_slice() else {
+    implication_line(desk, goal, &closed, shared, boxes.as_slice())
+}
+
+// Opens the box of a plan's constants: its number, and the implication with the constants in it.
+fn open_implication(desk: &mut Desk, goal: &Term, plan: &Plan) -> Result<(u64, Term), Stop> {
+    let shared = open_constants(desk.alloc, &mut desk.builder, &plan.constants)?;
+    match closed_implication(desk.alloc, goal, shared.constants.as_slice())? {
+        Some(closed) => Ok((shared.number, closed)),
+        None => Err(Stop::Open),
+    }
+}
+
+fn implication_line(
+    desk: &mut Desk,
+    goal: &Term,
+    closed: &Term,
+    shared: u64,
+    boxes: &[OpenBox],
+) -> Result<u64, Stop> {
+    let [opened] = boxes else {
         return Err(Stop::Open);
     };
     let line = finish_implication(
         desk.alloc,
         &mut desk.builder,
         goal,
-        &closed,
-        shared.number,
+        closed,
+        shared,
         opened.number,
     )?;
     Ok(line)
@@ -128,18 +159,34 @@ fn by_contradiction(
     plan: &Plan,
     further: &[Method],
 ) -> Result<u64, Stop> {
+    let (shared, closed) = open_contradiction(desk, goal, plan)?;
+    let boxes = in_boxes(desk, plan, further, &Ending::Contradicted)?;
+    contradiction_line(desk, goal, &closed, shared, boxes.as_slice())
+}
+
+// Opens the box of a plan's constants: its number, and the goal with the constants in it.
+fn open_contradiction(desk: &mut Desk, goal: &Term, plan: &Plan) -> Result<(u64, Term), Memory> {
     let shared = open_constants(desk.alloc, &mut desk.builder, &plan.constants)?;
     let closed = closed_by(desk.alloc, goal, shared.constants.as_slice(), goal)?;
-    let boxes = in_boxes(desk, plan, further, &Ending::Contradicted)?;
-    let [opened] = boxes.as_slice() else {
+    Ok((shared.number, closed))
+}
+
+fn contradiction_line(
+    desk: &mut Desk,
+    goal: &Term,
+    closed: &Term,
+    shared: u64,
+    boxes: &[OpenBox],
+) -> Result<u64, Stop> {
+    let [opened] = boxes else {
         return Err(Stop::Open);
     };
     let line = finish_contradiction(
         desk.alloc,
         &mut desk.builder,
         goal,
-        &closed,
-        shared.number,
+        closed,
+        shared,
         opened.number,
     )?;
     Ok(line)
@@ -156,17 +203,26 @@ fn by_induction(
     let Some(variable) = induction_variable(desk.alloc, goal, name)? else {
         return Err(Stop::Open);
     };
-    let statements = desk.theory.statements.as_slice();
-    let Some(clause) = generating_clause(statements, &variable.sort) else {
+    let Some(clause) = generating_clause(desk.theory.statements.as_slice(), &variable.sort) else {
         return Err(Stop::Open);
     };
     let boxes = in_boxes(desk, plan, further, &Ending::Shown)?;
-    let numbers = numbers_of(desk.alloc, boxes.as_slice())?;
+    induction_line(desk, goal, &variable, clause, boxes.as_slice())
+}
+
+fn induction_line(
+    desk: &mut Desk,
+    goal: &Term,
+    variable: &Variable,
+    clause: u64,
+    boxes: &[OpenBox],
+) -> Result<u64, Stop> {
+    let numbers = numbers_of(desk.alloc, boxes)?;
     let line = finish_induction(
         desk.alloc,
         &mut desk.builder,
         clause,
-        &variable,
+        variable,
         goal,
         numbers,
     )?;
@@ -193,12 +249,17 @@ fn by_partition(
     };
     let boxes = in_boxes(desk, plan, further, &Ending::Equated)?;
     let line = partition_line(desk, &sides, boxes.as_slice())?;
-    let line = if sort_of(sides.left).bytes() == b"Bool".as_slice() {
-        equal_line(desk, goal, sides.right, line)?
-    } else {
-        formula_line(desk.alloc, &mut desk.builder, sides.left, sides.right, line)?
-    };
+    let line = equality_line(desk, goal, &sides, line)?;
     Ok(line)
+}
+
+// A line that says that an equality is true, by a line that says that its sides are equal.
+fn equality_line(desk: &mut Desk, goal: &Term, sides: &Pair<'_>, line: u64) -> Result<u64, Memory> {
+    if sort_of(sides.left).bytes() == b"Bool".as_slice() {
+        equal_line(desk, goal, sides.right, line)
+    } else {
+        formula_line(desk.alloc, &mut desk.builder, sides.left, sides.right, line)
+    }
 }
 
 fn partition_line(desk: &mut Desk, sides: &Pair<'_>, boxes: &[OpenBox]) -> Result<u64, Stop> {
@@ -273,10 +334,28 @@ fn in_box(
 ) -> Result<OpenBox, Stop> {
     let known = desk.known();
     let opened = desk.open(subgoal)?;
-    let line = prove(desk, &subgoal.goal, further)?;
-    let result = result_line(desk, subgoal, opened.number, line, ending)?;
-    desk.close(result, known)?;
-    Ok(opened)
+    match prove(desk, &subgoal.goal, further) {
+        Ok(line) => close(desk, subgoal, opened, line, known, ending),
+        Err(stop) => Err(let_go(stop, opened)),
+    }
+}
+
+// Closes a box, in which a line says that its goal is true. Given is as much as was known before it was opened.
+fn close(
+    desk: &mut Desk,
+    subgoal: &Subgoal,
+    opened: OpenBox,
+    line: u64,
+    known: usize,
+    ending: &Ending<'_>,
+) -> Result<OpenBox, Stop> {
+    match result_line(desk, subgoal, opened.number, line, ending) {
+        Ok(result) => {
+            desk.close(result, known)?;
+            Ok(opened)
+        }
+        Err(stop) => Err(let_go(stop, opened)),
+    }
 }
 
 fn result_line(

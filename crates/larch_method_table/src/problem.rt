@@ -1,4 +1,4 @@
-use larch_base::{Memory, Name, Sequence};
+use larch_base::{Memory, Name, Sequence, let_go};
 use larch_plans::Method;
 use larch_term::{Operator, Operators, Statement, Theory, copy_operators, is_truth};
 use larch_theory_text::{read_operators, read_statements};
@@ -29,6 +29,13 @@ impl Drop for Problem {
     }
 }
 
+// What is to be shown, and by which methods.
+#[derive(Drop)]
+struct Task {
+    aim: Statement,
+    methods: Vec<Method>,
+}
+
 /// The problem that parts of a text write: operators, statements, constants, names, the aim with the formulas of cases,
 /// and methods.
 pub fn read_problem(alloc: Global, parts: &[&[u8]]) -> Result<Option<Problem>, Memory> {
@@ -38,15 +45,60 @@ pub fn read_problem(alloc: Global, parts: &[&[u8]]) -> Result<Option<Problem>, M
     let Some(theory) = read_theory(alloc, operators, statements)? else {
         return Ok(None);
     };
-    let Some(constants) = read_operators(alloc, constants)? else {
-        return Ok(None);
-    };
-    let names = read_names(alloc, names)?;
+    match read_operators(alloc, constants) {
+        Ok(Some(constants)) => read_over(alloc, theory, constants, names, claims, methods),
+        Ok(None) => Ok(let_go(None, theory)),
+        Err(memory) => Err(let_go(memory, theory)),
+    }
+}
+
+// The problem over a theory, with constants.
+fn read_over(
+    alloc: Global,
+    theory: Theory,
+    constants: Operators,
+    names: &[u8],
+    claims: &[u8],
+    methods: &[u8],
+) -> Result<Option<Problem>, Memory> {
+    match read_task(alloc, &theory, &constants, claims, methods) {
+        Ok(Some(task)) => with_names(alloc, theory, constants, task, names),
+        Ok(None) => Ok(let_go(None, (theory, constants))),
+        Err(memory) => Err(let_go(memory, (theory, constants))),
+    }
+}
+
+fn with_names(
+    alloc: Global,
+    theory: Theory,
+    constants: Operators,
+    task: Task,
+    names: &[u8],
+) -> Result<Option<Problem>, Memory> {
+    match read_names(alloc, names) {
+        Ok(names) => Ok(Some(Problem {
+            theory,
+            constants,
+            names,
+            aim: task.aim,
+            methods: task.methods,
+        })),
+        Err(memory) => Err(let_go(memory, ((theory, constants), task))),
+    }
+}
+
+fn read_task(
+    alloc: Global,
+    theory: &Theory,
+    constants: &Operators,
+    claims: &[u8],
+    methods: &[u8],
+) -> Result<Option<Task>, Memory> {
     let all = joined(alloc, theory.operators.as_slice(), constants.as_slice())?;
-    let Some(claims) = read_statements(alloc, &all, claims)? else {
-        return Ok(None);
-    };
-    read_aim(alloc, theory, constants, names, claims, methods)
+    match read_statements(alloc, &all, claims)? {
+        Some(claims) => read_aim(alloc, claims, methods),
+        None => Ok(None),
+    }
 }
 
 fn read_theory(
@@ -79,12 +131,8 @@ fn read_names(alloc: Global, text: &[u8]) -> Result<Vec<Name>, Memory> {
     Ok(names)
 }
 
-/// Operators, and others behind them.
-pub fn joined(
-    alloc: Global,
-    operators: &[Operator],
-    others: &[Operator],
-) -> Result<Operators, Memory> {
+// Operators, and others behind them.
+fn joined(alloc: Global, operators: &[Operator], others: &[Operator]) -> Result<Operators, Memory> {
     let mut all = copy_operators(alloc, operators)?;
     for operator in others {
         let operator = operator.copy()?;
@@ -94,29 +142,17 @@ pub fn joined(
 }
 
 // The aim is the first statement; the others are the formulas of cases, in order.
-fn read_aim(
-    alloc: Global,
-    theory: Theory,
-    constants: Operators,
-    names: Vec<Name>,
-    claims: Vec<Statement>,
-    methods: &[u8],
-) -> Result<Option<Problem>, Memory> {
+fn read_aim(alloc: Global, claims: Vec<Statement>, methods: &[u8]) -> Result<Option<Task>, Memory> {
     let mut claims = claims;
     claims.reverse();
     let Some(aim) = claims.pop() else {
         return Ok(None);
     };
-    let Some(methods) = read_methods(alloc, methods, claims)? else {
-        return Ok(None);
-    };
-    Ok(Some(Problem {
-        theory,
-        constants,
-        names,
-        aim,
-        methods,
-    }))
+    match read_methods(alloc, methods, claims) {
+        Ok(Some(methods)) => Ok(Some(Task { aim, methods })),
+        Ok(None) => Ok(let_go(None, aim)),
+        Err(memory) => Err(let_go(memory, aim)),
+    }
 }
 
 // One method a line. The formulas of cases are taken from the end of a list.
@@ -128,15 +164,25 @@ fn read_methods(
     let mut formulas = formulas;
     let mut methods = Vec::new(alloc);
     for line in text.split(|byte| *byte == b'\n') {
-        if line.is_empty() {
-            continue;
-        }
-        let Some(method) = read_method(alloc, line, &mut formulas)? else {
+        if !line.is_empty() && !add_method(alloc, line, &mut formulas, &mut methods)? {
             return Ok(None);
-        };
-        methods.push(method)?;
+        }
     }
     Ok(Some(methods))
+}
+
+// Puts a line's method behind the others; `false` where it has none.
+fn add_method(
+    alloc: Global,
+    line: &[u8],
+    formulas: &mut Vec<Statement>,
+    methods: &mut Vec<Method>,
+) -> Result<bool, Memory> {
+    let Some(method) = read_method(alloc, line, formulas)? else {
+        return Ok(false);
+    };
+    methods.push(method)?;
+    Ok(true)
 }
 
 fn read_method(

@@ -3,6 +3,7 @@ use crate::desk::Desk;
 use crate::problem::{Problem, read_problem};
 use crate::stop::Stop;
 use larch_base::{Bytes, Memory};
+use larch_theory_text::parts_of;
 use std::alloc::Global;
 
 /// What is printed of the problems, between which there are bytes 0.
@@ -21,14 +22,6 @@ fn put_answer(alloc: Global, text: &[u8], answer: &mut Bytes) -> Result<(), Memo
         Some(problem) => put_proof(alloc, &problem, answer),
         None => answer.append(b"no problem"),
     }
-}
-
-fn parts_of(alloc: Global, text: &[u8], between: u8) -> Result<Vec<&[u8]>, Memory> {
-    let mut parts = Vec::new(alloc);
-    for part in text.split(|byte| *byte == between) {
-        parts.push(part)?;
-    }
-    Ok(parts)
 }
 
 // What is told of plans, and the proof's lines, unless it stays open.

@@ -1,7 +1,7 @@
-use larch_base::{Memory, Sequence};
-use larch_certificate::{CodedEquation, Line};
+use larch_base::{Memory, Sequence, let_go};
+use larch_certificate::{Coded, CodedEquation, Line};
 use larch_certificate_reader::{FormRefusal, read_either};
-use larch_term::{Operator, Term, Theory};
+use larch_term::{Operators, Term, Theory};
 use larch_theory_text::{read_equation, read_operators, read_term};
 use std::alloc::Global;
 
@@ -82,29 +82,41 @@ pub fn read_problem(
     let Some(operators) = read_operators(alloc, operators)? else {
         return Ok(None);
     };
-    let lines = match read_either(alloc, lines) {
-        Ok(read) => read.lines,
-        Err(FormRefusal::Form(_)) => return Ok(None),
-        Err(FormRefusal::Memory) => return Err(Memory),
-    };
+    match read_either(alloc, lines) {
+        Ok(read) => read_tasks(alloc, operators, read.lines.as_slice()),
+        Err(FormRefusal::Form(_)) => Ok(let_go(None, operators)),
+        Err(FormRefusal::Memory) => Err(let_go(Memory, operators)),
+    }
+}
+
+fn read_tasks(
+    alloc: Global,
+    operators: Operators,
+    lines: &[Line],
+) -> Result<Option<Problem>, Memory> {
     let theory = Theory {
         operators,
         statements: Sequence::new(alloc),
     };
-    read_tasks(alloc, theory, lines.as_slice())
-}
-
-fn read_tasks(alloc: Global, theory: Theory, lines: &[Line]) -> Result<Option<Problem>, Memory> {
     let mut problem = Problem {
         theory,
         tasks: Vec::new(alloc),
     };
+    if add_tasks(alloc, &mut problem, lines)? {
+        Ok(Some(problem))
+    } else {
+        Ok(None)
+    }
+}
+
+// Puts the tasks of lines behind the others; `false` where one has none.
+fn add_tasks(alloc: Global, problem: &mut Problem, lines: &[Line]) -> Result<bool, Memory> {
     for line in lines {
-        if !add_task(alloc, &mut problem, line)? {
-            return Ok(None);
+        if !add_task(alloc, problem, line)? {
+            return Ok(false);
         }
     }
-    Ok(Some(problem))
+    Ok(true)
 }
 
 // Puts a line's task behind the others; `false` where it has none.
@@ -114,23 +126,27 @@ fn add_task(alloc: Global, problem: &mut Problem, line: &Line) -> Result<bool, M
             [equation] => add_rule(alloc, problem, equation),
             _ => Ok(false),
         },
-        Line::Axiom(number) => {
-            let Ok(number) = u32::try_from(*number) else {
-                return Ok(false);
-            };
-            problem.tasks.push(Task::Take(number))?;
-            Ok(true)
-        }
-        Line::Refl(term) => {
-            let operators = problem.theory.operators.as_slice();
-            let Some(term) = read_term(alloc, operators, term)? else {
-                return Ok(false);
-            };
-            problem.tasks.push(Task::Bring(term))?;
-            Ok(true)
-        }
+        Line::Axiom(number) => add_removal(problem, *number),
+        Line::Refl(term) => add_term(alloc, problem, term),
         _ => Ok(false),
     }
+}
+
+fn add_removal(problem: &mut Problem, number: u64) -> Result<bool, Memory> {
+    let Ok(number) = u32::try_from(number) else {
+        return Ok(false);
+    };
+    problem.tasks.push(Task::Take(number))?;
+    Ok(true)
+}
+
+fn add_term(alloc: Global, problem: &mut Problem, term: &Coded) -> Result<bool, Memory> {
+    let operators = problem.theory.operators.as_slice();
+    let Some(term) = read_term(alloc, operators, term)? else {
+        return Ok(false);
+    };
+    problem.tasks.push(Task::Bring(term))?;
+    Ok(true)
 }
 
 fn add_rule(

@@ -1,6 +1,7 @@
 use crate::desk::Desk;
 use crate::problem::{Problem, Words, read_problem, read_words};
 use larch_base::{Bytes, Memory};
+use larch_theory_text::parts_of;
 use std::alloc::Global;
 
 /// What is printed of the problems, between which there are bytes 0.
@@ -25,14 +26,6 @@ fn put_answer(alloc: Global, text: &[u8], answer: &mut Bytes) -> Result<(), Memo
         return answer.append(b"no problem");
     };
     put_work(alloc, &problem, &words, answer)
-}
-
-fn parts_of(alloc: Global, text: &[u8], between: u8) -> Result<Vec<&[u8]>, Memory> {
-    let mut parts = Vec::new(alloc);
-    for part in text.split(|byte| *byte == between) {
-        parts.push(part)?;
-    }
-    Ok(parts)
 }
 
 // What the tasks come to, the forms, and the lines where they are wanted.

@@ -1,5 +1,5 @@
 use crate::making::{chain, operator, operators, two, variable};
-use larch_base::{Memory, Sequence, Way};
+use larch_base::{Memory, Sequence, Way, let_go};
 use larch_order::{OrderRefusal, Precedence};
 use larch_term::{BuiltIn, Operator, Term, Theory, bool_sort};
 use std::alloc::Global;
@@ -18,12 +18,20 @@ fn precedence(alloc: Global) -> Result<Precedence, Memory> {
 
 #[test]
 fn adds_constants(rt: HostRuntime) -> Result<(), Fail> {
-    let mut order = precedence(rt.alloc())?;
     let constant = operator(rt.alloc(), b"c", 0)?;
-    order.add_constant(&constant)?;
+    let order = precedence_with(rt.alloc(), &constant)?;
     let places = around(rt.alloc(), &order, &constant)?;
     assert_eq!(rt; places, (true, true));
     Ok(())
+}
+
+// The same precedence with a constant.
+fn precedence_with(alloc: Global, constant: &Operator) -> Result<Precedence, Memory> {
+    let mut order = precedence(alloc)?;
+    match order.add_constant(constant) {
+        Ok(()) => Ok(order),
+        Err(memory) => Err(let_go(memory, order)),
+    }
 }
 
 // Whether the constant stands above the last built-in operator, and whether f stands above it.
@@ -40,9 +48,9 @@ fn around(alloc: Global, order: &Precedence, constant: &Operator) -> Result<(boo
 
 #[test]
 fn registers(rt: HostRuntime) -> Result<(), Fail> {
-    let mut order = precedence(rt.alloc())?;
     let f = operator(rt.alloc(), b"f", 1)?;
     let g = operator(rt.alloc(), b"g", 2)?;
+    let mut order = precedence(rt.alloc())?;
     assert_eq!(rt; order.is_above(&g, &f), true);
     assert_eq!(rt; order.register_height(&f, &g), Ok(()));
     assert_eq!(rt; order.is_above(&f, &g), true);
@@ -51,8 +59,8 @@ fn registers(rt: HostRuntime) -> Result<(), Fail> {
 
 #[test]
 fn refuses_unknown_operators(rt: HostRuntime) -> Result<(), Fail> {
-    let mut order = precedence(rt.alloc())?;
     let h = operator(rt.alloc(), b"h", 1)?;
+    let mut order = precedence(rt.alloc())?;
     let answer = order.register_status(&h, Way::Multiset);
     assert_eq!(rt; answer, Err(OrderRefusal::Unknown));
     assert_eq!(rt; order.status(&h), Way::LeftToRight);
@@ -68,10 +76,10 @@ fn heavy(alloc: Global, left: u64, right: u64) -> Result<Term, Memory> {
 
 #[test]
 fn compares_by_status(rt: HostRuntime) -> Result<(), Fail> {
-    let mut order = precedence(rt.alloc())?;
     let left = heavy(rt.alloc(), 1, 0)?;
     let right = heavy(rt.alloc(), 0, 1)?;
     let g = operator(rt.alloc(), b"g", 2)?;
+    let mut order = precedence(rt.alloc())?;
     assert_eq!(rt; both_ways(&order, &left, &right), (true, false));
     assert_eq!(rt; order.register_status(&g, Way::RightToLeft), Ok(()));
     assert_eq!(rt; both_ways(&order, &left, &right), (false, true));
@@ -89,18 +97,23 @@ fn both_ways(order: &Precedence, left: &Term, right: &Term) -> (bool, bool) {
 fn comb(alloc: Global, name: &[u8], levels: u64) -> Result<Term, Memory> {
     let mut term = variable(alloc, name)?;
     for _ in 0..levels {
-        let first = variable(alloc, b"z")?;
-        term = two(alloc, b"g", first, term)?;
+        term = behind_z(alloc, term)?;
     }
     Ok(term)
 }
 
+// g(z, TERM)
+fn behind_z(alloc: Global, term: Term) -> Result<Term, Memory> {
+    let first = variable(alloc, b"z")?;
+    two(alloc, b"g", first, term)
+}
+
 #[test]
 fn chains_two_thousand_deep(rt: HostRuntime) -> Result<(), Fail> {
-    let order = precedence(rt.alloc())?;
     let left = chain(rt.alloc(), b"f", b"x", 2000)?;
     let other = chain(rt.alloc(), b"f", b"y", 2000)?;
     let below = chain(rt.alloc(), b"f", b"x", 1999)?;
+    let order = precedence(rt.alloc())?;
     assert_eq!(rt; order.greater(&left, &other), false);
     assert_eq!(rt; order.greater(&left, &below), true);
     Ok(())
@@ -109,9 +122,9 @@ fn chains_two_thousand_deep(rt: HostRuntime) -> Result<(), Fail> {
 // The right term is gone through first, and then the left one: 4,000 levels in all.
 #[test]
 fn goes_down_both_terms(rt: HostRuntime) -> Result<(), Fail> {
-    let order = precedence(rt.alloc())?;
     let left = comb(rt.alloc(), b"x", 2000)?;
     let right = chain(rt.alloc(), b"f", b"y", 2000)?;
+    let order = precedence(rt.alloc())?;
     assert_eq!(rt; order.greater(&left, &right), false);
     Ok(())
 }

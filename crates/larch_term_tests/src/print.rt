@@ -1,6 +1,7 @@
 use crate::making::{chain, formula, generated, joined, one, operator_from};
-use larch_base::Memory;
+use larch_base::{Bytes, Memory};
 use larch_print::{print_operator, print_statement, print_term};
+use std::alloc::Global;
 
 // A form around a form of x and y, and how they are written.
 const FORMS: [(&[u8], &[u8], &[u8]); 7] = [
@@ -15,13 +16,18 @@ const FORMS: [(&[u8], &[u8], &[u8]); 7] = [
 
 #[test]
 fn prints_forms(rt: HostRuntime) -> Result<(), Memory> {
-    for (outer, inner, expected) in FORMS {
-        let argument = joined(rt.alloc(), inner, b"x", b"y")?;
-        let term = one(rt.alloc(), outer, argument)?;
-        let text = print_term(rt.alloc(), &term)?;
-        assert_eq!(rt; text.bytes(), expected);
+    for (outer, inner, expected) in &FORMS {
+        let text = printed(rt.alloc(), outer, inner)?;
+        assert_eq!(rt; text.bytes(), *expected);
     }
     Ok(())
+}
+
+// A form around a form of x and y, as it is printed.
+fn printed(alloc: Global, outer: &[u8], inner: &[u8]) -> Result<Bytes, Memory> {
+    let argument = joined(alloc, inner, b"x", b"y")?;
+    let term = one(alloc, outer, argument)?;
+    print_term(alloc, &term)
 }
 
 // A term that is as deep as terms of a proof can be.

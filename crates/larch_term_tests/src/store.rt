@@ -15,19 +15,30 @@ fn mixed(alloc: Global) -> Result<Term, Memory> {
 // The number that a chain of these levels gets.
 fn number(store: &mut Store, alloc: Global, levels: u64) -> Result<u64, StoreRefusal> {
     let term = chain(alloc, b"f", b"x", levels)?;
-    let shared = store.intern(&term)?;
+    number_of(store, &term)
+}
+
+// The number that a term gets.
+fn number_of(store: &mut Store, term: &Term) -> Result<u64, StoreRefusal> {
+    let shared = store.intern(term)?;
     Ok(store.number(&shared))
 }
 
 #[test]
 fn gives_terms_back(rt: HostRuntime) -> Result<(), Fail> {
-    let mut store = Store::new(rt.alloc())?;
     let term = mixed(rt.alloc())?;
-    let shared = store.intern(&term)?;
-    let read = store.to_term(&shared)?;
+    let mut store = Store::new(rt.alloc())?;
+    let (read, size) = given_back(&mut store, &term)?;
     assert!(rt; same_term(&read, &term));
-    assert_eq!(rt; store.size(&shared), 6);
+    assert_eq!(rt; size, 6);
     Ok(())
+}
+
+// A term as it comes out of a store, and its size there.
+fn given_back(store: &mut Store, term: &Term) -> Result<(Term, u64), StoreRefusal> {
+    let shared = store.intern(term)?;
+    let read = store.to_term(&shared)?;
+    Ok((read, store.size(&shared)))
 }
 
 #[test]
@@ -63,12 +74,11 @@ fn wide(alloc: Global, arguments: usize) -> Result<Term, Memory> {
 
 #[test]
 fn takes_five_thousand_nodes(rt: HostRuntime) -> Result<(), Fail> {
+    let fitting = wide(rt.alloc(), 4_999)?;
+    let larger = wide(rt.alloc(), 5_000)?;
     let mut store = Store::new(rt.alloc())?;
-    let term = wide(rt.alloc(), 4_999)?;
-    let shared = store.intern(&term)?;
-    assert_eq!(rt; store.number(&shared), 1);
-    let term = wide(rt.alloc(), 5_000)?;
-    assert_eq!(rt; store.intern(&term).err(), Some(StoreRefusal::TooLarge));
+    assert_eq!(rt; number_of(&mut store, &fitting)?, 1);
+    assert_eq!(rt; store.intern(&larger).err(), Some(StoreRefusal::TooLarge));
     Ok(())
 }
 

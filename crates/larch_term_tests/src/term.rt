@@ -81,22 +81,35 @@ fn lists_variables_once(rt: HostRuntime) -> Result<(), Memory> {
 // A formula, and two clauses.
 fn statements(alloc: Global) -> Result<Statements, Memory> {
     let mut statements = Sequence::new(alloc);
-    statements.push(formula(alloc)?)?;
-    statements.push(generated(alloc)?)?;
+    push(&mut statements, formula(alloc))?;
+    push(&mut statements, generated(alloc))?;
+    push(&mut statements, partitioned(alloc))?;
+    Ok(statements)
+}
+
+fn push(statements: &mut Statements, made: Result<Statement, Memory>) -> Result<(), Memory> {
+    statements.push(made?)
+}
+
+// N partitioned by s.
+fn partitioned(alloc: Global) -> Result<Statement, Memory> {
     let sort = Name::new(alloc, b"N")?;
     let observers = operators(alloc, &[(b"s", 1)])?;
-    statements.push(Statement::Partitioned(sort, observers))?;
-    Ok(statements)
+    Ok(Statement::Partitioned(sort, observers))
+}
+
+fn theory(alloc: Global) -> Result<Theory, Memory> {
+    let operators = operators(alloc, &[(b"0", 0), (b"s", 1)])?;
+    let statements = statements(alloc)?;
+    Ok(Theory {
+        operators,
+        statements,
+    })
 }
 
 #[test]
 fn copies_theories(rt: HostRuntime) -> Result<(), Memory> {
-    let operators = operators(rt.alloc(), &[(b"0", 0), (b"s", 1)])?;
-    let statements = statements(rt.alloc())?;
-    let theory = Theory {
-        operators,
-        statements,
-    };
+    let theory = theory(rt.alloc())?;
     let copied = copy_theory(rt.alloc(), &theory)?;
     assert!(rt; same_theory(&theory, &copied));
     Ok(())

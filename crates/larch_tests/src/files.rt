@@ -68,11 +68,15 @@ fn put(alloc: Global, folder: &mut MemoryFolder, name: &[u8], text: &[u8]) -> Re
 // A folder with two traits, of which the second is wrong, a script, and a certificate of what the first one implies.
 fn two_traits(alloc: Global, failing: &[u64]) -> Result<MemoryFolder, Memory> {
     let mut folder = MemoryFolder::new(alloc, failing)?;
-    put(alloc, &mut folder, b"One.lsl", ONE)?;
-    put(alloc, &mut folder, b"Two.lsl", WRONG)?;
-    put(alloc, &mut folder, b"One.lp", b"not looked at")?;
-    put(alloc, &mut folder, b"One.cert", REFLEXIVE)?;
+    put_all(alloc, &mut folder)?;
     Ok(folder)
+}
+
+fn put_all(alloc: Global, folder: &mut MemoryFolder) -> Result<(), Memory> {
+    put(alloc, folder, b"One.lsl", ONE)?;
+    put(alloc, folder, b"Two.lsl", WRONG)?;
+    put(alloc, folder, b"One.lp", b"not looked at")?;
+    put(alloc, folder, b"One.cert", REFLEXIVE)
 }
 
 // What a call with these words writes, one byte at a time, where the listed looks at the folder and writes fail.

@@ -2,12 +2,18 @@ use crate::making::text_of;
 use larch_base::{Code, Fault, FileName, Label, Name, NameRefusal, Pos, Sequence, is_word};
 use std::test::Fail;
 
+const WORDS: [&str; 5] = ["a", "0", "x'", "a_b", "set_f1"];
+
+const NO_WORDS: [&str; 6] = ["", "'", "_a", "a_", "a__b", "a-b"];
+
+const NO_FILE_NAMES: [&str; 5] = ["a.b.lsl", ".lsl", "a.LSL", "a-b.lp", "a.lsl "];
+
 #[test]
 fn tells_words(rt: HostRuntime) {
-    for word in ["a", "0", "x'", "a_b", "set_f1"] {
+    for word in &WORDS {
         assert!(rt; is_word(word.as_bytes()), "{word}");
     }
-    for other in ["", "'", "_a", "a_", "a__b", "a-b"] {
+    for other in &NO_WORDS {
         assert!(rt; !is_word(other.as_bytes()), "{other}");
     }
 }
@@ -17,7 +23,7 @@ fn tells_file_names(rt: HostRuntime) -> Result<(), Fail> {
     let file = FileName::new(rt.alloc(), b"a_1.lsl")?;
     assert_eq!(rt; file.stem(), b"a_1".as_slice());
     assert!(rt; file.is_trait());
-    for other in ["a.b.lsl", ".lsl", "a.LSL", "a-b.lp", "a.lsl "] {
+    for other in &NO_FILE_NAMES {
         let refusal = FileName::new(rt.alloc(), other.as_bytes()).err();
         assert_eq!(rt; refusal, Some(NameRefusal::NotAName), "{other}");
     }

@@ -1,8 +1,8 @@
 use crate::making::text_of;
 use larch_base::{Bytes, Memory, Name};
 use larch_io::{
-    CleanFolder, CleanSink, CleanSource, Folder, FolderRefusal, MemorySink, MemorySource, Reader,
-    Source, StandardInput, StandardOutput, TakeRefusal, WriteRefusal, put_all, take_exact,
+    CleanFolder, CleanSink, CleanSource, Folder, FolderRefusal, Line, MemorySink, MemorySource,
+    Reader, Source, StandardInput, StandardOutput, TakeRefusal, WriteRefusal, put_all, take_exact,
     take_line,
 };
 use std::alloc::Global;
@@ -15,13 +15,24 @@ fn lines<S: Source>(
 ) -> Result<(Bytes, Option<TakeRefusal>), TakeRefusal> {
     let mut reader = Reader::new(alloc)?;
     let mut text = Bytes::new(alloc);
+    let refusal = add_lines(alloc, &mut reader, source, &mut text)?;
+    Ok((text, refusal))
+}
+
+// Puts each line with a `/` behind it to a text, and tells why no further line was taken.
+fn add_lines<S: Source>(
+    alloc: Global,
+    reader: &mut Reader,
+    source: &mut S,
+    text: &mut Bytes,
+) -> Result<Option<TakeRefusal>, TakeRefusal> {
     for _ in 0..4 {
-        match take_line(alloc, &mut reader, source) {
-            Ok(line) => add(&mut text, line.bytes())?,
-            Err(refusal) => return Ok((text, Some(refusal))),
+        match take_line(alloc, reader, source) {
+            Ok(line) => add(text, line.bytes())?,
+            Err(refusal) => return Ok(Some(refusal)),
         }
     }
-    Ok((text, None))
+    Ok(None)
 }
 
 fn add(text: &mut Bytes, line: &[u8]) -> Result<(), Memory> {
@@ -71,11 +82,21 @@ fn takes_two_hundred_bytes_and_no_more(rt: HostRuntime) -> Result<(), Fail> {
 fn takes_bytes_and_then_a_line(rt: HostRuntime) -> Result<(), Fail> {
     let mut reader = Reader::new(rt.alloc())?;
     let mut source = CleanSource::new(rt.alloc(), b"four\nlast")?;
-    let bytes = take_exact(rt.alloc(), &mut reader, &mut source, 6)?;
-    let line = take_line(rt.alloc(), &mut reader, &mut source)?;
+    let (bytes, line) = bytes_and_line(rt.alloc(), &mut reader, &mut source)?;
     assert_eq!(rt; bytes.bytes(), b"four\nl".as_slice());
     assert_eq!(rt; line.bytes(), b"ast".as_slice());
     Ok(())
+}
+
+// Six bytes, and a line behind them.
+fn bytes_and_line<S: Source>(
+    alloc: Global,
+    reader: &mut Reader,
+    source: &mut S,
+) -> Result<(Bytes, Line), TakeRefusal> {
+    let bytes = take_exact(alloc, reader, source, 6)?;
+    let line = take_line(alloc, reader, source)?;
+    Ok((bytes, line))
 }
 
 #[test]

@@ -1,4 +1,4 @@
-use larch_base::Bytes;
+use larch_base::{Bytes, Memory, let_go};
 use larch_lexer::{Tokens, lex_lsl};
 use larch_syntax::{SyntaxRefusal, read_reference, read_term, read_trait};
 use std::alloc::Global;
@@ -181,47 +181,49 @@ fn tokens_of(alloc: Global, text: &[u8]) -> Option<Tokens> {
 fn read(alloc: Global, text: &[u8]) -> Option<(&'static str, u32)> {
     let tokens = tokens_of(alloc, text)?;
     match read_trait(alloc, &tokens) {
-        Ok(_raw) => Some(("", 0)),
+        Ok(raw) => Some(let_go(("", 0), raw)),
         Err(refusal) => Some(told(refusal)),
     }
 }
 
 #[test]
 fn refuses_at_the_first_wrong_token(rt: HostRuntime) {
-    for (text, code, column) in NEAR_MISSES {
+    for (text, code, column) in &NEAR_MISSES {
         let answer = read(rt.alloc(), text.as_bytes());
-        assert!(rt; answer == Some((code, column)), "{text}: {answer:?}");
+        assert!(rt; answer == Some((*code, *column)), "{text}: {answer:?}");
     }
 }
 
 #[test]
 fn refuses_a_wrong_composition(rt: HostRuntime) {
-    for (text, code, column) in WRONG_COMPOSITION {
+    for (text, code, column) in &WRONG_COMPOSITION {
         let answer = read(rt.alloc(), text.as_bytes());
-        assert!(rt; answer == Some((code, column)), "{text}: {answer:?}");
+        assert!(rt; answer == Some((*code, *column)), "{text}: {answer:?}");
     }
 }
 
 #[test]
 fn refuses_a_wrong_claim(rt: HostRuntime) {
-    for (text, code, column) in WRONG_CLAIMS {
+    for (text, code, column) in &WRONG_CLAIMS {
         let answer = read(rt.alloc(), text.as_bytes());
-        assert!(rt; answer == Some((code, column)), "{text}: {answer:?}");
+        assert!(rt; answer == Some((*code, *column)), "{text}: {answer:?}");
     }
 }
 
 // The number of tokens of the equation at the front of a text.
 fn behind(alloc: Global, text: &[u8]) -> Option<u32> {
     let tokens = tokens_of(alloc, text)?;
-    let (_equation, tokens) = read_term(alloc, &tokens, 0).ok()?;
-    Some(tokens)
+    match read_term(alloc, &tokens, 0) {
+        Ok((equation, tokens)) => Some(let_go(tokens, equation)),
+        Err(_refusal) => None,
+    }
 }
 
 #[test]
 fn reads_the_longest_front(rt: HostRuntime) {
-    for (text, tokens) in FRONTS {
+    for (text, tokens) in &FRONTS {
         let answer = behind(rt.alloc(), text.as_bytes());
-        assert!(rt; answer == Some(tokens), "{text}: {answer:?}");
+        assert!(rt; answer == Some(*tokens), "{text}: {answer:?}");
     }
 }
 
@@ -229,7 +231,7 @@ fn reads_the_longest_front(rt: HostRuntime) {
 fn behind_reference(alloc: Global, text: &[u8]) -> Option<u32> {
     let tokens = tokens_of(alloc, text)?;
     match read_reference(alloc, &tokens, 0) {
-        Ok((_reference, tokens)) => Some(tokens),
+        Ok((reference, tokens)) => Some(let_go(tokens, reference)),
         Err(SyntaxRefusal::Syntax(_pos)) => Some(0),
         Err(_other) => None,
     }
@@ -237,9 +239,9 @@ fn behind_reference(alloc: Global, text: &[u8]) -> Option<u32> {
 
 #[test]
 fn reads_the_reference_at_the_front(rt: HostRuntime) {
-    for (text, tokens) in REFERENCES {
+    for (text, tokens) in &REFERENCES {
         let answer = behind_reference(rt.alloc(), text.as_bytes());
-        assert!(rt; answer == Some(tokens), "{text}: {answer:?}");
+        assert!(rt; answer == Some(*tokens), "{text}: {answer:?}");
     }
 }
 
@@ -251,15 +253,26 @@ fn repeated(
     times: u32,
 ) -> Option<(&'static str, u32)> {
     let mut text = Bytes::new(alloc);
-    text.append(b"N : trait asserts ").ok()?;
-    for _time in 0..times {
-        text.append(before).ok()?;
-    }
-    text.append(b"x").ok()?;
-    for _time in 0..times {
-        text.append(behind).ok()?;
-    }
+    write_repeated(&mut text, before, behind, times).ok()?;
     read(alloc, text.bytes())
+}
+
+// Writes such a trait.
+fn write_repeated(
+    text: &mut Bytes,
+    before: &[u8],
+    behind: &[u8],
+    times: u32,
+) -> Result<(), Memory> {
+    text.append(b"N : trait asserts ")?;
+    for _time in 0..times {
+        text.append(before)?;
+    }
+    text.append(b"x")?;
+    for _time in 0..times {
+        text.append(behind)?;
+    }
+    Ok(())
 }
 
 #[test]

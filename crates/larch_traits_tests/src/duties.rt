@@ -17,20 +17,20 @@ fn claiming(alloc: Global) -> Result<Sources, Fail> {
 
 // What is written of the first trait.
 fn listed(alloc: Global, sources: &Sources) -> Result<Bytes, TraitRefusal> {
-    let flat_traits = flatten(alloc, sources)?;
     if sources.len() == 0 {
         return Err(TraitRefusal::Memory);
     }
+    let flat_traits = flatten(alloc, sources)?;
     let text = list_trait(alloc, sources, &flat_traits, 0)?;
     Ok(text)
 }
 
 // Whether the first trait has a duty of this label.
 fn has_duty(alloc: Global, sources: &Sources, label: &[u8]) -> Result<bool, TraitRefusal> {
-    let flat_traits = flatten(alloc, sources)?;
     if sources.len() == 0 {
         return Err(TraitRefusal::Memory);
     }
+    let flat_traits = flatten(alloc, sources)?;
     let duties = duties_of(alloc, sources, &flat_traits, 0)?;
     let found = find_duty(alloc, &duties, label)?;
     Ok(found.is_some())

@@ -24,23 +24,28 @@ fn traits_are_composed(rt: HostRuntime) -> Result<(), Fail> {
     Ok(())
 }
 
+// Two texts, and what is wrong with the first.
+const WRONG: [(&[u8], &[u8], Code); 3] = [
+    (b"A: trait includes C", b"B: trait", Code::UnknownTrait),
+    (b"A: trait includes B", b"B: trait includes A", Code::Cycle),
+    (
+        b"A: trait includes B",
+        b"B: trait includes B",
+        Code::BadReference,
+    ),
+];
+
 #[test]
 fn wrong_references_are_refused(rt: HostRuntime) -> Result<(), Fail> {
-    for (first, second, code) in [
-        (
-            b"A: trait includes C".as_slice(),
-            b"B: trait".as_slice(),
-            Code::UnknownTrait,
-        ),
-        (b"A: trait includes B", b"B: trait includes A", Code::Cycle),
-        (
-            b"A: trait includes B",
-            b"B: trait includes B",
-            Code::BadReference,
-        ),
-    ] {
+    for (first, second, code) in &WRONG {
         let found = fault(rt.alloc(), first, second)?;
-        assert_eq!(rt; found, Some(Fault { pos: at(19), code }));
+        assert_eq!(rt;
+            found,
+            Some(Fault {
+                pos: at(19),
+                code: *code
+            })
+        );
     }
     Ok(())
 }

@@ -2,8 +2,9 @@ use crate::making::{raw_trait, theory, wrong};
 use larch_base::{Bytes, Code};
 use larch_items::TraitRefusal;
 use larch_print::{print_operator, print_statement};
+use larch_raw::RawReference;
 use larch_replacing::{NewNames, replacements_of};
-use larch_term::{Operator, Theory};
+use larch_term::{Operator, Statement, Theory};
 use std::alloc::Global;
 
 // A constant, of which one thing is stated.
@@ -15,20 +16,35 @@ fn constant(alloc: Global) -> Result<Theory, TraitRefusal> {
 fn names(alloc: Global, text: &[u8], operators: &[Operator]) -> Result<NewNames, TraitRefusal> {
     let raw = raw_trait(alloc, text)?;
     match raw.references.as_slice() {
-        [reference] => {
-            let by = replacements_of(alloc, operators, &[], &reference.target)?;
-            let names = NewNames::new(alloc, by, operators)?;
-            Ok(names)
-        }
+        [reference] => names_by(alloc, reference, operators),
         _ => Err(TraitRefusal::Memory),
     }
+}
+
+fn names_by(
+    alloc: Global,
+    reference: &RawReference,
+    operators: &[Operator],
+) -> Result<NewNames, TraitRefusal> {
+    let by = replacements_of(alloc, operators, &[], &reference.target)?;
+    let names = NewNames::new(alloc, by, operators)?;
+    Ok(names)
 }
 
 // The constant by its new name.
 fn renamed(alloc: Global, text: &[u8]) -> Result<Bytes, TraitRefusal> {
     let theory = constant(alloc)?;
-    let names = names(alloc, text, theory.operators.as_slice())?;
-    let new = names.operators(alloc, theory.operators.as_slice())?;
+    renamed_among(alloc, text, theory.operators.as_slice())
+}
+
+// The only one of operators by its new name.
+fn renamed_among(
+    alloc: Global,
+    text: &[u8],
+    operators: &[Operator],
+) -> Result<Bytes, TraitRefusal> {
+    let names = names(alloc, text, operators)?;
+    let new = names.operators(alloc, operators)?;
     match new.as_slice() {
         [operator] => {
             let line = print_operator(alloc, operator)?;
@@ -43,13 +59,19 @@ fn restated(alloc: Global, text: &[u8]) -> Result<Bytes, TraitRefusal> {
     let theory = constant(alloc)?;
     let names = names(alloc, text, theory.operators.as_slice())?;
     match theory.statements.as_slice() {
-        [statement] => {
-            let statement = names.rename_statement(alloc, statement)?;
-            let line = print_statement(alloc, &statement)?;
-            Ok(line)
-        }
+        [statement] => restated_by(alloc, &names, statement),
         _ => Err(TraitRefusal::Memory),
     }
+}
+
+fn restated_by(
+    alloc: Global,
+    names: &NewNames,
+    statement: &Statement,
+) -> Result<Bytes, TraitRefusal> {
+    let statement = names.rename_statement(alloc, statement)?;
+    let line = print_statement(alloc, &statement)?;
+    Ok(line)
 }
 
 #[test]

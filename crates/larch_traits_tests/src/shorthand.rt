@@ -24,34 +24,32 @@ fn sizes(alloc: Global, text: &[u8]) -> Result<Result<(usize, usize, usize), Exp
     }
 }
 
+// Texts, and how many operators and statements they stand for.
+const SHORTHANDS: [(&[u8], (usize, usize, usize)); 3] = [
+    (b"T: trait Bool enumeration of one, two", (3, 3, 3)),
+    (b"T: trait C tuple of left, right: S", (5, 5, 6)),
+    (b"T: trait U union of left, right: S", (8, 8, 9)),
+];
+
 #[test]
 fn expands_shorthands(rt: HostRuntime) -> Result<(), Fail> {
-    for (text, made) in [
-        (
-            b"T: trait Bool enumeration of one, two".as_slice(),
-            (3, 3, 3),
-        ),
-        (b"T: trait C tuple of left, right: S", (5, 5, 6)),
-        (b"T: trait U union of left, right: S", (8, 8, 9)),
-    ] {
-        assert_eq!(rt; sizes(rt.alloc(), text)?, Ok(made));
+    for (text, made) in &SHORTHANDS {
+        assert_eq!(rt; sizes(rt.alloc(), text)?, Ok(*made));
     }
     Ok(())
 }
 
 #[test]
 fn refuses_a_name_twice_before_a_truth_value(rt: HostRuntime) -> Result<(), Fail> {
-    for (text, refusal) in [
-        (
-            b"T: trait Bool enumeration of true, true".as_slice(),
-            ExpandRefusal::FieldTwice(at(36)),
-        ),
-        (
-            b"T: trait Bool enumeration of true",
-            ExpandRefusal::BuiltIn(at(30)),
-        ),
-    ] {
-        assert_eq!(rt; sizes(rt.alloc(), text)?, Err(refusal));
-    }
+    let text = b"T: trait Bool enumeration of true, true";
+    assert_eq!(rt;
+        sizes(rt.alloc(), text)?,
+        Err(ExpandRefusal::FieldTwice(at(36)))
+    );
+    let text = b"T: trait Bool enumeration of true";
+    assert_eq!(rt;
+        sizes(rt.alloc(), text)?,
+        Err(ExpandRefusal::BuiltIn(at(30)))
+    );
     Ok(())
 }

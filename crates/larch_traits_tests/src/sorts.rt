@@ -28,8 +28,8 @@ fn equation(alloc: Global, text: &[u8]) -> Result<RawEquation, Fail> {
 
 // Why a text isn't read, if it isn't.
 fn refusal(alloc: Global, text: &[u8]) -> Result<Option<ReadRefusal>, Fail> {
-    let signature = signature(alloc)?;
     let raw = equation(alloc, text)?;
+    let signature = signature(alloc)?;
     let scope = Scope::new(alloc);
     Ok(read_in(alloc, &signature, &scope, &raw).err())
 }
@@ -65,13 +65,13 @@ fn chain(alloc: Global, signs: u32) -> Result<RawEquation, Fail> {
 
 // What such a term is read as, at M or at any sort.
 fn read(alloc: Global, signs: u32, at_sort: bool) -> Result<Result<Term, ReadRefusal>, Fail> {
-    let signature = signature(alloc)?;
+    let sort = Name::new(alloc, b"M")?;
     let raw = chain(alloc, signs)?;
-    let scope = Scope::new(alloc);
     if raw.right.is_some() {
         return Err(Memory.into());
     }
-    let sort = Name::new(alloc, b"M")?;
+    let signature = signature(alloc)?;
+    let scope = Scope::new(alloc);
     let sort = if at_sort { Some(&sort) } else { None };
     Ok(read_lone(alloc, &signature, &scope, &raw, sort))
 }
@@ -119,21 +119,26 @@ fn declare(text: &mut Bytes, sort: &[u8]) -> Result<(), Memory> {
 // Such operators at seventy sorts, and a function to D of one of them and of a sort that nothing has.
 fn wide_signature(alloc: Global) -> Result<Signature, Fail> {
     let mut text = Bytes::new(alloc);
-    text.append(b"T: trait introduces d: -> D h: S -> D h: E -> D")?;
-    let mut sort = Bytes::new(alloc);
-    for _ in 0..70 {
-        sort.append(b"S")?;
-        declare(&mut text, sort.bytes())?;
-    }
+    write_wide(alloc, &mut text)?;
     let theory = theory(alloc, text.bytes())?;
     let signature = Signature::from_operators(alloc, theory.operators)?;
     Ok(signature)
 }
 
+fn write_wide(alloc: Global, text: &mut Bytes) -> Result<(), Memory> {
+    text.append(b"T: trait introduces d: -> D h: S -> D h: E -> D")?;
+    let mut sort = Bytes::new(alloc);
+    for _ in 0..70 {
+        sort.append(b"S")?;
+        declare(text, sort.bytes())?;
+    }
+    Ok(())
+}
+
 // Why a text isn't read over them, if it isn't.
 fn wide_refusal(alloc: Global, text: &[u8]) -> Result<Option<ReadRefusal>, Fail> {
-    let signature = wide_signature(alloc)?;
     let raw = equation(alloc, text)?;
+    let signature = wide_signature(alloc)?;
     let scope = Scope::new(alloc);
     Ok(read_in(alloc, &signature, &scope, &raw).err())
 }

@@ -1,7 +1,8 @@
-use larch_base::{Bytes, Memory, Sequence};
+use larch_base::{Bytes, Memory, Sequence, let_go};
+use larch_certificate::Line;
 use larch_certificate_reader::{FormRefusal, read_either};
 use larch_term::{Operators, Statement, Theory};
-use larch_theory_text::{read_operators, read_statements};
+use larch_theory_text::{parts_of, read_operators, read_statements};
 use larch_verify::{Verdict, verify};
 use std::alloc::Global;
 
@@ -26,14 +27,6 @@ fn put_answer(alloc: Global, text: &[u8], answer: &mut Bytes) -> Result<(), Memo
     put_verdict(alloc, operators, statements, certificate, answer)
 }
 
-fn parts_of(alloc: Global, text: &[u8], between: u8) -> Result<Vec<&[u8]>, Memory> {
-    let mut parts = Vec::new(alloc);
-    for part in text.split(|byte| *byte == between) {
-        parts.push(part)?;
-    }
-    Ok(parts)
-}
-
 // The last statement is the one that is to be shown.
 fn put_verdict(
     alloc: Global,
@@ -42,9 +35,21 @@ fn put_verdict(
     certificate: &[u8],
     answer: &mut Bytes,
 ) -> Result<(), Memory> {
-    let Some(mut statements) = read_statements(alloc, &operators, statements)? else {
-        return answer.append(b"no problem");
-    };
+    match read_statements(alloc, &operators, statements) {
+        Ok(Some(statements)) => put_claim(alloc, operators, statements, certificate, answer),
+        Ok(None) => let_go(answer.append(b"no problem"), operators),
+        Err(memory) => Err(let_go(memory, operators)),
+    }
+}
+
+fn put_claim(
+    alloc: Global,
+    operators: Operators,
+    statements: Vec<Statement>,
+    certificate: &[u8],
+    answer: &mut Bytes,
+) -> Result<(), Memory> {
+    let mut statements = statements;
     let Some(statement) = statements.pop() else {
         return answer.append(b"no problem");
     };
@@ -63,12 +68,22 @@ fn put_checked(
     answer: &mut Bytes,
 ) -> Result<(), Memory> {
     match read_either(alloc, certificate) {
-        Ok(read) => match verify(alloc, theory, statement, read.lines.as_slice())? {
-            Verdict::Accepted => answer.append(b"accepted"),
-            Verdict::Refused(line) => put_number(alloc, b"refused ", line, answer),
-        },
+        Ok(read) => put_verified(alloc, theory, statement, read.lines.as_slice(), answer),
         Err(FormRefusal::Form(line)) => put_number(alloc, b"malformed ", line, answer),
         Err(FormRefusal::Memory) => Err(Memory),
+    }
+}
+
+fn put_verified(
+    alloc: Global,
+    theory: &Theory,
+    statement: &Statement,
+    lines: &[Line],
+    answer: &mut Bytes,
+) -> Result<(), Memory> {
+    match verify(alloc, theory, statement, lines)? {
+        Verdict::Accepted => answer.append(b"accepted"),
+        Verdict::Refused(line) => put_number(alloc, b"refused ", line, answer),
     }
 }
 

@@ -72,9 +72,9 @@ fn accepts_the_worked_certificate(rt: HostRuntime) -> Result<(), Fail> {
 
 #[test]
 fn refuses_changed_lines(rt: HostRuntime) -> Result<(), Fail> {
-    for (number, line, refused) in CHANGED {
-        let verdict = verdict_with(rt.alloc(), number, line)?;
-        assert_eq!(rt; verdict, Some(Verdict::Refused(refused)), "{line}");
+    for (number, line, refused) in &CHANGED {
+        let verdict = verdict_with(rt.alloc(), *number, line)?;
+        assert_eq!(rt; verdict, Some(Verdict::Refused(*refused)), "{line}");
     }
     Ok(())
 }

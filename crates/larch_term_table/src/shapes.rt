@@ -1,6 +1,6 @@
-use larch_base::{Memory, Name, Sequence};
+use larch_base::{Memory, Name, Sequence, let_go};
 use larch_order::{Precedence, Way};
-use larch_term::{Operator, Term, Terms, Theory};
+use larch_term::{Operator, Operators, Term, Terms, Theory};
 use std::alloc::Global;
 
 /// What the compared terms look like.
@@ -72,15 +72,30 @@ impl Shape {
             _ => 0,
         };
         let theory = theory(alloc, others)?;
-        let mut order = Precedence::of_theory(alloc, &theory)?;
-        for operator in theory.operators.as_slice() {
-            let _ = order.register_status(operator, way);
-        }
-        Ok(order)
+        let order = Precedence::of_theory(alloc, &theory)?;
+        Ok(with_statuses(order, theory.operators.as_slice(), way))
     }
 }
 
+// The precedence with a status for each operator.
+fn with_statuses(order: Precedence, operators: &[Operator], way: Way) -> Precedence {
+    let mut order = order;
+    for operator in operators {
+        let _ = order.register_status(operator, way);
+    }
+    order
+}
+
 fn theory(alloc: Global, others: u64) -> Result<Theory, Memory> {
+    let operators = all_operators(alloc, others)?;
+    let statements = Sequence::new(alloc);
+    Ok(Theory {
+        operators,
+        statements,
+    })
+}
+
+fn all_operators(alloc: Global, others: u64) -> Result<Operators, Memory> {
     let mut operators = Sequence::new(alloc);
     push_operator(alloc, b"f", 1, &mut operators)?;
     push_operator(alloc, b"h", 2, &mut operators)?;
@@ -89,11 +104,7 @@ fn theory(alloc: Global, others: u64) -> Result<Theory, Memory> {
         operators.push(other)?;
     }
     push_operator(alloc, b"g", 2, &mut operators)?;
-    let statements = Sequence::new(alloc);
-    Ok(Theory {
-        operators,
-        statements,
-    })
+    Ok(operators)
 }
 
 fn push_operator(
@@ -146,10 +157,18 @@ fn operators(alloc: Global, size: u64) -> Result<Pair, Memory> {
 fn ladder(alloc: Global, name: &[u8], size: u64) -> Result<Term, Memory> {
     let mut term = variable(alloc, name)?;
     for level in 1..size {
-        let other = other(alloc, level % OTHERS)?;
-        term = applied(alloc, other, term)?;
+        term = step(alloc, level % OTHERS, term)?;
     }
     Ok(term)
+}
+
+// The operator with a number around a term.
+fn step(alloc: Global, number: u64, term: Term) -> Result<Term, Memory> {
+    let arguments = alone(alloc, term)?;
+    match other(alloc, number) {
+        Ok(operator) => Ok(Term::app(operator, arguments)),
+        Err(memory) => Err(let_go(memory, arguments)),
+    }
 }
 
 // f(f(.. f(NAME))).
@@ -165,10 +184,17 @@ fn chain(alloc: Global, name: &[u8], size: u64) -> Result<Term, Memory> {
 fn comb(alloc: Global, first: &[u8], last: &[u8], levels: u64) -> Result<Term, Memory> {
     let mut term = variable(alloc, last)?;
     for _ in 0..levels {
-        let first = variable(alloc, first)?;
-        term = two(alloc, b"g", first, term)?;
+        term = behind(alloc, first, term)?;
     }
     Ok(term)
+}
+
+// g(FIRST, TERM).
+fn behind(alloc: Global, first: &[u8], term: Term) -> Result<Term, Memory> {
+    match variable(alloc, first) {
+        Ok(first) => two(alloc, b"g", first, term),
+        Err(memory) => Err(let_go(memory, term)),
+    }
 }
 
 // The balanced tree of an operator of two arguments whose first leaf is NAME, and each other one z.
@@ -201,20 +227,32 @@ fn variable(alloc: Global, name: &[u8]) -> Result<Term, Memory> {
 }
 
 fn one(alloc: Global, argument: Term) -> Result<Term, Memory> {
-    let operator = operator(alloc, b"f", 1)?;
-    applied(alloc, operator, argument)
-}
-
-fn applied(alloc: Global, operator: Operator, argument: Term) -> Result<Term, Memory> {
-    let mut arguments = Vec::with_capacity(alloc, 1)?;
-    arguments.push(argument)?;
-    Ok(Term::app(operator, Terms::from_vec(arguments)))
+    let arguments = alone(alloc, argument)?;
+    applied(alloc, b"f", arguments)
 }
 
 fn two(alloc: Global, form: &[u8], first: Term, second: Term) -> Result<Term, Memory> {
-    let operator = operator(alloc, form, 2)?;
+    let arguments = both(alloc, first, second)?;
+    applied(alloc, form, arguments)
+}
+
+fn alone(alloc: Global, argument: Term) -> Result<Terms, Memory> {
+    let mut arguments = Vec::with_capacity(alloc, 1)?;
+    arguments.push(argument)?;
+    Ok(Terms::from_vec(arguments))
+}
+
+fn both(alloc: Global, first: Term, second: Term) -> Result<Terms, Memory> {
     let mut arguments = Vec::with_capacity(alloc, 2)?;
     arguments.push(first)?;
     arguments.push(second)?;
-    Ok(Term::app(operator, Terms::from_vec(arguments)))
+    Ok(Terms::from_vec(arguments))
+}
+
+// An operator over N with these arguments.
+fn applied(alloc: Global, form: &[u8], arguments: Terms) -> Result<Term, Memory> {
+    match operator(alloc, form, arguments.as_slice().len() as u64) {
+        Ok(operator) => Ok(Term::app(operator, arguments)),
+        Err(memory) => Err(let_go(memory, arguments)),
+    }
 }

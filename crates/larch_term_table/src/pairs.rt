@@ -1,32 +1,9 @@
-use crate::reading::{add_application, add_variable, fields_of};
 use crate::writing::{put_count, put_pairs, put_unifier};
 use larch_base::{Bytes, Memory};
 use larch_critical_pairs::{Pairs, Rule, critical_pairs};
 use larch_pairs::{PairRefusal, unify};
 use larch_term::{Substitution, Term};
 use std::alloc::Global;
-
-/// Does what a line says: it puts a term behind the others, or the answer for the last ones behind a text.
-pub fn answer(
-    alloc: Global,
-    line: &[u8],
-    terms: &mut Vec<Term>,
-    text: &mut Bytes,
-) -> Result<(), Memory> {
-    let fields = fields_of(alloc, line)?;
-    let [kind, rest @ ..] = fields.as_slice() else {
-        return Ok(());
-    };
-    match *kind {
-        b"v" => add_variable(alloc, rest, terms),
-        b"a" => add_application(alloc, rest, terms),
-        b"u" => put_unified(alloc, terms, true, text),
-        b"n" => put_unified(alloc, terms, false, text),
-        b"c" => put_pairs_of_two(alloc, terms, text),
-        b"i" => put_pairs_of_one(alloc, terms, text),
-        _ => Ok(()),
-    }
-}
 
 // The last two terms as a rule's sides.
 fn last_rule(terms: &mut Vec<Term>) -> Option<Rule> {
@@ -35,8 +12,8 @@ fn last_rule(terms: &mut Vec<Term>) -> Option<Rule> {
     Some(Rule { left, right })
 }
 
-// The unifier of the last two terms, whole or counted.
-fn put_unified(
+/// Puts the unifier of the last two terms, whole or counted.
+pub fn put_unified(
     alloc: Global,
     terms: &mut Vec<Term>,
     whole: bool,
@@ -65,7 +42,12 @@ fn put_bindings(
     }
 }
 
-fn put_pairs_of_two(alloc: Global, terms: &mut Vec<Term>, text: &mut Bytes) -> Result<(), Memory> {
+/// Puts the critical pairs of the last two rules.
+pub fn put_pairs_of_two(
+    alloc: Global,
+    terms: &mut Vec<Term>,
+    text: &mut Bytes,
+) -> Result<(), Memory> {
     let Some(second) = last_rule(terms) else {
         return Ok(());
     };
@@ -76,7 +58,12 @@ fn put_pairs_of_two(alloc: Global, terms: &mut Vec<Term>, text: &mut Bytes) -> R
     put_answer(alloc, pairs, text)
 }
 
-fn put_pairs_of_one(alloc: Global, terms: &mut Vec<Term>, text: &mut Bytes) -> Result<(), Memory> {
+/// Puts the critical pairs of the last rule with itself.
+pub fn put_pairs_of_one(
+    alloc: Global,
+    terms: &mut Vec<Term>,
+    text: &mut Bytes,
+) -> Result<(), Memory> {
     let Some(rule) = last_rule(terms) else {
         return Ok(());
     };
