@@ -12,8 +12,8 @@ import sys
 import tempfile
 import time
 
-sys.path.insert(0, str(pathlib.Path(__file__).resolve().parent.parent / "tools"))
-from check_lsp import TOP, Client, server  # noqa: E402
+sys.path.insert(0, str(pathlib.Path(__file__).resolve().parent.parent / "tools/gate"))
+from check_lsp import TOP, Client, reports  # noqa: E402
 
 
 def generated(number):
@@ -34,7 +34,7 @@ def main():
     texts = {f"Key{number}.lsl": generated(number) for number in range(said.traits)}
     name = "Key0.lsl"
     versions = [texts[name].replace("0: ->", "0 ->"), texts[name]]
-    session, files = server.Session(program), {name: text.encode() for name, text in texts.items()}
+    session, files = reports.Session(program), {name: text.encode() for name, text in texts.items()}
     with tempfile.TemporaryDirectory() as place:
         folder, client, own, shown = pathlib.Path(place), Client(program), [], []
         for other, text in texts.items():

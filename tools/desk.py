@@ -1,11 +1,8 @@
-"""The parts of editors/larch-lsp that other tools use."""
-import importlib.machinery
-import importlib.util
+"""What the tools share: the top of the checkout, and the module of editors/ that shows reports."""
 import pathlib
 import sys
 
 sys.dont_write_bytecode = True
 TOP = pathlib.Path(__file__).resolve().parent.parent
-_loader = importlib.machinery.SourceFileLoader("larch_lsp", str(TOP / "editors/larch-lsp"))
-server = importlib.util.module_from_spec(importlib.util.spec_from_loader("larch_lsp", _loader))
-_loader.exec_module(server)
+sys.path.insert(0, str(TOP / "editors"))
+import larch_reports as reports  # noqa: E402, F401

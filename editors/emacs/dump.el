@@ -1,4 +1,4 @@
-;;; dump.el --- What stands on each line in which colour, for tools/check_highlighting.py  -*- lexical-binding: t -*-
+;;; dump.el --- What stands on each line in which colour, for tools/gate/check_highlighting.py  -*- lexical-binding: t -*-
 ;;; Commentary:
 ;; emacs --batch -L editors/emacs -l dump.el FILE..  prints LINE:COLUMN KIND TEXT for each stretch of one kind.
 ;;; Code:

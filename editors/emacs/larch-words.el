@@ -1,5 +1,5 @@
 ;;; larch-words.el --- Words of traits and proof scripts  -*- lexical-binding: t -*-
-;; Made by tools/make_highlighting.py of editors/words.txt.
+;; Made by tools/make/make_highlighting.py of editors/words.txt.
 ;;; Code:
 (defconst larch-part-words
   '("trait" "includes" "assumes" "introduces" "asserts" "implies" "converts" "exempting"))

@@ -1,4 +1,4 @@
-" What stands on each line in which colour, for tools/check_highlighting.py: vim -es -u NONE -N -S dump.vim
+" What stands on each line in which colour, for tools/gate/check_highlighting.py: vim -es -u NONE -N -S dump.vim
 " Writes LINE:COLUMN KIND TEXT for each stretch of one kind in the files that $FILES names to the file $DUMP.
 execute 'set runtimepath^=' . expand('<sfile>:p:h')
 filetype on

@@ -1,4 +1,4 @@
-" Made by tools/make_highlighting.py of editors/words.txt.
+" Made by tools/make/make_highlighting.py of editors/words.txt.
 if exists('b:current_syntax')
   finish
 endif

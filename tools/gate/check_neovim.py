@@ -1,5 +1,5 @@
 #!/usr/bin/env python3
-"""Neovim, headless, as a user has it: python3 tools/check_neovim.py [PROGRAM]
+"""Neovim, headless, as a user has it: python3 tools/gate/check_neovim.py [PROGRAM]
 
 It opens a trait with a wrong line, waits for the diagnostic, mends the line, and waits until the diagnostic is gone;
 then the same with a trait whose fault lies in an included file, which it mends there. Says what it saw. Ends with 1
@@ -11,7 +11,8 @@ import subprocess
 import sys
 import tempfile
 
-from desk import TOP, server
+sys.path.insert(0, str(pathlib.Path(__file__).resolve().parents[1]))
+from desk import TOP, reports  # noqa: E402
 
 SCRIPT = """
 local seen = {}
@@ -63,12 +64,12 @@ def main():
     if not shutil.which("nvim"):
         print("nvim is not installed: nothing was tried")
         return 0
-    parts = server.code_parts()
+    parts = reports.code_parts()
     wrong = {"T.lsl": "T: trait\n  introduces\n    c -> S\n"}
-    syntax = [3, 7, "SYNTAX", server.sentence("SYNTAX", parts)]
+    syntax = [3, 7, "SYNTAX", reports.sentence("SYNTAX", parts)]
     worse = compare("a wrong line comes and goes", seen(program, wrong), [[syntax], [], []])
     files = {"Base.lsl": wrong["T.lsl"].replace("T", "Base"), "T.lsl": "T: trait\n  includes Base\n"}
-    above = [2, 12, "BAD-REFERENCE", server.sentence("BAD-REFERENCE", parts)]
+    above = [2, 12, "BAD-REFERENCE", reports.sentence("BAD-REFERENCE", parts)]
     found = seen(program, files)
     worse |= compare("a fault in an included file comes and goes", found, [[above], [syntax], [], []])
     return int(worse)

@@ -1,5 +1,5 @@
 #!/usr/bin/env python3
-"""Makes the man page of docs/COMMANDS.md: python3 tools/make_manual.py
+"""Makes the man page of docs/COMMANDS.md: python3 tools/make/make_manual.py
 
 The page says what the commands are; this tool has the order of the man page's sections and how they are called. A
 heading with the name of a command is a part of COMMANDS, and a heading that isn't known gets a section of its own
@@ -9,7 +9,7 @@ import pathlib
 import re
 import textwrap
 
-TOP = pathlib.Path(__file__).resolve().parent.parent
+TOP = pathlib.Path(__file__).resolve().parents[2]
 PAGE, MADE = TOP / "docs/COMMANDS.md", TOP / "manual/larch.1"
 DATE = "2026-11-28"
 NAME = "larch \\- checks traits of the Larch Shared Language and proofs of their claims"
@@ -111,7 +111,7 @@ def table(rows):
     (_, *titles), *rest = [cells(row) for row in rows if not re.fullmatch(r"[|\s-]*", row)]
     shown = []
     for head, *others in rest:
-        shown += [".TP", "".join(flowing(head))]
+        shown += [".TP", " ".join(flowing(head))]
         said = [(title, cell) for title, cell in zip(titles, others) if cell]
         if len(titles) == 1:
             said = [("", cell) for _, cell in said]
@@ -164,7 +164,7 @@ def manual():
     whole = {"NAME": [NAME], "SYNOPSIS": synopsis(), "DESCRIPTION": section(described[:table_at]), "COMMANDS": listed}
     whole.update({heading: section(below) for heading, below in under.items()})
     whole.update({"EXAMPLES": section(examples), "SEE ALSO": see_also()})
-    lines = ['.\\" Made by tools/make_manual.py of docs/COMMANDS.md.', f'.TH LARCH 1 {DATE} larch "User commands"']
+    lines = ['.\\" Made by tools/make/make_manual.py of docs/COMMANDS.md.', f'.TH LARCH 1 {DATE} larch "User commands"']
     for heading, shown in whole.items():
         lines += [f".SH {heading}", *shown]
     return "\n".join(lines) + "\n"

@@ -1,5 +1,5 @@
 #!/usr/bin/env python3
-"""Tests tools/larch-ninja and measures it: python3 tools/check_ninja.py [PROGRAM] [--traits N] [--bazel]
+"""Tests tools/larch-ninja and measures it: python3 tools/gate/check_ninja.py [PROGRAM] [--traits N] [--bazel]
 
 N generated traits (200 by default) stand in a folder, in chains of ten, each including the one before it but the first.
 The first build is timed beside the same calls in a row; then one trait is edited, one is touched, one is made wrong and
@@ -17,7 +17,8 @@ import sys
 import tempfile
 import time
 
-from desk import TOP
+sys.path.insert(0, str(pathlib.Path(__file__).resolve().parents[1]))
+from desk import TOP  # noqa: E402
 
 CHAIN = 10
 

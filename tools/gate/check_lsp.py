@@ -1,5 +1,5 @@
 #!/usr/bin/env python3
-"""Tests the language server: python3 tools/check_lsp.py [PROGRAM]
+"""Tests the language server: python3 tools/gate/check_lsp.py [PROGRAM]
 
 A small client speaks to editors/larch-lsp over its standard input and output, as an editor does, and looks at what is
 published and answered. Without PROGRAM the checkout's ./larch is taken."""
@@ -15,7 +15,9 @@ import threading
 import time
 import unittest
 
-from desk import TOP, server
+sys.path.insert(0, str(pathlib.Path(__file__).resolve().parents[1]))
+from desk import TOP, reports  # noqa: E402
+import larch_names  # noqa: E402
 
 PROGRAM = str(TOP / "larch")
 RIGHT = "T: trait\n  introduces\n    c: -> S\n"
@@ -116,7 +118,7 @@ class Served(unittest.TestCase):
         self.client.open(path, WRONG)
         found = self.client.published("T.lsl", ["SYNTAX"])[0]
         self.assertEqual(found["range"], {"start": {"line": 2, "character": 6}, "end": {"line": 2, "character": 8}})
-        self.assertEqual(found["message"], server.sentence("SYNTAX", server.code_parts()))
+        self.assertEqual(found["message"], reports.sentence("SYNTAX", reports.code_parts()))
         self.assertIn("a `;` or `,` may be missing", found["message"])
         self.client.change(path, RIGHT)
         self.assertEqual(self.client.published("T.lsl", []), [])
@@ -133,7 +135,7 @@ class Served(unittest.TestCase):
         path = self.write("T.lsl", "")
         self.client.open(path, "")
         found = self.client.published("T.lsl", ["SYNTAX"])[0]
-        self.assertEqual(found["range"], server.AT_START)
+        self.assertEqual(found["range"], larch_names.AT_START)
 
     def test_files_of_the_folder_and_closing(self):
         path = self.write("T.lsl", RIGHT)
@@ -166,7 +168,7 @@ class Served(unittest.TestCase):
                                "    [x, y]; b\n")
         self.client.published("T.lsl", ["SYNTAX"])
         shown = self.client.at("hover", path, 1, 10)
-        self.assertEqual(shown["contents"]["value"], "**SYNTAX** " + server.code_parts()["SYNTAX"])
+        self.assertEqual(shown["contents"]["value"], "**SYNTAX** " + reports.code_parts()["SYNTAX"])
         self.assertIn("```lsl\nT: trait", shown["contents"]["value"])
         self.assertIsNone(self.client.at("hover", path, 0, 0))
         symbols = self.client.request("textDocument/documentSymbol", {"textDocument": {"uri": path.as_uri()}})
@@ -204,7 +206,7 @@ class Served(unittest.TestCase):
         self.client.published("T.lsl", [])
 
     def test_what_a_session_does_not_take(self):
-        long = self.write("Long.lsl", b"Long: trait" + b" " * server.MOST_BYTES)
+        long = self.write("Long.lsl", b"Long: trait" + b" " * reports.MOST_BYTES)
         path = self.write("T.lsl", RIGHT)
         odd = self.write("a-b.lsl", "")
         self.client.open(path, WRONG)
@@ -216,7 +218,7 @@ class Served(unittest.TestCase):
         self.client.open(path, WRONG)
         self.client.published("T.lsl", ["SYNTAX"])
         for count in range(68):
-            self.client.change(path, RIGHT + " " * (server.MOST_BYTES - 100), 2 * count)
+            self.client.change(path, RIGHT + " " * (reports.MOST_BYTES - 100), 2 * count)
             self.client.published("T.lsl", [])
             if count % 17 == 16:
                 self.client.change(path, WRONG, 2 * count + 1)
@@ -254,7 +256,7 @@ class Served(unittest.TestCase):
         self.assertEqual(wrong["range"]["start"], {"line": 2, "character": 6})
         found = self.client.published("T.lsl", ["BAD-REFERENCE"])[0]
         self.assertEqual(found["range"], {"start": {"line": 1, "character": 10}, "end": {"line": 1, "character": 14}})
-        self.assertEqual(found["message"], "BAD-REFERENCE: " + server.code_parts()["BAD-REFERENCE"].splitlines()[0])
+        self.assertEqual(found["message"], "BAD-REFERENCE: " + reports.code_parts()["BAD-REFERENCE"].splitlines()[0])
         self.write("Base.lsl", RIGHT.replace("T", "Base"))
         self.client.notify("textDocument/didSave", {"textDocument": {"uri": path.as_uri()}})
         self.client.published("T.lsl", [])

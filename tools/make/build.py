@@ -18,7 +18,7 @@ import sys
 import tempfile
 import time
 
-TOP = pathlib.Path(__file__).resolve().parent.parent
+TOP = pathlib.Path(__file__).resolve().parents[2]
 PROGRAM = "larch"
 # The parts of a crate that a proof reads.
 PARTS = ("src", "specs", "proofs")

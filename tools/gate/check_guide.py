@@ -1,5 +1,5 @@
 #!/usr/bin/env python3
-"""Runs the examples of docs/TRAITS.md against the built program: python3 tools/check_guide.py [PROGRAM WORD..]
+"""Runs the examples of docs/TRAITS.md against the built program: python3 tools/gate/check_guide.py [PROGRAM WORD..]
 
 Each block marked `lsl` is a file T.lsl, or of the name that stands over it as a line "`NAME.lsl`:", which stays for the
 blocks below it; the line below a block is what the report says of it: `right`, or `L:C CODE`. Two files
@@ -11,7 +11,7 @@ import re
 import subprocess
 import sys
 
-TOP = pathlib.Path(__file__).resolve().parent.parent
+TOP = pathlib.Path(__file__).resolve().parents[2]
 
 
 def examples(text):

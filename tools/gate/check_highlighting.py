@@ -1,11 +1,11 @@
 #!/usr/bin/env python3
-"""Tests what editors colour: python3 tools/check_highlighting.py [--write]
+"""Tests what editors colour: python3 tools/gate/check_highlighting.py [--write]
 
 The table of words has the reserved words and fixed symbols of the program's own definitions, and runs the bytes of its
-table of tokens; the editors' files are those that tools/make_highlighting.py makes of it; Vim, Emacs and the TextMate
-grammar colour the examples and editors/samples as editors/expected.txt says; and the extension starts the server, as
-far as that can be seen without its editor. An editor that isn't installed is named and left out. With --write the kept
-file is written anew, from the TextMate grammar, which Python reads."""
+table of tokens; the editors' files are those that tools/make/make_highlighting.py makes of it; Vim, Emacs and the
+TextMate grammar colour the examples and editors/samples as editors/expected.txt says; and the extension starts the
+server, as far as that can be seen without its editor. An editor that isn't installed is named and left out. With
+--write the kept file is written anew, from the TextMate grammar, which Python reads."""
 import json
 import os
 import pathlib
@@ -16,8 +16,10 @@ import sys
 import tempfile
 import unittest
 
-import make_highlighting
-from desk import TOP, server
+sys.path[:0] = [str(pathlib.Path(__file__).resolve().parents[1] / part) for part in ("", "make")]
+import make_highlighting  # noqa: E402
+from desk import TOP  # noqa: E402
+import larch_names  # noqa: E402
 
 KEPT = TOP / "editors/expected.txt"
 FILES = sorted(str(path.relative_to(TOP)) for folder in ("examples", "editors/samples")
@@ -80,7 +82,7 @@ class Coloured(unittest.TestCase):
         table = (TOP / "crates/larch_lexer/specs/TokenTable.antt").read_text()
         runs = re.search('^is_symbol byte = one_of [(]codes "(.*)"[)] byte$', table, re.M)[1]
         self.assertEqual(sorted(make_highlighting.RUN + "/"), sorted(runs))
-        self.assertEqual({byte for byte in map(chr, range(33, 127)) if server.TOKEN.fullmatch(byte.encode() * 3)
+        self.assertEqual({byte for byte in map(chr, range(33, 127)) if larch_names.TOKEN.fullmatch(byte.encode() * 3)
                           and not byte.isalnum()}, set(runs))
 
     def test_words_are_those_of_the_guide(self):
@@ -90,7 +92,7 @@ class Coloured(unittest.TestCase):
 
     def test_words_are_the_servers(self):
         parts = {word for word in make_highlighting.words()["part"] if word != "trait"}
-        self.assertEqual(parts, set(re.findall("[a-z]{2,}", server.PART.pattern.decode())))
+        self.assertEqual(parts, set(re.findall("[a-z]{2,}", larch_names.PART.pattern.decode())))
 
     def test_files_are_made_of_the_table(self):
         for path, text in make_highlighting.files().items():

@@ -2,8 +2,8 @@
 """Writes examples of replays for the definitions of the prover, with the outcomes that another reading of the language
 computes.
 
-    tools/replay_examples.py rows EVALUATOR        the kept examples: specs and contracts of crates/larch_replay
-    tools/replay_examples.py random EVALUATOR SEED COUNT [--small | --wide]
+    tools/make/replay_examples.py rows EVALUATOR        the kept examples: specs and contracts of crates/larch_replay
+    tools/make/replay_examples.py random EVALUATOR SEED COUNT [--small | --wide]
                                                    random blocks as lemmas, crates/larch_replay/proofs/Random.antt;
                                                    with --small under rewriting limits from 1 to 8, so that many
                                                    are refused with LIMIT, with --wide over traits whose terms grow,
@@ -21,7 +21,7 @@ import random
 import re
 import sys
 
-ROOT = os.path.dirname(os.path.dirname(os.path.abspath(__file__)))
+ROOT = os.path.dirname(os.path.dirname(os.path.dirname(os.path.abspath(__file__))))
 CRATE = os.path.join(ROOT, 'crates', 'larch_replay')
 WIDTH = 118
 
@@ -418,7 +418,7 @@ ROWS = [
     ('a_term_is_too_large', 'Twelve doublings pass 5,000 nodes.', doubles(12), [], 'imply.1', '', ''),
 ]
 
-HEAD = '''-- Traits and duties of the examples. Written by tools/replay_examples.py.
+HEAD = '''-- Traits and duties of the examples. Written by tools/make/replay_examples.py.
 use Rattle.std.specs.Prelude.{[], ◌∷◌, codes}
 use Rattle.larch_term.specs.Operator.{PlainOperator, plain}
 use Rattle.larch_term.specs.Tree.{var, app, forest_of}
@@ -434,7 +434,7 @@ use Rattle.larch_replay.specs.Replays.{Duty}
 
 RUST_HEAD = '''//! What blocks come to, computed by the definitions. No function here does anything.
 //!
-//! Written by `tools/replay_examples.py`; the traits and duties are in `specs/Worked.antt`.
+//! Written by `tools/make/replay_examples.py`; the traits and duties are in `specs/Worked.antt`.
 ghost use Rattle.std.specs.Prelude.{◌≡◌, true, false, [], ◌∷◌, codes, None, Some};
 ghost use Rattle.larch_base.specs.declared.code.Code.TheVariants as refusal;
 ghost use Rattle.larch_term.specs.Tree.{var, app, forest_of};

@@ -12,7 +12,7 @@ import sys
 import tempfile
 import time
 
-TOP = pathlib.Path(__file__).resolve().parent.parent
+TOP = pathlib.Path(__file__).resolve().parents[2]
 SECONDS_BETWEEN_LOOKS = 0.02
 # What a program's file begins with.
 PROGRAM_MARK = b"\x7fELF"

@@ -1,15 +1,15 @@
 """Certificates for the duties of traits, as far as a few lines show them: statements that are axioms, rows or
 instances of these, and equations of which both sides are rewritten to one term, which is how operators that are
 defined or exempted are shown to be determined. Theories and statements are given as the package `larchref` has them;
-terms and lines are those of compare_verdicts.py. `proof(pick, theory, statement, tables)` has the lines."""
-import compare_verdicts as verdicts
+terms and lines are those of random_certificates.py. `proof(pick, theory, statement, tables)` has the lines."""
+import random_certificates as certificates
 
 BUILT_IN = {"true": "true", "false": "false", "~ __": "~", "__ /\\ __": "/\\", "__ \\/ __": "\\/", "__ => __": "=>",
             "__ <=> __": "<=>", "__ = __": "=", "__ ~= __": "~=", "if __ then __ else __": "if"}
 ROWS, STEPS, PLACES = 40, 8, 60
 
 
-class Theory(verdicts.Theory):
+class Theory(certificates.Theory):
     """The theory of a duty."""
 
     def __init__(self, pick, theory):
@@ -17,13 +17,13 @@ class Theory(verdicts.Theory):
         self.numbers = {operator: number for number, operator in enumerate(theory.operators, 1)}
         self.operators = [(operator.name, list(operator.domain), operator.range) for operator in theory.operators]
         sorts = {sort for _, domain, range_ in self.operators for sort in (*domain, range_)}
-        self.sorts = [*sorted(sorts - {verdicts.BOOL}), verdicts.BOOL]
+        self.sorts = [*sorted(sorts - {certificates.BOOL}), certificates.BOOL]
         self.statements = [self.statement(one) for one in theory.statements]
 
     def spelled(self, term):
         """The pair of a symbol and arguments that a term is."""
         if not hasattr(term, "args"):
-            return verdicts.variable(term.name, term.sort)
+            return certificates.variable(term.name, term.sort)
         number = self.numbers.get(term.op)
         symbol = f"#{number}" if number else BUILT_IN[term.op.name]
         return symbol, tuple(self.spelled(argument) for argument in term.args)
@@ -41,7 +41,7 @@ def matched(theory, pattern, term, by):
     """Whether a term is an instance of a pattern by these bindings and more, which are added."""
     symbol, arguments = pattern
     if arguments is None:
-        sort = term[0].split(":")[1] if term[1] is None else verdicts.sort_in(theory, term, {})
+        sort = term[0].split(":")[1] if term[1] is None else certificates.sort_in(theory, term, {})
         return symbol.split(":")[1] == sort and by.setdefault(symbol, term) == term
     return term[0] == symbol and term[1] is not None and len(term[1]) == len(arguments) and all(
         matched(theory, part, of, by) for part, of in zip(arguments, term[1]))
@@ -51,7 +51,7 @@ def facts(theory, tables):
     """Each equation that one line says: the line, and both sides."""
     found = [(f"axiom {number}", *one[1:]) for number, one in enumerate(theory.statements, 1) if one[0] == "eq"]
     for number in range(1, ROWS + 1):
-        for sort in theory.sorts if tables.is_sorted(number) else [verdicts.BOOL]:
+        for sort in theory.sorts if tables.is_sorted(number) else [certificates.BOOL]:
             row = theory.statement(tables.row_statement(number, sort))
             found.append((f"row {number} {sort}" if tables.is_sorted(number) else f"row {number}", *row[1:]))
     return found
@@ -62,7 +62,7 @@ class Prover:
 
     def __init__(self, pick, theory, tables):
         self.theory, self.facts = theory, facts(theory, tables)
-        self.writer = verdicts.Writer(pick, theory)
+        self.writer = certificates.Writer(pick, theory)
         self.writer.steps(pick.choice([0, 0, 1, 2, 4]))
 
     def instance(self, fact, by):
@@ -82,12 +82,12 @@ class Prover:
 
     def step(self, term):
         """A fact that rewrites a term to another one, with the place and the bindings."""
-        for place, there in list(verdicts.places(term))[:PLACES]:
+        for place, there in list(certificates.places(term))[:PLACES]:
             for fact in self.facts:
                 by = {}
-                grows = verdicts.variables(fact[2]) - verdicts.variables(fact[1])
+                grows = certificates.variables(fact[2]) - certificates.variables(fact[1])
                 if fact[1][1] is not None and not grows and matched(self.theory, fact[1], there, by):
-                    if verdicts.substituted(fact[2], by) != there:
+                    if certificates.substituted(fact[2], by) != there:
                         return fact, place, by
         return None
 

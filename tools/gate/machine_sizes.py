@@ -9,7 +9,7 @@ import argparse
 import json
 import pathlib
 
-TOP = pathlib.Path(__file__).resolve().parent.parent
+TOP = pathlib.Path(__file__).resolve().parents[2]
 
 
 def libraries(folder, crates):

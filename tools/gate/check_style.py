@@ -1,5 +1,5 @@
 #!/usr/bin/env python3
-"""Looks at the form of the sources: python3 tools/check_style.py [--columns N] [--parameters N] [--lines N]
+"""Looks at the form of the sources: python3 tools/gate/check_style.py [--columns N] [--parameters N] [--lines N]
 
 Lists, in `crates/`, the lines of code and the clauses above so many columns (120), the functions with more than so many
 parameters (6, `alloc` among them), and the files with more than so many lines (500). Lines that only name what is cited
@@ -11,7 +11,7 @@ import pathlib
 import re
 import sys
 
-TOP = pathlib.Path(__file__).resolve().parent.parent
+TOP = pathlib.Path(__file__).resolve().parents[2]
 CITES = re.compile(r"\s*(ghost use |#\[tactic\()")
 TEXT = re.compile(r'b?"(?:[^"\\]|\\.)*"')
 OPEN, CLOSED = "([{<", ")]}>"

@@ -1,11 +1,12 @@
 #!/usr/bin/env python3
-"""Tests that what is said of the commands agrees: python3 tools/check_commands.py PROGRAM
+"""Tests that what is said of the commands agrees: python3 tools/gate/check_commands.py PROGRAM
 
 PROGRAM is a command, in quotes where it has words of its own. docs/COMMANDS.md, the definitions, the program, the man
-page and both files of completion have the same commands; the man page is the one that tools/make_manual.py makes, and
-nothing is wrong with it as far as `mandoc` is there to say so. Each status of the page's table, but those of faults
-and of memory, comes in each command that the table has it for, with the last line that it says. The completions are
-tried: in bash, and in zsh where that is installed. Ends with 'N passed, N failed', and status 1 where one failed."""
+page and both files of completion have the same commands; the man page is the one that tools/make/make_manual.py makes,
+and nothing is wrong with it as far as `mandoc` is there to say so. Each status of the page's table, but those of
+faults and of memory, comes in each command that the table has it for, with the last line that it says. The completions
+are tried: in bash, and in zsh where that is installed. Ends with 'N passed, N failed', and status 1 where one
+failed."""
 import os
 import pathlib
 import pty
@@ -18,13 +19,14 @@ import sys
 import tempfile
 import time
 
-import compare_calls
-import make_manual
+TOP = pathlib.Path(__file__).resolve().parents[2]
+sys.path[:0] = [str(TOP / "tools" / part) for part in ("compare", "make")]
+import call_texts  # noqa: E402
+import make_manual  # noqa: E402
 
-TOP = pathlib.Path(__file__).resolve().parent.parent
 BASH, ZSH = TOP / "completion/larch.bash", TOP / "completion/_larch"
-PUT = b"put One.lsl %d\n" % len(compare_calls.TEXTS["One.lsl"]) + compare_calls.TEXTS["One.lsl"]
-WRONG = b"put Two.lsl %d\n" % len(compare_calls.TEXTS["Two.lsl"]) + compare_calls.TEXTS["Two.lsl"]
+PUT = b"put One.lsl %d\n" % len(call_texts.TEXTS["One.lsl"]) + call_texts.TEXTS["One.lsl"]
+WRONG = b"put Two.lsl %d\n" % len(call_texts.TEXTS["Two.lsl"]) + call_texts.TEXTS["Two.lsl"]
 # Calls for each status and command: the words, the input, and the last line, of which nothing is said by None.
 FILES = {0: [("One.lsl Nat.lsl", None)], 1: [("Two.lsl One.lsl", None)], 2: [("", "USAGE"), ("a/One.lsl", "USAGE")],
          7: [("Big.lsl", "too large"), (" ".join(f"F{number}.lsl" for number in range(257)), "too large")],
@@ -108,7 +110,7 @@ def agreement(tests, program, folder):
     tests.see("commands that are tried here", list(CALLS), documented)
     tests.see("the usage line", run(program, [], b"", folder), (make_manual.usage() + "\n", 2))
     same = make_manual.MADE.read_text() == make_manual.manual()
-    tests.see("manual/larch.1 is what tools/make_manual.py makes", same, True)
+    tests.see("manual/larch.1 is what tools/make/make_manual.py makes", same, True)
     if shutil.which("mandoc"):
         lint = ["mandoc", "-Tlint", "-W", "warning", make_manual.MADE]
         found = subprocess.run(lint, capture_output=True, check=False)
@@ -245,7 +247,7 @@ def main():
     tests = Tests()
     with tempfile.TemporaryDirectory() as place:
         folder = pathlib.Path(place)
-        for name, text in compare_calls.fixed_folder().items():
+        for name, text in call_texts.fixed_folder().items():
             (folder / name).write_bytes(text)
         (folder / "a-b.lsl").write_text("")
         agreement(tests, program, folder)
@@ -253,7 +255,7 @@ def main():
     with tempfile.TemporaryDirectory() as place:
         folder = pathlib.Path(place)
         for name in ("One.lsl", "One.lp", "Nat.lsl", "Nat.cert", "Form.cert"):
-            (folder / name).write_bytes({**compare_calls.TEXTS, **compare_calls.CERTIFICATES}[name])
+            (folder / name).write_bytes({**call_texts.TEXTS, **call_texts.CERTIFICATES}[name])
         (folder / "a-b.lsl").write_text("")
         completions(tests, program, folder)
     print(f"{tests.passed} passed, {tests.failed} failed")

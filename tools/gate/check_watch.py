@@ -1,5 +1,7 @@
 #!/usr/bin/env python3
-"""Tests tools/larch-watch and tools/explain: python3 tools/check_watch.py [PROGRAM]; else the checkout's ./larch"""
+"""Tests tools/larch-watch and tools/explain: python3 tools/gate/check_watch.py [PROGRAM]
+
+Without PROGRAM the checkout's ./larch is taken."""
 import os
 import pathlib
 import pty
@@ -8,7 +10,8 @@ import sys
 import tempfile
 import unittest
 
-from desk import TOP, server
+sys.path.insert(0, str(pathlib.Path(__file__).resolve().parents[1]))
+from desk import TOP, reports  # noqa: E402
 
 PROGRAM = str(TOP / "larch")
 WRONG = "T: trait\n\tintroduces % \u4e2d\u6587\n\t\tc -> S % \x1b[31m\n"
@@ -30,7 +33,7 @@ class Watched(unittest.TestCase):
     def test_line_and_caret(self):
         done = self.once()
         lines = done.stdout.split("\n")
-        self.assertEqual(lines[0], "T.lsl:3:5: " + server.sentence("SYNTAX", server.code_parts()))
+        self.assertEqual(lines[0], "T.lsl:3:5: " + reports.sentence("SYNTAX", reports.code_parts()))
         self.assertEqual(lines[1:4], ["    \t\tc -> S % \ufffd[31m", "    \t\t  ^", ""])
         self.assertTrue(lines[4].endswith(" 1 traits, 1 errors"))
         self.assertEqual(done.returncode, 1)
@@ -63,7 +66,7 @@ class Watched(unittest.TestCase):
             done = subprocess.run([TOP / "tools/explain", *words], capture_output=True, text=True)
             return done.returncode, done.stdout
 
-        parts = server.code_parts()
+        parts = reports.code_parts()
         for code, part in parts.items():
             self.assertEqual(explain(code.lower()), (0, f"{code}\n\n{part}\n\n"))
         self.assertEqual(explain("NONE")[0], 1)

@@ -1,12 +1,12 @@
 #!/usr/bin/env python3
-"""Makes the files by which editors colour traits and proof scripts: python3 tools/make_highlighting.py
+"""Makes the files by which editors colour traits and proof scripts: python3 tools/make/make_highlighting.py
 
 The words are those of editors/words.txt. `files()` has each file's path with its text; run as a program it writes them."""
 import json
 import pathlib
 
-TOP = pathlib.Path(__file__).resolve().parent.parent
-MADE = "Made by tools/make_highlighting.py of editors/words.txt"
+TOP = pathlib.Path(__file__).resolve().parents[2]
+MADE = "Made by tools/make/make_highlighting.py of editors/words.txt"
 VIM_NAMES = {"lsl": "larch", "lp": "larchlp"}
 SCRIPT_KINDS = ("command", "option")
 # The bytes of which runs are made, `/` aside, as in a class of a pattern.

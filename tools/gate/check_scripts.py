@@ -1,15 +1,16 @@
 #!/usr/bin/env python3
-"""Reads the examples of docs/SCRIPTS.md with a program that prints scripts: python3 tools/check_scripts.py [PROGRAM WORD..]
+"""Reads the examples of docs/SCRIPTS.md: python3 tools/gate/check_scripts.py [PROGRAM WORD..]
 
 PROGRAM prints what `larch_script_table` prints, which it is if none is given. Each block marked `lp` is a script; the
 line below it says `read`, or the number and the code of each line that is no command. Each kind of command has to stand
-in an example that is read. Ends with 1 where an answer is another one, a kind has no example, or no example is found."""
+in an example that is read. Ends with 1 where an answer is another one, a kind has no example, or no example is
+found."""
 import pathlib
 import re
 import subprocess
 import sys
 
-TOP = pathlib.Path(__file__).resolve().parent.parent
+TOP = pathlib.Path(__file__).resolve().parents[2]
 KINDS = ["declare", "limit", "boxes", "height", "status", "prove", "cases", "=>", "/\\", "contradiction", "induction",
          "partition", "instantiate", "pairs", "normalize", "qed", "mark", "bad"]
 

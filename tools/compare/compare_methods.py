@@ -24,8 +24,8 @@ import multiprocessing
 import random
 import sys
 
-import compare_normal_forms
 import comparing
+import random_terms
 
 CHUNK = 50
 MOST_PLACES = 60
@@ -96,7 +96,7 @@ def planner_of(prove):
     return Planner
 
 
-class Maker(compare_normal_forms.Maker):
+class Maker(random_terms.Maker):
     """Makes random goals and methods."""
 
     def __init__(self, pick, reference):
@@ -106,7 +106,7 @@ class Maker(compare_normal_forms.Maker):
         self.constants = [self.base.Operator(name, (), sort) for name, sort in few]
 
     def variables(self):
-        return [self.var(name, sort) for name in NAMES for sort in compare_normal_forms.SORTS]
+        return [self.var(name, sort) for name in NAMES for sort in random_terms.SORTS]
 
     def few(self):
         return self.pick.sample(self.variables(), self.pick.randint(0, 5))
@@ -129,7 +129,7 @@ class Maker(compare_normal_forms.Maker):
         if depth and kind < 0.55:
             return self.joined(base.AND_OP, self.some(depth - 1, variables), self.some(depth - 1, variables))
         if kind < 0.8:
-            sort = pick.choice(compare_normal_forms.SORTS)
+            sort = pick.choice(random_terms.SORTS)
             sides = [self.term(sort, pick.randint(0, 2), variables, 0.1) for _ in range(2)]
             return self.joined(base.eq_op(sort), *sides)
         return self.formula(2, variables)
@@ -263,7 +263,7 @@ class Maker(compare_normal_forms.Maker):
 
     def odd(self):
         """An equation that isn't needed."""
-        sort, variables = self.pick.choice(compare_normal_forms.SORTS), self.few()
+        sort, variables = self.pick.choice(random_terms.SORTS), self.few()
         return self.base.Equation(*(self.term(sort, 2, variables).term() for _ in range(2)))
 
 
@@ -297,7 +297,7 @@ class Walk:
     def spelled(self, node):
         operators = [*self.problem.operators, *self.planner.constants]
         own = {operator: number for number, operator in enumerate(operators, 1)}
-        return compare_normal_forms.spelled(node, own, {})
+        return random_terms.spelled(node, own, {})
 
     def tell(self, shared, owned, subgoals):
         """Tells a plan."""
@@ -421,29 +421,29 @@ class Problem:
 
     def spelled(self, node):
         own = {operator: number for number, operator in enumerate([*self.operators, *self.constants], 1)}
-        return compare_normal_forms.spelled(node, own, {})
+        return random_terms.spelled(node, own, {})
 
     def text(self):
         """The problem as the program reads it."""
         formulas = [f"box - | {self.spelled(m[1])}==true" for m in self.methods if m[0] == "cases"]
         return "\1".join([
             listed(map(declared, self.operators)),
-            compare_normal_forms.certificate(map(self.statement, self.statements)),
+            random_terms.certificate(map(self.statement, self.statements)),
             listed(map(declared, self.constants)),
             listed(self.names),
-            compare_normal_forms.certificate([self.statement(self.aim), *formulas]),
+            random_terms.certificate([self.statement(self.aim), *formulas]),
             listed(WORDS[kind] + "".join(" " + name for name in more if kind == "induction")
                    for kind, *more in self.methods)])
 
     def claim(self, proof):
         """The proof as the checker reads it, with the aim."""
         statements = [self.statement(statement) for statement in [*self.statements, self.aim]]
-        return "\1".join([listed(map(declared, self.operators)), compare_normal_forms.certificate(statements), proof])
+        return "\1".join([listed(map(declared, self.operators)), random_terms.certificate(statements), proof])
 
     def expected(self):
         """What the program tells of plans, and their terms."""
         return (listed([*self.told, "proved" if self.reached else "open"]),
-                compare_normal_forms.certificate(self.lines))
+                random_terms.certificate(self.lines))
 
     def verdict(self, proof):
         """What the other checker says of a proof."""

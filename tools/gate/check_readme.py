@@ -1,0 +1,96 @@
+#!/usr/bin/env python3
+"""Runs what README.md shows: python3 tools/gate/check_readme.py PROGRAM [--unproved]
+
+PROGRAM is a command, in quotes where it has words of its own. In a folder of its own each block `lsl` or `text` is
+written to the file that the paragraph above it names last, and each line `$ COMMAND` of a block `console` is run by
+bash, `larch` being PROGRAM; what it writes has to be the lines below it. A command of a tool in the running text has to
+end well. What builds the program is run by .ci/run, which has to have that line; the try without a proof takes a
+compiler a minute, and is run with --unproved alone. The page has less than 1,200 words. Ends with 'N passed, N failed',
+and status 1 where one failed."""
+import os
+import pathlib
+import re
+import shlex
+import shutil
+import subprocess
+import sys
+import tempfile
+
+TOP = pathlib.Path(__file__).resolve().parents[2]
+PAGE = TOP / "README.md"
+MOST_WORDS = 1200
+BLOCK = re.compile(r"((?:[^\n]+\n)*)\n```(\w+)\n(.*?)^```$", re.M | re.S)
+FILE = re.compile(r"`(\w+\.(?:lsl|cert))`")
+
+
+class Tests:
+    """What was seen, and how much of it is as wanted."""
+
+    def __init__(self):
+        self.passed = self.failed = 0
+
+    def see(self, title, found, wanted):
+        if found == wanted:
+            self.passed += 1
+        else:
+            self.failed += 1
+            print(f"{title}: saw {found!r} and wanted {wanted!r}")
+
+
+def calls(block):
+    """Each command of a block with the lines below it."""
+    return [(command, shown) for command, shown in re.findall(r"^\$ (.*)\n((?:(?!\$ ).*\n)*)", block, re.M)]
+
+
+def run(command, folder, path=None):
+    """What bash writes for a command, and its status."""
+    done = subprocess.run(["bash", "-c", command], cwd=folder, stdout=subprocess.PIPE, timeout=600, check=False,
+                          env={**os.environ, "PATH": path or os.environ["PATH"]})
+    return done.stdout.decode(errors="replace"), done.returncode
+
+
+def shown(tests, text, program):
+    """The files and the commands of the page, in order."""
+    with tempfile.TemporaryDirectory() as place, tempfile.TemporaryDirectory() as beside:
+        larch = pathlib.Path(beside, "larch")
+        larch.write_text(f'#!/bin/sh\nexec {shlex.join(program)} "$@"\n')
+        larch.chmod(0o755)
+        for above, kind, block in BLOCK.findall(text):
+            named = FILE.findall(above)
+            if kind in ("lsl", "text") and named:
+                pathlib.Path(place, named[-1]).write_text(block)
+            for command, lines in calls(block) if kind == "console" else ():
+                tests.see(f"$ {command}", run(command, place, f"{beside}:{os.environ['PATH']}")[0], lines)
+
+
+def told(tests, text, unproved):
+    """The commands that the running text names, and those that build."""
+    plain = re.sub(r"```.*?```", "", text, flags=re.S)
+    for command in re.findall(r"`(tools/[\w-]+(?: [^`]+)+)`", plain):
+        tests.see(command, run(command, TOP)[1], 0)
+    gate = (TOP / ".ci/run").read_text()
+    for command in re.findall(r"^(\./larch .*?)\s*(?:#.*)?$", text, re.M):
+        tests.see(f".ci/run runs {command}", bool(re.search(rf"^{re.escape(command)}\b", gate, re.M)), True)
+    tries = re.findall(r"`(\./larch --unproved [^`]*?) < ([^`]*)`", plain)
+    tests.see("what is tried without a proof", [(TOP / given).is_file() for _, given in tries], [True])
+    for command, given in tries if unproved else ():
+        tests.see(command, run(f"{command} < {given}", TOP), run(f"./larch session < {given}", TOP))
+
+
+def main():
+    unproved, words = "--unproved" in sys.argv[1:], [word for word in sys.argv[1:] if word != "--unproved"]
+    if len(words) != 1:
+        sys.exit(__doc__)
+    program = shlex.split(words[0])
+    program[0] = str(pathlib.Path(shutil.which(program[0]) or program[0]).resolve())
+    tests, text = Tests(), PAGE.read_text(encoding="utf-8")
+    shown(tests, text, program)
+    told(tests, text, unproved)
+    count = len(text.split())
+    tests.see(f"README.md has {count} words, less than {MOST_WORDS}", count < MOST_WORDS, True)
+    print(f"{tests.passed} passed, {tests.failed} failed")
+    return 1 if tests.failed else 0
+
+
+if __name__ == "__main__":
+    sys.exit(main())
