@@ -1,0 +1,21 @@
+"""What stands around the program: the cause of a refusal and how to mend it, and hints at what is well formed and yet
+suspect. It needs python3 alone, and nothing of it is proved.
+
+Two calls are what editors and commands need:
+
+    causes.explain(files, refusal) -> Cause      why a file is refused; `causes.all_causes` what is wrong behind as well
+    hints.hints(files, trait) -> list[Hint]      what is suspect in a trait with which nothing is wrong
+
+`files` are the bytes of files by their names, as `T.lsl`; a `program.Refusal` is what a report says of one of them:
+file, line, column, code. Who asks often keeps a `causes.Explainer`, which has a session for its questions and knows
+what it has found. Places are offsets of bytes, `start` and `end`; a change has edits of such places.
+
+    program       the program's calls: sessions, `check`, what a session takes
+    explain       the texts of the codes, which stand in docs/TRAITS.md
+    tokens, declarations, scope, terms    a light reading of traits, which takes any bytes
+    cases         a refusal with all that is known of it, and the questions to the program
+    lexical, syntax (structure, habits), reading (undeclared), items, referring    the causes, by what codes are about
+    further       what is wrong behind the first refusal
+    spelling, wording, showing    names that are near, pieces of titles, and how all is shown in a terminal
+    samples       wrong traits and their titles, which tools/gate/check_causes.py tries
+"""

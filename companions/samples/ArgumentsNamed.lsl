@@ -1,0 +1,3 @@
+ArgumentsNamed: trait
+  introduces
+    put(t: Thing, b: Bag): Bag

@@ -1,0 +1,3 @@
+ArrowAsEquals: trait
+  introduces
+    next: Num => Num

@@ -1,0 +1,11 @@
+ArrowBetweenNumbers: trait
+  introduces
+    none: -> Bag
+    put: Thing, Bag -> Bag
+    many: Bag -> Num
+    has: Bag, Thing -> Bool
+    zero: -> Num
+    next: Num -> Num
+  asserts
+    \forall b: Bag, n: Num
+      n => many(b) = n

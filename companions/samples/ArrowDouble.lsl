@@ -1,0 +1,3 @@
+ArrowDouble: trait
+  introduces
+    next: Num ->> Num

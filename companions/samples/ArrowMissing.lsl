@@ -1,0 +1,4 @@
+ArrowMissing: trait
+  introduces
+    none: Bag
+    many: Bag -> Num

@@ -1,0 +1,4 @@
+ArrowMissingInside: trait
+  introduces
+    none: -> Bag
+    put: Thing, Bag Bag

@@ -1,0 +1,3 @@
+ArrowSign: trait
+  introduces
+    next: Num → Num

@@ -1,0 +1,12 @@
+AssertsBehindImplies: trait
+  introduces
+    none: -> Bag
+    put: Thing, Bag -> Bag
+    many: Bag -> Num
+    has: Bag, Thing -> Bool
+    zero: -> Num
+    next: Num -> Num
+  implies
+    many(none) = zero
+  asserts
+    many(none) == zero

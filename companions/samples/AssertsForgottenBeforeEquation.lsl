@@ -1,0 +1,9 @@
+AssertsForgottenBeforeEquation: trait
+  introduces
+    none: -> Bag
+    put: Thing, Bag -> Bag
+    many: Bag -> Num
+    has: Bag, Thing -> Bool
+    zero: -> Num
+    next: Num -> Num
+    many(none) == zero

@@ -1,0 +1,4 @@
+AssumesMisspelt: trait
+  asumes Number
+  introduces
+    one: -> Num

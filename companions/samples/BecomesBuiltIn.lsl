@@ -1,0 +1,2 @@
+BecomesBuiltIn: trait
+  includes Number (Bool for Num, true for zero)

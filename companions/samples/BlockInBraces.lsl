@@ -1,0 +1,5 @@
+BlockInBraces: trait
+  introduces {
+    zero: -> Num
+    next: Num -> Num
+  }

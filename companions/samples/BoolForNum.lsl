@@ -1,0 +1,11 @@
+BoolForNum: trait
+  introduces
+    none: -> Bag
+    put: Thing, Bag -> Bag
+    many: Bag -> Num
+    has: Bag, Thing -> Bool
+    zero: -> Num
+    next: Num -> Num
+  asserts
+    \forall b: Bag, t: Thing
+      next(has(b, t)) == zero

@@ -1,0 +1,3 @@
+﻿ByteOrderMark: trait
+  introduces
+    zero: -> Num

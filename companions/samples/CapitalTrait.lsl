@@ -1,0 +1,3 @@
+CapitalTrait: Trait
+  introduces
+    zero: -> Num

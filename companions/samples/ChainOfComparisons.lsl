@@ -1,0 +1,5 @@
+ChainOfComparisons: trait
+  includes Number
+  asserts
+    \forall k, m, n: Num
+      k < m < n == k < n

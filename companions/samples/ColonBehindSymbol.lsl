@@ -1,0 +1,4 @@
+ColonBehindSymbol: trait
+  introduces
+    none: -> Bag
+    __ \in __ Thing, Bag -> Bool

@@ -1,0 +1,3 @@
+ColonInNames: trait
+  introduces
+    zero: one: -> Num

@@ -1,0 +1,4 @@
+ColonMissing: trait
+  introduces
+    none -> Bag
+    many: Bag -> Num

@@ -1,0 +1,5 @@
+ColonMissingBehindSeveral: trait
+  introduces
+    zero, one: -> Num
+    next Num -> Num
+    last: Num -> Num

@@ -1,0 +1,4 @@
+CommaBehindLastReference: trait
+  includes Number,
+  introduces
+    one: -> Num

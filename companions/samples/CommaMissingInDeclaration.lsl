@@ -1,0 +1,4 @@
+CommaMissingInDeclaration: trait
+  introduces
+    put: Thing Bag -> Bag
+    none: -> Bag

@@ -1,0 +1,5 @@
+CommentWithDashes: trait
+  introduces
+    -- numbers
+    zero: -> Num
+    next: Num -> Num

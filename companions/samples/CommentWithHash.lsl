@@ -1,0 +1,4 @@
+CommentWithHash: trait
+  introduces
+    zero: -> Num # the least one
+    next: Num -> Num

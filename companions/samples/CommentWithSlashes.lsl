@@ -1,0 +1,4 @@
+CommentWithSlashes: trait
+  introduces
+    zero: -> Num  // the least one
+    next: Num -> Num

@@ -1,0 +1,3 @@
+ConstantWithoutArrow: trait
+  introduces
+    zero: Num

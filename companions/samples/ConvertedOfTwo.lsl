@@ -1,0 +1,3 @@
+ConvertedOfTwo: trait
+  includes Twofold
+  converts next

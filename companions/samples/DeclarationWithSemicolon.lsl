@@ -1,0 +1,4 @@
+DeclarationWithSemicolon: trait
+  introduces
+    none: -> Bag;
+    many: Bag -> Num;

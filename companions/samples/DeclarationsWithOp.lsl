@@ -1,0 +1,4 @@
+DeclarationsWithOp: trait
+  introduces
+    op none: -> Bag
+    op many: Bag -> Num

@@ -1,0 +1,4 @@
+DomainInParentheses: trait
+  introduces
+    none: -> Bag
+    put: (Thing, Bag) -> Bag

@@ -1,0 +1,11 @@
+ElseIfInOne: trait
+  introduces
+    none: -> Bag
+    put: Thing, Bag -> Bag
+    many: Bag -> Num
+    has: Bag, Thing -> Bool
+    zero: -> Num
+    next: Num -> Num
+  asserts
+    \forall b: Bag, t: Thing
+      many(b) == if has(b, t) then zero elsif has(b, t) then zero else zero

@@ -1,0 +1,4 @@
+EnumForEnumeration: trait
+  Colour enum of red, green
+  introduces
+    other: Colour -> Colour

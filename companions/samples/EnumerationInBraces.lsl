@@ -1,0 +1,4 @@
+EnumerationInBraces: trait
+  Colour enumeration of {red, green}
+  introduces
+    other: Colour -> Colour

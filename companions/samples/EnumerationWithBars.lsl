@@ -1,0 +1,4 @@
+EnumerationWithBars: trait
+  Colour enumeration of red | green
+  introduces
+    other: Colour -> Colour

@@ -1,0 +1,4 @@
+EnumerationWithColon: trait
+  Colour enumeration: red, green
+  introduces
+    other: Colour -> Colour

@@ -1,0 +1,4 @@
+EqualDeclared: trait
+  introduces
+    zero: -> Num
+    __ = __: Num, Num -> Bool

@@ -1,0 +1,4 @@
+EqualityDeclaredWithEq: trait
+  introduces
+    new: -> Stack
+    __ == __: Stack, Stack -> Bool

@@ -1,0 +1,3 @@
+FieldTwice: trait
+  includes Number
+  Place tuple of row: Num, column: Num, row: Num

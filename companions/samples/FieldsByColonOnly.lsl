@@ -1,0 +1,3 @@
+FieldsByColonOnly: trait
+  includes Number
+  Point tuple of x Num, y Num

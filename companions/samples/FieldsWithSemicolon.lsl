@@ -1,0 +1,3 @@
+FieldsWithSemicolon: trait
+  includes Number
+  Place tuple of row: Num; column: Num

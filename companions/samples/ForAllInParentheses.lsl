@@ -1,0 +1,11 @@
+ForAllInParentheses: trait
+  introduces
+    none: -> Bag
+    put: Thing, Bag -> Bag
+    many: Bag -> Num
+    has: Bag, Thing -> Bool
+    zero: -> Num
+    next: Num -> Num
+  asserts
+    \forall (b: Bag, t: Thing)
+      has(put(t, b), t)

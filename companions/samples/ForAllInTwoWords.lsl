@@ -1,0 +1,11 @@
+ForAllInTwoWords: trait
+  introduces
+    none: -> Bag
+    put: Thing, Bag -> Bag
+    many: Bag -> Num
+    has: Bag, Thing -> Bool
+    zero: -> Num
+    next: Num -> Num
+  asserts
+    for all t: Thing
+      ~has(none, t)

@@ -1,0 +1,11 @@
+ForAllMember: trait
+  introduces
+    none: -> Bag
+    put: Thing, Bag -> Bag
+    many: Bag -> Num
+    has: Bag, Thing -> Bool
+    zero: -> Num
+    next: Num -> Num
+  asserts
+    \forall b \in Bag
+      many(b) = many(b)

@@ -1,0 +1,4 @@
+ForMissing: trait
+  includes Number (Nat Num)
+  introduces
+    one: -> Nat

@@ -1,0 +1,3 @@
+FormalsInBrackets [E, P]: trait
+  introduces
+    first: P -> E

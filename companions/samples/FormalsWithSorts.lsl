@@ -1,0 +1,3 @@
+FormalsWithSorts (E: Sort, P: Sort): trait
+  introduces
+    first: P -> E

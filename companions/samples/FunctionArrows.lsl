@@ -1,0 +1,4 @@
+FunctionArrows: trait
+  introduces
+    none: -> Bag
+    put: Thing -> Bag -> Bag

@@ -1,0 +1,3 @@
+HeadWithoutColon trait
+  introduces
+    zero: -> Num

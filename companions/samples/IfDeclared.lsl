@@ -1,0 +1,4 @@
+IfDeclared: trait
+  introduces
+    zero: -> Num
+    if __ then __ else __: Bool, Num, Num -> Num

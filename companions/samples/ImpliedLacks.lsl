@@ -1,0 +1,4 @@
+ImpliedLacks: trait
+  introduces
+    zero: -> Num
+  implies Number

@@ -1,0 +1,12 @@
+ImpliesBehindConverts: trait
+  introduces
+    none: -> Bag
+    put: Thing, Bag -> Bag
+    many: Bag -> Num
+    has: Bag, Thing -> Bool
+    zero: -> Num
+    next: Num -> Num
+  asserts
+    many(none) == zero
+  converts many
+  implies many(none) = zero

@@ -1,0 +1,12 @@
+ImpliesTwice: trait
+  introduces
+    none: -> Bag
+    put: Thing, Bag -> Bag
+    many: Bag -> Num
+    has: Bag, Thing -> Bool
+    zero: -> Num
+    next: Num -> Num
+  implies
+    many(none) = zero
+  implies
+    zero = many(none)

@@ -1,0 +1,4 @@
+ImportsForIncludes: trait
+  imports Number
+  introduces
+    one: -> Num

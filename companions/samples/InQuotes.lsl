@@ -1,0 +1,6 @@
+InQuotes: trait
+  introduces
+    none: -> Bag
+    title: Bag -> Text
+  asserts
+    title(none) == "empty"

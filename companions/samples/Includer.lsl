@@ -1,0 +1,4 @@
+Includer: trait
+  includes SemicolonMissing
+  introduces
+    one: -> Num

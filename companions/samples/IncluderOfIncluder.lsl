@@ -1,0 +1,2 @@
+IncluderOfIncluder: trait
+  includes Includer

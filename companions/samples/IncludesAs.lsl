@@ -1,0 +1,4 @@
+IncludesAs: trait
+  includes Number as N
+  introduces
+    one: -> Num

@@ -1,0 +1,7 @@
+IncludesBehindIntroduces: trait
+  introduces
+    twice: Num -> Num
+  includes Number
+  asserts
+    \forall n: Num
+      twice(n) == n + n

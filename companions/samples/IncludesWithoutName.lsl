@@ -1,0 +1,4 @@
+IncludesWithoutName: trait
+  includes
+  introduces
+    one: -> Num

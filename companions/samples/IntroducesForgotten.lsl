@@ -1,0 +1,3 @@
+IntroducesForgotten: trait
+  none: -> Bag
+  many: Bag -> Num

@@ -1,0 +1,4 @@
+IntroducesMisspelt: trait
+  indroduces
+    one: -> Num
+    two: -> Num

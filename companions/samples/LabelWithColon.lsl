@@ -1,0 +1,10 @@
+LabelWithColon: trait
+  introduces
+    none: -> Bag
+    put: Thing, Bag -> Bag
+    many: Bag -> Num
+    has: Bag, Thing -> Bool
+    zero: -> Num
+    next: Num -> Num
+  asserts
+    first: many(none) == zero

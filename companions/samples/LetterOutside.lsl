@@ -1,0 +1,3 @@
+LetterOutside: trait
+  introduces
+    größe: Bag -> Num

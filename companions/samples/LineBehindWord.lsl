@@ -1,0 +1,4 @@
+LineBehindWord: trait
+  introduces
+    none: -> Bag
+    many_: Bag -> Num

@@ -1,0 +1,6 @@
+LogicSign: trait
+  introduces
+    next: Num -> Num
+  asserts
+    ∀ n: Num
+      next(n) ~= n

@@ -1,0 +1,5 @@
+MinusWithPlus: trait
+  includes Number
+  asserts
+    \forall m, n: Num
+      m - n == -n + m

@@ -1,0 +1,3 @@
+NoBreakSpace: trait
+  introduces
+    zero: -> Num

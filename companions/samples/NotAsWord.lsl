@@ -1,0 +1,11 @@
+NotAsWord: trait
+  introduces
+    none: -> Bag
+    put: Thing, Bag -> Bag
+    many: Bag -> Num
+    has: Bag, Thing -> Bool
+    zero: -> Num
+    next: Num -> Num
+  asserts
+    \forall t: Thing
+      not(has(none, t))

@@ -1,0 +1,5 @@
+NotWithLess: trait
+  includes Number
+  asserts
+    \forall m, n: Num
+      ~m < n

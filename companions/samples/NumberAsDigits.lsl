@@ -1,0 +1,11 @@
+NumberAsDigits: trait
+  introduces
+    none: -> Bag
+    put: Thing, Bag -> Bag
+    many: Bag -> Num
+    has: Bag, Thing -> Bool
+    zero: -> Num
+    next: Num -> Num
+  asserts
+    \forall t: Thing
+      many(put(t, put(t, none))) == 2

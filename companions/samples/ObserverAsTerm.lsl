@@ -1,0 +1,10 @@
+ObserverAsTerm: trait
+  introduces
+    none: -> Bag
+    put: Thing, Bag -> Bag
+    many: Bag -> Num
+    has: Bag, Thing -> Bool
+    zero: -> Num
+    next: Num -> Num
+  asserts
+    Bag partitioned by has(b, t)

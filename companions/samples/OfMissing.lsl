@@ -1,0 +1,4 @@
+OfMissing: trait
+  Colour enumeration red, green
+  introduces
+    other: Colour -> Colour

@@ -1,0 +1,3 @@
+OldEncoding: trait
+  introduces
+    grösse: -> Num

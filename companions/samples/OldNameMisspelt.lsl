@@ -1,0 +1,2 @@
+OldNameMisspelt: trait
+  includes Number (succ for nxet)

@@ -1,0 +1,2 @@
+OldNameUnknown: trait
+  includes Number (add for __ * __)

@@ -1,0 +1,4 @@
+OneUnderline: trait
+  introduces
+    zero: -> Num
+    _*_: Num, Num -> Num

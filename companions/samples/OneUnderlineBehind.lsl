@@ -1,0 +1,4 @@
+OneUnderlineBehind: trait
+  introduces
+    zero: -> Num
+    _ !: Num -> Num

@@ -1,0 +1,3 @@
+AnotherName: trait
+  introduces
+    zero: -> Num

@@ -1,0 +1,4 @@
+Overloaded: trait
+  includes Twofold
+  asserts
+    next(unit) == next(unit: Num)

@@ -1,0 +1,3 @@
+PartialArrow: trait
+  introduces
+    first: Bag ->? Thing

@@ -1,0 +1,4 @@
+PlacesAndSorts: trait
+  introduces
+    zero: -> Num
+    __ + __: Num -> Num

@@ -1,0 +1,3 @@
+PlacesOfBrackets: trait
+  introduces
+    [__, __]: Num, Num, Num -> Place

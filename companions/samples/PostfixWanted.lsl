@@ -1,0 +1,7 @@
+PostfixWanted: trait
+  introduces
+    new: -> Stack
+    __!: Stack -> Stack
+    full: Stack -> Bool
+  asserts
+    full(!new)

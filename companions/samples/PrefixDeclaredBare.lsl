@@ -1,0 +1,4 @@
+PrefixDeclaredBare: trait
+  introduces
+    zero: -> Num
+    -: Num -> Num

@@ -1,0 +1,12 @@
+QuantifiedTwice: trait
+  introduces
+    none: -> Bag
+    put: Thing, Bag -> Bag
+    many: Bag -> Num
+    has: Bag, Thing -> Bool
+    zero: -> Num
+    next: Num -> Num
+  asserts
+    \forall b: Bag
+    \forall t: Thing
+      has(put(t, b), t)

@@ -1,0 +1,3 @@
+RecordForTuple: trait
+  includes Number
+  Place record of row, column: Num

@@ -1,0 +1,4 @@
+ReferenceWithSemicolon: trait
+  includes Number;
+  introduces
+    one: -> Num

@@ -1,0 +1,4 @@
+RenameMissingOld: trait
+  includes Number (Nat for)
+  introduces
+    one: -> Nat

@@ -1,0 +1,4 @@
+RenamedTwiceBySlash: trait
+  includes Number (Nat/Num)
+  introduces
+    one: -> Nat

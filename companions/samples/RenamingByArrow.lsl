@@ -1,0 +1,4 @@
+RenamingByArrow: trait
+  includes Number (Num -> Nat)
+  introduces
+    one: -> Nat

@@ -1,0 +1,4 @@
+RenamingInBrackets: trait
+  includes Number [Nat for Num]
+  introduces
+    one: -> Nat

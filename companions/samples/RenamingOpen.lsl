@@ -1,0 +1,4 @@
+RenamingOpen: trait
+  includes Number (Nat for Num
+  introduces
+    one: -> Nat

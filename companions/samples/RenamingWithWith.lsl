@@ -1,0 +1,4 @@
+RenamingWithWith: trait
+  includes Number with (Nat for Num)
+  introduces
+    one: -> Nat

@@ -1,0 +1,2 @@
+ReplacedByOtherPlaces: trait
+  includes Number (__ & __ for next)

@@ -1,0 +1,2 @@
+ReplacedTwice: trait
+  includes Number (Nat for Num, Int for Num)

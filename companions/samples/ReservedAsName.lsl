@@ -1,0 +1,4 @@
+ReservedAsName: trait
+  introduces
+    none: -> Bag
+    union: Bag, Bag -> Bag

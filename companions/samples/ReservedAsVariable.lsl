@@ -1,0 +1,6 @@
+ReservedAsVariable: trait
+  introduces
+    next: Num -> Num
+  asserts
+    \forall by: Num
+      next(by) ~= by

@@ -1,0 +1,2 @@
+RoundA: trait
+  includes RoundB

@@ -1,0 +1,2 @@
+RoundB: trait
+  assumes RoundC

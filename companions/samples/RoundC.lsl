@@ -1,0 +1,2 @@
+RoundC: trait
+  includes RoundA

@@ -1,0 +1,3 @@
+SortBehindTupleWord: trait
+  includes Number
+  tuple Place of row: Num, column: Num

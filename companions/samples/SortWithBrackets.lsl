@@ -1,0 +1,4 @@
+SortWithBrackets: trait
+  introduces
+    none: -> Bag[Thing]
+    many: Bag[Thing] -> Num

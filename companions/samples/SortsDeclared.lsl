@@ -1,0 +1,4 @@
+SortsDeclared: trait
+  introduces
+    sorts Bag, Num
+    many: Bag -> Num

@@ -1,0 +1,3 @@
+SortsTimes: trait
+  introduces
+    put: Thing * Bag -> Bag

@@ -1,0 +1,5 @@
+SymbolsRunTogether: trait
+  includes Number
+  asserts
+    \forall m, n: Num
+      m ==-n

@@ -1,0 +1,11 @@
+ThenMissing: trait
+  introduces
+    none: -> Bag
+    put: Thing, Bag -> Bag
+    many: Bag -> Num
+    has: Bag, Thing -> Bool
+    zero: -> Num
+    next: Num -> Num
+  asserts
+    \forall b: Bag, t: Thing
+      many(put(t, b)) == if has(b, t) many(b) else next(many(b))

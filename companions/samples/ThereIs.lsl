@@ -1,0 +1,11 @@
+ThereIs: trait
+  introduces
+    none: -> Bag
+    put: Thing, Bag -> Bag
+    many: Bag -> Num
+    has: Bag, Thing -> Bool
+    zero: -> Num
+    next: Num -> Num
+  asserts
+    \forall b: Bag
+      many(b) = zero \/ \exists t: Thing (has(b, t))

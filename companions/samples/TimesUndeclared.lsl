@@ -1,0 +1,5 @@
+TimesUndeclared: trait
+  includes Number
+  asserts
+    \forall m: Num
+      m * zero == zero

@@ -1,0 +1,2 @@
+TooFewActuals: trait
+  includes Pairing (Num)

@@ -1,0 +1,3 @@
+trait TraitBeforeName
+  introduces
+    zero: -> Num

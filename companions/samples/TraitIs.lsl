@@ -1,0 +1,3 @@
+TraitIs: trait is
+  introduces
+    zero: -> Num

@@ -1,0 +1,2 @@
+TraitMisspelt: trait
+  includes Nubmer

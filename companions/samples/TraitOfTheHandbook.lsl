@@ -1,0 +1,4 @@
+TraitOfTheHandbook: trait
+  includes Integer
+  introduces
+    one: -> Int

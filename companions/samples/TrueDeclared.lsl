@@ -1,0 +1,4 @@
+TrueDeclared: trait
+  introduces
+    true: -> Bool
+    zero: -> Num

@@ -1,0 +1,3 @@
+TupleInBraces: trait
+  includes Number
+  Place tuple of {row: Num, column: Num}

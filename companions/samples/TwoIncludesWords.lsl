@@ -1,0 +1,6 @@
+TwoIncludesWords: trait
+  includes Number includes Twofold
+  introduces
+    one: -> Num
+  asserts
+    one == two

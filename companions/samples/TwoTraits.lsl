@@ -1,0 +1,6 @@
+TwoTraits: trait
+  introduces
+    zero: -> Num
+Second: trait
+  introduces
+    one: -> Num

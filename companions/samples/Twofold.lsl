@@ -1,0 +1,6 @@
+Twofold: trait
+  introduces
+    unit: -> Num
+    unit: -> Text
+    next: Num -> Num
+    next: Text -> Num

@@ -1,0 +1,11 @@
+VariableCapital: trait
+  introduces
+    none: -> Bag
+    put: Thing, Bag -> Bag
+    many: Bag -> Num
+    has: Bag, Thing -> Bool
+    zero: -> Num
+    next: Num -> Num
+  asserts
+    \forall B: Bag, t: Thing
+      has(put(t, b), t)

@@ -1,0 +1,13 @@
+VariableOfAnotherItem: trait
+  introduces
+    none: -> Bag
+    put: Thing, Bag -> Bag
+    many: Bag -> Num
+    has: Bag, Thing -> Bool
+    zero: -> Num
+    next: Num -> Num
+  asserts
+    \forall b: Bag, t: Thing
+      many(put(t, b)) == next(many(b))
+    \forall s: Thing
+      has(put(s, b), s)
