@@ -1,0 +1,8 @@
+% There are as many actuals as the other trait has formals.
+Actuals: trait
+  includes Order (T, Bool)
+  introduces
+    least: -> T
+  asserts
+    \forall x: T
+      least <= x

@@ -1,0 +1,4 @@
+% The trait of the file FileName.lsl is called FileName.
+Filename: trait
+  introduces
+    0: -> N

@@ -1,0 +1,10 @@
+% Each name in a term is an operator or a variable of its item.
+Undeclared: trait
+  introduces
+    empty: -> Q
+    add: Q, E -> Q
+    isEmpty: Q -> Bool
+  asserts
+    \forall q: Q, e: E
+      isEmpty(empty);
+      ~isEmpty(add(q, e))
