@@ -13,7 +13,8 @@ import tempfile
 import time
 
 sys.path.insert(0, str(pathlib.Path(__file__).resolve().parent.parent / "tools/gate"))
-from check_lsp import TOP, Client, reports  # noqa: E402
+from check_lsp import TOP, Client  # noqa: E402
+from companions.program import Session  # noqa: E402
 
 
 def generated(number):
@@ -34,7 +35,7 @@ def main():
     texts = {f"Key{number}.lsl": generated(number) for number in range(said.traits)}
     name = "Key0.lsl"
     versions = [texts[name].replace("0: ->", "0 ->"), texts[name]]
-    session, files = reports.Session(program), {name: text.encode() for name, text in texts.items()}
+    session, files = Session(program), {name: text.encode() for name, text in texts.items()}
     with tempfile.TemporaryDirectory() as place:
         folder, client, own, shown = pathlib.Path(place), Client(program), [], []
         for other, text in texts.items():

@@ -147,8 +147,18 @@ Commands of a block stand at 2, and 2 more for each subgoal open by its marks."
 (defvar eglot-server-programs)
 (defconst larch--server (expand-file-name "../larch-lsp" (file-name-directory (or load-file-name buffer-file-name)))
   "The language server of this checkout.")
+(defcustom larch-program nil
+  "The program that the server asks; nil for that of the checkout, or of the environment's LARCH."
+  :type '(choice (const nil) file))
+(defcustom larch-hints t
+  "Whether the server shows hints at what is well formed and yet suspect."
+  :type 'boolean)
+(defun larch--contact (&rest _)
+  "The call of the language server."
+  (append (list larch--server) (when larch-program (list "--larch" larch-program))
+          (unless larch-hints '("--no-hints"))))
 (with-eval-after-load 'eglot
-  (add-to-list 'eglot-server-programs (list 'lsl-mode larch--server)))
+  (add-to-list 'eglot-server-programs (cons 'lsl-mode #'larch--contact)))
 
 (provide 'larch-mode)
 ;;; larch-mode.el ends here

@@ -11,7 +11,10 @@ exports.activate = () => {
   const command = settings.get("server") || path.join(fs.realpathSync(__dirname), "..", "larch-lsp");
   const program = settings.get("program");
   const server = { command, args: program ? ["--larch", program] : [] };
-  client = new LanguageClient("larch", "Larch", server, { documentSelector: [{ scheme: "file", language: "lsl" }] });
+  client = new LanguageClient("larch", "Larch", server, {
+    documentSelector: [{ scheme: "file", language: "lsl" }],
+    initializationOptions: { hints: settings.get("hints") },
+  });
   return client.start();
 };
 

@@ -3,9 +3,9 @@
 
 The table of words has the reserved words and fixed symbols of the program's own definitions, and runs the bytes of its
 table of tokens; the editors' files are those that tools/make/make_highlighting.py makes of it; Vim, Emacs and the
-TextMate grammar colour the examples and editors/samples as editors/expected.txt says; and the extension starts the
-server, as far as that can be seen without its editor. An editor that isn't installed is named and left out. With
---write the kept file is written anew, from the TextMate grammar, which Python reads."""
+TextMate grammar colour the traits of examples, of examples/library and of editors/samples as editors/expected.txt says;
+and the extension starts the server, as far as that can be seen without its editor. An editor that isn't installed is
+named and left out. With --write the kept file is written anew, from the TextMate grammar, which Python reads."""
 import json
 import os
 import pathlib
@@ -22,8 +22,8 @@ from desk import TOP  # noqa: E402
 import larch_names  # noqa: E402
 
 KEPT = TOP / "editors/expected.txt"
-FILES = sorted(str(path.relative_to(TOP)) for folder in ("examples", "editors/samples")
-               for path in (TOP / folder).rglob("*") if path.suffix in (".lsl", ".lp"))
+FILES = sorted(str(path.relative_to(TOP)) for folder in ("examples", "examples/library", "editors/samples")
+               for path in (TOP / folder).iterdir() if path.suffix in (".lsl", ".lp"))
 
 
 def definitions():

@@ -16,24 +16,30 @@ import time
 import unittest
 
 sys.path.insert(0, str(pathlib.Path(__file__).resolve().parents[1]))
-from desk import TOP, reports  # noqa: E402
+from desk import TOP  # noqa: E402
+from companions.explain import code_parts, sentence  # noqa: E402
+from companions.program import MOST_BYTES  # noqa: E402
 import larch_names  # noqa: E402
+from larch_names import offset_at  # noqa: E402
 
 PROGRAM = str(TOP / "larch")
 RIGHT = "T: trait\n  introduces\n    c: -> S\n"
 WRONG = "T: trait\n  introduces\n    c -> S\n"
+USED = ("T: trait\n  introduces\n    c: -> S\n    __ ++ __: S, S -> S\n    g: S, S -> S\n  asserts\n"
+        "    \\forall x, y: S\n      c == c;\n      g(x, y) == g(x, y) ++ c\n")
 
 
 class Client:
     """An editor: sends messages, and keeps the published diagnostics by the file's name."""
 
-    def __init__(self, program=None, **environment):
+    def __init__(self, program=None, words=(), options=None, window=None, **environment):
         self.process = subprocess.Popen(
-            [sys.executable, str(TOP / "editors/larch-lsp"), *(["--larch", program] if program else [])],
+            [sys.executable, str(TOP / "editors/larch-lsp"), *(["--larch", program] if program else []), *words],
             stdin=subprocess.PIPE, stdout=subprocess.PIPE, env={**os.environ, **environment})
         self.answers, self.notes, self.last = queue.Queue(), queue.Queue(), 0
         threading.Thread(target=self.listen, daemon=True).start()
-        self.skills = self.request("initialize", {"processId": None, "rootUri": None, "capabilities": {}})
+        self.skills = self.request("initialize", {"processId": None, "rootUri": None, "initializationOptions": options,
+                                                  "capabilities": {"window": window or {}}})
         self.notify("initialized", {})
 
     def listen(self):
@@ -42,7 +48,7 @@ class Client:
             length = int(line.split(b":")[1])
             out.readline()
             message = json.loads(out.read(length))
-            (self.answers if "id" in message else self.notes).put(message)
+            (self.notes if "method" in message else self.answers).put(message)
 
     def send(self, message):
         body = json.dumps({"jsonrpc": "2.0", **message}).encode()
@@ -61,13 +67,16 @@ class Client:
 
     def published(self, name, wanted, seconds=30):
         """Waits until the codes published for a file are the wanted ones; the diagnostics."""
+        return self.shown(name, lambda found: [diagnostic.get("code") for diagnostic in found] == wanted, seconds)
+
+    def shown(self, name, is_wanted, seconds=30):
+        """Waits until what is published for a file is wanted; the diagnostics."""
         end = time.monotonic() + seconds
         while True:
             note = self.notes.get(timeout=max(0.01, end - time.monotonic()))
             if note["method"] == "textDocument/publishDiagnostics" and note["params"]["uri"].endswith("/" + name):
-                found = note["params"]["diagnostics"]
-                if [diagnostic.get("code") for diagnostic in found] == wanted:
-                    return found
+                if is_wanted(note["params"]["diagnostics"]):
+                    return note["params"]["diagnostics"]
 
     def open(self, path, text):
         self.notify("textDocument/didOpen", {"textDocument": {
@@ -118,7 +127,7 @@ class Served(unittest.TestCase):
         self.client.open(path, WRONG)
         found = self.client.published("T.lsl", ["SYNTAX"])[0]
         self.assertEqual(found["range"], {"start": {"line": 2, "character": 6}, "end": {"line": 2, "character": 8}})
-        self.assertEqual(found["message"], reports.sentence("SYNTAX", reports.code_parts()))
+        self.assertEqual(found["message"], sentence("SYNTAX", code_parts()))
         self.assertIn("a `;` or `,` may be missing", found["message"])
         self.client.change(path, RIGHT)
         self.assertEqual(self.client.published("T.lsl", []), [])
@@ -168,9 +177,9 @@ class Served(unittest.TestCase):
                                "    [x, y]; b\n")
         self.client.published("T.lsl", ["SYNTAX"])
         shown = self.client.at("hover", path, 1, 10)
-        self.assertEqual(shown["contents"]["value"], "**SYNTAX** " + reports.code_parts()["SYNTAX"])
+        self.assertTrue(shown["contents"]["value"].endswith("**SYNTAX** " + code_parts()["SYNTAX"]))
         self.assertIn("```lsl\nT: trait", shown["contents"]["value"])
-        self.assertIsNone(self.client.at("hover", path, 0, 0))
+        self.assertIsNone(self.client.at("hover", path, 0, 3))
         symbols = self.client.request("textDocument/documentSymbol", {"textDocument": {"uri": path.as_uri()}})
         self.assertEqual([(symbol["name"], symbol["detail"]) for symbol in symbols],
                          [("a", "M, N -> N"), ("[__, __]", "M, N -> N"), ("a(x, y) == [x, y]", "implied"),
@@ -206,7 +215,7 @@ class Served(unittest.TestCase):
         self.client.published("T.lsl", [])
 
     def test_what_a_session_does_not_take(self):
-        long = self.write("Long.lsl", b"Long: trait" + b" " * reports.MOST_BYTES)
+        long = self.write("Long.lsl", b"Long: trait" + b" " * MOST_BYTES)
         path = self.write("T.lsl", RIGHT)
         odd = self.write("a-b.lsl", "")
         self.client.open(path, WRONG)
@@ -218,7 +227,7 @@ class Served(unittest.TestCase):
         self.client.open(path, WRONG)
         self.client.published("T.lsl", ["SYNTAX"])
         for count in range(68):
-            self.client.change(path, RIGHT + " " * (reports.MOST_BYTES - 100), 2 * count)
+            self.client.change(path, RIGHT + " " * (MOST_BYTES - 100), 2 * count)
             self.client.published("T.lsl", [])
             if count % 17 == 16:
                 self.client.change(path, WRONG, 2 * count + 1)
@@ -256,7 +265,7 @@ class Served(unittest.TestCase):
         self.assertEqual(wrong["range"]["start"], {"line": 2, "character": 6})
         found = self.client.published("T.lsl", ["BAD-REFERENCE"])[0]
         self.assertEqual(found["range"], {"start": {"line": 1, "character": 10}, "end": {"line": 1, "character": 14}})
-        self.assertEqual(found["message"], "BAD-REFERENCE: " + reports.code_parts()["BAD-REFERENCE"].splitlines()[0])
+        self.assertEqual(found["message"], "BAD-REFERENCE: " + code_parts()["BAD-REFERENCE"].splitlines()[0])
         self.write("Base.lsl", RIGHT.replace("T", "Base"))
         self.client.notify("textDocument/didSave", {"textDocument": {"uri": path.as_uri()}})
         self.client.published("T.lsl", [])
@@ -265,6 +274,119 @@ class Served(unittest.TestCase):
         self.client.published("T.lsl", ["BAD-REFERENCE"])
         self.client.close(base)
         self.client.published("T.lsl", [])
+    def test_title_and_quick_fix(self):
+        path = self.write("T.lsl", RIGHT)
+        self.client.open(path, WRONG)
+        title = "missing `:` before `->`?"
+        found = self.client.shown("T.lsl", lambda shown: shown and shown[0]["message"].startswith(title))[0]
+        self.assertTrue(found["message"].endswith(sentence("SYNTAX", code_parts())))
+        self.assertTrue(self.client.at("hover", path, 2, 6)["contents"]["value"].startswith(title))
+        fix = self.client.request("textDocument/codeAction", {
+            "textDocument": {"uri": path.as_uri()}, "range": found["range"], "context": {"diagnostics": [found]}})[0]
+        edits = fix["edit"]["changes"][path.as_uri()]
+        self.assertEqual((fix["kind"], fix["isPreferred"], applied(WRONG, edits)), ("quickfix", True, RIGHT))
+        self.client.change(path, RIGHT)
+        self.client.published("T.lsl", [])
+
+    def test_hints(self):
+        path = self.write("T.lsl", USED)
+        hinted = USED.replace("x, y: S", "x, y, z: S")
+        self.client.open(path, hinted)
+        found = self.client.published("T.lsl", ["unused-variable"])[0]
+        self.assertEqual((found["severity"], found["range"]["start"]), (4, {"line": 6, "character": 18}))
+        fix = self.client.request("textDocument/codeAction", {
+            "textDocument": {"uri": path.as_uri()}, "range": found["range"], "context": {"diagnostics": [found]}})[0]
+        self.client.change(path, applied(hinted, fix["edit"]["changes"][path.as_uri()]))
+        self.client.published("T.lsl", [])
+        for client in (Client(PROGRAM, words=["--no-hints"]), Client(PROGRAM, options={"hints": False})):
+            client.open(path, hinted)
+            client.change(path, WRONG)
+            client.published("T.lsl", ["SYNTAX"])
+            client.change(path, hinted)
+            client.published("T.lsl", [])
+            time.sleep(0.5)
+            self.assertTrue(client.notes.empty())
+            client.end()
+
+    def test_names(self):
+        base = self.write("Base.lsl", "Base: trait\n  introduces\n    f: N -> N\n    0: -> N\n")
+        path = self.write("T.lsl", USED)
+        text = USED.replace("introduces", "includes Base\n  introduces", 1).replace("c == c", "f(0) == 0; c == c")
+        self.client.open(path, text)
+        for (line, character), said in {(8, 6): "f: N -> N", (8, 17): "c: -> S", (7, 12): "x: S", (3, 10): "sort S",
+                                        (1, 12): "Base: trait", (0, 0): "T: trait"}.items():
+            self.assertIn(said, self.client.at("hover", path, line, character)["contents"]["value"])
+        found = self.client.at("definition", path, 8, 6)
+        self.assertEqual((found["uri"], found["range"]["start"]), (base.as_uri(), {"line": 2, "character": 4}))
+        for (line, character), start in {(8, 17): (3, 4), (9, 8): (7, 12), (7, 18): (3, 10)}.items():
+            found = self.client.at("definition", path, line, character)
+            self.assertEqual((found["uri"], found["range"]["start"]),
+                             (path.as_uri(), {"line": start[0], "character": start[1]}))
+        self.assertIsNone(self.client.at("definition", path, 3, 6))
+        found = [(place["uri"].rsplit("/")[-1], place["range"]["start"]["line"])
+                 for place in self.client.at("references", path, 8, 6)]
+        self.assertEqual(found, [("T.lsl", 8), ("Base.lsl", 2)])
+        self.assertEqual(len(self.client.at("references", path, 9, 8)), 3)
+        words = {item["label"]: item for item in self.client.at("completion", path, 8, 6)}
+        self.assertEqual({word: words[word].get("detail") for word in ("f", "c", "x", "S", "if")},
+                         {"f": "f: N -> N", "c": "c: -> S", "x": "x: S", "S": "sort", "if": None})
+        self.assertIn("Base", [item["label"] for item in self.client.at("completion", path, 1, 11)])
+
+    def test_rename(self):
+        self.write("Base.lsl", "Base: trait\n  introduces\n    f: N -> N\n")
+        path = self.write("T.lsl", USED)
+        text = USED.replace("introduces", "includes Base\n  introduces", 1)
+        self.client.open(path, text)
+
+        def renamed(line, character, new):
+            params = {"textDocument": {"uri": path.as_uri()}, "position": {"line": line, "character": character}}
+            found = self.client.request("textDocument/rename", {**params, "newName": new})
+            return applied(text, found["changes"][path.as_uri()]) if "changes" in found else found["message"]
+
+        self.assertEqual(renamed(3, 4, "made"), text.replace(" c", " made"))
+        self.assertEqual(renamed(7, 12, "w"), text.replace("x, y: S", "w, y: S").replace("(x", "(w"))
+        self.assertEqual(renamed(3, 10, "Thing"), text.replace(" S", " Thing"))
+        self.assertEqual(renamed(4, 7, "**"), text.replace("++", "**"))
+        self.assertIn("stands in the trait already", renamed(3, 4, "x"))
+        self.assertIn("can't stand in the place", renamed(3, 4, "if"))
+        self.assertIn("can't stand in the place", renamed(3, 4, "+"))
+        self.assertIn("like its file", renamed(1, 12, "Other"))
+        self.assertIn("no name", renamed(0, 3, "Other"))
+
+    def test_kinds_of_names(self):
+        path = self.write("T.lsl", USED)
+        self.client.open(path, USED)
+        data = self.client.request("textDocument/semanticTokens/full", {"textDocument": {"uri": path.as_uri()}})["data"]
+        kinds = self.client.skills["capabilities"]["semanticTokensProvider"]["legend"]["tokenTypes"]
+        line = character = 0
+        found = []
+        for down, right, length, kind, _ in zip(*[iter(data)] * 5):
+            line, character = line + down, right if down else character + right
+            found.append((USED.split("\n")[line][character:character + length], kinds[kind]))
+        self.assertEqual(found[:6], [("T", "namespace"), ("c", "function"), ("S", "type"), ("++", "function"),
+                                     ("S", "type"), ("S", "type")])
+        self.assertIn(("x", "variable"), found)
+
+    def test_progress(self):
+        slow = self.folder / "slow"
+        slow.write_text(f"#!/bin/sh\nsleep 1.5\nexec {PROGRAM} \"$@\"\n")
+        slow.chmod(0o755)
+        client = Client(str(slow), window={"workDoneProgress": True})
+        client.open(self.folder / "T.lsl", RIGHT + "% d\n")
+        seen = []
+        while "end" not in seen:
+            note = client.notes.get(timeout=60)
+            seen.append(note["params"].get("value", {}).get("kind", note["method"]))
+        self.assertEqual(seen, ["window/workDoneProgress/create", "begin", "end"])
+        client.end()
+
+
+def applied(text, edits):
+    """A text with an editor's changes."""
+    for edit in sorted(edits, key=lambda edit: -offset_at(text.encode(), edit["range"]["start"])):
+        start, end = (offset_at(text.encode(), edit["range"][edge]) for edge in ("start", "end"))
+        text = text[:start] + edit["newText"] + text[end:]
+    return text
 
 
 if __name__ == "__main__":

@@ -3,9 +3,9 @@
 
 PROGRAM is a command, in quotes where it has words of its own. In a folder of its own each block `lsl` or `text` is
 written to the file that the paragraph above it names last, and each line `$ COMMAND` of a block `console` is run by
-bash, `larch` being PROGRAM; what it writes has to be the lines below it. A command of a tool in the running text has to
-end well. What builds the program is run by .ci/run, which has to have that line; the try without a proof takes a
-compiler a minute, and is run with --unproved alone. The page has less than 1,200 words. Ends with 'N passed, N failed',
+bash, `larch` being ./larch with PROGRAM; what it writes has to be the lines below it. A command of a tool in the
+running text has to end well. What builds the program is run by .ci/run, which has to have that line; the try without a
+proof takes a compiler a minute, and is run with --unproved alone. The page has less than 1,200 words. Ends with 'N passed, N failed',
 and status 1 where one failed."""
 import os
 import pathlib
@@ -49,12 +49,19 @@ def run(command, folder, path=None):
     return done.stdout.decode(errors="replace"), done.returncode
 
 
+def put_larch(folder, program):
+    """A command `larch` in a folder: the checkout's ./larch, which runs the program."""
+    alone, larch = folder / "larch-program", folder / "larch"
+    alone.write_text(f'#!/bin/sh\nexec {shlex.join(program)} "$@"\n')
+    larch.write_text(f'#!/bin/sh\nLARCH_PROGRAM={alone} exec {shlex.quote(str(TOP / "larch"))} "$@"\n')
+    for path in (alone, larch):
+        path.chmod(0o755)
+
+
 def shown(tests, text, program):
     """The files and the commands of the page, in order."""
     with tempfile.TemporaryDirectory() as place, tempfile.TemporaryDirectory() as beside:
-        larch = pathlib.Path(beside, "larch")
-        larch.write_text(f'#!/bin/sh\nexec {shlex.join(program)} "$@"\n')
-        larch.chmod(0o755)
+        put_larch(pathlib.Path(beside), program)
         for above, kind, block in BLOCK.findall(text):
             named = FILE.findall(above)
             if kind in ("lsl", "text") and named:
@@ -66,10 +73,10 @@ def shown(tests, text, program):
 def told(tests, text, unproved):
     """The commands that the running text names, and those that build."""
     plain = re.sub(r"```.*?```", "", text, flags=re.S)
-    for command in re.findall(r"`(tools/[\w-]+(?: [^`]+)+)`", plain):
-        tests.see(command, run(command, TOP)[1], 0)
+    for command in re.findall(r"`((?:tools/[\w-]+|larch explain) [A-Z-]+)`", plain):
+        tests.see(command, run(re.sub("^larch", "./larch", command), TOP)[1], 0)
     gate = (TOP / ".ci/run").read_text()
-    for command in re.findall(r"^(\./larch .*?)\s*(?:#.*)?$", text, re.M):
+    for command in re.findall(r"^(\./larch --build.*?)\s*(?:#.*)?$", text, re.M):
         tests.see(f".ci/run runs {command}", bool(re.search(rf"^{re.escape(command)}\b", gate, re.M)), True)
     tries = re.findall(r"`(\./larch --unproved [^`]*?) < ([^`]*)`", plain)
     tests.see("what is tried without a proof", [(TOP / given).is_file() for _, given in tries], [True])

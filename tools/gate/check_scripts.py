@@ -1,16 +1,19 @@
 #!/usr/bin/env python3
-"""Reads the examples of docs/SCRIPTS.md: python3 tools/gate/check_scripts.py [PROGRAM WORD..]
+"""Reads the examples of scripts in the pages with a program that prints scripts:
 
-PROGRAM prints what `larch_script_table` prints, which it is if none is given. Each block marked `lp` is a script; the
-line below it says `read`, or the number and the code of each line that is no command. Each kind of command has to stand
-in an example that is read. Ends with 1 where an answer is another one, a kind has no example, or no example is
-found."""
+    python3 tools/gate/check_scripts.py [PROGRAM WORD..]
+
+PROGRAM prints what `larch_script_table` prints, which it is if none is given. The pages are docs/SCRIPTS.md and
+docs/COMING_FROM_LSL.md. Each block marked `lp` is a script; the line below it says `read`, or the number and the code
+of each line that is no command. Each kind of command has to stand in an example that is read. Ends with 1 where an
+answer is another one, a kind has no example, or no example is found."""
 import pathlib
 import re
 import subprocess
 import sys
 
 TOP = pathlib.Path(__file__).resolve().parents[2]
+PAGES = [TOP / "docs/SCRIPTS.md", TOP / "docs/COMING_FROM_LSL.md"]
 KINDS = ["declare", "limit", "boxes", "height", "status", "prove", "cases", "=>", "/\\", "contradiction", "induction",
          "partition", "instantiate", "pairs", "normalize", "qed", "mark", "bad"]
 
@@ -28,7 +31,7 @@ def answer_on(lines):
 
 def main():
     program = sys.argv[1:] or [str(TOP / "crates/larch_script_table/out/larch_script_table")]
-    found = examples((TOP / "docs/SCRIPTS.md").read_text())
+    found = [example for page in PAGES for example in examples(page.read_text())]
     texts = "\0".join(script for script, _line in found)
     done = subprocess.run(program, input=texts.encode(), capture_output=True, timeout=600)
     printed = done.stdout.decode().split("\0")

@@ -1,13 +1,52 @@
 -- Neovim alone reads this: it starts the checkout's language server in buffers of traits. Where vim.g.larch_program is
--- set, that is the program; where vim.g.larch_server is false, no server is started.
+-- set, that is the program; where vim.g.larch_server is false, no server is started; where vim.g.larch_hints is false,
+-- it says errors alone.
 local here = vim.fn.fnamemodify(debug.getinfo(1, 'S').source:sub(2), ':p:h:h:h')
 local client -- where vim.lsp.start, which looks for a running one by its name, isn't there
+local space = vim.api.nvim_create_namespace('larch')
+local groups = { namespace = 'Structure', type = 'Type', ['function'] = 'Function', variable = 'Identifier',
+  property = 'Identifier' }
+
+-- Puts the colours of names by their kinds into a buffer: five numbers for each, its place counted from the one before.
+local function put_colours(buffer, names, data)
+  vim.api.nvim_buf_clear_namespace(buffer, space, 0, -1)
+  local line, column = 0, 0
+  for at = 1, #data, 5 do
+    line, column = line + data[at], (data[at] > 0 and 0 or column) + data[at + 1]
+    local text = vim.api.nvim_buf_get_lines(buffer, line, line + 1, false)[1] or ''
+    local fits, first = pcall(vim.str_byteindex, text, column, true)
+    local ends, last = pcall(vim.str_byteindex, text, column + data[at + 2], true)
+    if fits and ends and last <= #text then
+      vim.api.nvim_buf_set_extmark(buffer, space, line, first,
+        { end_col = last, hl_group = groups[names[data[at + 3] + 1]] })
+    end
+  end
+end
+
+local function colour(server, buffer)
+  local params = { textDocument = vim.lsp.util.make_text_document_params(buffer) }
+  server.request('textDocument/semanticTokens/full', params, function(trouble, found)
+    if not trouble and found and vim.api.nvim_buf_is_valid(buffer) then
+      put_colours(buffer, server.server_capabilities.semanticTokensProvider.legend.tokenTypes, found.data)
+    end
+  end, buffer)
+end
+
+-- Completion by <C-x><C-o>, and colours by kinds where Neovim has none of its own.
+local function on_attach(server, buffer)
+  vim.api.nvim_buf_set_option(buffer, 'omnifunc', 'v:lua.vim.lsp.omnifunc')
+  if vim.lsp.semantic_tokens then return end
+  colour(server, buffer)
+  vim.api.nvim_create_autocmd({ 'TextChanged', 'InsertLeave' }, {
+    buffer = buffer, callback = function() colour(server, buffer) end })
+end
 
 local function attach(buffer)
   if vim.g.larch_server == false then return end
   local command = { here .. '/larch-lsp' }
   if vim.g.larch_program then vim.list_extend(command, { '--larch', vim.g.larch_program }) end
-  local what = { name = 'larch', cmd = command, root_dir = vim.fn.getcwd() }
+  if vim.g.larch_hints == false then vim.list_extend(command, { '--no-hints' }) end
+  local what = { name = 'larch', cmd = command, root_dir = vim.fn.getcwd(), on_attach = on_attach }
   if vim.lsp.start then
     vim.lsp.start(what, { bufnr = buffer })
     return

@@ -1,0 +1,255 @@
+#!/usr/bin/env python3
+"""What ./larch hands on, since it takes more than a few lines.
+
+call.py words WORD..        the folder to go to for a call, and the call's words there, with a zero byte behind each
+call.py why STATUS WORD..   says on standard error what the program's line for this status doesn't say
+call.py help [WORD]         what there is; of a command what docs/COMMANDS.md says, of a code what it means
+call.py --version           which sources the program is of, and where it lies"""
+import os
+import pathlib
+import re
+import subprocess
+import sys
+
+from desk import TOP
+from companions import explain
+from companions.program import FILE_NAME, MOST_BYTES, MOST_FILES
+from companions.scope import reached
+from companions.spelling import nearest
+
+COMMANDS = ("session", "check", "obligations", "verify")
+AROUND = ("help", "explain", "watch")
+FILE, CERT = re.compile(r"[A-Za-z0-9_]{1,64}\.(?:lsl|lp)"), re.compile(r"(?s).*\.cert")
+LABEL = re.compile(r"(?:assume|imply|convert)\.[1-9][0-9]{0,5}")
+WITH_INCLUDED = "--with-included"
+HELP = """\
+larch checks specifications in the Larch Shared Language.
+
+  larch check FILE..                    is something wrong with these traits?
+  larch obligations FILE..              what each consists of, and what is to be proved of it
+  larch verify TRAIT LABEL CERT FILE..  does this certificate show that duty?
+  larch session                         the same for programs, over standard input
+
+  larch explain FILE..                  why a trait is refused, and how to mend it
+  larch explain CODE                    what a code means; without a word, all codes
+  larch watch [FOLDER..]                says so at each change
+  larch help COMMAND                    more of a command
+
+FILE is NAME.lsl or NAME.lp; it may lie in another folder, all files of a call in one. A trait sees the files that are
+named; `--with-included` adds those of the folder that it refers to. Status 0: all is right; 1: something is wrong;
+above: the call came to nothing.
+
+  larch --build                         builds the program and proves it
+  larch --unproved WORD..               a try, compiled with no proof
+  larch --install PREFIX                puts larch and what belongs to it below PREFIX; --uninstall takes it away
+  larch --version, --program            which program it is, and where it lies
+"""
+
+
+def say(text):
+    print(f"larch: {text}", file=sys.stderr)
+
+
+def cut(words):
+    """A call's command, the words before its files, its files, and whether what they reach is to be added."""
+    rest, wants = list(words[1:]), False
+    if words[0] in ("check", "obligations") and WITH_INCLUDED in rest:
+        rest, wants = [word for word in rest if word != WITH_INCLUDED], True
+    if rest[:1] == ["--"]:
+        rest = rest[1:]
+    number = 3 if words[0] == "verify" else 0
+    return words[0], rest[:number], rest[number:], wants
+
+
+# The folder of a call ----------------------------------------------------------------------------
+
+class Files:
+    """The files of a folder, each read where it is asked for."""
+
+    def __init__(self, folder):
+        self.folder = folder
+
+    def __contains__(self, name):
+        return bool(FILE_NAME.fullmatch(name)) and os.path.isfile(os.path.join(self.folder, name))
+
+    def __getitem__(self, name):
+        with open(os.path.join(self.folder, name), "rb") as file:
+            return file.read(MOST_BYTES)
+
+
+def one_folder(files):
+    """The folder that all these files lie in, or nothing, and then why there is none."""
+    named = list(dict.fromkeys(os.path.dirname(file) or "." for file in files if file[:1] != "-")) or ["."]
+    for folder in named:
+        if not os.path.isdir(folder):
+            return None, f"there is no folder {folder}"
+        if not os.path.samefile(folder, named[0]):
+            return None, f"all files of a call lie in one folder, and these in {named[0]} and {folder}"
+    return os.path.abspath(named[0]), ""
+
+
+def words_there(words):
+    """The folder and the words of the call there; nothing where the words are left as they are."""
+    command, front, files, wants = cut(words)
+    if command not in COMMANDS:
+        return None
+    folder, _ = one_folder(files)
+    if folder is None:
+        return None
+    names = [os.path.basename(file) for file in files]
+    if len(front) == 3 and not os.path.samefile(folder, "."):
+        place, name = os.path.split(front[2])
+        same = os.path.isdir(place or ".") and os.path.samefile(place or ".", folder)
+        front[2] = name if same else os.path.abspath(front[2])
+    if wants:
+        known = Files(folder)
+        names += [name for trait in list(names) for name in reached(known, trait)]
+        names = list(dict.fromkeys(names))
+    return [folder, command, *front, *names]
+
+
+# What stands behind a status ---------------------------------------------------------------------
+
+def why_usage(words):
+    """Why words mean no command."""
+    if not words:
+        return "`larch help` lists the commands"
+    if words[0] not in COMMANDS:
+        return why_no_command(words[0])
+    command, front, files, _ = cut(words)
+    if command == "session":
+        return "`session` takes no words; its files come over standard input"
+    if len(front) + len(files) < (4 if command == "verify" else 1):
+        return f"too few words: larch {command} {'TRAIT LABEL CERT ' if command == 'verify' else ''}FILE.."
+    for bad in (*why_front(front), one_folder(files)[1], *map(why_file, files)):
+        if bad:
+            return bad
+    return f"`larch help {command}` says what its words are"
+
+
+def why_no_command(word):
+    near = nearest(word, (*COMMANDS, *AROUND))
+    if near:
+        return f"`{word}`: did you mean `{near}`?"
+    if word.endswith((".lsl", ".lp")):
+        return f"`{word}`: did you mean `larch check {word}`?"
+    return f"`{word}` is no command; `larch help` lists them"
+
+
+def why_front(front):
+    """Why the words before the files of `verify` are none."""
+    if front:
+        trait, label, certificate = front
+        yield "" if FILE.fullmatch(trait + ".lsl") else f"`{trait}` is no trait: its name without `.lsl` is wanted"
+        yield "" if LABEL.fullmatch(label) else f"`{label}` is no label: assume.N, imply.N or convert.N"
+        yield "" if CERT.fullmatch(certificate) else f"`{certificate}` is no certificate: its name ends in `.cert`"
+
+
+def why_file(word):
+    """Why a word is no name of a file; empty where it is one."""
+    if FILE.fullmatch(word):
+        return ""
+    if word.startswith("-"):
+        return f"no command takes the option {word}"
+    if os.path.isdir(word):
+        return f"`{word}` is a folder: name its files, {word.rstrip('/')}/*.lsl"
+    if "*" in word or "?" in word:
+        return f"no file is called {word}"
+    if not word.endswith((".lsl", ".lp")):
+        meant = f"; did you mean `{word}.lsl`?" if os.path.isfile(word + ".lsl") else ""
+        return f"`{word}` is no file: its name ends in `.lsl` or `.lp`{meant}"
+    return f"`{word}`: the name of a file has 1 to 64 letters, digits and `_` before its ending"
+
+
+def why_too_large(words):
+    """Which number passes a limit."""
+    _, front, files, _ = cut(words)
+    for name in front[2:] + files:
+        if os.path.isfile(name) and os.path.getsize(name) > MOST_BYTES:
+            return f"{name} has {os.path.getsize(name):,} bytes, and a file {MOST_BYTES:,} at most"
+    number = len(set(files))
+    return f"{number:,} files are named, and a call takes {MOST_FILES}" if number > MOST_FILES else "a limit is passed"
+
+
+def why_no_file(words):
+    """Which file isn't there, and where it was looked for."""
+    _, front, files, _ = cut(words)
+    gone = next((name for name in front[2:] + files if not os.path.exists(name)), None)
+    if gone is None:
+        return "a file isn't there"
+    folder = os.path.dirname(gone) or "."
+    near = nearest(os.path.basename(gone), os.listdir(folder)) if os.path.isdir(folder) else None
+    shown = os.path.abspath(folder)
+    return f"there is no {os.path.basename(gone)} in {shown}" + (f"; did you mean `{near}`?" if near else "")
+
+
+def why(status, words):
+    if status == "7":
+        say(f"{why_too_large(words)}; {TOP}/docs/SCALE.md says how more is checked")
+    else:
+        say(why_usage(words) if status == "2" else why_no_file(words))
+
+
+# Help --------------------------------------------------------------------------------------------
+
+def sections():
+    """The parts of docs/COMMANDS.md by their headings."""
+    pieces = re.split(r"^## (.*)\n", (TOP / "docs/COMMANDS.md").read_text(encoding="utf-8"), flags=re.M)
+    return {heading.strip("`"): part.strip() for heading, part in zip(pieces[1::2], pieces[2::2])}
+
+
+def help_with(word):
+    """More of a command or a code; the status."""
+    found = {**sections(), **explain.code_parts()}
+    if word == "session":
+        print(f"larch session takes files and commands from standard input: {TOP}/docs/SESSION.md")
+    elif word in ("explain", "watch"):
+        tool = TOP / "tools" / {"explain": "explain", "watch": "larch-watch"}[word]
+        return subprocess.run([sys.executable, tool, "--help"], check=False).returncode
+    elif word in found or word.upper() in found:
+        print(found.get(word) or found[word.upper()])
+    elif word == "help":
+        print(HELP, end="")
+    else:
+        say(why_no_command(word))
+        return 2
+    return 0
+
+
+def version():
+    """Prints which sources the program is of."""
+    if (TOP / "installed").exists():
+        print((TOP / "VERSION").read_text(encoding="utf-8"), end="")
+    else:
+        print(sources())
+    return 0
+
+
+def sources():
+    """The commit of the checkout, as a line."""
+    call = ["git", "-C", str(TOP), "log", "-1", "--format=%h of %cs"]
+    done = subprocess.run(call, stdout=subprocess.PIPE, stderr=subprocess.DEVNULL, text=True, check=False)
+    changed = subprocess.run([*call[:3], "diff", "--quiet", "HEAD", "--", "crates"], stderr=subprocess.DEVNULL,
+                             check=False).returncode == 1
+    known = done.stdout.strip() or "of unknown sources"
+    return f"larch {known}{', with changes' if changed else ''}, a program in Rattle"
+
+
+def main():
+    what, rest = sys.argv[1], sys.argv[2:]
+    if what == "words":
+        found = words_there(rest)
+        sys.stdout.buffer.write(b"".join(os.fsencode(word) + b"\0" for word in found or ()))
+        return 0
+    if what == "why":
+        return why(rest[0], rest[1:])
+    if what == "--version":
+        return version()
+    if rest:
+        return help_with(rest[0])
+    print(HELP, end="")
+    return 0
+
+
+if __name__ == "__main__":
+    sys.exit(main())
