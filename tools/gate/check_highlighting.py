@@ -113,14 +113,15 @@ class Coloured(unittest.TestCase):
         script = """
             const modules = require("module"), load = modules._load;
             class LanguageClient { constructor(...words) { this.words = words; } start() { return this.words; } }
-            const workspace = { getConfiguration: () => ({ get: name => name === "program" ? "a/larch" : "" }) };
+            const settings = { program: "a/larch", hints: false };
+            const workspace = { getConfiguration: () => ({ get: name => settings[name] }) };
             const known = { vscode: { workspace }, "vscode-languageclient/node": { LanguageClient } };
             modules._load = (name, ...rest) => known[name] || load(name, ...rest);
             console.log(JSON.stringify(require("./editors/vscode/extension.js").activate()));"""
         done = subprocess.run(["node", "-e", script], cwd=TOP, timeout=60, capture_output=True, text=True, check=True)
         self.assertEqual(json.loads(done.stdout)[2:], [
             {"command": str(TOP / "editors/larch-lsp"), "args": ["--larch", "a/larch"]},
-            {"documentSelector": [{"scheme": "file", "language": "lsl"}]}])
+            {"documentSelector": [{"scheme": "file", "language": "lsl"}], "initializationOptions": {"hints": False}}])
         self.assertTrue(os.access(TOP / "editors/larch-lsp", os.X_OK))
 
     def test_textmate(self):
