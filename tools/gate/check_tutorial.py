@@ -4,8 +4,8 @@
 PROGRAM is a command, in quotes where it has words of its own. docs/TUTORIAL.md is carried out in a scratch folder, from
 top to bottom: a block below a line "`NAME`:" is a file, as it is to be typed; in a block whose first line begins with
 `$ ` each such line is a command, and below it stands what it prints. PROGRAM is on the path as `larch`, and LARCH_TOP
-is this checkout. The page has to show a right trait, a wrong one, an explained code, a listing and an accepted
-certificate. Of docs/COMING_FROM_LSL.md the `lsl` blocks are run as those of docs/TRAITS.md are, and each row of its
+is this checkout; the home is a folder of its own. The page has to show a right trait, a wrong one, an explained
+mistake, a listing, an accepted certificate and an installed program. Of docs/COMING_FROM_LSL.md the `lsl` blocks are run as those of docs/TRAITS.md are, and each row of its
 tables is put into the trait that stands above it as `Frame.lsl`, in the place of the comment `% HERE` of the row's
 part: what the row has first is refused with the code and at the words that it says, and what it has last is right.
 Ends with 'N passed, N failed', and status 1 where one failed."""
@@ -26,8 +26,9 @@ TUTORIAL, COMING = TOP / "docs/TUTORIAL.md", TOP / "docs/COMING_FROM_LSL.md"
 STEP = re.compile(r"^`([\w.]+)`:\n\n```\w*\n(.*?)^```$|^```\w*\n(\$ .*?)^```$", re.M | re.S)
 # What a beginner has to have seen at the end, as words of commands and lines that they print.
 SEEN = {"a right trait": ("check", r"^trait \w+$"), "a wrong trait": ("check", r"^trait \w+ error "),
-        "an explained code": ("explain", r"^[A-Z-]+$"), "a listing": ("obligations", r"^imply\.1 "),
-        "an accepted certificate": ("verify", r"^accepted$")}
+        "an explained mistake": ("explain", r"^\w+\.lsl:\d+:\d+: .* \[[A-Z-]+\]$"),
+        "a listing": ("obligations", r"^imply\.1 "), "an accepted certificate": ("verify", r"^accepted$"),
+        "an installed program": ("bin/larch check", r"^trait \w+$")}
 
 
 class Tests:
@@ -64,7 +65,8 @@ def steps(page):
 
 def typed(command, folder, path):
     """What a command prints where it is typed."""
-    env = {**os.environ, "PATH": f"{path}:{os.environ['PATH']}", "LARCH_TOP": str(TOP), "LC_ALL": "C"}
+    env = {**os.environ, "PATH": f"{path}:{os.environ['PATH']}", "LARCH_TOP": str(TOP), "LC_ALL": "C",
+           "HOME": str(path.parent / "home")}
     done = subprocess.run(["bash", "-c", command], cwd=folder, env=env, stdout=subprocess.PIPE,
                           stderr=subprocess.STDOUT, timeout=600, check=False)
     return done.stdout.decode(errors="replace")
@@ -75,8 +77,8 @@ def tutorial(tests, program):
     seen = set()
     with tempfile.TemporaryDirectory() as place:
         path, folder = pathlib.Path(place, "path"), pathlib.Path(place, "traits")
-        path.mkdir()
-        folder.mkdir()
+        for made in (path, folder, pathlib.Path(place, "home")):
+            made.mkdir()
         check_readme.put_larch(path, program)
         for kind, name, text in steps(TUTORIAL.read_text(encoding="utf-8")):
             if kind == "file":
