@@ -34,7 +34,8 @@ def timed(program, what, text):
 
 def main():
     words = argparse.ArgumentParser(description=__doc__.splitlines()[0])
-    words.add_argument("program", nargs="?", default=str(TOP / "crates/larch_certificate_table/out/larch_certificate_table"))
+    words.add_argument("program", nargs="?",
+                       default=str(TOP / "crates/larch_certificate_table/out/larch_certificate_table"))
     words.add_argument("--lines", type=int, default=1_000_000)
     said = words.parse_args()
     deep = b"#1(" * 340_000

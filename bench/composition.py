@@ -42,7 +42,8 @@ def at_limits(times):
 
 
 def measured(program, files):
-    data = b"".join(b"put %s.lsl %d\n%s" % (name.encode(), len(text), text.encode()) for name, text in files) + b"report\n"
+    data = b"".join(b"put %s.lsl %d\n%s" % (name.encode(), len(text), text.encode()) for name,
+                    text in files) + b"report\n"
     best, said = 1e9, ""
     for _ in range(3):
         begin = time.perf_counter()
@@ -59,7 +60,8 @@ def main():
     shapes += [("at limits", list(at_limits(times))) for times in (1, 10)]
     for name, files in shapes:
         best, said = measured(program, files)
-        print(f"{name:10} {len(files):4} files {best * 1000:9.1f} ms {best * 1e6 / len(files):9.0f} us a file   {said}", flush=True)
+        print(f"{name:10} {len(files):4} files {best * 1000:9.1f} ms {best * 1e6 / len(files):9.0f} us a file   {said}",
+              flush=True)
 
 
 if __name__ == "__main__":

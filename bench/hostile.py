@@ -121,7 +121,8 @@ def chain(symbols, sorts):
 
 def ifs(depth, sorts):
     """Choices in choices at so many sorts."""
-    return trait([f"c:->A{i}\n" for i in range(sorts)], ["(if true then " * depth + "c" + " else c)" * depth + ":A0==c;\n"])
+    return trait([f"c:->A{i}\n" for i in range(sorts)],
+                 ["(if true then " * depth + "c" + " else c)" * depth + ":A0==c;\n"])
 
 
 def wide(size, used, further=(), each="c:->A{0}\n__+__:A{0},A{0}->A{0}\n", symbols=2400):

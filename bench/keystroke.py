@@ -1,10 +1,12 @@
 #!/usr/bin/env python3
-"""Times a keystroke in an editor: python3 bench/keystroke.py [PROGRAM] [--traits N] [--times T]
+"""Times a keystroke in an editor: python3 bench/keystroke.py [PROGRAM] [--traits N] [--times T] [--server-alone]
 
-N traits of ten kilobytes (256 by default) are open in one folder. A keystroke makes one of them wrong or right. The
-time from the change's message to the diagnostics stands beside the program's own time for the same report, in a session
-that is asked directly before each keystroke; the difference is the pause of 200 milliseconds and what the server adds.
-Ends with 1 where that is more than half a second."""
+N traits of ten kilobytes (256 by default) are open in one folder. A keystroke makes the one with the last name wrong or
+right. The time from the change's message to the diagnostics stands beside the program's own time for the same report,
+in a session that is asked directly before each keystroke; the difference is the pause of 200 milliseconds and what the
+server adds. Where the trait is right it has a hint: it's timed how much later that is shown, while hints at the other
+traits may still be due. With --server-alone a stand-in answers in the program's place, at once, so that what is seen is
+the server's own. Ends with 1 where the server adds more than half a second."""
 import argparse
 import pathlib
 import statistics
@@ -25,19 +27,41 @@ def generated(number):
     return "\n".join(lines).ljust(10 * 1024 - 1) + "\n"
 
 
+def stand_in(given, answers):
+    """A session that calls a trait wrong where its `0` is declared without `:`."""
+    held = {}
+    for line in iter(given.readline, b""):
+        word, *rest = line.split()
+        if word == b"put":
+            held[rest[0]] = given.read(int(rest[1]))
+        elif word == b"drop":
+            del held[rest[0]]
+        else:
+            for name, text in sorted(held.items()):
+                wrong = b" error 3:7 SYNTAX" if b"    0 ->" in text else b""
+                answers.write(b"trait %s%s\n" % (name.removesuffix(b".lsl"), wrong))
+            answers.write(b"end\n")
+            answers.flush()
+
+
 def main():
+    if sys.argv[1:] == ["session"]:
+        stand_in(sys.stdin.buffer, sys.stdout.buffer)
+        return 0
     words = argparse.ArgumentParser(description=__doc__.splitlines()[0])
     words.add_argument("program", nargs="?", default=str(TOP / "larch"))
     words.add_argument("--traits", type=int, default=256)
     words.add_argument("--times", type=int, default=11)
+    words.add_argument("--server-alone", action="store_true")
     said = words.parse_args()
-    program = str(pathlib.Path(said.program).resolve())
+    program = str(pathlib.Path(__file__ if said.server_alone else said.program).resolve())
     texts = {f"Key{number}.lsl": generated(number) for number in range(said.traits)}
-    name = "Key0.lsl"
+    name = max(texts)
+    texts[name] = texts[name].replace("x, y: N", "x, y, z: N")
     versions = [texts[name].replace("0: ->", "0 ->"), texts[name]]
     session, files = Session(program), {name: text.encode() for name, text in texts.items()}
     with tempfile.TemporaryDirectory() as place:
-        folder, client, own, shown = pathlib.Path(place), Client(program), [], []
+        folder, client, own, shown, hinted = pathlib.Path(place), Client(program), [], [], []
         for other, text in texts.items():
             (folder / other).write_text(text)
             client.open(folder / other, versions[0] if other == name else text)
@@ -52,11 +76,15 @@ def main():
             client.change(folder / name, versions[(turn + 1) % 2], turn + 2)
             client.published(name, [] if turn % 2 == 0 else ["SYNTAX"], 600)
             shown.append(time.monotonic() - start)
+            if turn % 2 == 0:
+                client.published(name, ["unused-variable"], 600)
+                hinted.append(time.monotonic() - start - shown[-1])
         client.end()
     session.close()
     added = [there - here for here, there in zip(own, shown)]
     print(f"{said.traits} traits of {len(texts[name])} bytes: the program alone {statistics.median(own):.3f} s, shown "
-          f"after {statistics.median(shown):.3f} s, on top {statistics.median(added):.3f} s (worst {max(added):.3f} s)")
+          f"after {statistics.median(shown):.3f} s, added {statistics.median(added):.3f} s (worst {max(added):.3f} s), "
+          f"its hint {statistics.median(hinted):.3f} s later (worst {max(hinted):.3f} s)")
     return int(statistics.median(added) > 0.5)
 
 

@@ -4,8 +4,8 @@
 PROGRAM is the built `larch_term_table`. For the axioms of groups, for their complete set and for a theory of sets, all
 critical pairs are found N times (20 by default), of each rule with itself and with each other one in both orders; the
 time of reading the rules alone is taken away. Then two terms with a chain of bindings are unified, `f(x1, x2, ..)` with
-`f(g(x2), g(x3), ..)`, and the same from the last argument on; and two chains that grow to the right, of which each level
-binds one variable. All in milliseconds of processor time, the least of three runs."""
+`f(g(x2), g(x3), ..)`, and the same from the last argument on; and two chains that grow to the right, of which each
+level binds one variable. All in milliseconds of processor time, the least of three runs."""
 import argparse
 import pathlib
 import resource
@@ -29,7 +29,8 @@ within(empty, s) -> true; within(insert(x, s), t) -> and(in(x, t), within(s, t))
 within(union(s, t), u) -> and(within(s, u), within(t, u)); void(insert(x, s)) -> false"""
 # Each operator's range and domain: E elements, S sets, B truth values.
 SORTS = {"e": "S", "i": "S S", "*": "S S S", "empty": "S", "insert": "S E S", "union": "S S S", "meet": "S S S",
-         "minus": "S S S", "delete": "S E S", "in": "B E S", "within": "B S S", "void": "B S", "same": "B E E", "or": "B B B",
+         "minus": "S S S", "delete": "S E S", "in": "B E S", "within": "B S S", "void": "B S", "same": "B E E",
+         "or": "B B B",
          "and": "B B B", "not": "B B", "true": "B", "false": "B"}
 
 

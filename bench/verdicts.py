@@ -5,7 +5,8 @@ PROGRAM is the built `larch_verify_table`. For each certificate the milliseconds
 text, the peak of memory in megabytes, and the verdict, which is the first line's; reading the text is in the time.
 
 - `small`: N lines (1,000,000 by default) with terms of ten nodes, of five rules by turns, and the same in one box.
-- `shared`: a tenth as many lines with terms of 1,023 nodes that share their parts: each is the one before it, changed at
+- `shared`: a tenth as many lines with terms of 1,023 nodes that share their parts: each is the one before it, changed
+at
   a leaf. `replaced`: as many, each with the variable at all 512 leaves replaced by a term of its own.
 - `doubling`: each line makes the term of the line before it twice as large, so that the last one has 2^60 nodes.
 - `deep`: a term of 340,000 levels, and the same changed at its lowest place.
@@ -116,7 +117,8 @@ def metamath(count):
             for number in range(count):
                 file.write(f"th{number} $p |- ( ( x + s 0 ) + 0 ) = ( x + s 0 ) $= vx t0 ts tp ax $.\n")
         commands = ["set scroll continuous", "read same.mm", "verify proof *", "exit"]
-        child = subprocess.Popen(["metamath", *commands], cwd=folder, stdin=subprocess.DEVNULL, stdout=subprocess.DEVNULL)
+        child = subprocess.Popen(["metamath", *commands], cwd=folder, stdin=subprocess.DEVNULL,
+                                 stdout=subprocess.DEVNULL)
         _, status, used = os.wait4(child.pid, 0)
     took = (used.ru_utime + used.ru_stime) * 1000
     print(f"metamath, {count} theorems: {took:.0f} ms, peak {used.ru_maxrss // 1024} MB, status {status}", flush=True)
@@ -169,7 +171,8 @@ def main():
     words.add_argument("--metamath", action="store_true")
     said = words.parse_args()
     many, fewer = said.lines, said.lines // 10
-    runs = [(f"small, {many} lines", lambda: small(many, False)), (f"small, {many} lines in a box", lambda: small(many, True)),
+    runs = [(f"small, {many} lines", lambda: small(many, False)),
+            (f"small, {many} lines in a box", lambda: small(many, True)),
             (f"shared, {fewer} lines", lambda: shared(fewer)), (f"replaced, {fewer} lines", lambda: replaced(fewer)),
             (f"same, {many // 5} lines", lambda: same(many // 5)), ("doubling, 60 lines", lambda: doubling(60)),
             ("deep, 340,000 levels", lambda: deep(340_000)), (f"boxes, {fewer} open at once", lambda: nested(fewer)),

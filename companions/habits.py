@@ -20,7 +20,8 @@ SYNONYMS = {
     "theorems": "implies", "theorem": "implies", "consequences": "implies", "enum": "enumeration",
     "record": "tuple", "struct": "tuple", "variant": "union", "elseif": "else if", "elsif": "else if",
     "elif": "else if", "module": "trait", "fmod": "trait"}
-WORDS_OF_LOGIC = {"and": "/\\", "or": "\\/", "iff": "<=>", "implies": "=>", "xor": "~=", "eq": "=", "ne": "~="}
+WORDS_OF_LOGIC = {"and": "/\\", "or": "\\/", "iff": "<=>", "implies": "=>", "xor": "~=", "eq": "=", "ne": "~=",
+                  "is": "==", "equals": "==", "|": "\\/", "||": "\\/", "&": "/\\", "&&": "/\\"}
 REPLACES = frozenset(["->", "=>", "to", "as", "=", "<-", "/"])
 COMMENTS = ("//", "--", "/*", "#", "##", "---", "///", "***")
 

@@ -34,9 +34,14 @@ def hints(files, trait, without=()):
     name = trait if trait.endswith(".lsl") else file_of(trait)
     if name not in files:
         return []
+    return list(found_in(name, looked_at(files, name), frozenset(without)))
+
+
+def looked_at(files, name):
+    """The files that the hints at one are of, with their names: those that it reaches, its script and certificates."""
     base = name.removesuffix("lsl")
     near = [*reached(files, name), *sorted(other for other in files if other.startswith(base) and other != name)]
-    return list(found_in(name, tuple((other, files[other]) for other in near), frozenset(without)))
+    return tuple((other, files[other]) for other in near)
 
 
 @functools.lru_cache(1000)

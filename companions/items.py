@@ -63,6 +63,8 @@ def fits(code, operator, sort):
 def undeclared(case, form, shown, item, sort):
     fit = [operator.name for operator in case.operators if not sort or fits(case.code, operator, sort)]
     same = [operator for operator in case.operators if word_of(operator.name) == word_of(form.name)]
+    if form.name in sorts_of(case.operators) and not same:
+        return Found(f"`{shown}` is a sort, and operators stand here", form.first, form.last - 1)
     if same and word_of(form.name):
         return Found(f"declared: {listed(map(str, same), 3)}; here `{shown}`", form.first, form.last - 1)
     near = near_form(form.name, fit) or near_form(form.name, [operator.name for operator in case.operators])

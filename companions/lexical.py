@@ -69,6 +69,10 @@ def letter(case):
         new = f" {instead} " if instead.strip() else instead
         change = case.probes.change(f"write {words} for it", [Edit(*span, new.encode())])
         return Found(f"{shown} is no token; {words} is written for it", span=span, change=change)
+    if sign in "\"\u201c" and case.part in ("includes", "assumes"):
+        close = data.find(sign.replace("\u201c", "\u201d").encode(), span[1])
+        ends = [Edit(*span, b"")] + ([Edit(close, close + span[1] - span[0], b"")] if close > 0 else [])
+        return Found("a trait is named without quotes", span=span, change=case.probes.change("take them out", ends))
     if sign in "\"'`\u201c\u201d\u2018\u2019":
         return Found(f"`{sign}` begins no token: there are no texts in quotes", span=span)
     if sign == "\\":

@@ -8,6 +8,8 @@ from .wording import counted, either, listed, nth
 
 BINDS = {"^": 9, "**": 9, "*": 8, "/": 8, "+": 7, "-": 7, "++": 7, "/\\": 4, "\\/": 3, "=>": 2, "<=>": 1}
 
+LIKE_BOOL = ("bool", "boolean", "booleans", "bools", "logical")
+
 
 class Term:
     """The equation where the refusal stands, its variables, and the node that is refused."""
@@ -174,12 +176,25 @@ def sides(case, term, left, right):
         if lonely:
             return lonely
     sign = case.text.text(case.at)
+    other = case_of_bool(case, term.sorts(left) | term.sorts(right))
+    if other:
+        return other
     if sign == "=" and not term.equation.right:
         change = case.probes.change("write `==`", [case.replace(case.at, "==")])
         if change:
             return Found("`=` stands where `==` is meant?", case.at, case.at, change)
     return Found(f"the sides of `{sign}` have different sorts, {either(term.sorts(left))} and "
                  f"{either(term.sorts(right))}", left.first, right.last - 1, more=of_sorts(term, left, right))
+
+
+def case_of_bool(case, sorts):
+    """A sort that is meant for the built-in one, as `Boolean`."""
+    sort = next((sort for sort in sorted(sorts) if sort.lower() in LIKE_BOOL and sort != "Bool"), None)
+    if sort is None or "Bool" not in sorts:
+        return None
+    edits = [case.replace(number, "Bool") for number, token in enumerate(case.tokens) if token.text == sort][:100]
+    return Found(f"`{sort}` is another sort than the built-in `Bool`", case.at, case.at,
+                 case.probes.change("write `Bool`", edits))
 
 
 def of_sorts(term, *nodes):
@@ -268,6 +283,9 @@ def mixed(case):
     read = terms.equation(text, *span) if span else None
     every = [node for side in read.sides for node in terms.nodes(side)] if read else []
     node = next((node for node in every if node.head == case.at), None)
+    around = around_term(case, span)
+    if around:
+        return around
     if node is None or len(node.arguments) != 2:
         return before_symbol(case, span)
     left = node.arguments[0]
@@ -283,6 +301,17 @@ def mixed(case):
     elif len(left.arguments) == 1:
         ways.insert(0 if left.name == "~" else 1, (left.arguments[0].first, top.last))
     return parenthesized(case, left.head, ways)
+
+
+def around_term(case, span):
+    """`|x|`: a symbol on both sides of a term."""
+    text = case.text.text
+    for number in range(case.at - 1, (span or (case.at,))[0] - 1, -1):
+        if text(number) == text(case.at) and (number == span[0] or text(number - 1) in ("(", ",", "==", "=", "[", "{")):
+            return Found(f"no operator is written on both sides of a term: `{case.text.between(number, case.at + 1)}`",
+                         number, case.at, more=("An operator with one argument is `f(x)`, or a symbol before or behind "
+                                                "it.",))
+    return None
 
 
 def parenthesized(case, before, ways):

@@ -68,6 +68,8 @@ def no_reference(case, name):
 def cycle(case):
     """The shortest way from the trait back to itself that begins with the reference."""
     start = file_of(case.text.text(case.at))
+    if start == case.name:
+        return Found(f"`{name_of(start)}` refers to itself", case.at, case.at)
     ways, seen = [[case.name, start]], set()
     while ways:
         way = ways.pop(0)

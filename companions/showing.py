@@ -1,7 +1,9 @@
 """How causes and hints are shown in a terminal."""
+import contextlib
 import os
 import shutil
 import sys
+import threading
 import unicodedata
 
 from .cases import edited
@@ -14,6 +16,28 @@ PROVED = {"right": ", and the program takes the file:", "further": ", and this p
 def painted(text, colour):
     """The text in a colour where the output is a terminal that wants colours."""
     return colour + text + PLAIN if sys.stdout.isatty() and "NO_COLOR" not in os.environ else text
+
+
+@contextlib.contextmanager
+def waiting(text, seconds=1):
+    """Says what takes longer than a second, on standard error where that is a terminal, and takes it away again."""
+    shown = []
+
+    def show():
+        shown.append(text)
+        print(f"larch: {text} ..", end="", file=sys.stderr, flush=True)
+
+    timer = threading.Timer(seconds, show)
+    if sys.stderr.isatty():
+        timer.start()
+    try:
+        yield
+    finally:
+        timer.cancel()
+        if timer.ident:
+            timer.join()
+        if shown:
+            print("\r\x1b[K", end="", file=sys.stderr, flush=True)
 
 
 def visible(data):

@@ -137,7 +137,7 @@ def declared_otherwise(case):
         return Found(f"`{text(at)}` has a meaning of its own and isn't declared", at, at)
     if text(at) == "(" and at and case.tokens[at - 1].is_name and text(case.text.closing(at) + 1) in (":", "->"):
         return arguments_named(case)
-    if text(at - 1) == "[" and at > 1 and case.tokens[at - 2].is_name and text(at - 3) in (":", ",", "->"):
+    if text(at - 1) in ("[", "<") and at > 1 and case.tokens[at - 2].is_name and text(at - 3) in (":", ",", "->"):
         return sort_with_brackets(case)
     return None
 
@@ -147,17 +147,21 @@ def arguments_named(case):
     at, text = case.at, case.text.text
     close, name = case.text.closing(at), text(at - 1)
     words = [number for number in range(at + 1, close) if case.tokens[number].is_name]
-    sorts = [text(number) for number in words if text(number - 1) == ":"] or [text(number) for number in words]
+    named = [text(number) for number in words if text(number - 1) == ":"]
+    sorts = named or [text(number) for number in words]
     change = None
     if text(close + 1) in (":", "->", "=") and close + 2 < len(case.tokens):
         new = f"{name}: {', '.join(sorts)} -> {text(close + 2)}" if sorts else f"{name}: -> {text(close + 2)}"
         change = case.probes.change(f"write `{new}`", [case.replace(at - 1, new, close + 2)])
-    return Found(f"arguments aren't named in a declaration: `{name}: {', '.join(sorts)} -> ..`", at - 1, close, change)
+    what = "arguments aren't named in a declaration" if named else "no parentheses stand around the sorts of arguments"
+    return Found(f"{what}: `{name}: {', '.join(sorts)} -> ..`", at - 1, close, change)
 
 
 def sort_with_brackets(case):
-    """`Bag[Thing]` for a sort, which is one word."""
+    """`Bag[Thing]` or `Bag<Thing>` for a sort, which is one word."""
     first, last = case.at - 2, case.text.closing(case.at - 1)
+    if case.text.text(case.at - 1) == "<":
+        last = next((number for number in range(case.at, len(case.tokens)) if case.text.text(number) == ">"), case.at)
     wanted = [token.text for token in case.tokens[first:last + 1]]
     starts = [number for number in range(len(case.tokens) - len(wanted) + 1)
               if [token.text for token in case.tokens[number:number + len(wanted)]] == wanted]

@@ -2,6 +2,7 @@
 many; the program itself decides between them."""
 from .cases import FURTHER, NOTHING, RIGHT, Change, Found, proof
 from .habits import Try, habits
+from .shapes import shape
 from .structure import declared_otherwise, empty_part, head, not_there, order_of_parts, quantifier_behind, \
     quantifier_inside
 
@@ -21,7 +22,8 @@ def cause(case):
     """What is wrong at the refused token."""
     if not case.tokens:
         return Found("the file is empty: a trait begins with its name, `:` and `trait`", span=(0, 0))
-    for rule in (head, empty_part, order_of_parts, quantifier_inside, quantifier_behind, not_there, declared_otherwise):
+    for rule in (head, empty_part, order_of_parts, quantifier_inside, quantifier_behind, not_there, declared_otherwise,
+                 shape):
         found = rule(case)
         if found:
             return found

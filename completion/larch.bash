@@ -1,17 +1,22 @@
 # Completion of larch's words in bash: source this file, or put it as `larch` into a folder that bash-completion reads,
 # such as ~/.local/share/bash-completion/completions.
 #
-# Files are those of the working folder, since paths are no names of files. The labels are those of the duties that
-# `larch obligations` lists for the trait; where the program isn't on the path, or doesn't answer, one of each kind.
+# Files are those of the working folder, or of the folder that the word begins with, and the folders there. The labels
+# are those of the duties that `larch obligations` lists for the trait; where the program isn't on the path, or doesn't
+# answer, one of each kind. Codes are those that `larch explain` lists. Options are offered behind a `-`.
 
-# The names of files in the working folder with one of these endings that a call takes, a line each.
+# The names of files with one of these endings that a call takes, a line each.
 _larch_files() {
-    local ending file
+    local place=${current%"${current##*/}"} ending file
     for ending; do
-        for file in *."$ending"; do
-            [[ -f $file && $file =~ ^[A-Za-z0-9_]{1,64}\.[a-z]+$ ]] && printf '%s\n' "$file"
+        for file in "$place"*."$ending"; do
+            [[ -f $file && ${file##*/} =~ ^[A-Za-z0-9_]{1,64}\.[a-z]+$ ]] && printf '%s\n' "$file"
         done
     done
+}
+
+_larch_folders() {
+    compgen -d -S / -- "$current"
 }
 
 # The labels of the duties of a trait.
@@ -30,19 +35,38 @@ _larch_labels() {
     printf '%s\n' assume.1 imply.1 convert.1
 }
 
+# The codes that can be explained.
+_larch_codes() {
+    local program
+    program=$(type -P larch) && "$program" explain 2>/dev/null </dev/null | grep -E '^[A-Z-]+$'
+}
+
+_larch_options() {
+    [[ $current == -* ]] && printf '%s\n' "$@"
+}
+
 # The words that may stand behind these words.
 _larch_next() {
     local file given
+    [[ ${1-} == --unproved ]] && shift
     case $#:${1-} in
-        0:) printf '%s\n' session check obligations verify ;;
+        0:) printf '%s\n' session check obligations verify help explain watch
+            _larch_options --build --help --install --program --uninstall --unproved --version ;;
+        1:help) printf '%s\n' session check obligations verify explain watch
+            _larch_codes ;;
+        *:explain) _larch_codes; _larch_files lsl; _larch_folders ;;
+        *:watch) _larch_folders; _larch_options --larch --no-hints --once ;;
+        1:--install | 1:--uninstall) _larch_folders ;;
         1:verify) _larch_files lsl | sed 's/\.lsl$//' ;;
         2:verify) _larch_labels "$2" ;;
-        3:verify) compgen -G '*.cert' ;;
+        3:verify) compgen -G "${current%"${current##*/}"}*.cert"; _larch_folders ;;
         *:check | *:obligations | *:verify)
             given=" ${*:2} "
             _larch_files lsl lp | while IFS= read -r file; do
                 [[ $given == *" $file "* ]] || printf '%s\n' "$file"
-            done ;;
+            done
+            _larch_folders
+            [[ $1 == verify ]] || _larch_options --with-included ;;
     esac
 }
 
@@ -60,6 +84,9 @@ _larch() {
         word=$(printf '%q' "$word")
         [[ $word == "$current"* ]] && COMPREPLY+=("$word")
     done < <(_larch_next "${before[@]}")
+    # Behind a folder more follows.
+    [[ ${#COMPREPLY[@]} == 1 && ${COMPREPLY[0]} == */ ]] && compopt -o nospace 2>/dev/null
+    return 0
 }
 
 complete -F _larch larch

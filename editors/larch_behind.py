@@ -4,7 +4,7 @@ import threading
 
 from companions.causes import Explainer
 from companions.explain import code_parts, sentence
-from companions.hints import hints
+from companions.hints import hints, looked_at
 from companions.program import Refusal, beside
 from larch_names import range_of, range_of_token
 
@@ -13,12 +13,13 @@ HINT, WARNING, ERROR = 4, 2, 1
 
 
 class Behind(threading.Thread):
-    """A folder's thread that explains the last report, the open traits first, and leaves off where a new one comes."""
+    """A folder's thread that explains the last report, and leaves off where a new one comes. Hints of an open trait
+    stay known, with the files that they are of."""
 
     def __init__(self, folder, program, wants_hints):
         super().__init__(daemon=True)
         self.folder, self.explainer, self.wants_hints = folder, Explainer(program), wants_hints
-        self.wake, self.due = threading.Condition(), None
+        self.wake, self.due, self.known = threading.Condition(), None, {}
         self.start()
 
     def take(self, report):
@@ -32,23 +33,33 @@ class Behind(threading.Thread):
                 while self.due is None:
                     self.wake.wait()
                 report, self.due = self.due, None
-            for name in sorted(report.found, key=lambda name: (name not in report.opened, name)):
+            self.known = {name: kept for name, kept in self.known.items() if name in report.opened}
+            files = {**report.files, **beside(self.folder.path)} if self.wants_hints else report.files
+            for name in report.by_need():
                 if self.due is not None:
                     break
                 try:
-                    self.tell(report, name)
+                    self.tell(report, name, files)
                 except Exception:  # whatever it was, the code is shown, and the next report is a new try
                     self.explainer.close()
 
-    def tell(self, report, name):
+    def tell(self, report, name, files):
         """Hands what is found of a trait to the folder."""
         if report.found[name]:
             refusal = Refusal(name, *report.found[name])
             report.causes[name] = self.explainer.explain(report.files, refusal, report.found)
         elif self.wants_hints and name in report.opened:
-            report.hints[name] = hints({**report.files, **beside(self.folder.path)}, name)
+            report.hints[name] = self.hints_of(name, files)
         if report.causes.get(name) or report.hints.get(name):
             self.folder.show(report, [name])
+
+    def hints_of(self, name, files):
+        """The hints at a trait; they are looked for where one of the files that they are of has changed."""
+        near, (before, found) = looked_at(files, name), self.known.get(name, (None, []))
+        if near != before:
+            found = hints(files, name)
+            self.known[name] = near, found
+        return found
 
 
 class Report:
@@ -60,6 +71,13 @@ class Report:
             if before and before.files.get(name) == files[name] and before.found.get(name) == found[name]:
                 self.causes[name] = before.causes.get(name, [])
                 self.hints[name] = before.hints.get(name, [])
+
+    def by_need(self):
+        """The traits in the order in which one waits for what is behind them: the one that was changed last, then those
+        that are refused, then the others; of these the open ones first, as they were changed."""
+        recent = {name: age for age, name in enumerate(reversed(self.opened))}
+        age = {name: recent.get(name, len(recent)) for name in self.found}
+        return sorted(self.found, key=lambda name: (age[name] > 0, not self.found[name], age[name], name))
 
     def diagnostics(self, name):
         """What is shown of a trait."""

@@ -19,6 +19,15 @@ from companions.spelling import nearest
 
 COMMANDS = ("session", "check", "obligations", "verify")
 AROUND = ("help", "explain", "watch")
+OPTIONS = ("--build", "--help", "--install", "--program", "--uninstall", "--unproved", "--version")
+# What people type that isn't there, and what there is.
+NOT_THERE = {
+    **dict.fromkeys(("show", "print", "list", "duties"), "`larch obligations FILE..` lists what a trait consists of"),
+    **dict.fromkeys(("prove", "proof"), "nothing looks for proofs yet; `larch verify` looks at certificates"),
+    **dict.fromkeys(("eval", "run", "reduce", "rewrite"), "nothing computes the value of a term yet"),
+    **dict.fromkeys(("lint", "parse", "typecheck", "compile"), "`larch check FILE..` says whether something is wrong"),
+    **dict.fromkeys(("fmt", "format"), "nothing lays traits out"),
+    **dict.fromkeys(("-V", "-v", "-version"), "`larch --version` says which program it is")}
 FILE, CERT = re.compile(r"[A-Za-z0-9_]{1,64}\.(?:lsl|lp)"), re.compile(r"(?s).*\.cert")
 LABEL = re.compile(r"(?:assume|imply|convert)\.[1-9][0-9]{0,5}")
 WITH_INCLUDED = "--with-included"
@@ -128,9 +137,15 @@ def why_usage(words):
 
 
 def why_no_command(word):
+    if word in NOT_THERE:
+        return f"there is no `{word}`: {NOT_THERE[word]}"
     near = nearest(word, (*COMMANDS, *AROUND))
-    if near:
+    bare = [option[2:] for option in OPTIONS]
+    option = word if word in bare else nearest(word.lstrip("-"), bare)
+    if near and word not in bare:
         return f"`{word}`: did you mean `{near}`?"
+    if option:
+        return f"`{word}`: did you mean `larch --{option}`?"
     if word.endswith((".lsl", ".lp")):
         return f"`{word}`: did you mean `larch check {word}`?"
     return f"`{word}` is no command; `larch help` lists them"
@@ -183,8 +198,22 @@ def why_no_file(words):
     return f"there is no {os.path.basename(gone)} in {shown}" + (f"; did you mean `{near}`?" if near else "")
 
 
+def why_wrong(words):
+    """What to ask next where a trait is wrong: a file that is referred to may lie there without being named."""
+    files = cut(words)[2]
+    known = Files(".")
+    lacking = [name for file in files for name in reached(known, file) if name not in files]
+    if lacking:
+        return f"{lacking[0]} lies here and isn't named; `--with-included` adds what the traits refer to"
+    return "`larch explain FILE..` says why, and how to mend it"
+
+
 def why(status, words):
-    if status == "7":
+    if status == "1":
+        say(why_wrong(words))
+    elif status == "6":
+        say(f"that is a line of the certificate {cut(words)[1][2]}; {TOP}/docs/CERTIFICATES.md has its grammar")
+    elif status == "7":
         say(f"{why_too_large(words)}; {TOP}/docs/SCALE.md says how more is checked")
     else:
         say(why_usage(words) if status == "2" else why_no_file(words))

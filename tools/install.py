@@ -4,7 +4,8 @@
 The program lies in PREFIX/bin as `larch-program`, and what stands around it in PREFIX/share/larch, laid out as in the
 checkout; `larch`, `larch-watch`, `larch-lsp` and `larch-ninja` in PREFIX/bin are links to that. The man page and
 completions lie where they are looked for. PREFIX/share/larch/installed lists each file and each folder that was made,
-and those are what is taken away. Nothing is written over: a file that is there and isn't of an installation stops it."""
+and those are what is taken away. Nothing is written over: a file that is there and isn't of an installation stops
+it."""
 import os
 import pathlib
 import shutil

@@ -39,21 +39,21 @@ import random_sets
 from call_texts import AT_LIMITS, CERTIFICATES, TEXTS
 
 CALLS_PER_SET, DUTIES_PER_SET, KEPT = 25, 8, 5
-LABELS = ['imply.1', 'imply.2', 'imply.3', 'assume.1', 'convert.1', 'convert.2', 'imply.999999']
-NO_LABELS = ['imply.0', 'imply.01', 'imply.1000000', 'imply', 'imply.', 'imply.1 ', 'Imply.1', 'prove.1', 'imply.1.1',
-             '']
-NOT_UTF_8 = os.fsdecode(b'\xff.lsl')
-NO_NAMES = ['x', NOT_UTF_8, 'a.lsl.lsl', 'One', '.lsl', 'n' * 65 + '.lsl', 'One.LSL', 'a-b.lsl', 'check', 'session',
-            '-', 'é.lsl', 'One.lsl ', 'One.cert', '../One.lsl', '']
-OPTIONS = [['--limit', '5'], ['--limit=5'], ['--limit'], ['--seed', '1'], ['--size=3'], ['--size', '3', '--size', '4'],
-           ['--help'], ['-h'], ['--version'], ['-V'], ['--'], ['-l'], ['--lim', '3'], ['--limit='], ['--limit', '-1'],
-           ['--limit', '--'], ['--', '--'], ['--limit', 'x'], ['-x'], ['--unknown', '2'], ['--=']]
+LABELS = ["imply.1", "imply.2", "imply.3", "assume.1", "convert.1", "convert.2", "imply.999999"]
+NO_LABELS = ["imply.0", "imply.01", "imply.1000000", "imply", "imply.", "imply.1 ", "Imply.1", "prove.1", "imply.1.1",
+             ""]
+NOT_UTF_8 = os.fsdecode(b"\xff.lsl")
+NO_NAMES = ["x", NOT_UTF_8, "a.lsl.lsl", "One", ".lsl", "n" * 65 + ".lsl", "One.LSL", "a-b.lsl", "check", "session",
+            "-", "é.lsl", "One.lsl ", "One.cert", "../One.lsl", ""]
+OPTIONS = [["--limit", "5"], ["--limit=5"], ["--limit"], ["--seed", "1"], ["--size=3"], ["--size", "3", "--size", "4"],
+           ["--help"], ["-h"], ["--version"], ["-V"], ["--"], ["-l"], ["--lim", "3"], ["--limit="], ["--limit", "-1"],
+           ["--limit", "--"], ["--", "--"], ["--limit", "x"], ["-x"], ["--unknown", "2"], ["--="]]
 
 
 class Folder:
     """What calls are about: files, certificates, and which of these are for which duties."""
 
-    def __init__(self, texts, certificates, claims, limits=(), absent=('Nope.lsl', 'Nope.lp', 'Two.lp')):
+    def __init__(self, texts, certificates, claims, limits=(), absent=("Nope.lsl", "Nope.lp", "Two.lp")):
         self.texts, self.certificates, self.claims = texts, certificates, claims
         self.limits, self.absent = list(limits), list(absent)
 
@@ -64,9 +64,9 @@ class Folder:
 
 def fixed():
     """The fixed folder, without its files that are many or large, which are written once."""
-    claims = [('Nat', label, name) for label in LABELS for name in CERTIFICATES]
-    claims += [('Nat', 'imply.1', 'Nat.cert')] * len(claims)
-    claims += [(stem, label, 'Nat.cert') for stem in ('Uses', 'Claim', 'One') for label in LABELS]
+    claims = [("Nat", label, name) for label in LABELS for name in CERTIFICATES]
+    claims += [("Nat", "imply.1", "Nat.cert")] * len(claims)
+    claims += [(stem, label, "Nat.cert") for stem in ("Uses", "Claim", "One") for label in LABELS]
     return Folder(TEXTS, CERTIFICATES, claims, AT_LIMITS)
 
 
@@ -74,20 +74,20 @@ def fixed():
 
 def random_folder(pick, reference):
     """A random set of traits, with certificates for some of the duties that the reference finds."""
-    names = [f'T{part}' for part in 'abcde'[:pick.randint(2, 5)]]
-    texts = {f'{name}.lsl': text.encode() for name, text in random_sets.a_set(pick, names, True).items()}
+    names = [f"T{part}" for part in "abcde"[:pick.randint(2, 5)]]
+    texts = {f"{name}.lsl": text.encode() for name, text in random_sets.a_set(pick, names, True).items()}
     if pick.random() < 0.4:
         texts = without_wrong(texts, reference) or texts
     if pick.random() < 0.3:
-        texts[f'{pick.choice(names)}.lp'] = pick.choice([b'', b'prove x == x\nqed\n', b'not a script [\n'])
+        texts[f"{pick.choice(names)}.lp"] = pick.choice([b"", b"prove x == x\nqed\n", b"not a script [\n"])
     duties, _ = reference.duties(texts)
-    certificates, claims = {}, [(pick.choice(names), pick.choice(LABELS), 'Garbage.cert')]
+    certificates, claims = {}, [(pick.choice(names), pick.choice(LABELS), "Garbage.cert")]
     for stem, label, theory, statement in pick.sample(duties, min(len(duties), DUTIES_PER_SET)):
         lines, shown = duty_proofs.proof(pick, theory, statement, reference.tables)
         for kind, text in written(pick, lines):
-            certificates[f'{stem}.{label}.{kind}.cert'] = text
-            claims += [(stem, label, f'{stem}.{label}.{kind}.cert')] * (3 if shown and kind == 'right' else 1)
-    certificates['Garbage.cert'] = garbage(pick, certificates)
+            certificates[f"{stem}.{label}.{kind}.cert"] = text
+            claims += [(stem, label, f"{stem}.{label}.{kind}.cert")] * (3 if shown and kind == "right" else 1)
+    certificates["Garbage.cert"] = garbage(pick, certificates)
     return Folder(texts, certificates, claims)
 
 
@@ -102,20 +102,20 @@ def without_wrong(texts, reference):
 
 def written(pick, lines):
     """The certificate with these lines, and others that are made of it."""
-    yield 'right', random_certificates.lines_text(lines).encode()
-    yield 'tampered', random_certificates.lines_text(random_certificates.mutated(pick, lines)).encode()
+    yield "right", random_certificates.lines_text(lines).encode()
+    yield "tampered", random_certificates.lines_text(random_certificates.mutated(pick, lines)).encode()
     if pick.random() < 0.2:
         second = [random_certificates.in_second(number, line) for number, line in enumerate(lines, 1)]
-        yield 'second', ''.join(line + '\n' for line in ['certificate 2', *second]).encode()
+        yield "second", "".join(line + "\n" for line in ["certificate 2", *second]).encode()
 
 
 def garbage(pick, certificates):
     """A text that is no certificate, mostly."""
-    text = bytearray(pick.choice([b'', b'certificate 1\n', *certificates.values()]))
+    text = bytearray(pick.choice([b"", b"certificate 1\n", *certificates.values()]))
     for _ in range(pick.choice([0, 1, 1, 2])):
         place = pick.randint(0, len(text))
         text[place:place + pick.choice([0, 0, 1, 5])] = pick.choice(
-            [b'', b' ', b'\n', b'\r', b'0', b'-', bytes([pick.randint(0, 255)])])
+            [b"", b" ", b"\n", b"\r", b"0", b"-", bytes([pick.randint(0, 255)])])
     return bytes(text[:pick.randint(0, len(text))] if pick.random() < 0.2 else text)
 
 
@@ -137,11 +137,11 @@ def claim(pick, folder):
     """Words for a trait, a label and a certificate: mostly the ones that fit each other."""
     stem, label, certificate = pick.choice(folder.claims)
     if pick.random() < 0.08:
-        stem = pick.choice([*(name[:-4] for name in folder.texts), 'Nope', 'n' * 65, 'a-b', ''])
+        stem = pick.choice([*(name[:-4] for name in folder.texts), "Nope", "n" * 65, "a-b", ""])
     if pick.random() < 0.08:
         label = pick.choice(LABELS + NO_LABELS)
     if pick.random() < 0.08:
-        certificate = pick.choice([*folder.certificates, 'Nope.cert', 'Nat.lsl', 'Nat.CERT', *folder.limits])
+        certificate = pick.choice([*folder.certificates, "Nope.cert", "Nat.lsl", "Nat.CERT", *folder.limits])
     return [stem, label, certificate][:pick.choice([3] * 24 + [0, 1, 2])]
 
 
@@ -155,20 +155,20 @@ def some_files(pick, folder):
 
 def call(pick, folder):
     """Random words."""
-    command = pick.choice(['check'] * 10 + ['obligations'] * 10 + ['verify'] * 14 + ['session'] * 4
-                          + ['frobnicate', 'Check', '', None])
+    command = pick.choice(["check"] * 10 + ["obligations"] * 10 + ["verify"] * 14 + ["session"] * 4
+                          + ["frobnicate", "Check", "", None])
     words = [] if command is None else [command]
-    if command == 'verify':
+    if command == "verify":
         asked = claim(pick, folder)
-        words += asked + ([asked[0] + '.lsl'] if asked and folder.limits and pick.random() < 0.75 else [])
-    if command != 'session':
+        words += asked + ([asked[0] + ".lsl"] if asked and folder.limits and pick.random() < 0.75 else [])
+    if command != "session":
         words += some_files(pick, folder)
     elif pick.random() < 0.1:
         words.append(word(pick, folder))
-    if command in ('check', 'obligations', 'verify') and pick.random() < 0.85:
+    if command in ("check", "obligations", "verify") and pick.random() < 0.85:
         words = [one for one in words if one not in NO_NAMES or one == command]
-    if command in ('check', 'obligations') and folder.limits and pick.random() < 0.02:
-        words += [f'F{i}.lsl' for i in range(pick.randint(250, 260))] + [word(pick, folder)]
+    if command in ("check", "obligations") and folder.limits and pick.random() < 0.02:
+        words += [f"F{i}.lsl" for i in range(pick.randint(250, 260))] + [word(pick, folder)]
     for _ in range(pick.choice([0] * 12 + [1, 1, 2])):
         place = pick.randint(0, len(words))
         words[place:place] = pick.choice(OPTIONS)
@@ -177,13 +177,13 @@ def call(pick, folder):
 
 def stream(pick, folder):
     """A few lines of a session."""
-    puts = [b'put %s %d\n' % (name.encode(), len(text)) + text for name, text in folder.texts.items()
-            if name.endswith('.lsl')]
-    text = b''.join(pick.sample(puts, len(puts))) if pick.random() < 0.3 else b''
+    puts = [b"put %s %d\n" % (name.encode(), len(text)) + text for name, text in folder.texts.items()
+            if name.endswith(".lsl")]
+    text = b"".join(pick.sample(puts, len(puts))) if pick.random() < 0.3 else b""
     for _ in range(pick.randint(0, 4)):
-        drop = b'drop %s\n' % pick.choice(list(folder.texts)).encode()
-        text += pick.choice([pick.choice(puts)] * 2 + [b'report\n'] * 2 + [b'\n', drop, b'quit\n', b'bad\n'])
-    return text + pick.choice([b'report\n', b''])
+        drop = b"drop %s\n" % pick.choice(list(folder.texts)).encode()
+        text += pick.choice([pick.choice(puts)] * 2 + [b"report\n"] * 2 + [b"\n", drop, b"quit\n", b"bad\n"])
+    return text + pick.choice([b"report\n", b""])
 
 
 # Both answers -------------------------------------------------------------------------------------
@@ -192,44 +192,44 @@ class Reference:
     """The package `larchref`, as far as calls need it."""
 
     def __init__(self, place, all_rules):
-        names = ('main', 'tables', 'traits', 'duties', 'base', 'verify', 'certificate')
+        names = ("main", "tables", "traits", "duties", "base", "verify", "certificate")
         self.main, self.tables, self.traits, self.made, self.base, verify, certificate = (
             comparing.module_of(place, name) for name in names)
-        forms = [name for name, form in certificate.STAGES.items() if len(form['rules']) == len(certificate.SCHEMA)]
+        forms = [name for name, form in certificate.STAGES.items() if len(form["rules"]) == len(certificate.SCHEMA)]
         if all_rules:
             verify.stage_built = lambda: forms[0]
 
     def duties(self, files):
         """A trait, a label, a theory and a statement for each duty of the traits with which nothing is wrong; and the
         files of the others."""
-        files = {name: text.decode('latin-1') for name, text in files.items()}
+        files = {name: text.decode("latin-1") for name, text in files.items()}
         found, wrong, known = [], [], {}
         for name in self.traits.trait_names(files):
             try:
                 flat = self.traits.flatten(files, name, known)
                 found += [(name, *duty[:3]) for duty in self.made.duties(files, name, flat, known)]
             except self.base.Refused:
-                wrong.append(f'{name}.lsl')
+                wrong.append(f"{name}.lsl")
         return found, wrong
 
     def answer(self, words, text, place):
         """What the reference writes, and its status; what it raises where it fails."""
         def look(name):
             try:
-                return pathlib.Path(place, os.fsdecode(name.encode('latin-1'))).read_bytes()
+                return pathlib.Path(place, os.fsdecode(name.encode("latin-1"))).read_bytes()
             except (FileNotFoundError, NotADirectoryError, IsADirectoryError):
                 return None
 
         given, said = [os.fsencode(one) for one in words], []
         try:
-            given = [one.decode() and one.decode('latin-1') for one in given]
+            given = [one.decode() and one.decode("latin-1") for one in given]
         except UnicodeDecodeError:
-            given = ['-']
+            given = ["-"]
         try:
             status = self.main.run(given, look, lambda: text, said.append)
         except Exception as trouble:
             return repr(trouble).encode(), None
-        return ''.join(said).encode('latin-1'), status
+        return "".join(said).encode("latin-1"), status
 
 
 def answer(program, words, text, place):
@@ -244,8 +244,8 @@ def answer(program, words, text, place):
 
 def said_of(words, output, status):
     """What is counted of a call: its command, the status, and of a verdict the first word."""
-    command = words[0] if words and words[0] in ('check', 'obligations', 'verify', 'session') else 'others'
-    verdict = output.decode('latin-1').split(' ')[0].strip() if command == 'verify' and status in (0, 1) else ''
+    command = words[0] if words and words[0] in ("check", "obligations", "verify", "session") else "others"
+    verdict = output.decode("latin-1").split(" ")[0].strip() if command == "verify" and status in (0, 1) else ""
     return command, status, verdict
 
 
@@ -262,13 +262,13 @@ def part(number):
     found = []
     Work.reference.main.in_big_stack(lambda: found.append(tried(number)))
     if not found:
-        raise RuntimeError(f'part {number} came to no end')
+        raise RuntimeError(f"part {number} came to no end")
     return found[0]
 
 
 def tried(number):
     """The same, with the stack that there is."""
-    pick = random.Random(f'{Work.seed} {number}')
+    pick = random.Random(f"{Work.seed} {number}")
     counted, differ = collections.Counter(), []
     folder = fixed() if number % 4 == 0 else random_folder(pick, Work.reference)
     with tempfile.TemporaryDirectory() as made:
@@ -287,11 +287,11 @@ def tried(number):
 
 def keep(words, text, files):
     """A folder with the files, the words and the input of a call."""
-    place = pathlib.Path(tempfile.mkdtemp(prefix='call-'))
+    place = pathlib.Path(tempfile.mkdtemp(prefix="call-"))
     for name, content in files.items():
         (place / name).write_bytes(content)
-    (place / 'words.json').write_text(json.dumps(words) + '\n')
-    (place / 'input').write_bytes(text)
+    (place / "words.json").write_text(json.dumps(words) + "\n")
+    (place / "input").write_bytes(text)
     return place
 
 
@@ -303,18 +303,18 @@ def shown(one):
 
 def main():
     words = argparse.ArgumentParser(description=__doc__.splitlines()[0])
-    words.add_argument('program')
-    words.add_argument('reference')
-    words.add_argument('--count', type=int, default=2000)
-    words.add_argument('--seed', type=int, default=None)
-    words.add_argument('--jobs', type=int, default=4)
-    words.add_argument('--all-rules', action='store_true')
+    words.add_argument("program")
+    words.add_argument("reference")
+    words.add_argument("--count", type=int, default=2000)
+    words.add_argument("--seed", type=int, default=None)
+    words.add_argument("--jobs", type=int, default=4)
+    words.add_argument("--all-rules", action="store_true")
     words = words.parse_args()
     seed = random.randrange(2 ** 31) if words.seed is None else words.seed
-    print(f'seed {seed}', flush=True)
-    comparing.module_of(words.reference, 'main')
+    print(f"seed {seed}", flush=True)
+    comparing.module_of(words.reference, "main")
     program = shlex.split(words.program)
-    if '/' in program[0]:
+    if "/" in program[0]:
         program[0] = str(pathlib.Path(program[0]).resolve())
     counted, failed = collections.Counter(), 0
     with tempfile.TemporaryDirectory() as place:
@@ -326,15 +326,15 @@ def main():
             for found, differ in pool.imap(part, range((words.count + CALLS_PER_SET - 1) // CALLS_PER_SET)):
                 counted.update(found)
                 for asked, text, one, other, files in differ[:max(0, KEPT - failed)]:
-                    print(f'{ascii(asked)} in {keep(asked, text, files)}')
-                    print(f'  program   {shown(one)}\n  reference {shown(other)}', flush=True)
+                    print(f"{ascii(asked)} in {keep(asked, text, files)}")
+                    print(f"  program   {shown(one)}\n  reference {shown(other)}", flush=True)
                 failed += len(differ)
     for (command, status, verdict), times in sorted(counted.items(), key=str):
-        print(f'  {command} status {status} {verdict}'.rstrip() + f': {times}')
+        print(f"  {command} status {status} {verdict}".rstrip() + f": {times}")
     calls = sum(counted.values())
-    print(f'{calls - failed} passed, {failed} failed')
+    print(f"{calls - failed} passed, {failed} failed")
     sys.exit(1 if failed or not calls else 0)
 
 
-if __name__ == '__main__':
+if __name__ == "__main__":
     main()

@@ -4,11 +4,11 @@
     compare_certificates.py PROGRAM OTHER [--count N] [--seed N]
 
 PROGRAM and OTHER are commands, in quotes where they have words of their own. Each is run once; its input is all texts
-with a byte 0 between any two, and it prints for each the certificate in the first version, or `malformed at line N`, with a
-byte 0 behind it, as `larch_certificate_table` does. The texts are of both versions: lines of all rules with random
-terms, equations of bare connectives, and the same with bytes and words taken out, put in, doubled or changed, with
-zeros, signs and blanks put in, or cut short. The seed is printed first. A text on which the two differ is written to a
-file that the output names. Ends with 'N passed, N failed', and status 1 where one failed.
+with a byte 0 between any two, and it prints for each the certificate in the first version, or `malformed at line N`,
+with a byte 0 behind it, as `larch_certificate_table` does. The texts are of both versions: lines of all rules with
+random terms, equations of bare connectives, and the same with bytes and words taken out, put in, doubled or changed,
+with zeros, signs and blanks put in, or cut short. The seed is printed first. A text on which the two differ is written
+to a file that the output names. Ends with 'N passed, N failed', and status 1 where one failed.
 """
 import sys
 
@@ -17,7 +17,8 @@ import comparing
 WORDS = ["x", "y", "S", "N", "x'", "f_1", "0", "12", "if", "Bool", "trait"]
 BUILT_IN = ["true", "false", "if", "~", "/\\", "\\/", "=>", "<=>", "=", "~="]
 SOUP = ["0", "-", "+", "+0", "=", "==", "~", "~=", " ", "  ", "\n", "\n\n", "(", ")", ",", ";", ":", ".", "|", "#", "@",
-        "#1", "@1.1", "x:S", "00", "18446744073709551615", "18446744073709551616", "line=", "by=", "term=", "box=", ">Bool",
+        "#1", "@1.1", "x:S", "00", "18446744073709551615", "18446744073709551616", "line=", "by=", "term=", "box=",
+        ">Bool",
         ">", ">S", "->Bool", "#0", "ops=", "goal=", "lines=", "sort=", "observe", "generated", "partitioned",
         "certificate 2", "certificate 1", "\r", "\t", "_", "'", "\x01", "done", "axiom"]
 
@@ -82,7 +83,8 @@ class Writer:
             ("refl", [("term", self.term)]), ("sym", [("line", ref)]),
             ("inst", [("line", ref), ("by", self.bindings)]),
             ("repl", [("line", ref), ("at", self.place), ("with", ref)]), ("equal", [("line", ref)]),
-            ("box", [("sorts", lambda: self.some(self.box_part, ",")), ("hyps", lambda: self.some(self.equation, ";"))]),
+            ("box", [("sorts", lambda: self.some(self.box_part, ",")),
+                     ("hyps", lambda: self.some(self.equation, ";"))]),
             ("done", []), ("fresh", [("box", ref), ("by", lambda: self.some(self.variable, ";"))]),
             ("cases", [("true", ref), ("false", ref)]),
             ("induct", [("line", ref), ("var", self.variable), ("goal", self.equation),

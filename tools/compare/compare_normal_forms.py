@@ -13,11 +13,12 @@ operators at each sort, for the rows; terms that grow to about 5,000 nodes as st
 application; and rules with sides that are too large. Budgets are the cost, one less, one more, none or any. Lines are
 printed in every problem, and the other checker has to accept each line, and to find in the lines that are told that
 the term equals the form; `--unchecked` leaves this out. CHECKER is the built `larch_verify_table`: where it is given,
-it has to accept the lines of every problem too, and the other checker, which takes a minute for a few megabytes of them,
-looks at those of at most 30,000 bytes. A problem for which the other reading's recursion runs out is
-made anew. The problems are made and compared in pieces of 500, so many at once as there are jobs (1); for one seed and count they are the same with any number of jobs. The seed is printed
-first, and at the end how often each kind of answer came. Problems on which the two differ are written to files that
-the output names. Ends with 'N passed, N failed', and status 1 where one failed.
+it has to accept the lines of every problem too, and the other checker, which takes a minute for a few megabytes of
+them, looks at those of at most 30,000 bytes. A problem for which the other reading's recursion runs out is
+made anew. The problems are made and compared in pieces of 500, so many at once as there are jobs (1); for one seed and
+count they are the same with any number of jobs. The seed is printed first, and at the end how often each kind of answer
+came. Problems on which the two differ are written to files that the output names. Ends with 'N passed, N failed', and
+status 1 where one failed.
 """
 import collections
 import functools
@@ -142,7 +143,8 @@ class Problem:
         rules = [self.line(task) for task in self.tasks if task[0] == "rule"]
         lines = text.splitlines(keepends=True)
         terms = [task[1] for task in self.tasks if task[0] == "term"]
-        says = [f"{self.spelled(term)}=={self.spelled(form)}" for term, form in zip(terms, self.forms) if form is not None]
+        says = [f"{self.spelled(term)}=={self.spelled(form)}" for term,
+                form in zip(terms, self.forms) if form is not None]
         ends = [(f"{len(lines)} refl #1\n", lines, "#1==#1")]
         ends += [("", lines[:number + 1], said) for number, said in zip(numbers, says)]
         return ["\1".join([operators, certificate([*rules, f"box - | {said}"]), "".join(before) + end])
@@ -186,7 +188,8 @@ def verdicts_of(said, problems, ours):
         claims.append(problem.claims(lines, without_lines(told)[1]))
     said_of = iter(comparing.answers(said.checker, [claim.encode("latin-1") for one in claims for claim in one]))
     found = [[next(said_of, b"no answer").decode("latin-1") for _ in one] for one in claims]
-    return [next((f"the checker says {word.strip()}" for word in one if word.strip() != "accepted"), None) for one in found]
+    return [next((f"the checker says {word.strip()}" for word in one if word.strip() != "accepted"), None)
+            for one in found]
 
 
 def problem_of(maker, reading, pick):

@@ -4,13 +4,14 @@
     compare_pairs.py PROGRAM REFERENCE [--count N] [--seed N]
 
 PROGRAM is the built `larch_term_table`. REFERENCE is the folder with a Python package `larchref`, whose modules `nodes`
-and `pairs` have terms, unification and critical pairs; it is no part of the repository, and where it isn't there nothing
-is compared. N pairs of terms and N pairs of rules are made (20,000 of each): terms of two sorts, with equal names at both
-and an overloaded operator; instances of one term; terms that grow to more than 5,000 nodes by doubling, with and without
-a clash; chains of bindings; terms that are 5,000 deep; variables that would have to hold themselves; rules that overlap at the root and below, with
-themselves too, in one or the other order, whose variables vanish, are new on the right side, or grow. Answers are
-compared byte for byte, and it is said how often each kind of answer came. The seed is printed first. What the two answer
-differently is written to a file that the output names. Ends with 'N passed, N failed', and status 1 where one failed.
+and `pairs` have terms, unification and critical pairs; it is no part of the repository, and where it isn't there
+nothing is compared. N pairs of terms and N pairs of rules are made (20,000 of each): terms of two sorts, with equal
+names at both and an overloaded operator; instances of one term; terms that grow to more than 5,000 nodes by doubling,
+with and without a clash; chains of bindings; terms that are 5,000 deep; variables that would have to hold themselves;
+rules that overlap at the root and below, with themselves too, in one or the other order, whose variables vanish, are
+new on the right side, or grow. Answers are compared byte for byte, and it is said how often each kind of answer came.
+The seed is printed first. What the two answer differently is written to a file that the output names. Ends with 'N
+passed, N failed', and status 1 where one failed.
 """
 import collections
 import subprocess
@@ -145,7 +146,8 @@ def term_pair(pick):
     kind = pick.choices(kinds, [30, 38, 12, 15, 5, 0.4, 0.4])[0]
     sort = pick.choice(SORTS)
     if kind == "random":
-        return kind, random_term(pick, sort, 3), random_term(pick, sort if pick.random() < 0.9 else pick.choice(SORTS), 3)
+        return kind, random_term(pick, sort, 3), random_term(pick, sort if pick.random() < 0.9 else pick.choice(SORTS),
+                                                             3)
     if kind == "instances":
         term = random_term(pick, sort, pick.randint(2, 5))
         others = VARIABLES if pick.random() < 0.5 else ["x'", "y'", "z'", "u", "t", "s"]
@@ -249,7 +251,8 @@ class Reference:
                 known[id(term)] = self.nodes.var(term[0], term[1])
             else:
                 (name, range_, domain), parts = term
-                known[id(term)] = self.nodes.app(self.operator(name, domain, range_), [self.node(part, known) for part in parts])
+                known[id(term)] = self.nodes.app(self.operator(name, domain, range_),
+                                                 [self.node(part, known) for part in parts])
         return known[id(term)]
 
     def text(self, node, known):
@@ -298,7 +301,8 @@ class Reference:
             bound = self.pairs.unify(here, left)
             if bound is None:
                 continue
-            sides = [nodes.substitute(nodes.replace_at(first[0], place, right), bound), nodes.substitute(first[1], bound)]
+            sides = [nodes.substitute(nodes.replace_at(first[0], place, right), bound),
+                     nodes.substitute(first[1], bound)]
             ones = [(v, nodes.substitute(v, bound)) for v in nodes.variables(*first)]
             others = [(v, nodes.substitute(u, bound)) for v, u in apart.items()]
             terms = sides + [u for _, u in ones + others]
@@ -308,7 +312,8 @@ class Reference:
 
     def line(self, place, left, right, first, second):
         known = {}
-        return ("at" + "".join(f".{number}" for number in place) + f"\t{self.text(left, known)}\t{self.text(right, known)}"
+        return ("at" + "".join(f".{number}" for number in place)
+                + f"\t{self.text(left, known)}\t{self.text(right, known)}"
                 + "\tfirst" + self.entries(first) + "\tsecond" + self.entries(second) + "\n")
 
 
@@ -329,7 +334,8 @@ def made(pick, count):
     for _ in range(count):
         kind, first, second = rule_pair(pick)
         sides = [*first] if second is None else [*first, *second]
-        yield "rules " + kind, sum([lines_of(side) for side in sides], []) + ["i" if second is None else "c"], (first, second)
+        yield "rules " + kind, sum([lines_of(side) for side in sides], []) + ["i" if second is None else "c"], (first,
+                second)
 
 
 def kind_of(answer, found):

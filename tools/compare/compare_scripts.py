@@ -4,25 +4,28 @@
     compare_scripts.py PROGRAM REFERENCE [--count N] [--seed N] [--short]
 
 PROGRAM is a command that prints what `larch_script_table` prints; it is run once, with all scripts as its input.
-REFERENCE is the folder with a Python package `larchref`, whose module `script` has `read_script`. The scripts have every
-command, with blanks and comments in all places, words apart that are written with a dash, facts and labels of wrong
-form, terms that are refused in every way, marks with anything behind them, and bytes above 126; the other half are the
-same with words or bytes taken out, put in, doubled or changed. With --short no term is at the limits of nesting and
-size. The seed is printed first, then how often each kind of line came up. A script on which the two differ is written
-to a file that the output names. Ends with 'N passed, N failed', and status 1 where one failed.
+REFERENCE is the folder with a Python package `larchref`, whose module `script` has `read_script`. The scripts have
+every command, with blanks and comments in all places, words apart that are written with a dash, facts and labels of
+wrong form, terms that are refused in every way, marks with anything behind them, and bytes above 126; the other half
+are the same with words or bytes taken out, put in, doubled or changed. With --short no term is at the limits of nesting
+and size. The seed is printed first, then how often each kind of line came up. A script on which the two differ is
+written to a file that the output names. Ends with 'N passed, N failed', and status 1 where one failed.
 """
 import collections
 import sys
 
 import comparing
 
-WORDS = ["x", "y", "s", "N", "x'", "f_1", "0", "12", "in", "on", "with", "by", "set", "qed", "if", "of", "trait", "prove", "A1",
+WORDS = ["x", "y", "s", "N", "x'", "f_1", "0", "12", "in", "on", "with", "by", "set", "qed", "if", "of", "trait",
+         "prove", "A1",
          "multiset", "implies", "a__b"]
 SYMBOLS = ["+", "-", "!", "*", ">", "<", "\\in", "~", "<>", "/"]
 CONNECTIVES = ["/\\", "\\/", "=>", "<=>"]
 NUMBERS = ["0", "1", "2", "7", "12", "007", "01", "99999", "100000", "100001", "999999", "1000000", "1a", "4294967296"]
-SOUP = [" ", "\t", "\r", "%", "_", "__", "'", ".", ",", ";", ":", "(", ")", "[", "]", "{", "}", "==", "=", "~=", "->", "\\",
-        "\\forall", "[]", "<>", "\x0b", "\x7f", "\x80", "\xff", "D", "A1", "by", "in", "duty", "0", "00", "\n", "resume by",
+SOUP = [" ", "\t", "\r", "%", "_", "__", "'", ".", ",", ";", ":", "(", ")", "[", "]", "{", "}", "==", "=", "~=", "->",
+        "\\",
+        "\\forall", "[]", "<>", "\x0b", "\x7f", "\x80", "\xff", "D", "A1", "by", "in", "duty", "0", "00", "\n",
+        "resume by",
         "set", "-"]
 LONG = ["(" * 201 + "x" + ")" * 201, "(" * 200 + "x" + ")" * 200, "if p then x else " * 201 + "y", "x = " * 2500 + "x",
         "x = " * 2499 + "x", "f(" * 200 + "x" + ")" * 200]
@@ -51,7 +54,8 @@ class Writer:
             inside = inside + [","] + self.term(depth - 1)
         if kind == 4:
             return self.word() + ["("] + inside + [")"]
-        return ["["] + inside + ["]"] if self.pick.random() < 0.5 else ["{"] + (inside if self.pick.random() < 0.7 else []) + ["}"]
+        return ["["] + inside + ["]"] if self.pick.random() < 0.5 else ["{"] + (inside if self.pick.random() < 0.7
+                else []) + ["}"]
 
     def post(self, depth):
         made = self.primary(depth)
@@ -91,7 +95,8 @@ class Writer:
         symbol = self.pick.choice(SYMBOLS)
         return self.pick.choice([
             self.word(), [symbol], ["__", symbol, "__"], [symbol, "__"], ["__", symbol], [".", *self.word()],
-            ["__", ".", *self.word()], ["[", "__", ",", "__", "]"], ["{", "}"], ["__", "[", "__", "]"], ["{", "__", "]"]])
+            ["__", ".", *self.word()], ["[", "__", ",", "__", "]"], ["{", "}"], ["__", "[", "__", "]"],
+            ["{", "__", "]"]])
 
     def reference(self):
         made = self.form()
@@ -129,7 +134,8 @@ class Writer:
             lambda: ["set", "box", dash, "checking", self.pick.choice(["on", "off", "yes"])],
             lambda: ["register", "height"] + self.reference() + [">"] + self.reference(),
             lambda: ["register", "status"] + self.pick.choice(
-                [["multiset"], ["left", "-", "to", "-", "right"], ["right", "-", "to", "-", "left"], ["left", "-", "to", "-", "left"]])
+                [["multiset"], ["left", "-", "to", "-", "right"], ["right", "-", "to", "-", "left"],
+                 ["left", "-", "to", "-", "left"]])
             + self.reference(),
             lambda: ["prove"] + self.equation(),
             lambda: ["resume", "by", "cases"] + self.equation(),
@@ -240,7 +246,8 @@ class Printer:
         if name == "induction":
             return f" induction {parts[0]}"
         if name == "instantiate":
-            return " instantiate (" + "".join(f" {n}" + self.equation(t) for n, t in parts[0]) + ")" + self.fact(parts[1])
+            return " instantiate (" + "".join(f" {n}" + self.equation(t) for n,
+                                              t in parts[0]) + ")" + self.fact(parts[1])
         if name in ("pairs", "normalize"):
             return f" {name}" + "".join(map(self.fact, parts))
         return f" {name}" + "".join(f" {part}" for part in parts)
@@ -259,7 +266,8 @@ def kinds_of(answer):
     """The kinds of the lines of an answer."""
     for line in answer.splitlines():
         words = line.split(" ")
-        yield "block" if words[0] == "block" else " ".join(words[2:4]) if words[2] in ("bad", "mark", "boxes", "status") else words[2]
+        yield "block" if words[0] == "block" else " ".join(words[2:4]) if words[2] in ("bad", "mark", "boxes",
+                "status") else words[2]
 
 
 def main():
@@ -269,7 +277,8 @@ def main():
     read_script = comparing.module_of(said.reference, "script").read_script
     writer, printer = Writer(comparing.choices(said.seed), 0 if said.short else 0.002), Printer()
     scripts = [writer.script(i % 2 == 1).replace("\0", "") for i in range(said.count)]
-    answers = [answer.decode("latin-1") for answer in comparing.answers(said.program, [s.encode("latin-1") for s in scripts])]
+    answers = [answer.decode("latin-1")
+               for answer in comparing.answers(said.program, [s.encode("latin-1") for s in scripts])]
     counted, differences = collections.Counter(), comparing.Differences(".txt", abs(len(answers) - len(scripts)))
     for script, answer in zip(scripts, answers):
         wanted = printer.script(read_script(script, False))

@@ -1,12 +1,14 @@
 """Random trait files: written ones, whose tokens follow the grammar or nearly so, and read ones, whose terms follow a
 random signature with overloaded operators or nearly so. Each function takes a `random.Random` and answers a text."""
 
-SYMBOLS = ['+', '-', '!', '*', '\\in', '<', '<<']
-WORDS = ['x', 'y', 'S', 'f', '0', 'gen', "a'", 'b_1']
-SORTS = ['A', 'B', 'N', 'Bool']
-TOKENS = ['x', 'S', '(', ')', '[', ']', '{', '}', ',', ';', ':', '.', '+', '-', '!', '~', '=', '~=', '==', '/\\', '=>', 'if', 'then',
-          'else', 'generated', 'partitioned', 'by', '\\forall', 'asserts', 'introduces', 'trait', '->', '__', 'for', 'f', 'implies', 'converts', 'exempting']
-CONNECTIVES = ['/\\', '\\/', '=>', '<=>']
+SYMBOLS = ["+", "-", "!", "*", "\\in", "<", "<<"]
+WORDS = ["x", "y", "S", "f", "0", "gen", "a'", "b_1"]
+SORTS = ["A", "B", "N", "Bool"]
+TOKENS = ["x", "S", "(", ")", "[", "]", "{", "}", ",", ";", ":", ".", "+", "-", "!", "~", "=", "~=", "==", "/\\", "=>",
+          "if", "then",
+          "else", "generated", "partitioned", "by", "\\forall", "asserts", "introduces", "trait", "->", "__", "for",
+          "f", "implies", "converts", "exempting"]
+CONNECTIVES = ["/\\", "\\/", "=>", "<=>"]
 
 
 # Written traits ---------------------------------------------------------------------------------
@@ -16,46 +18,51 @@ def some_term(pick, depth):
     if depth <= 0 or pick.random() < 0.3:
         return pick.choice(WORDS)
     return pick.choice([
-        lambda: pick.choice(WORDS) + '(' + ', '.join(again() for _ in range(pick.randint(1, 2))) + ')',
-        lambda: '(' + again() + ')',
-        lambda: pick.choice(['[{}]', '{{{}}}', '[{}}}']).format(', '.join(again() for _ in range(pick.randint(0, 2)))),
-        lambda: again() + ' ' + pick.choice(SYMBOLS) + ' ' + again(),
-        lambda: pick.choice(SYMBOLS + ['~']) + ' ' + again(),
-        lambda: again() + ' ' + pick.choice(SYMBOLS),
-        lambda: again() + '.' + pick.choice(WORDS),
-        lambda: again() + ': ' + pick.choice(SORTS),
-        lambda: again() + ' ' + pick.choice(CONNECTIVES) + ' ' + again(),
-        lambda: again() + ' ' + pick.choice(['=', '~=']) + ' ' + again(),
-        lambda: 'if ' + again() + ' then ' + again() + ' else ' + again(),
-        lambda: again() + '[' + again() + ']',
+        lambda: pick.choice(WORDS) + "(" + ", ".join(again() for _ in range(pick.randint(1, 2))) + ")",
+        lambda: "(" + again() + ")",
+        lambda: pick.choice(["[{}]", "{{{}}}", "[{}}}"]).format(", ".join(again() for _ in range(pick.randint(0, 2)))),
+        lambda: again() + " " + pick.choice(SYMBOLS) + " " + again(),
+        lambda: pick.choice(SYMBOLS + ["~"]) + " " + again(),
+        lambda: again() + " " + pick.choice(SYMBOLS),
+        lambda: again() + "." + pick.choice(WORDS),
+        lambda: again() + ": " + pick.choice(SORTS),
+        lambda: again() + " " + pick.choice(CONNECTIVES) + " " + again(),
+        lambda: again() + " " + pick.choice(["=", "~="]) + " " + again(),
+        lambda: "if " + again() + " then " + again() + " else " + again(),
+        lambda: again() + "[" + again() + "]",
     ])()
 
 
 def some_equation(pick):
-    return some_term(pick, 3) + (' == ' + some_term(pick, 2) if pick.random() < 0.6 else '')
+    return some_term(pick, 3) + (" == " + some_term(pick, 2) if pick.random() < 0.6 else "")
 
 
 def some_form(pick):
-    return pick.choice(['f', '+', '.w', '__.w', '- __', '__ + __', '__ !', '[__,__]', '{}', '{__}', '__[__]', '__{}', '[]', 'x'])
+    return pick.choice(["f", "+", ".w", "__.w", "- __", "__ + __", "__ !", "[__,__]", "{}", "{__}", "__[__]", "__{}",
+                        "[]", "x"])
 
 
 def some_signature(pick):
-    return ', '.join(pick.choice(SORTS) for _ in range(pick.randint(0, 2))) + ' -> ' + pick.choice(SORTS)
+    return ", ".join(pick.choice(SORTS) for _ in range(pick.randint(0, 2))) + " -> " + pick.choice(SORTS)
 
 
 def some_clause(pick):
-    references = [some_form(pick) + (': ' + some_signature(pick) if pick.random() < 0.3 else '') for _ in range(pick.randint(1, 2))]
-    return f"{pick.choice(WORDS)} {pick.choice(['generated', 'partitioned'])} by {', '.join(references)}{pick.choice(['', ';', ' ;'])}"
+    references = [some_form(pick) + (": " + some_signature(pick) if pick.random() < 0.3 else "")
+                  for _ in range(pick.randint(1, 2))]
+    word, how = pick.choice(WORDS), pick.choice(["generated", "partitioned"])
+    return f"{word} {how} by {', '.join(references)}{pick.choice(['', ';', ' ;'])}"
 
 
 def some_equations(pick):
-    groups = ', '.join(', '.join(pick.choice(WORDS) for _ in range(pick.randint(1, 2))) + ': ' + pick.choice(SORTS) for _ in range(pick.randint(1, 2)))
-    return (f'\\forall {groups} ' if pick.random() < 0.5 else '') + '; '.join(some_equation(pick) for _ in range(pick.randint(1, 3))) + pick.choice(['', '; '])
+    groups = ", ".join(", ".join(pick.choice(WORDS) for _ in range(pick.randint(1, 2))) + ": " + pick.choice(SORTS)
+                       for _ in range(pick.randint(1, 2)))
+    return (f"\\forall {groups} " if pick.random() < 0.5 else "") + "; ".join(some_equation(pick)
+            for _ in range(pick.randint(1, 3))) + pick.choice(["", "; "])
 
 
 def some_actual(pick):
-    return pick.choice(['x', 'f', 'S', '+', '- __', '__ !', '[__]', '.w']) if pick.random() < 0.6 else (
-        some_form(pick) + ' for ' + some_form(pick) + (': ' + some_signature(pick) if pick.random() < 0.3 else ''))
+    return pick.choice(["x", "f", "S", "+", "- __", "__ !", "[__]", ".w"]) if pick.random() < 0.6 else (
+        some_form(pick) + " for " + some_form(pick) + (": " + some_signature(pick) if pick.random() < 0.3 else ""))
 
 
 def some_reference(pick):
@@ -63,7 +70,7 @@ def some_reference(pick):
     if pick.random() < 0.3:
         return pick.choice(WORDS)
     inside = [some_actual(pick) if pick.random() < 0.5 else some_term(pick, 1) for _ in range(pick.randint(1, 3))]
-    return pick.choice(WORDS) + '(' + ', '.join(inside) + pick.choice([')', ')', ')', ')', ')', '', '))', ',)'])
+    return pick.choice(WORDS) + "(" + ", ".join(inside) + pick.choice([")", ")", ")", ")", ")", "", "))", ",)"])
 
 
 def some_item(pick):
@@ -71,41 +78,48 @@ def some_item(pick):
 
 
 def whole_reference(pick):
-    plain = [pick.choice(['x', 'f', 'S', '+', '- __', '.w']) for _ in range(pick.randint(0, 2))]
-    renamed = [some_form(pick) + ' for ' + some_form(pick) for _ in range(pick.randint(0, 2))]
-    return pick.choice(WORDS) + ('(' + ', '.join(plain + renamed) + ')' if plain + renamed else '')
+    plain = [pick.choice(["x", "f", "S", "+", "- __", ".w"]) for _ in range(pick.randint(0, 2))]
+    renamed = [some_form(pick) + " for " + some_form(pick) for _ in range(pick.randint(0, 2))]
+    return pick.choice(WORDS) + ("(" + ", ".join(plain + renamed) + ")" if plain + renamed else "")
 
 
 def word_first(pick):
     """An equation that begins with a word and perhaps its arguments."""
-    text = pick.choice(WORDS) + ('(' + ', '.join(some_term(pick, 1) for _ in range(pick.randint(1, 2))) + ')' if pick.random() < 0.7 else '')
-    return text + pick.choice([' == ', ' = ', ' + ', ' /\\ ', '.w == ', '[x] = ', ': S == ']) + pick.choice(WORDS) + pick.choice(['', ';', '; x'])
+    text = pick.choice(WORDS) + ("(" + ", ".join(some_term(pick, 1) for _ in range(pick.randint(1, 2))) + ")"
+                                 if pick.random() < 0.7 else "")
+    return text + pick.choice([" == ", " = ", " + ", " /\\ ", ".w == ", "[x] = ", ": S == "]) + pick.choice(
+        WORDS) + pick.choice(["", ";", "; x"])
 
 
 def implied(pick):
     """An implied part; often one of which the first word may begin references and an equation, and fits neither."""
     if pick.random() < 0.3:
-        text = ', '.join(whole_reference(pick) for _ in range(pick.randint(1, 3)))
-        return ' implies ' + text + pick.choice(['\n ' + some_clause(pick), '', '\n \\forall x: A x == x', '\n S generated by f']) + '\n'
+        text = ", ".join(whole_reference(pick) for _ in range(pick.randint(1, 3)))
+        return " implies " + text + pick.choice(
+            ["\n " + some_clause(pick), "", "\n \\forall x: A x == x", "\n S generated by f"]) + "\n"
     if pick.random() < 0.4:
-        return ' implies ' + word_first(pick) + pick.choice(['\n ' + some_clause(pick), '']) + '\n'
-    behind = pick.choice([', ', ' ', ' == ', ' = ', ' + ', ' ; ', '.', '[', ' (', ' \\forall x: A ', ' asserts ', ' generated by ', ' converts ', ''])
-    text = ' implies ' + pick.choice([some_reference, some_reference, some_reference, some_item])(pick) + behind
-    text += pick.choice([some_reference, some_item, lambda pick: ''])(pick)
-    return text + '\n ' + '\n '.join(some_item(pick) for _ in range(pick.randint(0, 2))) + '\n'
+        return " implies " + word_first(pick) + pick.choice(["\n " + some_clause(pick), ""]) + "\n"
+    behind = pick.choice(
+        [", ", " ", " == ", " = ", " + ", " ; ", ".", "[", " (", " \\forall x: A ", " asserts ", " generated by ",
+         " converts ", ""])
+    text = " implies " + pick.choice([some_reference, some_reference, some_reference, some_item])(pick) + behind
+    text += pick.choice([some_reference, some_item, lambda pick: ""])(pick)
+    return text + "\n " + "\n ".join(some_item(pick) for _ in range(pick.randint(0, 2))) + "\n"
 
 
 def converted(pick):
-    text = ' converts ' + ', '.join(some_form(pick) + (': ' + some_signature(pick) if pick.random() < 0.3 else '') for _ in range(pick.randint(1, 2)))
+    text = " converts " + ", ".join(some_form(pick) + (": " + some_signature(pick) if pick.random() < 0.3 else "")
+                                    for _ in range(pick.randint(1, 2)))
     if pick.random() < 0.5:
-        text += ' exempting ' + ('\\forall x: ' + pick.choice(SORTS) + ' ' if pick.random() < 0.4 else '')
-        text += ', '.join(some_equation(pick) if pick.random() < 0.1 else some_term(pick, 2) for _ in range(pick.randint(1, 3)))
-    return text + '\n'
+        text += " exempting " + ("\\forall x: " + pick.choice(SORTS) + " " if pick.random() < 0.4 else "")
+        text += ", ".join(some_equation(pick) if pick.random() < 0.1 else some_term(pick, 2)
+                          for _ in range(pick.randint(1, 3)))
+    return text + "\n"
 
 
 def claiming(pick, name):
     """A trait with claims: implied parts and conversions; with some chance tokens are changed."""
-    text = f'{name}: trait\n' + pick.choice(['', '', ' introduces f: -> S\n', ' asserts x == y\n', ' includes A\n'])
+    text = f"{name}: trait\n" + pick.choice(["", "", " introduces f: -> S\n", " asserts x == y\n", " includes A\n"])
     for _ in range(pick.choice([0, 1, 1, 1, 1, 2])):
         text += implied(pick)
     for _ in range(pick.choice([0, 0, 1, 1, 2])):
@@ -115,17 +129,19 @@ def claiming(pick, name):
 
 def written(pick, name):
     """A trait of random forms; with some chance tokens are changed."""
-    text = f'{name}: trait\n'
+    text = f"{name}: trait\n"
     for _ in range(pick.randint(0, 2)):
-        text += ' introduces ' + ' '.join(', '.join(some_form(pick) for _ in range(pick.randint(1, 2))) + ': ' + some_signature(pick) for _ in range(pick.randint(0, 3))) + '\n'
+        text += " introduces " + " ".join(", ".join(some_form(pick) for _ in range(pick.randint(1, 2))) + ": "
+                                          + some_signature(pick) for _ in range(pick.randint(0, 3))) + "\n"
     for _ in range(pick.randint(0, 2)):
-        text += ' asserts ' + '\n '.join(some_clause(pick) if pick.random() < 0.4 else some_equations(pick) for _ in range(pick.randint(0, 4))) + '\n'
+        text += " asserts " + "\n ".join(some_clause(pick) if pick.random() < 0.4 else some_equations(pick)
+                                         for _ in range(pick.randint(0, 4))) + "\n"
     return changed(pick, text) if pick.random() < 0.6 else text
 
 
 def changed(pick, text):
     """The text with one or two tokens taken out, put in or replaced."""
-    parts = text.split(' ')
+    parts = text.split(" ")
     for _ in range(pick.randint(1, 2)):
         place = pick.randrange(len(parts))
         change = pick.randint(0, 2)
@@ -135,35 +151,36 @@ def changed(pick, text):
             parts.insert(place, pick.choice(TOKENS))
         else:
             parts[place] = pick.choice(TOKENS)
-    return ' '.join(parts)
+    return " ".join(parts)
 
 
 # Read traits ------------------------------------------------------------------------------------
 
-SHAPES = [('c', 0), ('d', 0), ('0', 0), ('true', 0), ('f', 1), ('f', 2), ('g', 1), ('c', 1), ('__ + __', 2), ('__ * __', 2), ('- __', 1),
-          ('__ !', 1), ('__.w', 1), ('[__]', 1), ('[__, __]', 2), ('{}', 0), ('__[__]', 2), ('__ \\in __', 2)]
+SHAPES = [("c", 0), ("d", 0), ("0", 0), ("true", 0), ("f", 1), ("f", 2), ("g", 1), ("c", 1), ("__ + __", 2),
+          ("__ * __", 2), ("- __", 1),
+          ("__ !", 1), ("__.w", 1), ("[__]", 1), ("[__, __]", 2), ("{}", 0), ("__[__]", 2), ("__ \\in __", 2)]
 
 
 def signature(pick):
     """Operators: a form, a domain, a range; some forms with several signatures."""
-    sorts = SORTS[:pick.randint(1, 3)] + ['Bool']
-    operators = [('c', (), sorts[0]), ('p', (), 'Bool')]
+    sorts = SORTS[:pick.randint(1, 3)] + ["Bool"]
+    operators = [("c", (), sorts[0]), ("p", (), "Bool")]
     for _ in range(pick.randint(2, 9)):
         form, arity = pick.choice(SHAPES)
         for _ in range(pick.choice([1, 1, 1, 2, 2, 3])):
             operators.append((form, tuple(pick.choice(sorts) for _ in range(arity)), pick.choice(sorts)))
-    return sorts, [o for o in operators if o != ('true', (), 'Bool') or pick.random() < 0.05]
+    return sorts, [o for o in operators if o != ("true", (), "Bool") or pick.random() < 0.05]
 
 
 def applied(form, arguments):
     """An application as it is written, its arguments in parentheses where they may need them."""
-    if '__' not in form:
-        return form + ('(' + ', '.join(arguments) + ')' if arguments else '')
-    text, rest = '', form
+    if "__" not in form:
+        return form + ("(" + ", ".join(arguments) + ")" if arguments else "")
+    text, rest = "", form
     for argument in arguments:
-        before, rest = rest.split('__', 1)
-        inside = text.endswith('[') or text.endswith(', ') or before.endswith('[') or before.endswith(', ')
-        text += before + (argument if inside or argument.isalnum() else '(' + argument + ')')
+        before, rest = rest.split("__", 1)
+        inside = text.endswith("[") or text.endswith(", ") or before.endswith("[") or before.endswith(", ")
+        text += before + (argument if inside or argument.isalnum() else "(" + argument + ")")
     return text + rest
 
 
@@ -175,11 +192,13 @@ def term(pick, sorts, operators, variables, sort, depth):
     if depth > 0 and pick.random() < 0.12:
         other = pick.choice(sorts)
         return pick.choice([
-            lambda: f'if {inside("Bool")} then {inside(sort)} else {inside(sort)}' if sort != 'Bool' else f'({inside(other)}) = ({inside(other)})',
+            lambda: f'if {inside("Bool")} then {inside(sort)} else {inside(sort)}' if sort != "Bool"
+            else f"({inside(other)}) = ({inside(other)})",
             lambda: f'(if {inside("Bool")} then {inside(sort)} else {inside(sort)})',
-            lambda: f'({inside(other)}) ~= ({inside(other)})' if sort == 'Bool' else inside(sort),
-            lambda: f'({inside("Bool")}) {pick.choice(CONNECTIVES)} ({inside("Bool")})' if sort == 'Bool' else inside(sort),
-            lambda: f'~({inside("Bool")})' if sort == 'Bool' else inside(sort),
+            lambda: f"({inside(other)}) ~= ({inside(other)})" if sort == "Bool" else inside(sort),
+            lambda: f'({inside("Bool")}) {pick.choice(CONNECTIVES)} ({inside("Bool")})' if sort == "Bool"
+            else inside(sort),
+            lambda: f'~({inside("Bool")})' if sort == "Bool" else inside(sort),
             lambda: f'({inside(sort)}): {pick.choice([sort] * 8 + SORTS + ["Q"])}',
         ])()
     names = [n for n, s in variables if s == sort] * 2
@@ -188,7 +207,7 @@ def term(pick, sorts, operators, variables, sort, depth):
         fitting = operators
     choices = names + fitting
     if not choices:
-        return pick.choice(['c', 'p', 'true', 'x', 'undeclared'])
+        return pick.choice(["c", "p", "true", "x", "undeclared"])
     chosen = pick.choice(choices)
     if isinstance(chosen, str):
         return chosen
@@ -200,19 +219,19 @@ def reference(pick, operators, fits):
     form, domain, range_ = pick.choice(fitting if fitting and pick.random() < 0.93 else operators)
     if pick.random() < 0.04:
         range_ = pick.choice(SORTS)
-    return form + (f': {", ".join(domain)} -> {range_}' if pick.random() < 0.6 else '')
+    return form + (f': {", ".join(domain)} -> {range_}' if pick.random() < 0.6 else "")
 
 
 def item(pick, sorts, operators):
     kind = pick.random()
     if kind < 0.25:
-        sort = pick.choice(sorts) if pick.random() < 0.97 else 'Q'
+        sort = pick.choice(sorts) if pick.random() < 0.97 else "Q"
         if pick.random() < 0.5:
             references = [reference(pick, operators, lambda o: o[2] == sort) for _ in range(pick.randint(1, 3))]
             return f'{sort} generated by {", ".join(references)}'
         references = [reference(pick, operators, lambda o: sort in o[1]) for _ in range(pick.randint(1, 2))]
         return f'{sort} partitioned by {", ".join(references)}'
-    names = pick.sample(['x', 'y', 'z', 'c', 'true', '0'], pick.randint(0, 3))
+    names = pick.sample(["x", "y", "z", "c", "true", "0"], pick.randint(0, 3))
     variables = [(n, pick.choice(sorts)) for n in names]
     declared = [f'{n}: {s if pick.random() < 0.98 else "Q"}' for n, s in variables]
     if declared and pick.random() < 0.03:
@@ -221,29 +240,29 @@ def item(pick, sorts, operators):
     for _ in range(pick.randint(1, 3)):
         sort = pick.choice(sorts)
         left = term(pick, sorts, operators, variables, sort, pick.randint(0, 4))
-        if sort == 'Bool' and pick.random() < 0.5:
+        if sort == "Bool" and pick.random() < 0.5:
             equations.append(left)
         else:
-            equations.append(left + ' == ' + term(pick, sorts, operators, variables, sort, pick.randint(0, 3)))
-    return (f'\\forall {", ".join(declared)}\n      ' if declared else '') + ';\n      '.join(equations) + ';'
+            equations.append(left + " == " + term(pick, sorts, operators, variables, sort, pick.randint(0, 3)))
+    return (f'\\forall {", ".join(declared)}\n      ' if declared else "") + ";\n      ".join(equations) + ";"
 
 
 def read(pick, name):
     """A trait over a random signature."""
     sorts, operators = signature(pick)
-    declarations = ''
+    declarations = ""
     for form, domain, range_ in operators:
-        wrong = ', A' if domain and pick.random() < 0.004 else ''
+        wrong = ", A" if domain and pick.random() < 0.004 else ""
         declarations += f'\n    {form}: {", ".join(domain)}{wrong} -> {range_}'
-    items, bare = '', False
+    items, bare = "", False
     for _ in range(pick.randint(0, 4)):
         text = item(pick, sorts, operators)
-        clause = ' by ' in text
-        if bare and not clause and not text.startswith('\\forall'):
-            items += '\n  asserts'
-        items += '\n    ' + text
+        clause = " by " in text
+        if bare and not clause and not text.startswith("\\forall"):
+            items += "\n  asserts"
+        items += "\n    " + text
         bare = not clause
-    return f'{name}: trait\n  introduces{declarations}\n  asserts{items}\n'
+    return f"{name}: trait\n  introduces{declarations}\n  asserts{items}\n"
 
 
 def any_trait(pick, name):

@@ -1,15 +1,14 @@
 #!/usr/bin/env python3
 """Tests what companions say of wrong traits: python3 tools/gate/check_causes.py [PROGRAM]; else the checkout's ./larch
 
-Each file of companions/samples is asked of the program; `expected.tsv` there has a line for each that is refused: its
-name, the code, the title of its cause, whether the title names the cause, and why not. Titles and codes have to be
-those, every code that a trait can have has a sample, and nine of ten titles name the cause. A change that the program
-is said to take is taken. Files that are cut off, and bytes of all kinds, get an answer as well. Ends with
-`causes: N passed, M failed`, and with 1 where one failed."""
+Each file of companions/samples, and of slips there, is asked of the program; `expected.tsv` there has a line for each
+that is refused: its name, the code, the title of its cause, whether the title names the cause, and why not. Titles and
+codes have to be those, every code that a trait can have has a sample, and nine of ten titles name the cause. A change
+that the program is said to take is taken. Files that are cut off, and bytes of all kinds, get an answer as well. Ends
+with `causes: N passed, M failed`, and with 1 where one failed."""
 import os
 import pathlib
 import random
-import re
 import sys
 
 sys.path.insert(0, str(pathlib.Path(__file__).resolve().parents[1]))
@@ -17,25 +16,12 @@ from desk import TOP  # noqa: E402
 from companions import cases, causes, explain, further, hints, program, showing, tokens  # noqa: E402
 from companions.declarations import trait_of  # noqa: E402
 from companions.scope import reached  # noqa: E402
+from tests import Tests  # noqa: E402
 
 SAMPLES = TOP / "companions/samples"
-# What a refused file may be about; a trait gets no code but these.
-SCRIPT_CODES = "## Codes of scripts"
 FEWEST = 61
-
-
-class Looks:
-    """How many looks were taken, and what failed."""
-
-    def __init__(self):
-        self.passed, self.failed = 0, 0
-
-    def look(self, holds, what):
-        if holds:
-            self.passed += 1
-        else:
-            self.failed += 1
-            print(what)
+# The right traits of the first folder to which those of the second refer.
+REFERRED = ("Number.lsl", "Pairing.lsl")
 
 
 def generated():
@@ -50,8 +36,10 @@ def generated():
 
 
 def samples():
-    """The folders of samples: each has its files, by their names."""
-    return [{path.name: path.read_bytes() for path in sorted(SAMPLES.glob("*.lsl"))},
+    """The folders of samples: each has its files, by their names. A session doesn't take all of them at once."""
+    first, second = ({path.name: path.read_bytes() for path in sorted(folder.glob("*.lsl"))}
+                     for folder in (SAMPLES, SAMPLES / "slips"))
+    return [first, {**second, **{name: first[name] for name in REFERRED}},
             {name: text.encode() for name, text in generated()}]
 
 
@@ -85,8 +73,7 @@ def judged(looks):
     """Enough samples, each code among them, and nine of ten titles that name the cause; each other one says why not."""
     table = expected()
     named = sum(row[2] == "yes" for row in table.values())
-    guide = explain.GUIDE.read_text(encoding="utf-8").split(SCRIPT_CODES)[0]
-    for code in re.findall(r"^### ([A-Z-]+)$", guide, re.M):
+    for code in explain.codes_of_traits():
         looks.look(any(row[0] == code for row in table.values()), f"no sample has the code {code}")
     for name, row in table.items():
         looks.look(row[2] == "yes" or (row[2] == "no" and row[3]), f"{name}: it isn't judged")
@@ -227,7 +214,7 @@ def main():
     chosen = str(pathlib.Path(sys.argv[1]).resolve()) if sys.argv[1:] else str(TOP / "larch")
     os.environ["LARCH"] = chosen
     cases.MOST_SECONDS, further.MOST_SECONDS = 600, 600  # what is found doesn't depend on how fast the machine is
-    looks, folders, table, explainer = Looks(), samples(), expected(), causes.Explainer(chosen)
+    looks, folders, table, explainer = Tests(), samples(), expected(), causes.Explainer(chosen)
     try:
         for files in folders:
             with program.Session(chosen) as session:
@@ -241,8 +228,7 @@ def main():
         robust(looks, folders[0], explainer)
     finally:
         explainer.close()
-    print(f"causes: {looks.passed} passed, {looks.failed} failed")
-    return 1 if looks.failed else 0
+    return looks.end("causes")
 
 
 if __name__ == "__main__":

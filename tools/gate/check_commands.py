@@ -2,11 +2,11 @@
 """Tests that what is said of the commands agrees: python3 tools/gate/check_commands.py PROGRAM
 
 PROGRAM is a command, in quotes where it has words of its own. docs/COMMANDS.md, the definitions, the program, the man
-page and both files of completion have the same commands; the man page is the one that tools/make/make_manual.py makes,
-and nothing is wrong with it as far as `mandoc` is there to say so. Each status of the page's table, but those of
-faults and of memory, comes in each command that the table has it for, with the last line that it says. The completions
-are tried: in bash, and in zsh where that is installed. Ends with 'N passed, N failed', and status 1 where one
-failed."""
+page and both files of completion have the same commands, and the completions the words that ./larch has besides; the
+man page is the one that tools/make/make_manual.py makes, and nothing is wrong with it as far as `mandoc` is there to
+say so. Each status of the page's table, but those of faults and of memory, comes in each command that the table has it
+for, with the last line that it says. The completions are tried: in bash, and in zsh where that is installed. Ends with
+'N passed, N failed', and status 1 where one failed."""
 import os
 import pathlib
 import pty
@@ -23,6 +23,7 @@ TOP = pathlib.Path(__file__).resolve().parents[2]
 sys.path[:0] = [str(TOP / "tools" / part) for part in ("compare", "make")]
 import call_texts  # noqa: E402
 import make_manual  # noqa: E402
+from tests import Tests  # noqa: E402
 
 BASH, ZSH = TOP / "completion/larch.bash", TOP / "completion/_larch"
 PUT = b"put One.lsl %d\n" % len(call_texts.TEXTS["One.lsl"]) + call_texts.TEXTS["One.lsl"]
@@ -46,9 +47,19 @@ CALLS = {
                8: [("Nat imply.1 Nope.cert Nat.lsl", b"", "no file Nope.cert"),
                    ("Nat imply.1 Nat.cert Nope.lsl", b"", "no file Nope.lsl")]},
 }
+# What the script around the program has besides, and its options.
+AROUND = ["help", "explain", "watch"]
+OPTIONS = ["--build", "--help", "--install", "--program", "--uninstall", "--unproved", "--version"]
 # Words before the cursor, the last of which is begun, and what may stand there.
 COMPLETED = [
-    ([""], ["check", "obligations", "session", "verify"]), (["ob"], ["obligations"]), (["Frob"], []),
+    ([""], ["check", "explain", "help", "obligations", "session", "verify", "watch"]), (["ob"], ["obligations"]),
+    (["Frob"], []), (["--"], OPTIONS), (["--un"], ["--uninstall", "--unproved"]),
+    (["--unproved", "verify", "Na"], ["Nat"]), (["--install", ""], ["sub/"]), (["--build", ""], []),
+    (["help", "v"], ["verify"]), (["help", "SYN"], ["SYNTAX"]), (["explain", "CY"], ["CYCLE"]),
+    (["explain", "On"], ["One.lsl"]), (["watch", "s"], ["sub/"]),
+    (["watch", "--"], ["--larch", "--no-hints", "--once"]),
+    (["check", "s"], ["sub/"]), (["check", "sub/"], ["sub/Two.lsl"]), (["check", "--"], ["--with-included"]),
+    (["verify", "Nat", "imply.1", "sub/"], ["sub/Two.cert"]),
     (["check", "On"], ["One.lp", "One.lsl"]), (["check", "One.lp", "On"], ["One.lsl"]),
     (["--", "obligations", "Na"], ["Nat.lsl"]), (["session", ""], []), (["frobnicate", ""], []),
     (["verify", "Na"], ["Nat"]), (["verify", "Nat", "i"], ["imply.1", "imply.2"]),
@@ -76,20 +87,6 @@ print -r -- . >> $SHOWN
 """
 
 
-class Tests:
-    """What was seen, and how much of it is as wanted."""
-
-    def __init__(self):
-        self.passed = self.failed = 0
-
-    def see(self, title, found, wanted):
-        if found == wanted:
-            self.passed += 1
-        else:
-            self.failed += 1
-            print(f"{title}: saw {found!r} and wanted {wanted!r}")
-
-
 def run(program, words, given, folder):
     """The output and the status of a call."""
     done = subprocess.run([*program, *words], input=given, cwd=folder, stdout=subprocess.PIPE, check=False)
@@ -105,8 +102,13 @@ def agreement(tests, program, folder):
     defined = re.findall(r'bytes_eq command \(codes "(\w+)"\)', definitions)
     tests.see("commands in the definitions", defined, documented)
     tests.see("commands of the man page", re.findall(r"^\.TP\n\\fB(\w+)", made("COMMANDS"), re.M), documented)
-    tests.see("commands in completion/_larch", re.findall(r"^ +['\"](\w+):", ZSH.read_text(), re.M), documented)
-    tests.see("commands in completion/larch.bash", by_bash(folder, [""]), sorted(documented))
+    known = documented + AROUND
+    tests.see("commands in completion/_larch", re.findall(r"^ +['\"](\w+):", ZSH.read_text(), re.M), known)
+    tests.see("commands in completion/larch.bash", by_bash(folder, [""]), sorted(known))
+    script = (TOP / "larch").read_text()
+    branches = {word for line in re.findall(r"^ +([\w| -]+)\)", script, re.M) for word in line.split(" | ")}
+    around = {word for word in branches if word in AROUND or word.startswith("--")}
+    tests.see("words of ./larch", sorted(around), sorted([*AROUND, *OPTIONS]))
     tests.see("commands that are tried here", list(CALLS), documented)
     tests.see("the usage line", run(program, [], b"", folder), (make_manual.usage() + "\n", 2))
     same = make_manual.MADE.read_text() == make_manual.manual()
@@ -217,7 +219,8 @@ def completions(tests, program, folder):
     """What each shell completes, with the program on the path and without it."""
     with tempfile.TemporaryDirectory() as place:
         larch = pathlib.Path(place, "larch")
-        larch.write_text(f'#!/bin/sh\nexec {shlex.join(program)} "$@"\n')
+        explain = shlex.join([sys.executable, str(TOP / "tools/explain")])
+        larch.write_text(f'#!/bin/sh\n[ "$1" = explain ] && exec {explain}\nexec {shlex.join(program)} "$@"\n')
         larch.chmod(0o755)
         path, bare = f"{place}:{os.environ['PATH']}", without_larch()
         for words, wanted in COMPLETED:
@@ -256,10 +259,11 @@ def main():
         folder = pathlib.Path(place)
         for name in ("One.lsl", "One.lp", "Nat.lsl", "Nat.cert", "Form.cert"):
             (folder / name).write_bytes({**call_texts.TEXTS, **call_texts.CERTIFICATES}[name])
-        (folder / "a-b.lsl").write_text("")
+        (folder / "sub").mkdir()
+        for name in ("a-b.lsl", "sub/Two.lsl", "sub/Two.cert"):
+            (folder / name).write_text("")
         completions(tests, program, folder)
-    print(f"{tests.passed} passed, {tests.failed} failed")
-    return 1 if tests.failed else 0
+    return tests.end()
 
 
 if __name__ == "__main__":

@@ -4,7 +4,8 @@
 The table of words has the reserved words and fixed symbols of the program's own definitions, and runs the bytes of its
 table of tokens; the editors' files are those that tools/make/make_highlighting.py makes of it; Vim, Emacs and the
 TextMate grammar colour the traits of examples, of examples/library and of editors/samples as editors/expected.txt says;
-and the extension starts the server, as far as that can be seen without its editor. An editor that isn't installed is
+the extension's files are whole and agree, its patterns are such of its editor's language, and it starts the server or
+says what it lacks, as far as that can be seen without its editor. An editor that isn't installed is
 named and left out. With --write the kept file is written anew, from the TextMate grammar, which Python reads."""
 import json
 import os
@@ -19,8 +20,12 @@ import unittest
 sys.path[:0] = [str(pathlib.Path(__file__).resolve().parents[1] / part) for part in ("", "make")]
 import make_highlighting  # noqa: E402
 from desk import TOP  # noqa: E402
+import larch_look  # noqa: E402
 import larch_names  # noqa: E402
 
+EXTENSION = TOP / "editors/vscode"
+# What a TextMate scope begins with where themes have a colour for it.
+SCOPES = ("comment", "constant", "entity", "keyword", "markup", "punctuation", "support")
 KEPT = TOP / "editors/expected.txt"
 FILES = sorted(str(path.relative_to(TOP)) for folder in ("examples", "examples/library", "editors/samples")
                for path in (TOP / folder).iterdir() if path.suffix in (".lsl", ".lp"))
@@ -99,30 +104,75 @@ class Coloured(unittest.TestCase):
             self.assertEqual((TOP / path).read_text(), text, path)
 
     def test_manifest(self):
-        folder = TOP / "editors/vscode"
-        manifest = json.loads((folder / "package.json").read_text())
+        manifest = self.manifest()
         contributed = manifest["contributes"]
         named = [manifest["main"], *(grammar["path"] for grammar in contributed["grammars"]),
                  *(language["configuration"] for language in contributed["languages"])]
         for name in named:
-            self.assertTrue((folder / name).is_file(), name)
-        self.assertEqual([grammar["scopeName"] for grammar in contributed["grammars"]], ["source.lsl", "source.lp"])
+            self.assertTrue((EXTENSION / name).is_file(), name)
+        languages = {language["id"]: language["extensions"] for language in contributed["languages"]}
+        self.assertEqual(languages, {"lsl": [".lsl"], "lp": [".lp"]})
+        self.assertEqual(manifest["activationEvents"], ["onLanguage:lsl"])
+        read = re.findall(r'settings\.get\("(\w+)"\)', (EXTENSION / "extension.js").read_text())
+        settings = contributed["configuration"]["properties"]
+        self.assertEqual(sorted(f"larch.{name}" for name in read), sorted(settings))
+        for setting in settings.values():
+            self.assertEqual(type(setting["default"]).__name__, {"string": "str", "boolean": "bool"}[setting["type"]])
+        needed = {name for name in re.findall(r'CLIENT = "([^"]+)"', (EXTENSION / "extension.js").read_text())}
+        self.assertEqual(set(manifest["dependencies"]), needed)
+
+    def manifest(self):
+        return json.loads((EXTENSION / "package.json").read_text())
+
+    def test_grammars(self):
+        configuration = json.loads((EXTENSION / "language-configuration.json").read_text())
+        self.assertEqual(configuration["wordPattern"], larch_look.WORD.pattern)
+        patterns = [configuration["wordPattern"]]
+        for entry in self.manifest()["contributes"]["grammars"]:
+            grammar, language = json.loads((EXTENSION / entry["path"]).read_text()), entry["language"]
+            self.assertEqual((grammar["scopeName"], grammar["fileTypes"]), (entry["scopeName"], [language]))
+            for rule in grammar["patterns"]:
+                self.assertLessEqual(set(rule), {"name", "match", "captures"})
+                patterns.append(rule["match"])
+                for named in rule.get("captures", {"0": rule}).values():
+                    self.assertTrue(named["name"].endswith("." + language), named)
+                    self.assertIn(named["name"].split(".")[0], SCOPES)
+        self.installed("node")
+        done = subprocess.run(["node", "-e", "for (const one of JSON.parse(process.argv[1])) new RegExp(one)",
+                               json.dumps(patterns)], timeout=60, capture_output=True, text=True)
+        self.assertEqual(done.returncode, 0, done.stderr)
+
+    def extension(self, known):
+        """What the extension's start gives and says, with these modules in the place of its editor's."""
+        self.installed("node")
+        script = f"""
+            const modules = require("module"), load = modules._load, said = [];
+            class LanguageClient {{ constructor(...words) {{ this.words = words; }} start() {{ return this.words; }} }}
+            const settings = {{ program: "a/larch", hints: false }};
+            const workspace = {{ getConfiguration: () => ({{ get: name => settings[name] }}) }};
+            const window = {{ showErrorMessage: text => said.push(text) }};
+            const known = {known};
+            modules._load = (name, ...rest) => known[name] || load(name, ...rest);
+            const given = require("./editors/vscode/extension.js").activate();
+            console.log(JSON.stringify([given || null, said]));"""
+        done = subprocess.run(["node", "-e", script], cwd=TOP, timeout=60, capture_output=True, text=True, check=True)
+        return json.loads(done.stdout)
 
     def test_extension_starts_the_server(self):
-        self.installed("node")
-        script = """
-            const modules = require("module"), load = modules._load;
-            class LanguageClient { constructor(...words) { this.words = words; } start() { return this.words; } }
-            const settings = { program: "a/larch", hints: false };
-            const workspace = { getConfiguration: () => ({ get: name => settings[name] }) };
-            const known = { vscode: { workspace }, "vscode-languageclient/node": { LanguageClient } };
-            modules._load = (name, ...rest) => known[name] || load(name, ...rest);
-            console.log(JSON.stringify(require("./editors/vscode/extension.js").activate()));"""
-        done = subprocess.run(["node", "-e", script], cwd=TOP, timeout=60, capture_output=True, text=True, check=True)
-        self.assertEqual(json.loads(done.stdout)[2:], [
+        given, said = self.extension('{ vscode: { window, workspace }, "vscode-languageclient/node": '
+                                     '{ LanguageClient } }')
+        self.assertEqual(given[2:], [
             {"command": str(TOP / "editors/larch-lsp"), "args": ["--larch", "a/larch"]},
             {"documentSelector": [{"scheme": "file", "language": "lsl"}], "initializationOptions": {"hints": False}}])
+        self.assertEqual(said, [])
         self.assertTrue(os.access(TOP / "editors/larch-lsp", os.X_OK))
+
+    def test_extension_without_its_client(self):
+        if (EXTENSION / "node_modules").exists():
+            self.skipTest("the client is installed")
+        given, said = self.extension("{ vscode: { window, workspace } }")
+        self.assertIsNone(given)
+        self.assertIn(f"run npm install in {EXTENSION}", said[0])
 
     def test_textmate(self):
         self.assertEqual([line for path in FILES for line in textmate(path)], self.kept())
@@ -153,10 +203,10 @@ class Coloured(unittest.TestCase):
                 path = pathlib.Path(place, pathlib.Path(name).name)
                 path.write_text(flat)
                 self.emacs("-l", "larch-mode", "--eval", f'(progn (find-file "{path}") '
-                           '(let ((inhibit-message t)) (indent-region (point-min) (point-max)) (save-buffer)))')
+                           "(let ((inhibit-message t)) (indent-region (point-min) (point-max)) (save-buffer)))")
                 self.assertEqual(path.read_text(), text)
                 self.emacs("-l", "larch-mode", "--eval", f'(progn (find-file "{path}") (let ((inhibit-message t)) '
-                           '(comment-region (point-min) (point-max)) (save-buffer)))')
+                           "(comment-region (point-min) (point-max)) (save-buffer)))")
                 self.assertTrue(all(line.lstrip().startswith("%") for line in path.read_text().splitlines()))
 
 

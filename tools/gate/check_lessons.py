@@ -16,6 +16,8 @@ import subprocess
 import sys
 import tempfile
 
+from tests import Tests
+
 TOP = pathlib.Path(__file__).resolve().parents[2]
 LESSONS, WRONG, GUIDE = TOP / "examples/lessons", TOP / "examples/wrong", TOP / "docs/TRAITS.md"
 
@@ -57,20 +59,6 @@ TRIES = [
     ("Write `converts unit` there. `check` says CONVERTED.", "Morphism.lsl", "unit: -> A", "unit",
      "check Morphism.lsl Monoid.lsl", "trait Morphism error 16:12 CONVERTED"),
 ]
-
-
-class Tests:
-    """What was seen, and how much of it is as wanted."""
-
-    def __init__(self):
-        self.passed = self.failed = 0
-
-    def see(self, title, found, wanted):
-        if found == wanted:
-            self.passed += 1
-        else:
-            self.failed += 1
-            print(f"{title}: saw {found!r} and wanted {wanted!r}")
 
 
 def run(program, words, folder):
@@ -170,8 +158,7 @@ def main():
     lessons(tests, program)
     tries(tests, program)
     wrong_traits(tests, program)
-    print(f"lessons: {tests.passed} passed, {tests.failed} failed")
-    return 1 if tests.failed else 0
+    return tests.end("lessons")
 
 
 if __name__ == "__main__":

@@ -20,6 +20,7 @@ from desk import TOP  # noqa: E402
 from companions.explain import code_parts, sentence  # noqa: E402
 from companions.program import MOST_BYTES  # noqa: E402
 import larch_names  # noqa: E402
+from larch_behind import Report  # noqa: E402
 from larch_names import offset_at  # noqa: E402
 
 PROGRAM = str(TOP / "larch")
@@ -274,6 +275,7 @@ class Served(unittest.TestCase):
         self.client.published("T.lsl", ["BAD-REFERENCE"])
         self.client.close(base)
         self.client.published("T.lsl", [])
+
     def test_title_and_quick_fix(self):
         path = self.write("T.lsl", RIGHT)
         self.client.open(path, WRONG)
@@ -307,6 +309,12 @@ class Served(unittest.TestCase):
             time.sleep(0.5)
             self.assertTrue(client.notes.empty())
             client.end()
+
+    def test_what_is_waited_for_comes_first(self):
+        found = {"A.lsl": None, "B.lsl": None, "C.lsl": (1, 1, "LEX"), "D.lsl": (1, 1, "LEX"), "E.lsl": None}
+        opened = dict.fromkeys(["A.lsl", "D.lsl", "E.lsl", "B.lsl"])  # B was changed last
+        report = Report(dict.fromkeys(found, b""), opened, found, None)
+        self.assertEqual(report.by_need(), ["B.lsl", "D.lsl", "C.lsl", "E.lsl", "A.lsl"])
 
     def test_names(self):
         base = self.write("Base.lsl", "Base: trait\n  introduces\n    f: N -> N\n    0: -> N\n")

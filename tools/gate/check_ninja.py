@@ -129,8 +129,12 @@ def main():
         folder = pathlib.Path(place)
         for number in range(said.traits):
             (folder / f"Gen{number}.lsl").write_text(generated(number))
+        (folder / "empty").mkdir()
+        empty = subprocess.run([TOP / "tools/larch-ninja", folder / "empty", "--larch", program], capture_output=True,
+                               text=True, check=False)
         start = time.monotonic()
         build = Build(folder, program)
+        build.see("a folder without traits", (empty.returncode, "no traits" in empty.stderr), (2, True))
         written = time.monotonic() - start
         row = in_a_row(build, said.row)
         ran, output, first = build.run()

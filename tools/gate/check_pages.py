@@ -3,15 +3,18 @@
 
 Each crate of crates.txt has a folder, a page and a line in docs/ARCHITECTURE.md, and no other folder is there. A
 crate's page names each of its sources and each of its files of definitions; what only holds the crate together
-(`lib.rt`, `Lib.antt`) goes without saying. It has the shape of all others: its name, a sentence or two, an example
-whose calls and definitions are there, and the table of files. Each file that a page names is there, and each link leads
-somewhere, to a heading that is there where it says which. Each name of a function, a type or a definition that the
-documents have in backticks stands in the sources. Each name of a contract in docs/PROMISES.md is one of the crates that
-stand beside it. docs/SESSION.md has a row for each code of traits, and no other. Ends with 'N looks, N failed', and
-status 1 where one failed."""
+(`lib.rt`, `Lib.antt`) goes without saying. Definitions that have the name of a source but for a letter have all of it:
+`specs/Refusal.antt` stands beside `src/refusal.rt`. It has the shape of all others: its name, a sentence or two, an
+example whose calls and definitions are there, and the table of files. Each file that a page names is there, and each
+link leads somewhere, to a heading that is there where it says which. Each name of a function, a type or a definition
+that the documents have in backticks stands in the sources. Each name of a contract in docs/PROMISES.md is one of the
+crates that stand beside it. docs/SESSION.md has a row for each code of traits, and no other. Ends with 'N looks, N
+failed', and status 1 where one failed."""
 import pathlib
 import re
 import sys
+
+from tests import Tests
 
 TOP = pathlib.Path(__file__).resolve().parents[2]
 CRATES = TOP / "crates"
@@ -24,19 +27,6 @@ NAME = re.compile(r"[a-z][a-z0-9]*(?:_[a-z0-9]+)+|(?:[A-Z][a-z]+){2,}")
 # The titles of the table of files.
 TITLES = ("| File | Has |", "| File | Has | Defined in |")
 BLOCK = re.compile(r"```(\w+)\n(.*?)```", re.S)
-
-
-class Looks:
-    """How many looks were taken, and what failed."""
-
-    def __init__(self):
-        self.taken, self.failed = 0, 0
-
-    def look(self, holds, what):
-        self.taken += 1
-        if not holds:
-            self.failed += 1
-            print(what)
 
 
 def quoted(text):
@@ -102,6 +92,22 @@ def crates(looks):
         looks.look(False, f"crates.txt lists {name}, which has no folder")
 
 
+def bare(name):
+    """A file's name without what makes it a plural."""
+    name = name.replace("_", "").lower()
+    return name[:-3] + "y" if name.endswith("ies") else name[:-1] if re.search("[^s]s$", name) else name
+
+
+def spec_names(looks):
+    """Definitions stand in the spec with the name of the source."""
+    for folder in sorted(CRATES.iterdir()):
+        sources = {path.stem for path in (folder / "src").rglob("*.rt")}
+        for spec in sorted((folder / "specs").glob("*.antt")):
+            near = [name for name in sources if bare(name) == bare(spec.stem)]
+            looks.look(not near or spec.stem.lower() in {name.replace("_", "") for name in near},
+                       f"{folder.name}: specs/{spec.name} stands beside src/{near[0] if near else ''}.rt")
+
+
 def shapes(looks):
     """Each page of a crate has the shape of the others."""
     calls = {name for path in CRATES.glob("*/src/**/*.rt") for name in
@@ -156,13 +162,14 @@ def promises(looks):
 
 
 def main():
-    looks = Looks()
+    looks = Tests()
     crates(looks)
+    spec_names(looks)
     shapes(looks)
     pages(looks)
     codes(looks)
     promises(looks)
-    print(f"{looks.taken} looks, {looks.failed} failed")
+    print(f"{looks.passed + looks.failed} looks, {looks.failed} failed")
     return 1 if looks.failed else 0
 
 

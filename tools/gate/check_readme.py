@@ -5,8 +5,8 @@ PROGRAM is a command, in quotes where it has words of its own. In a folder of it
 written to the file that the paragraph above it names last, and each line `$ COMMAND` of a block `console` is run by
 bash, `larch` being ./larch with PROGRAM; what it writes has to be the lines below it. A command of a tool in the
 running text has to end well. What builds the program is run by .ci/run, which has to have that line; the try without a
-proof takes a compiler a minute, and is run with --unproved alone. The page has less than 1,200 words. Ends with 'N passed, N failed',
-and status 1 where one failed."""
+proof takes a compiler a minute, and is run with --unproved alone. The page has less than 1,200 words. Ends with 'N
+passed, N failed', and status 1 where one failed."""
 import os
 import pathlib
 import re
@@ -16,25 +16,13 @@ import subprocess
 import sys
 import tempfile
 
+from tests import Tests
+
 TOP = pathlib.Path(__file__).resolve().parents[2]
 PAGE = TOP / "README.md"
 MOST_WORDS = 1200
 BLOCK = re.compile(r"((?:[^\n]+\n)*)\n```(\w+)\n(.*?)^```$", re.M | re.S)
 FILE = re.compile(r"`(\w+\.(?:lsl|cert))`")
-
-
-class Tests:
-    """What was seen, and how much of it is as wanted."""
-
-    def __init__(self):
-        self.passed = self.failed = 0
-
-    def see(self, title, found, wanted):
-        if found == wanted:
-            self.passed += 1
-        else:
-            self.failed += 1
-            print(f"{title}: saw {found!r} and wanted {wanted!r}")
 
 
 def calls(block):
@@ -95,8 +83,7 @@ def main():
     told(tests, text, unproved)
     count = len(text.split())
     tests.see(f"README.md has {count} words, less than {MOST_WORDS}", count < MOST_WORDS, True)
-    print(f"{tests.passed} passed, {tests.failed} failed")
-    return 1 if tests.failed else 0
+    return tests.end()
 
 
 if __name__ == "__main__":

@@ -1,24 +1,50 @@
 #!/usr/bin/env python3
 """Looks at the form of the sources: python3 tools/gate/check_style.py [--columns N] [--parameters N] [--lines N]
 
-Lists, in `crates/`, the lines of code and the clauses above so many columns (120), the functions with more than so many
-parameters (6, `alloc` among them), and the files with more than so many lines (500). Lines that only name what is cited
-don't count: `ghost use` and the lemmas of a `tactic`; nor do texts in quotes, nor definitions and proofs, which are
-tables as often as not. Files of which docs/DECISIONS.md says why they stay as they are, are left out. Ends with a line
-that counts what was found and looked at, and with status 1 where something was found."""
+Lists, in `crates/`, the lines of code, clauses, definitions and proofs above so many columns (120), the functions with
+more than so many parameters (6, `alloc` among them), the files with more than so many lines (500), the functions and
+definitions whose whole name is a participle (`joined`, `taken`), and forms that only hand on: `Ok(x) => Ok(x)`, `Err(x)
+=> return Err(x)`, and `let x = f()?; Ok(x)` at the end of a body. Of the programs in Python it lists the lines above
+120 columns and the texts in single quotes. In code, lines that only name what is cited don't count, `ghost use` and the
+lemmas of a `tactic`, nor do texts in quotes; in proofs, an import of a single name. Files and functions of which
+docs/DECISIONS.md says why they stay as they are, are left out. Ends with a line that counts what was found and looked
+at, and with status 1 where something was found."""
 import argparse
+import io
 import pathlib
 import re
 import sys
+import tokenize
 
 TOP = pathlib.Path(__file__).resolve().parents[2]
 CITES = re.compile(r"\s*(ghost use |#\[tactic\()")
+ALONE = re.compile(r"use [^{]*\{[^,}]*\}$")
 TEXT = re.compile(r'b?"(?:[^"\\]|\\.)*"')
 OPEN, CLOSED = "([{<", ")]}>"
 # Files that are longer, for the reasons in docs/DECISIONS.md.
 LONG = {"larch_certificate_text/proofs/LineLaws.antt", "larch_grammar/specs/Machine.antt",
         "larch_grammar/proofs/Words.antt",
         "larch_replay/specs/Worked.antt", "larch_replay/src/examples.rt"}
+# What ends as a participle does and is none, and participles that are names of their own.
+NO_PARTICIPLES = {"between", "even", "feed", "flatten", "heighten", "len", "need", "open", "read", "seed", "speed",
+                  "token", "weaken"}
+PARTICIPLE = re.compile(r"[a-z]*(?:ed|en|told)")
+DEFINITION = re.compile(r"^ *(?:abbrev |unfoldable |pattern )*pub (?:abbrev )?([a-z]+)(?: \{[^}]*\})? :", re.M)
+AGAIN = re.compile(r"\bOk\((\w+)\) => Ok\(\1\)|\bErr\((\w+)\) => return Err\(\2\)")
+HANDED_ON = re.compile(r"let (\w+) = [^;]*\?;\s*Ok\(\1\)\s*\}")
+# Names that stay, as crate:name: mostly of functions whose answer a caller keeps under the same name.
+LEFT = {"larch_critical_pairs:marked", "larch_critical_pairs:named", "larch_critical_pairs:numbered",
+        "larch_derive_tests:printed", "larch_duties:implied", "larch_duties:renamed", "larch_gathered:listed",
+        "larch_grammar:named", "larch_grammar:qualified", "larch_io:taken", "larch_method_table:planned",
+        "larch_method_table:told", "larch_methods:supposed", "larch_pairs:replaced", "larch_plans:joined",
+        "larch_pool:copied", "larch_pool:numbered", "larch_redexes:turned", "larch_replacing:renamed",
+        "larch_rewrite:lined", "larch_rewrite_table:told", "larch_shorthand:generated", "larch_shorthand:injected",
+        "larch_shorthand:partitioned", "larch_sorts:copied", "larch_sorts:named", "larch_syntax:counted",
+        "larch_syntax:refused", "larch_tables:numbered", "larch_term_table:prepared", "larch_term_tests:exchanged",
+        "larch_term_tests:partitioned", "larch_term_tests:replaced", "larch_tests:called", "larch_tests:counted",
+        "larch_traits_tests:marked", "larch_words:asked"}
+# Functions that end with `let x = f()?; Ok(x)`, as crate/source.rt:function, for the reasons in docs/DECISIONS.md.
+HAND_ON = set()
 
 
 def parts(text, start):
@@ -50,6 +76,57 @@ def functions(text):
         yield text.count("\n", 0, head.start()) + 1, head[1], [part.split(":")[0] for part in parts(text, place)]
 
 
+def is_field(text, place):
+    """Whether what stands indented at a place is a field or a constructor: the line that it belongs to says so."""
+    indent = re.match(" *", text[place:])[0]
+    above = [line for line in text[:place].split("\n") if line.strip() and len(line) - len(line.lstrip()) < len(indent)]
+    return bool(indent and above and re.search(r"\b(?:record|data)\b|^ *: Type", above[-1]))
+
+
+def participles(path, text):
+    """The functions and public definitions of a file that are named by a participle alone."""
+    if path.suffix == ".rt":
+        named = [(number, name) for number, name, _ in functions(text)]
+    else:
+        named = [(text.count("\n", 0, word.start()) + 1, word[1]) for word in DEFINITION.finditer(text)
+                 if "specs" in path.parts and not is_field(text, word.start())]
+    crate = path.relative_to(TOP / "crates").parts[0]
+    return [(number, name) for number, name in named
+            if PARTICIPLE.fullmatch(name) and name not in NO_PARTICIPLES and f"{crate}:{name}" not in LEFT]
+
+
+def handed_on(name, text):
+    """The forms of a source that only hand on what they were given, each with its line."""
+    text = re.sub("//[^\n]*", lambda comment: " " * len(comment[0]), text)
+    heads = [(head.start(), head[1]) for head in re.finditer(r"\bfn (\w+)", text)]
+    for form in [*AGAIN.finditer(text), *HANDED_ON.finditer(text)]:
+        function = [word for start, word in heads if start < form.start()][-1:]
+        if form.re is AGAIN or f"{name.replace('/src/', '/')}:{''.join(function)}" not in HAND_ON:
+            yield text.count("\n", 0, form.start()) + 1, " ".join(form[0].split())
+
+
+def python_form(path, columns):
+    """What is to be said of a program in Python."""
+    text = path.read_text(encoding="utf-8")
+    name = path.relative_to(TOP)
+    for number, line in enumerate(text.split("\n"), 1):
+        if len(line) > columns:
+            yield f"{name}:{number}: {len(line)} columns"
+    for token in tokenize.generate_tokens(io.StringIO(text).readline):
+        if token.type == tokenize.STRING and token.string.lstrip("rbfRBF")[0] == "'" and '"' not in token.string:
+            yield f"{name}:{token.start[0]}: single quotes: {token.string[:40]}"
+
+
+def programs():
+    """The programs in Python beside the crates."""
+    for folder in ("tools", "bench", "companions", "editors"):
+        for path in sorted((TOP / folder).rglob("*")):
+            if path.is_file() and (path.suffix == ".py" or not path.suffix and
+                                   path.open(encoding="utf-8",
+                                             errors="replace").readline().rstrip().endswith("python3")):
+                yield path
+
+
 def long_lines(text, columns):
     """The lines of code above some columns, with how many they have."""
     for number, line in enumerate(text.split("\n"), 1):
@@ -63,12 +140,20 @@ def looked_at(path, limits):
     lines = text.count("\n")
     if lines > limits.lines and name not in LONG:
         yield f"{name}: {lines} lines"
+    for number, word in participles(path, text):
+        yield f"{name}:{number}: {word} is a participle"
     if path.suffix == ".rt":
         for number, columns in long_lines(text, limits.columns):
             yield f"{name}:{number}: {columns} columns"
+        for number, form in handed_on(name, text):
+            yield f"{name}:{number}: hands on: {form[:60]}"
         for number, function, parameters in functions(text):
             if len(parameters) > limits.parameters:
                 yield f"{name}:{number}: {function} has {len(parameters)} parameters: {', '.join(parameters)}"
+    else:
+        for number, line in enumerate(text.split("\n"), 1):
+            if len(line) > limits.columns and not ALONE.match(line):
+                yield f"{name}:{number}: {len(line)} columns"
 
 
 def main():
@@ -80,7 +165,9 @@ def main():
     files = [path for folder in sorted((TOP / "crates").iterdir()) for kind in ("src", "specs", "proofs")
              for path in sorted((folder / kind).rglob("*")) if path.suffix in (".rt", ".antt")]
     said = [line for path in files for line in looked_at(path, limits)]
-    print("\n".join(said + [f"{len(said)} found in {len(files)} files"]))
+    beside = list(programs())
+    said += [line for path in beside for line in python_form(path, limits.columns)]
+    print("\n".join(said + [f"{len(said)} found in {len(files) + len(beside)} files"]))
     return 1 if said else 0
 
 

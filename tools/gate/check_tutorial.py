@@ -5,10 +5,11 @@ PROGRAM is a command, in quotes where it has words of its own. docs/TUTORIAL.md 
 top to bottom: a block below a line "`NAME`:" is a file, as it is to be typed; in a block whose first line begins with
 `$ ` each such line is a command, and below it stands what it prints. PROGRAM is on the path as `larch`, and LARCH_TOP
 is this checkout; the home is a folder of its own. The page has to show a right trait, a wrong one, an explained
-mistake, a listing, an accepted certificate and an installed program. Of docs/COMING_FROM_LSL.md the `lsl` blocks are run as those of docs/TRAITS.md are, and each row of its
-tables is put into the trait that stands above it as `Frame.lsl`, in the place of the comment `% HERE` of the row's
-part: what the row has first is refused with the code and at the words that it says, and what it has last is right.
-Ends with 'N passed, N failed', and status 1 where one failed."""
+mistake, a listing, an accepted certificate and an installed program. Of docs/COMING_FROM_LSL.md the `lsl` blocks are
+run as those of docs/TRAITS.md are, and each row of its tables is put into the trait that stands above it as
+`Frame.lsl`, in the place of the comment `% HERE` of the row's part: what the row has first is refused with the code and
+at the words that it says, and what it has last is right. Ends with 'N passed, N failed', and status 1 where one
+failed."""
 import os
 import pathlib
 import re
@@ -20,6 +21,7 @@ import tempfile
 
 import check_guide
 import check_readme
+from tests import Tests
 
 TOP = pathlib.Path(__file__).resolve().parents[2]
 TUTORIAL, COMING = TOP / "docs/TUTORIAL.md", TOP / "docs/COMING_FROM_LSL.md"
@@ -29,20 +31,6 @@ SEEN = {"a right trait": ("check", r"^trait \w+$"), "a wrong trait": ("check", r
         "an explained mistake": ("explain", r"^\w+\.lsl:\d+:\d+: .* \[[A-Z-]+\]$"),
         "a listing": ("obligations", r"^imply\.1 "), "an accepted certificate": ("verify", r"^accepted$"),
         "an installed program": ("bin/larch check", r"^trait \w+$")}
-
-
-class Tests:
-    """What was seen, and how much of it is as wanted."""
-
-    def __init__(self):
-        self.passed = self.failed = 0
-
-    def see(self, title, found, wanted):
-        if found == wanted:
-            self.passed += 1
-        else:
-            self.failed += 1
-            print(f"{title}: saw {found!r} and wanted {wanted!r}")
 
 
 # The tutorial ------------------------------------------------------------------------------------
@@ -152,8 +140,7 @@ def main():
     tests = Tests()
     tutorial(tests, program)
     coming(tests, program)
-    print(f"tutorial: {tests.passed} passed, {tests.failed} failed")
-    return 1 if tests.failed else 0
+    return tests.end("tutorial")
 
 
 if __name__ == "__main__":

@@ -1,5 +1,6 @@
 #!/usr/bin/env python3
-"""Tests tools/larch-watch and tools/explain: python3 tools/gate/check_watch.py [PROGRAM]; else the checkout's ./larch"""
+"""Tests tools/larch-watch and tools/explain: python3 tools/gate/check_watch.py [PROGRAM]; else the checkout's
+./larch"""
 import os
 import pathlib
 import pty
@@ -10,7 +11,7 @@ import unittest
 
 sys.path.insert(0, str(pathlib.Path(__file__).resolve().parents[1]))
 from desk import TOP  # noqa: E402
-from companions.explain import code_parts, sentence  # noqa: E402
+from companions.explain import code_parts, codes_of_traits, sentence  # noqa: E402
 
 RIGHT = "U: trait\n  introduces\n    c: -> S\n  asserts\n    \\forall x: S\n      c == c\n"
 PROGRAM = str(TOP / "larch")
@@ -107,6 +108,20 @@ class Watched(unittest.TestCase):
         os.close(head)
         os.close(tail)
 
+    def test_progress_on_a_terminal(self):
+        slow = self.path.with_name("slow")
+        slow.write_text(f"#!/bin/sh\nsleep 1.5\nexec {PROGRAM} \"$@\"\n")
+        slow.chmod(0o755)
+        for call in (self.call[:3], [TOP / "tools/explain", self.place.name]):
+            words = ["--once"] if len(call) == 3 else []
+            head, tail = pty.openpty()
+            subprocess.run([*call, "--larch", slow, *words], stdout=subprocess.DEVNULL, stderr=tail)
+            shown = os.read(head, 100000).decode()
+            self.assertIn("larch: looks at 1 traits", shown)
+            self.assertTrue(shown.endswith("\r\x1b[K"))
+            os.close(head)
+            os.close(tail)
+
     def test_explain(self):
         def explain(*words):
             done = subprocess.run([TOP / "tools/explain", *words], capture_output=True, text=True)
@@ -116,8 +131,13 @@ class Watched(unittest.TestCase):
         for code, part in parts.items():
             self.assertEqual(explain(code.lower()), (0, f"{code}\n\n{part}\n\n"))
         self.assertEqual(explain("NONE")[0], 1)
+        self.assertEqual(explain("sintax"), (1, "SINTAX is no code (did you mean `SYNTAX`?); without words all are "
+                                                "listed\n\n"))
         self.assertIn("FILE", explain("--help")[1])
-        self.assertEqual(explain(), (0, "\n".join(sorted(parts)) + "\n"))
+        status, shown = explain()
+        traits, _, scripts = shown.partition("\n\nof scripts, which no command reads yet:\n")
+        self.assertEqual((status, traits.splitlines()), (0, codes_of_traits()))
+        self.assertEqual(sorted(traits.splitlines() + scripts.splitlines()), sorted(parts))
 
     def test_explain_files(self):
         def explain(*words):

@@ -8,12 +8,15 @@ older than a source is built, and that calls one after another search once; and 
 away in a scratch folder. Ends with 'N passed, N failed', and status 1 where one failed."""
 import os
 import pathlib
+import pty
 import re
 import shutil
 import subprocess
 import sys
 import tempfile
 import time
+
+from tests import Tests
 
 TOP = pathlib.Path(__file__).resolve().parents[2]
 USAGE = "usage: larch COMMAND [WORD..] [--limit N] [--seed N] [--size N]\n"
@@ -38,6 +41,10 @@ CALLS = [
      "verify Natural imply.1 ../b/Natural.imply.1.cert Natural.lsl", "a", ""),
     ("chekc One.lsl", "chekc One.lsl", "a", "`chekc`: did you mean `check`?"),
     ("frobnicate", "frobnicate", "a", "`frobnicate` is no command"),
+    ("show Two.lsl", "show Two.lsl", "a", "there is no `show`: `larch obligations FILE..` lists"),
+    ("prove Two.lsl", "prove Two.lsl", "a", "there is no `prove`: nothing looks for proofs yet"),
+    ("install", "install", "a", "`install`: did you mean `larch --install`?"),
+    ("--verison", "--verison", "a", "did you mean `larch --version`?"),
     ("a/Two.lsl", "a/Two.lsl", ".", "did you mean `larch check a/Two.lsl`?"),
     ("", "", "a", "`larch help` lists the commands"),
     ("check", "check", "a", "too few words"),
@@ -47,27 +54,12 @@ CALLS = [
     ("check b/*.lsl", "check *.lsl", "b", "no file is called *.lsl"),
     ("check --limit=3 a/Two.lsl", "check --limit=3 Two.lsl", "a", "no command takes the option --limit=3"),
     ("verify Natural imply1 N.cert a/Natural.lsl", "verify Natural imply1 N.cert Natural.lsl", "a", "is no label"),
+    ("verify Natural imply.1 a/Form.cert a/Natural.lsl", "verify Natural imply.1 Form.cert Natural.lsl", "a",
+     "that is a line of the certificate Form.cert; "),
     ("check a/Tow.lsl", "check Tow.lsl", "a", "did you mean `Two.lsl`?"),
     ("check a/Big.lsl", "check Big.lsl", "a", "Big.lsl has 1,048,577 bytes, and a file 1,048,576 at most"),
     ("check " + " ".join(f"many/{name}" for name in MANY), "check " + " ".join(MANY), "many",
      "257 files are named, and a call takes 256; ")]
-
-
-class Tests:
-    """What was seen, and how much of it is as wanted."""
-
-    def __init__(self):
-        self.passed = self.failed = 0
-
-    def see(self, title, found, wanted):
-        if found == wanted:
-            self.passed += 1
-        else:
-            self.failed += 1
-            print(f"{title}: saw {found!r} and wanted {wanted!r}")
-
-    def has(self, title, found, part):
-        self.see(title, found if part not in found else part, part)
 
 
 def run(call, folder, given="", **environment):
@@ -89,6 +81,7 @@ def make_folder(folder):
     for name in CERTIFIED:
         shutil.copy(TOP / "examples/lessons" / name, folder / "a" / name)
     shutil.copy(TOP / "examples/lessons" / CERTIFIED[1], folder / "b" / CERTIFIED[1])
+    (folder / "a/Form.cert").write_text("no certificate\n")
     (folder / "a/Big.lsl").write_text("Big: trait".ljust(1048577))
 
 
@@ -127,6 +120,18 @@ def around(tests, larch, folder):
     tests.see("larch watch a --once: the status", status, 1)
 
 
+def on_a_terminal(tests, larch, folder):
+    """What is said on a terminal of wrong traits."""
+    for words, said in (("check a/Wrong.lsl", "larch: `larch explain FILE..` says why"),
+                        ("check a/One.lsl", "larch: Two.lsl lies here and isn't named; `--with-included` adds")):
+        head, tail = pty.openpty()
+        done = subprocess.run([larch, *words.split()], cwd=folder, stdout=subprocess.DEVNULL, stderr=tail, check=False)
+        tests.see(f"larch {words} on a terminal: the status", done.returncode, 1)
+        tests.has(f"larch {words} on a terminal", os.read(head, 10000).decode(), said)
+        os.close(head)
+        os.close(tail)
+
+
 def links(tests, folder):
     """Links to the script find what it stands beside, from another folder too."""
     (folder / "link").symlink_to(TOP / "larch")
@@ -147,6 +152,10 @@ def checkout(folder):
     made = f"{folder}/crates/larch/out/larch"
     (folder / "tools/make/build.py").write_text(f"open({made!r}, 'w').write('#!/bin/sh\\necho ran\\n')\n"
                                                 f"import os\nos.chmod({made!r}, 0o755)\n")
+    made = f"{folder}/crates/larch/out/larch-unproved"
+    (folder / "tools/make/build_unproved.py").write_text(f"open({made!r}, 'w').write('#!/bin/sh\\necho tried\\n')\n"
+                                                         f"import os\nos.chmod({made!r}, 0o755)\n")
+    (folder / "tools/call.py").write_text("import sys\nprint('asked', *sys.argv[1:])\n")
     for name, text in {"rt": "", "find": 'echo searched >&2\nexec /usr/bin/find "$@"\n'}.items():
         (folder / "path" / name).write_text("#!/bin/sh\n" + text)
         (folder / "path" / name).chmod(0o755)
@@ -165,6 +174,10 @@ def building(tests, place):
     past = time.time() - 1000
     os.utime(place / "crates/larch/src/main.rt", (past, past))
     os.utime(place / "crates.txt", (past, past))
+    tests.see("a word that is no command, and no program", call("chekc"), ("asked why 2 chekc\n", 2, False, 0))
+    output, status, said = run([larch, "--unproved", "check"], place, **environment)
+    tests.see("--unproved", (output, status, "NOT PROVED" in said, "compiling" in said), ("tried\n", 0, True, True))
+    tests.see("--unproved --version", call("--unproved", "--version")[:2], ("asked --version\n", 0))
     tests.see("a program that isn't there", call("check"), ("ran\n", 0, True, 0))
     time.sleep(2.1)
     tests.see("a program that is new", call("check"), ("ran\n", 0, False, 1))
@@ -242,11 +255,11 @@ def main():
         make_folder(folder)
         calls(tests, TOP / "larch", program, folder)
         around(tests, TOP / "larch", folder)
+        on_a_terminal(tests, TOP / "larch", folder)
         links(tests, folder)
         building(tests, pathlib.Path(other).resolve())
         installation(tests, program, pathlib.Path(prefix).resolve(), folder)
-    print(f"{tests.passed} passed, {tests.failed} failed")
-    return 1 if tests.failed else 0
+    return tests.end()
 
 
 if __name__ == "__main__":

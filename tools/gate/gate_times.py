@@ -1,10 +1,10 @@
 #!/usr/bin/env python3
-"""Tells where the gate's processor time goes: gate_times.py [--to FILE] COMMAND.. runs a command, as `rt ci`, and looks at
-the prover's processes meanwhile.
+"""Tells where the gate's processor time goes: gate_times.py [--to FILE] COMMAND.. runs a command, as `rt ci`, and looks
+at the prover's processes meanwhile.
 
 Prints a row for each crate, dearest first: seconds of processor time for its proof (a program's builds with it), its
-tests, the check with which its edits begin (the seed), and its edits; then the sums in minutes. With --to the rows go to
-that file as well, so that another run can be laid beside this one. What a process took after the last look at it is
+tests, the check with which its edits begin (the seed), and its edits; then the sums in minutes. With --to the rows go
+to that file as well, so that another run can be laid beside this one. What a process took after the last look at it is
 lost, half a second at most. Ends with the command's status.
 """
 import argparse

@@ -1,5 +1,6 @@
 #!/usr/bin/env python3
-"""Lists functions by the size of their machine form, by which a proof's time goes: machine_sizes.py [--least KB] [CRATE..]
+"""Lists functions by the size of their machine form, by which a proof's time goes: machine_sizes.py [--least KB]
+[CRATE..]
 
 Reads the libraries that `rt lib`, `rt check` or `./larch --build` left in crates/*/out (--in FOLDER: other libraries,
 as FOLDER/NAME.rlib). A kilobyte takes about 0.35 s of processor time to prove on a quiet machine, and more above 30 kB.

@@ -1,7 +1,8 @@
 #!/usr/bin/env python3
 """Makes the files by which editors colour traits and proof scripts: python3 tools/make/make_highlighting.py
 
-The words are those of editors/words.txt. `files()` has each file's path with its text; run as a program it writes them."""
+The words are those of editors/words.txt. `files()` has each file's path with its text; run as a program it writes
+them."""
 import json
 import pathlib
 

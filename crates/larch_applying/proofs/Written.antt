@@ -3,8 +3,8 @@ use Rattle.std.specs.Prelude.{◌≡◌, ◌+◌, ◌<◌, ℕ, List, [], ◌∷
 use Rattle.std.proofs.Common.{arith, ap, sym, subst, ◌∙◌}
 use Rattle.std.proofs.lemmas.List.{map_push, take_more}
 use Rattle.std.proofs.lemmas.List.Elements.{All-contains, All-push, All-weaker}
-use Rattle.larch_applying.specs.Codes.{AreCodes, AreOfStore}
-use Rattle.larch_applying.specs.declared.code.Code.{Code}
+use Rattle.larch_applying.specs.Encodings.{AreEncodings, AreOfStore}
+use Rattle.larch_applying.specs.declared.encoding.Encoding.{Encoding}
 use Rattle.larch_certificate.specs.Coded.{CodedTree, coded_app, coded_forest_of, coded_var}
 use Rattle.larch_certificate.specs.declared.line.Binding.{Binding}
 use Rattle.larch_certificate.specs.declared.symbol.Symbol.{Symbol}
@@ -32,32 +32,32 @@ use Rattle.larch_term.specs.declared.substitution.Entry.{Entry}
 -- ---- what is kept
 
 -- a kept code is the term's
-pub found_code : (b : Builder) (codes : List Code) (k : Code) (x : Numbered) (c : CodedTree) → Contains codes k
-    → term_of k.term ≡ term_of x → c ≡ k.coded → AreCodes b codes → IsCodeIn b (term_of x) c
-found_code b codes k x c m e p h =
+pub found_encoding : (b : Builder) (encodings : List Encoding) (k : Encoding) (x : Numbered) (c : CodedTree) → Contains encodings k
+    → term_of k.term ≡ term_of x → c ≡ k.coded → AreEncodings b encodings → IsCodeIn b (term_of x) c
+found_encoding b encodings k x c m e p h =
     subst (λ d. IsCodeIn b (term_of x) d) (sym p)
-    (subst (λ t. IsCodeIn b t k.coded) e (All-contains (λ k. IsCodeIn b (term_of k.term) k.coded) codes k h m))
+    (subst (λ t. IsCodeIn b t k.coded) e (All-contains (λ k. IsCodeIn b (term_of k.term) k.coded) encodings k h m))
 
-pub kept_belongs : (s : List Numbered) (codes new : List Code) (x : Numbered) (c : CodedTree)
-    → new ≡ codes ++ record { term = x; coded = c } ∷ [] → Belongs s x → AreOfStore s codes → AreOfStore s new
-kept_belongs s codes new x c e b h =
-    subst (AreOfStore s) (sym e) (All-push (λ k. Belongs s k.term) codes (record { term = x; coded = c }) h b)
+pub kept_belongs : (s : List Numbered) (encodings new : List Encoding) (x : Numbered) (c : CodedTree)
+    → new ≡ encodings ++ record { term = x; coded = c } ∷ [] → Belongs s x → AreOfStore s encodings → AreOfStore s new
+kept_belongs s encodings new x c e b h =
+    subst (AreOfStore s) (sym e) (All-push (λ k. Belongs s k.term) encodings (record { term = x; coded = c }) h b)
 
-pub kept_codes : (b : Builder) (codes new : List Code) (x : Numbered) (c : CodedTree)
-    → new ≡ codes ++ record { term = x; coded = c } ∷ [] → IsCodeIn b (term_of x) c → AreCodes b codes → AreCodes b new
-kept_codes b codes new x c e d h =
-    subst (AreCodes b) (sym e)
-    (All-push (λ k. IsCodeIn b (term_of k.term) k.coded) codes (record { term = x; coded = c }) h d)
+pub kept_encodings : (b : Builder) (encodings new : List Encoding) (x : Numbered) (c : CodedTree)
+    → new ≡ encodings ++ record { term = x; coded = c } ∷ [] → IsCodeIn b (term_of x) c → AreEncodings b encodings → AreEncodings b new
+kept_encodings b encodings new x c e d h =
+    subst (AreEncodings b) (sym e)
+    (All-push (λ k. IsCodeIn b (term_of k.term) k.coded) encodings (record { term = x; coded = c }) h d)
 
 -- what is kept stays in a store that grows, and where the builder has further lines
-pub of_store_stay : (s u : List Numbered) (codes : List Code) → Grows s u → AreOfStore s codes → AreOfStore u codes
-of_store_stay s u codes g h =
-    All-weaker (λ k. Belongs s k.term) (λ k. Belongs u k.term) (λ k p. belongs_stays s u k.term g p) codes h
+pub of_store_stay : (s u : List Numbered) (encodings : List Encoding) → Grows s u → AreOfStore s encodings → AreOfStore u encodings
+of_store_stay s u encodings g h =
+    All-weaker (λ k. Belongs s k.term) (λ k. Belongs u k.term) (λ k p. belongs_stays s u k.term g p) encodings h
 
-pub codes_stay : (a b : Builder) (codes : List Code) → Extends a b → AreCodes a codes → AreCodes b codes
-codes_stay a b codes x h =
+pub encodings_stay : (a b : Builder) (encodings : List Encoding) → Extends a b → AreEncodings a encodings → AreEncodings b encodings
+encodings_stay a b encodings x h =
     All-weaker (λ k. IsCodeIn a (term_of k.term) k.coded) (λ k. IsCodeIn b (term_of k.term) k.coded)
-    (λ k p. code_stays a b (term_of k.term) k.coded x p) codes h
+    (λ k p. code_stays a b (term_of k.term) k.coded x p) encodings h
 
 -- ---- a term by its root
 

@@ -1,4 +1,4 @@
 pub mod Holding
 pub mod Exchanging
 pub mod Applying
-pub mod Codes
+pub mod Encodings

@@ -1,17 +1,18 @@
-ghost use Rattle.std.specs.Prelude.{◌≡◌, IfOk, IfErr};
+ghost use Rattle.std.specs.Prelude.{◌≡◌, true, IfOk, IfErr};
 ghost use Rattle.larch_applying.specs.Applying.{MayRefuse, IsTried};
-ghost use Rattle.larch_applying.specs.Codes.{AreCodes, AreOfStore};
+ghost use Rattle.larch_applying.specs.Encodings.{AreEncodings, AreOfStore};
 ghost use Rattle.larch_applying.specs.Holding.{ReasonSays, RuleHolds};
 ghost use Rattle.larch_derive.specs.Predicates.{HasEquation, Extends, Known, HasNoBadLine};
 ghost use Rattle.larch_redexes.specs.Bound.{entries_of};
-ghost use Rattle.larch_redexes.specs.Rule.{right_of};
-ghost use Rattle.larch_redexes.specs.Search.{IsBoundIn, IsBy};
+ghost use Rattle.larch_redexes.specs.Rule.{left_of, right_of};
+ghost use Rattle.larch_redexes.specs.Search.{IsFoundIn, IsBy};
 ghost use Rattle.larch_store.specs.Numbered.{term_of};
 ghost use Rattle.larch_store.specs.Stored.{Belongs, Grows};
+ghost use Rattle.larch_term.specs.Arguments.{has_two_arguments};
 ghost use Rattle.larch_term.specs.Substitution.{substituted};
 ghost use Rattle.larch_term.specs.Tree.{Tree};
 
-use crate::code::Codes;
+use crate::encoding::Encodings;
 use crate::exchanging::exchanged_line;
 use crate::making::made;
 use crate::refusal::ApplyRefusal;
@@ -69,6 +70,7 @@ fn rule_line(
     rule: &Rule,
     exchanged: bool,
 ) -> Result<u64, Memory>
+    requires { exchanged ≡ true → has_two_arguments (left_of rule.now) ≡ true }
     ensures says { IfOk result (λ n. (x : Tree) → HasNoBadLine builder.old → RuleHolds builder.old rule.now
         → IsTried rule.now exchanged x → HasEquation builder.new n x (right_of rule.now)) }
     ensures extends { (x : Tree) → HasNoBadLine builder.old → RuleHolds builder.old rule.now
@@ -90,28 +92,30 @@ pub fn apply_match<'a>(
     alloc: Global,
     store: &mut Store,
     builder: &mut Builder,
-    codes: &mut Codes,
+    encodings: &mut Encodings,
     found: &Match<'a>,
 ) -> Result<Applied, ApplyRefusal>
-    requires bound { IsBoundIn store.old found.now }
-    requires codes { AreOfStore store.old codes.old }
+    requires bound { IsFoundIn store.old found.now }
+    requires encodings { AreOfStore store.old encodings.old }
     ensures term { IfOk result (λ a. term_of a.term
         ≡ substituted (entries_of found.now.by) (right_of found.now.rule.now)) }
     ensures belongs { IfOk result (λ a. Belongs store.new a.term) }
     ensures refused { IfErr result (MayRefuse (substituted (entries_of found.now.by) (right_of found.now.rule.now))) }
     ensures says { IfOk result (λ a. (t : Tree) → Known builder.old t → RuleHolds builder.old found.now.rule.now
-        → IsBy found.now.rule.now found.now.exchanged t (entries_of found.now.by) → AreCodes builder.old codes.old
+        → IsBy found.now.rule.now found.now.exchanged t (entries_of found.now.by)
+        → AreEncodings builder.old encodings.old
         → HasEquation builder.new a.line t (term_of a.term)) }
     ensures extends { (t : Tree) → Known builder.old t → RuleHolds builder.old found.now.rule.now
-        → IsBy found.now.rule.now found.now.exchanged t (entries_of found.now.by) → AreCodes builder.old codes.old
+        → IsBy found.now.rule.now found.now.exchanged t (entries_of found.now.by)
+        → AreEncodings builder.old encodings.old
         → Extends builder.old builder.new }
     ensures grows { Grows store.old store.new }
-    ensures belong { AreOfStore store.new codes.new }
-    ensures codes { AreCodes builder.old codes.old → AreCodes builder.old codes.new }
+    ensures belong { AreOfStore store.new encodings.new }
+    ensures encodings { AreEncodings builder.old encodings.old → AreEncodings builder.old encodings.new }
 {
     let bound = found.by.as_slice();
     let term = made(alloc, store, found.rule.right(), bound)?;
-    let by = write_bound(store, builder, codes, bound)?;
+    let by = write_bound(store, builder, encodings, bound)?;
     let tried = rule_line(alloc, builder, found.rule, found.exchanged)?;
     let line = written_inst_line(builder, tried, by)?;
     Ok(Applied { term, line })

@@ -1,18 +1,19 @@
-ghost use Rattle.std.specs.Prelude.{◌≡◌, ◌++◌, ◌∷◌, [], false, Some, IfOk, OnOk};
+ghost use Rattle.std.specs.Prelude.{◌≡◌, ◌++◌, ◌∷◌, [], true, false, Some, IfOk, OnOk};
 ghost use Rattle.std.specs.List.{list_any};
 ghost use Rattle.larch_applying.specs.Exchanging.{IsExchange, pair_at};
 ghost use Rattle.larch_calculus.specs.Formula.{equality};
 ghost use Rattle.larch_derive.specs.Predicates.{HasEquation, Extends, HasNoBadLine};
 ghost use Rattle.larch_derive_lines.specs.Rules.{AreKnownEntries};
 ghost use Rattle.larch_redexes.specs.Exchanged.{turned};
+ghost use Rattle.larch_term.specs.Arguments.{has_two_arguments};
 ghost use Rattle.larch_term.specs.Substitution.{is_entry_of};
-ghost use Rattle.larch_term.specs.Tree.{Tree, app, forest_of};
+ghost use Rattle.larch_term.specs.Tree.{Tree};
 
 use larch_base::{Memory, Name};
 use larch_derive::Builder;
 use larch_derive_lines::{inst_line, row_line, trans_line};
 use larch_redexes::sort_at;
-use larch_term::{Node, Operator, Sort, Substitution, Term, copy};
+use larch_term::{Sort, Substitution, Term, copy, two_arguments};
 use std::alloc::Global;
 
 // The row that says that an equality may be exchanged.
@@ -34,6 +35,7 @@ pub fn exchanged_line(
     line: u64,
     left: &Term,
 ) -> Result<u64, Memory>
+    requires { has_two_arguments left.now ≡ true }
     ensures says { IfOk result (λ n. (x r : Tree) → turned left.now ≡ Some x → HasEquation builder.old line left.now r
         → HasEquation builder.new n x r) }
     ensures extends { (x r : Tree) → turned left.now ≡ Some x → HasEquation builder.old line left.now r
@@ -66,32 +68,14 @@ pub(crate) fn exchange_line(
 
 // How a term of two arguments is exchanged.
 fn exchange_of(alloc: Global, term: &Term) -> Result<Exchange, Memory>
+    requires { has_two_arguments term.now ≡ true }
     ensures { IfOk result (λ exchange. IsExchange term.now exchange.sort exchange.by) }
 {
-    let Node::App(operator, arguments) = term.node() else {
-        return Err(Memory);
+    let Some(two) = two_arguments(term) else {
+        unreachable!()
     };
-    let exchange = exchange_at(alloc, operator, arguments.as_slice())?;
-    Ok(exchange)
-}
-
-// Where it hasn't two, no one asks.
-#[tactic(auto, using(crate::proofs::Exchange::exchange_is))]
-fn exchange_at(alloc: Global, operator: &Operator, arguments: &[Term]) -> Result<Exchange, Memory>
-    ensures { IfOk result (λ exchange. IsExchange
-        (app operator.now (forest_of arguments.now)) exchange.sort exchange.by) }
-{
-    let [left, further @ ..] = arguments else {
-        return Err(Memory);
-    };
-    let [right, others @ ..] = further else {
-        return Err(Memory);
-    };
-    if let [_, ..] = others {
-        return Err(Memory);
-    }
-    let sort = sort_at(alloc, operator)?;
-    let by = pair_at(alloc, &sort, right, left)?;
+    let sort = sort_at(alloc, two.operator)?;
+    let by = pair_at(alloc, &sort, two.right, two.left)?;
     Ok(Exchange { sort, by })
 }
 

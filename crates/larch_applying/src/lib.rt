@@ -2,13 +2,13 @@
 #![tactic(auto)]
 
 mod applying;
-mod code;
+mod encoding;
 mod exchanging;
 mod making;
 mod refusal;
 mod writing;
 
 pub use applying::{Applied, apply_match, reason_line};
-pub use code::{Code, Codes};
+pub use encoding::{Encoding, Encodings};
 pub use exchanging::exchanged_line;
 pub use refusal::ApplyRefusal;

@@ -1,4 +1,5 @@
 pub mod Answering
+pub mod ByNumber
 pub mod CodeText
 pub mod FileNames
 pub mod Labels

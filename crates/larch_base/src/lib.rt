@@ -1,6 +1,7 @@
 //! Names, positions, codes, limits and the counter of steps: the words that every other crate speaks.
 #![tactic(auto)]
 
+mod by_number;
 mod bytes;
 mod code;
 mod fact_name;
@@ -17,6 +18,7 @@ mod steps;
 mod way;
 mod word;
 
+pub use by_number::numbered;
 pub use bytes::Bytes;
 pub use code::Code;
 pub use fact_name::{FactLetter, FactName};

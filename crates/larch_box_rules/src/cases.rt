@@ -7,9 +7,9 @@ ghost use Rattle.larch_box_rules.specs.Cases.{are_cases};
 
 use crate::matching::same_equations;
 use larch_base::Memory;
-use larch_past::{Equated, KnownBox, Stated, same_stated};
+use larch_past::{Context, Equated, KnownBox, Stated, same_stated};
 use larch_pool::Pool;
-use larch_rule_parts::{Context, falsity_in, sides_of, truth_in};
+use larch_rule_parts::{falsity_in, sides_of, truth_in};
 use std::alloc::Global;
 
 /// The common result of two closed boxes, for one of which a formula without variables is true and for the other

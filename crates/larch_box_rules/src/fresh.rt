@@ -13,9 +13,9 @@ use crate::matching::has_constants;
 use larch_base::Memory;
 use larch_certificate::CodedVar;
 use larch_decoding::decode_variable;
-use larch_past::{Equated, KnownBox, Stated};
+use larch_past::{Context, Equated, KnownBox, Stated};
 use larch_pool::{Numbers, Pool, free_constants};
-use larch_rule_parts::{Context, sides_of};
+use larch_rule_parts::sides_of;
 use larch_term::Sort;
 use std::alloc::Global;
 

@@ -10,9 +10,8 @@ use crate::showing::{Inductive, shows_case};
 use larch_base::Memory;
 use larch_certificate::{CodedEquation, CodedVar};
 use larch_decoding::{decode_equation, decode_variable};
-use larch_past::{Equated, Stated};
+use larch_past::{Context, Equated, Stated};
 use larch_pool::Pool;
-use larch_rule_parts::Context;
 use larch_term::{Operator, Sort};
 use std::alloc::Global;
 
@@ -41,13 +40,7 @@ pub fn induct_line(
         boxes.now) }
     ensures grows { OnOk result (Grows pool.old pool.new) }
 {
-    let sides = decode_equation(
-        alloc,
-        pool,
-        context.theory,
-        context.past,
-        induction.equation,
-    )?;
+    let sides = decode_equation(alloc, pool, context, induction.equation)?;
     let Some(sides) = sides else {
         return Ok(None);
     };

@@ -2,5 +2,4 @@ pub mod Counted
 pub mod JoinedLines
 pub mod MachineViews
 pub mod Refusals
-pub mod RuleWords
 pub mod Views

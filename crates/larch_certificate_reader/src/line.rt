@@ -1,5 +1,4 @@
 ghost use Rattle.std.specs.Prelude.{◌≡◌, ◌∷◌, decimal, bytes_eq, IfOk};
-ghost use Rattle.larch_certificate_reader.specs.RuleWords.{read_early_word, read_later_word};
 ghost use Rattle.larch_certificate_reader.specs.Views.{parts_of};
 ghost use Rattle.larch_certificate_text.specs.LineText.{read_line, read_rule, read_rule_word};
 ghost use Rattle.larch_certificate_text.specs.ListText.{split_at};
@@ -62,19 +61,9 @@ fn read_rule(
     }
 }
 
-#[tactic(auto, using(crate::proofs::RuleWords::early_found, crate::proofs::RuleWords::none_early))]
+// The rule that a word names.
 fn read_rule_word(text: &[u8]) -> Option<RuleWord>
     ensures { result ≡ read_rule_word text.now }
-{
-    match read_early_word(text) {
-        Some(word) => Some(word),
-        None => read_later_word(text),
-    }
-}
-
-// The rule that a word names, of the first eight.
-fn read_early_word(text: &[u8]) -> Option<RuleWord>
-    ensures { result ≡ read_early_word text.now }
 {
     match text {
         b"axiom" => Some(RuleWord::Axiom),
@@ -85,15 +74,6 @@ fn read_early_word(text: &[u8]) -> Option<RuleWord>
         b"inst" => Some(RuleWord::Inst),
         b"repl" => Some(RuleWord::Repl),
         b"equal" => Some(RuleWord::Equal),
-        _ => None,
-    }
-}
-
-// The rule that a word names, of the last eight.
-fn read_later_word(text: &[u8]) -> Option<RuleWord>
-    ensures { result ≡ read_later_word text.now }
-{
-    match text {
         b"box" => Some(RuleWord::BoxLine),
         b"done" => Some(RuleWord::Done),
         b"fresh" => Some(RuleWord::Fresh),

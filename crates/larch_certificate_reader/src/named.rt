@@ -1,18 +1,16 @@
 ghost use Rattle.std.specs.Prelude.{◌≡◌, IfOk};
 ghost use Rattle.std.specs.Option.{option_copied};
-ghost use Rattle.larch_certificate_text.specs.LineText.{by_part, goal_part, hyps_part, number_part, operators_part};
-ghost use Rattle.larch_certificate_text.specs.LineText.{place_part, ref_part, refs_part, sort_part, sorts_part};
-ghost use Rattle.larch_certificate_text.specs.LineText.{term_part, variable_part, variables_part};
-ghost use Rattle.larch_certificate_text.specs.ListText.{unnamed};
+ghost use Rattle.larch_certificate_text.specs.LineText.{goal_part, number_part, operators_part, place_part};
+ghost use Rattle.larch_certificate_text.specs.LineText.{ref_part, refs_part, sort_part};
+ghost use Rattle.larch_certificate_text.specs.LineText.{term_part, variable_part};
+ghost use Rattle.larch_certificate_text.specs.ListText.{part, read_listed, unnamed};
 
 use crate::equation::{read_equation, read_term};
-use crate::list::{Counted, read_list, read_numbers, read_variable, read_word};
+use crate::list::{Counted, Item, read_list, read_numbers, read_variable, read_word};
 use crate::names::Names;
 use crate::parts::{cut_at, read_number, read_ref};
-use larch_base::{Memory, Name};
-use larch_certificate::{
-    Bindings, BoxParts, Coded, CodedEquation, CodedEquations, CodedVar, CodedVars, Numbers, Path,
-};
+use larch_base::{Memory, Name, Sequence};
+use larch_certificate::{Coded, CodedEquation, CodedVar, Numbers, Path};
 use larch_certificate_text::Here;
 
 fn unnamed<'a>(here: Here, label: &[u8], text: &'a [u8]) -> Option<&'a [u8]>
@@ -120,50 +118,18 @@ pub fn operators_part(names: &mut Names, here: Here, text: &[u8]) -> Result<Opti
     }
 }
 
-/// The bindings of a part.
-pub fn by_part(names: &mut Names, here: Here, text: &[u8]) -> Result<Option<Bindings>, Memory>
-    ensures { IfOk result (λ by. by ≡ by_part here text.now) }
-{
-    match unnamed(here, b"by", text) {
-        Some(text) => read_list(names, here, b';', text),
-        None => Ok(None),
-    }
-}
-
-/// The variables of a part.
-pub fn variables_part(
+/// What a part lists, between separators.
+pub fn list_part<T: Item + Drop>(
     names: &mut Names,
     here: Here,
+    label: &[u8],
+    separator: u8,
     text: &[u8],
-) -> Result<Option<CodedVars>, Memory>
-    ensures { IfOk result (λ by. by ≡ variables_part here text.now) }
+) -> Result<Option<Sequence<T>>, Memory>
+    ensures { IfOk result (λ items. items ≡ part here label.now (read_listed (T.reads here) separator) text.now) }
 {
-    match unnamed(here, b"by", text) {
-        Some(text) => read_list(names, here, b';', text),
-        None => Ok(None),
-    }
-}
-
-/// What a box makes.
-pub fn sorts_part(names: &mut Names, here: Here, text: &[u8]) -> Result<Option<BoxParts>, Memory>
-    ensures { IfOk result (λ sorts. sorts ≡ sorts_part here text.now) }
-{
-    match unnamed(here, b"sorts", text) {
-        Some(text) => read_list(names, here, b',', text),
-        None => Ok(None),
-    }
-}
-
-/// The hypotheses of a box.
-pub fn hyps_part(
-    names: &mut Names,
-    here: Here,
-    text: &[u8],
-) -> Result<Option<CodedEquations>, Memory>
-    ensures { IfOk result (λ hyps. hyps ≡ hyps_part here text.now) }
-{
-    match unnamed(here, b"hyps", text) {
-        Some(text) => read_list(names, here, b';', text),
+    match unnamed(here, label, text) {
+        Some(text) => read_list(names, here, separator, text),
         None => Ok(None),
     }
 }

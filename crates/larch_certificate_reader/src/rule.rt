@@ -9,12 +9,12 @@ ghost use Rattle.larch_certificate_text.specs.LineText.{row_at_of, row_by, row_o
 
 use crate::count::{box_by, four, one, three, two};
 use crate::named::{
-    by_part, goal_part, hyps_part, number_part, operators_part, place_part, ref_part, refs_part,
-    sort_part, sorts_part, term_part, variable_part, variables_part,
+    goal_part, list_part, number_part, operators_part, place_part, ref_part, refs_part, sort_part,
+    term_part, variable_part,
 };
 use crate::names::Names;
 use larch_base::{Memory, let_go};
-use larch_certificate::{CodedVar, Line};
+use larch_certificate::{Binding, BoxPart, CodedEquation, CodedVar, Line};
 use larch_certificate_text::{Here, RuleWord};
 
 /// What the parts behind the word of a rule say.
@@ -174,10 +174,10 @@ fn read_box(names: &mut Names, here: Here, parts: Option<&[u8]>) -> Result<Optio
 fn box_of(names: &mut Names, here: Here, sorts: &[u8], hyps: &[u8]) -> Result<Option<Line>, Memory>
     ensures { IfOk result (λ line. line ≡ box_of here (sorts.now, hyps.now)) }
 {
-    let Some(sorts) = sorts_part(names, here, sorts)? else {
+    let Some(sorts) = list_part::<BoxPart>(names, here, b"sorts", b',', sorts)? else {
         return Ok(None);
     };
-    match hyps_part(names, here, hyps) {
+    match list_part::<CodedEquation>(names, here, b"hyps", b';', hyps) {
         Ok(Some(hyps)) => Ok(Some(Line::BoxLine(sorts, hyps))),
         Ok(None) => Ok(let_go(None, sorts)),
         Err(memory) => Err(let_go(memory, sorts)),
@@ -199,7 +199,7 @@ fn inst_of(names: &mut Names, here: Here, line: &[u8], by: &[u8]) -> Result<Opti
     let Some(line) = ref_part(here, b"line", line) else {
         return Ok(None);
     };
-    match by_part(names, here, by)? {
+    match list_part::<Binding>(names, here, b"by", b';', by)? {
         Some(by) => Ok(Some(Line::Inst(line, by))),
         None => Ok(None),
     }
@@ -220,7 +220,7 @@ fn fresh_of(names: &mut Names, here: Here, closed: &[u8], by: &[u8]) -> Result<O
     let Some(closed) = ref_part(here, b"box", closed) else {
         return Ok(None);
     };
-    match variables_part(names, here, by)? {
+    match list_part::<CodedVar>(names, here, b"by", b';', by)? {
         Some(by) => Ok(Some(Line::Fresh(closed, by))),
         None => Ok(None),
     }

@@ -10,12 +10,12 @@ use Rattle.larch_raw.specs.declared.equation.RawEquation.{RawEquation}
 use Rattle.larch_term.specs.Operator.{PlainOperator}
 use Rattle.larch_term.specs.Tree.{Tree}
 use Rattle.larch_term.specs.declared.statement.Statement.TheVariants.{Equation}
-use Rattle.larch_sorts.specs.Laws.{IsSortOf}
-use Rattle.larch_sorts.specs.Read.{read_term}
-use Rattle.larch_sorts.specs.Scope.{Variables}
-use Rattle.larch_sorts.proofs.ReadAnswers.{term_ok}
-use Rattle.larch_sorts.proofs.Sorted.{well_sorted}
-use Rattle.larch_sorts.proofs.SortsRead.{term_sorts_exist}
+use Rattle.larch_sorts_meaning.specs.Laws.{IsSortOf}
+use Rattle.larch_sorts_meaning.specs.Read.{read_term}
+use Rattle.larch_sorts_meaning.specs.Scope.{Variables}
+use Rattle.larch_sorts_meaning.proofs.ReadAnswers.{term_ok}
+use Rattle.larch_sorts_meaning.proofs.Sorted.{well_sorted}
+use Rattle.larch_sorts_meaning.proofs.SortsRead.{term_sorts_exist}
 use Rattle.larch_items.specs.References.{exact_of, is_meant, only_operator}
 use Rattle.larch_items.specs.Steps.{after, all_taken}
 use Rattle.larch_items.specs.Variables.{variables_declared}

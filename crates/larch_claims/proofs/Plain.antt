@@ -20,7 +20,7 @@ use Rattle.larch_term.specs.Equality.{same_operator}
 use Rattle.larch_term.specs.Operator.{OperatorName, PlainOperator, plain}
 use Rattle.larch_term.specs.declared.statement.Statement.{Statement}
 use Rattle.larch_term.specs.declared.statement.Theory.{Theory}
-use Rattle.larch_sorts.specs.Faults.{fault_at}
+use Rattle.larch_sorts_meaning.specs.Faults.{fault_at}
 use Rattle.larch_items.specs.Declarations.{declared, declared_by, fits, operator_of, own_operator}
 use Rattle.larch_items.specs.Steps.{each, first_position}
 use Rattle.larch_items.proofs.Kept.{Any, after_was, all_any, each_kept, ok_inj, several_kept, unless_was}

@@ -13,8 +13,8 @@ use Rattle.larch_term.specs.Sorts.{AllOver, AllWellSorted, sorts_of}
 use Rattle.larch_term.specs.Tree.{forest_of}
 use Rattle.larch_term.specs.declared.statement.Statement.{Statement}
 use Rattle.larch_term.specs.declared.statement.Theory.{Theory}
-use Rattle.larch_sorts.specs.Laws.{ForestSorts, IsSortOf}
-use Rattle.larch_sorts.proofs.SortsRead.{own_sorts}
+use Rattle.larch_sorts_meaning.specs.Laws.{ForestSorts, IsSortOf}
+use Rattle.larch_sorts_meaning.proofs.SortsRead.{own_sorts}
 use Rattle.larch_items.specs.Steps.{each}
 use Rattle.larch_items.proofs.Kept.{Any, after_was, all_any, each_kept, ok_inj}
 use Rattle.larch_flat.specs.Files.{Files}

@@ -16,9 +16,9 @@ use Rattle.larch_term.specs.Tree.{Tree, Forest, var, app, none, more}
 use Rattle.larch_term.specs.declared.statement.Statement.{Statement}
 use Rattle.larch_term.specs.declared.statement.Statement.TheVariants.{Equation, Generated, Partitioned}
 use Rattle.larch_term.specs.declared.statement.Theory.{Theory}
-use Rattle.larch_sorts.specs.Faults.{fault}
-use Rattle.larch_sorts.specs.Read.{read_term}
-use Rattle.larch_sorts.specs.Scope.{Variables}
+use Rattle.larch_sorts_meaning.specs.Faults.{fault}
+use Rattle.larch_sorts_meaning.specs.Read.{read_term}
+use Rattle.larch_sorts_meaning.specs.Scope.{Variables}
 use Rattle.larch_items.specs.References.{exact_of, is_meant, only_operator}
 use Rattle.larch_items.specs.Steps.{after, all_taken}
 use Rattle.larch_items.specs.Variables.{variables_declared}

@@ -20,9 +20,9 @@ use Rattle.larch_term.specs.Tree.{Tree, var}
 use Rattle.larch_term.specs.declared.statement.Statement.{Statement}
 use Rattle.larch_term.specs.declared.statement.Statement.TheVariants.{Equation}
 use Rattle.larch_term.specs.declared.statement.Theory.{Theory}
-use Rattle.larch_sorts.specs.Read.{read_equation, read_term, unread_in}
-use Rattle.larch_sorts.specs.ReadingLists.{readings}
-use Rattle.larch_sorts.specs.Unknown.{unknown_among}
+use Rattle.larch_sorts_meaning.specs.Read.{read_equation, read_term, unread_in}
+use Rattle.larch_sorts_meaning.specs.ReadingLists.{readings}
+use Rattle.larch_sorts_meaning.specs.Unknown.{unknown_among}
 use Rattle.larch_items.specs.Steps.{after}
 use Rattle.larch_shorthand.specs.Operators.{operator, constant, on}
 use Rattle.larch_flat.specs.Examples.{a_trait, assumes, bare, base, call, declares, files_of, including_one, states}

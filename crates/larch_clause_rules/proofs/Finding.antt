@@ -2,8 +2,8 @@
 use Rattle.std.proofs.Common.{◌≡◌, ℕ, suc, ◌+◌, ◌<◌, List, [], ◌∷◌, ◌++◌, length, take, drop, get_or, All, Some, None, sym, ◌∙◌, ap, subst}
 use Rattle.std.proofs.lemmas.List.{take_more, map_push}
 use Rattle.std.proofs.lemmas.List.Elements.{All-push}
+use Rattle.larch_base.specs.ByNumber.{numbered}
 use Rattle.larch_term.specs.Operator.{PlainOperator}
-use Rattle.larch_tables.specs.Row.{numbered}
 use Rattle.larch_lines.specs.Decoding.{each}
 use Rattle.larch_pool.specs.Pooled.{Pooled, Grows}
 use Rattle.larch_rule_parts.proofs.Each.{each_push, each_stop, parted}

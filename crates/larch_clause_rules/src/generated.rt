@@ -9,14 +9,14 @@ ghost use Rattle.larch_past.specs.declared.stated.Stated.TheVariants.{Generates}
 ghost use Rattle.larch_clause_rules.specs.Operators.{IsKnown, operators_in};
 
 use crate::constants::predicate_in;
-use crate::inheriting::{apply_to, supposes_inheritance};
+use crate::inheriting::supposes_inheritance;
 use crate::known::{Known, copy_known, own_operators};
 use crate::variables::argument_name;
 use larch_base::Memory;
 use larch_certificate::BoxPart;
-use larch_past::{Equated, KnownBox, Stated, same_equated};
+use larch_past::{Context, Equated, KnownBox, Stated, same_equated};
 use larch_pool::Pool;
-use larch_rule_parts::{Context, sides_of, truth_in};
+use larch_rule_parts::{apply_to, sides_of, truth_in};
 use larch_term::Sort;
 use std::alloc::Global;
 
@@ -67,12 +67,9 @@ fn generated_by(alloc: Global, sort: &Sort, generators: &[Known]) -> Result<Stat
 fn have_range(sort: &Sort, operators: &[Known]) -> bool
     ensures { result ≡ list_all (λ f. bytes_eq f.range sort.now) (operators_in operators.now) }
 {
-    for known in operators {
-        if known.operator.range() != sort {
-            return false;
-        }
-    }
-    true
+    operators
+        .iter()
+        .all(|known| *known.operator.range() == *sort)
 }
 
 // Whether a box shows that operators generate a sort: it has a predicate on the sort, supposes that their values

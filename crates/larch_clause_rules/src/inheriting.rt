@@ -14,7 +14,7 @@ use crate::variables::place_variables;
 use larch_base::Memory;
 use larch_past::{Equated, same_equated};
 use larch_pool::{Numbers, Pool};
-use larch_rule_parts::{apply_built_in, truth_in, two_numbers};
+use larch_rule_parts::{apply_built_in, apply_to, truth_in, two_numbers};
 use larch_term::{BuiltIn, Sort, bool_sort};
 use std::alloc::Global;
 
@@ -156,24 +156,5 @@ fn join(alloc: Global, pool: &mut Pool, kind: BuiltIn, left: u32, right: u32) ->
     let sort = bool_sort(alloc)?;
     let arguments = two_numbers(alloc, left, right)?;
     let number = apply_built_in(alloc, pool, kind, &sort, arguments)?;
-    Ok(number)
-}
-
-// An operator before one argument.
-pub(crate) fn apply_to(
-    alloc: Global,
-    pool: &mut Pool,
-    operator: u32,
-    argument: u32,
-) -> Result<u32, Memory>
-    requires operator { operator < length pool.old.operators }
-    requires argument { argument < length pool.old.trees }
-    ensures tree { IfOk result (λ n. HasTree pool.new n
-        (applied (operator_in pool.old.operators operator) (tree_in pool.old.trees argument))) }
-    ensures grows { OnOk result (Grows pool.old pool.new) }
-{
-    let mut arguments = Vec::with_capacity(alloc, 1)?;
-    arguments.push(argument)?;
-    let number = pool.apply(operator, Numbers::from_vec(arguments))?;
     Ok(number)
 }

@@ -1,15 +1,15 @@
 ghost use Rattle.std.specs.Prelude.{◌≡◌, All, IfOk, IfSome, OnOk};
 ghost use Rattle.std.specs.Option.{option_map};
-ghost use Rattle.larch_tables.specs.Row.{numbered};
+ghost use Rattle.larch_base.specs.ByNumber.{numbered};
 ghost use Rattle.larch_lines.specs.ClauseRules.{own_operators};
 ghost use Rattle.larch_pool.specs.Pooled.{Grows};
 ghost use Rattle.larch_past.specs.Past.{IsPast};
 ghost use Rattle.larch_clause_rules.specs.Operators.{IsKnown, operators_in};
 
-use larch_base::{Memory, Sequence};
+use larch_base::{Memory, Sequence, numbered};
 use larch_decoding::own_operator;
+use larch_past::Context;
 use larch_pool::{Pool, intern_operator};
-use larch_rule_parts::Context;
 use larch_term::{Operator, Operators};
 use std::alloc::Global;
 
@@ -50,10 +50,10 @@ fn own(pool: &Pool, context: &Context<'_>, number: u64) -> Result<Option<Known>,
     ensures says { IfOk result (λ o. option_map (λ k. k.operator) o
         ≡ numbered context.now.theory.now.operators number) }
 {
-    let Some(found) = own_operator(pool, context.theory, context.past, number) else {
+    let Some(found) = own_operator(pool, context, number) else {
         return Ok(None);
     };
-    let Some(operator) = operator_at(context.theory.operators.as_slice(), number) else {
+    let Some(operator) = numbered(context.theory.operators.as_slice(), number) else {
         return Ok(None);
     };
     let operator = operator.copy()?;
@@ -61,16 +61,6 @@ fn own(pool: &Pool, context: &Context<'_>, number: u64) -> Result<Option<Known>,
         operator,
         number: found,
     }))
-}
-
-// The operator with a number, counted from 1.
-fn operator_at(operators: &[Operator], number: u64) -> Option<&Operator>
-    ensures { option_map (λ o. o.now) result ≡ numbered operators.now number }
-{
-    if number == 0 {
-        return None;
-    }
-    operators.get(number as usize - 1)
 }
 
 // Operators with their numbers.

@@ -18,9 +18,9 @@ use larch_base::Memory;
 use larch_certificate::CodedEquation;
 use larch_decoding::decode_equation;
 use larch_past::laws::past_stays;
-use larch_past::{Equated, Past, Stated};
+use larch_past::{Context, Equated, Past, Stated};
 use larch_pool::Pool;
-use larch_rule_parts::{Context, are_different, equation_of};
+use larch_rule_parts::{are_different, equation_of};
 use std::alloc::Global;
 
 /// An equation by what is observed: a line says what partitions the sort of its sides, and for each observation, in
@@ -40,7 +40,7 @@ pub fn observe_line(
         (history_of pool.old context.now.past.now) clause equation.now lines.now) }
     ensures grows { OnOk result (Grows pool.old pool.new) }
 {
-    let sides = decode_equation(alloc, pool, context.theory, context.past, equation)?;
+    let sides = decode_equation(alloc, pool, context, equation)?;
     let Some(sides) = sides else {
         return Ok(None);
     };

@@ -21,9 +21,8 @@ use crate::observers::{Observer, observers_of};
 use crate::variables::place_variables;
 use larch_base::Memory;
 use larch_certificate::BoxPart;
-use larch_past::{Equated, KnownBox, Stated, same_stated};
+use larch_past::{Context, Equated, KnownBox, Stated, same_stated};
 use larch_pool::Pool;
-use larch_rule_parts::Context;
 use larch_term::Sort;
 use std::alloc::Global;
 
@@ -74,24 +73,16 @@ fn partitioned_by(alloc: Global, sort: &Sort, observers: &[Known]) -> Result<Sta
 fn take_sort(sort: &Sort, operators: &[Known]) -> bool
     ensures { result ≡ list_all (λ o. list_any (bytes_eq sort.now) o.domain) (operators_in operators.now) }
 {
-    for known in operators {
-        if !has_sort(sort, known.operator.domain()) {
-            return false;
-        }
-    }
-    true
+    operators
+        .iter()
+        .all(|known| has_sort(sort, known.operator.domain()))
 }
 
 // Whether a sort stands among others.
 fn has_sort(sort: &Sort, sorts: &[Sort]) -> bool
     ensures { result ≡ list_any (bytes_eq sort.now) sorts.now }
 {
-    for other in sorts {
-        if sort == other {
-            return true;
-        }
-    }
-    false
+    sorts.iter().any(|other| *sort == *other)
 }
 
 // Whether a box shows that operators partition a sort: it has two constants of the sort, supposes that observers show

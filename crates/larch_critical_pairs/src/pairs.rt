@@ -1,9 +1,10 @@
-ghost use Rattle.std.specs.Prelude.{◌≡◌, ◌++◌, AllPairs, IfOk, [], ◌∷◌, false};
+ghost use Rattle.std.specs.Prelude.{◌≡◌, ◌++◌, AllPairs, IfOk, None, [], ◌∷◌, false};
 ghost use Rattle.larch_base.specs.Answering.{Answers};
 ghost use Rattle.larch_term.specs.Substitution.{is_entry_of};
 ghost use Rattle.larch_critical_pairs.specs.Pairs.{apart, critical_pairs, marking, pair_at, pair_within, raw_pair};
 ghost use Rattle.larch_critical_pairs.specs.Pairs.{pairs_of, with_pairs_at};
 ghost use Rattle.larch_pairs.specs.Refusals.{told};
+ghost use Rattle.larch_term.specs.Place.{at, put};
 ghost use Rattle.larch_term.specs.Tree.{var};
 
 use crate::inner::{below_root, copy_place, inner_places};
@@ -13,7 +14,7 @@ use larch_base::{Memory, Name, Sequence};
 use larch_pairs::{
     Entries, PairRefusal, substitute_within, substitution_of, unify, variables_of_both,
 };
-use larch_term::{Entry, Substitution, Term, Variable, at, replace_at, substitute};
+use larch_term::{Entry, ReplaceRefusal, Substitution, Term, Variable, at, replace_at, substitute};
 use std::alloc::Global;
 
 /// The critical pairs of the second rule's left side in the first one's (Knuth and Bendix 1970), at the places of the
@@ -155,13 +156,12 @@ fn raw_pair(
 ) -> Result<Pair, PairRefusal>
     requires one { AllPairs (λ d e. is_entry_of e.name e.sort d ≡ false) one.now.by }
     requires two { AllPairs (λ d e. is_entry_of e.name e.sort d ≡ false) two.now.by }
+    requires place { at one.now.rule.left place.now ≡ None → ⊥ }
     ensures pair { Answers told result (pair_within (raw_pair one.now two.now place.now unifier.now)) }
     ensures first { IfOk result (λ q. AllPairs (λ d e. is_entry_of e.name e.sort d ≡ false) q.first) }
     ensures second { IfOk result (λ q. AllPairs (λ d e. is_entry_of e.name e.sort d ≡ false) q.second) }
 {
-    let Ok(put) = replace_at(alloc, &one.rule.left, place, &two.rule.right) else {
-        return Err(PairRefusal::Memory);
-    };
+    let put = put_at(alloc, &one.rule.left, place, &two.rule.right)?;
     let left = substitute_within(alloc, &put, unifier)?;
     let right = substitute_within(alloc, &one.rule.right, unifier)?;
     let first = entries_under(alloc, &one.by, unifier)?;
@@ -174,4 +174,16 @@ fn raw_pair(
         first,
         second,
     })
+}
+
+// A term with another one at one of its places.
+fn put_at(alloc: Global, term: &Term, place: &[u32], by: &Term) -> Result<Term, Memory>
+    requires { at term.now place.now ≡ None → ⊥ }
+    ensures { IfOk result (λ t. t ≡ put term.now place.now by.now) }
+{
+    match replace_at(alloc, term, place, by) {
+        Ok(put) => Ok(put),
+        Err(ReplaceRefusal::NoPlace) => unreachable!(),
+        Err(ReplaceRefusal::Memory) => Err(Memory),
+    }
 }

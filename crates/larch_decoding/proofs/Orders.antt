@@ -3,6 +3,7 @@ use Rattle.std.proofs.Common.{◌≡◌, ℕ, suc, ◌-◌, ◌<◌, Bool, true,
 use Rattle.std.specs.Prelude.{reverse}
 use Rattle.std.specs.Cmp.Lexicographic.{pointwise}
 use Rattle.std.specs.Option.{option_map, option_and_then}
+use Rattle.std.proofs.lemmas.List.{length_push}
 use Rattle.std.proofs.lemmas.Option.{same_Some, none-some}
 use Rattle.larch_term.specs.Operator.{PlainOperator}
 use Rattle.larch_base.proofs.Bools.{same_truth}
@@ -43,6 +44,14 @@ pub order_step : (w new : List CodedTree) (x : CodedTree) (rest whole : List Cod
     → postorders (w ++ x ∷ []) ++ rest ≡ whole → postorders new ++ x ∷ rest ≡ whole
 order_step w new x rest whole p h =
     sym (append_assoc (postorders new) (x ∷ []) rest) ∙ ap (λ xs. xs ++ rest) (p ∙ ap (λ xs. postorders w ++ xs) (sym (postorders_one x)) ∙ sym (postorders_append w (x ∷ []))) ∙ h
+
+-- fewer terms wait then, with those in them
+pub order_less : (w new : List CodedTree) (x : CodedTree) → postorders new ++ x ∷ [] ≡ postorders w ++ postorder x
+    → length (postorders new) < length (postorders (w ++ x ∷ []))
+order_less w new x p =
+    let e : postorders new ++ x ∷ [] ≡ postorders (w ++ x ∷ []) =
+    p ∙ ap (λ xs. postorders w ++ xs) (sym (postorders_one x)) ∙ sym (postorders_append w (x ∷ [])) in
+    omega (arith, ap length e, length_push (postorders new) x)
 
 abbrev Finder : Type 0
 Finder = Symbol → List (List ℕ) → Option PlainOperator

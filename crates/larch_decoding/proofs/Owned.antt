@@ -1,13 +1,14 @@
 -- The numbers of a theory's operators, and what boxes make.
-use Rattle.std.proofs.Common.{◌≡◌, ◌==◌, if◌then◌else◌, ℕ, zero, suc, ◌+◌, ◌-◌, ◌<◌, List, [], ◌∷◌, length, map, get_or, slice_get, Option, Some, None, refl, sym, ◌∙◌, ap, arith}
+use Rattle.std.proofs.Common.{◌≡◌, ◌==◌, if◌then◌else◌, ℕ, zero, suc, ◌+◌, ◌-◌, ◌<◌, List, [], ◌∷◌, length, map, get_or}
+use Rattle.std.proofs.Common.{slice_get, Option, Some, None, refl, sym, ◌∙◌, ap, subst, arith}
 use Rattle.std.specs.Prelude.{IfSome}
 use Rattle.std.specs.Option.{option_and_then, option_map}
 use Rattle.std.proofs.lemmas.List.{length-map, get_or-map}
 use Rattle.std.proofs.lemmas.Option.{slice_get_within, same_Some, none-some}
+use Rattle.larch_base.specs.ByNumber.{numbered}
 use Rattle.larch_term.specs.Operator.{PlainOperator}
 use Rattle.larch_term.specs.Sorts.{sort_of, sorts_of}
 use Rattle.larch_term.specs.Tree.{Tree, forest_of}
-use Rattle.larch_tables.specs.Row.{numbered}
 use Rattle.larch_certificate.specs.declared.line.BoxPart.{BoxPart}
 use Rattle.larch_lines.specs.Context.{last_sort}
 use Rattle.larch_lines.specs.Events.{PlainBox, operators_from, operators_of, part_operator}
@@ -16,7 +17,7 @@ use Rattle.larch_past.proofs.LookUps.{not_same}
 pub numbered_from : {X : Type 0} (xs : List X) (n : ℕ) → (n ≡ 0 → ⊥) → numbered xs n ≡ slice_get xs (n - 1)
 numbered_from xs n h = ap (λ b. if b then None else slice_get xs (n - 1)) (not_same n 0 (n == 0) refl h)
 
-pub own_at : (fs : List PlainOperator) (ks : List ℕ) (os : List PlainOperator) (i : ℕ) → map (slice_get fs) ks ≡ map Some os
+own_at : (fs : List PlainOperator) (ks : List ℕ) (os : List PlainOperator) (i : ℕ) → map (slice_get fs) ks ≡ map Some os
     → option_and_then (slice_get fs) (slice_get ks i) ≡ slice_get os i
 own_at fs [] [] i e = refl
 own_at fs [] (o ∷ os) i e = absurd cc
@@ -38,10 +39,25 @@ own_in fs (k ∷ ks) (o ∷ os) (suc i) n e h =
     let b : map (slice_get fs) ks ≡ map Some os = cc in
     own_in fs ks os i n b h
 
-pub own_within : (fs : List PlainOperator) (ks : List ℕ) (os : List PlainOperator) (i : ℕ) (r : Option ℕ) → map (slice_get fs) ks ≡ map Some os
+own_within : (fs : List PlainOperator) (ks : List ℕ) (os : List PlainOperator) (i : ℕ) (r : Option ℕ) → map (slice_get fs) ks ≡ map Some os
     → slice_get ks i ≡ r → IfSome r (λ n. n < length fs)
 own_within fs ks os i None e h = tt
 own_within fs ks os i (Some n) e h = own_in fs ks os i n e h
+
+-- the operator with a number, by the number that it has in the pool
+pub own_numbered : (fs : List PlainOperator) (ks : List ℕ) (os : List PlainOperator) (n : ℕ)
+    → map (slice_get fs) ks ≡ map Some os → option_and_then (slice_get fs) (numbered ks n) ≡ numbered os n
+own_numbered fs ks os zero e = refl
+own_numbered fs ks os (suc k) e =
+    ap (option_and_then (slice_get fs)) (numbered_from ks (suc k) (λ z. absurd (omega (arith, z))))
+    ∙ own_at fs ks os (suc k - 1) e
+    ∙ sym (numbered_from os (suc k) (λ z. absurd (omega (arith, z))))
+
+pub own_number_within : (fs : List PlainOperator) (ks : List ℕ) (os : List PlainOperator) (n : ℕ) (r : Option ℕ)
+    → map (slice_get fs) ks ≡ map Some os → numbered ks n ≡ r → IfSome r (λ k. k < length fs)
+own_number_within fs ks os zero r e h = subst (λ o. IfSome o (λ k. k < length fs)) h tt
+own_number_within fs ks os (suc k) r e h =
+    own_within fs ks os (suc k - 1) r e (sym (numbered_from ks (suc k) (λ z. absurd (omega (arith, z)))) ∙ h)
 
 pub parts_at : (b j : ℕ) (ps : List BoxPart) (i : ℕ) → slice_get (operators_from b j ps) i ≡ option_map (part_operator b (j + i)) (slice_get ps i)
 parts_at b j [] i = refl

@@ -17,7 +17,7 @@ use Rattle.larch_lines.specs.Decoding.{decode, equation_between, decode_equation
 use Rattle.larch_pool.specs.Pooled.{tree_in, no_tree, operator_in, no_operator}
 use Rattle.larch_pool.proofs.Front.{all_within, numbers_more}
 use Rattle.larch_decoding.specs.Postorder.{postorder, postorders, count_of, value_of, values_after}
-use Rattle.larch_decoding.proofs.Orders.{order_step, applied_not, applied_yes, value_none, value_some}
+use Rattle.larch_decoding.proofs.Orders.{order_less, order_step, applied_not, applied_yes, value_none, value_some}
 
 abbrev Finder : Type 0
 Finder = Symbol → List (List ℕ) → Option PlainOperator
@@ -33,6 +33,14 @@ order_more waiting popped left order pushed x now whole w o p h =
     ∙ ap (λ os. postorders (map now left) ++ map now os) (reverse-append order (x ∷ []))
     ∙ order_step (map now popped) (map now left) (now x) (map now (reverse order)) whole p
     (ap (λ ws. postorders ws ++ map now (reverse order)) (sym (ap (map now) w ∙ map_push now popped x)) ∙ h)
+
+-- fewer terms wait then, with those in them
+pub waiting_less : {X : Type 0} (waiting popped left : List X) (x : X) (now : X → CodedTree) → waiting ≡ popped ++ x ∷ []
+    → postorders (map now left) ++ now x ∷ [] ≡ postorders (map now popped) ++ postorder (now x)
+    → length (postorders (map now left)) < length (postorders (map now waiting))
+waiting_less waiting popped left x now w p =
+    subst (λ ws. length (postorders (map now left)) < length (postorders ws)) (sym (ap (map now) w ∙ map_push now popped x))
+    (order_less (map now popped) (map now left) (now x) p)
 
 -- the newest of a list is the first of those that are read
 pub popped_first : {X : Type 0} (order popped : List X) (x : X) (now : X → CodedTree) → order ≡ popped ++ x ∷ []

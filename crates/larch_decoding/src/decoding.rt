@@ -12,9 +12,9 @@ ghost use Rattle.larch_decoding.specs.Postorder.{postorder, postorders, value_of
 use crate::symbols::find_operator;
 use larch_base::{Memory, Name};
 use larch_certificate::{Coded, CodedEquation, CodedNode, Symbol};
-use larch_past::{Equated, Past};
+use larch_past::{Context, Equated};
 use larch_pool::{Numbers, Pool};
-use larch_term::{Sort, Theory};
+use larch_term::Sort;
 use std::alloc::Global;
 
 /// The number of the well sorted term that a coded one means, if it means one. It goes down no term by recursion, and
@@ -22,29 +22,24 @@ use std::alloc::Global;
 pub fn decode(
     alloc: Global,
     pool: &mut Pool,
-    theory: &Theory,
-    past: &Past,
+    context: &Context<'_>,
     term: &Coded,
 ) -> Result<Option<u32>, Memory>
-    requires { IsPast theory.now pool.old past.now }
+    requires { IsPast context.now.theory.now pool.old context.now.past.now }
     ensures within { IfOk result (λ o. IfSome o (λ n. n < length pool.new.trees)) }
     ensures says { IfOk result (λ o. option_map (tree_in pool.new.trees) o
-        ≡ decode (find_symbol theory.now (history_of pool.old past.now)) term.now) }
+        ≡ decode (find_symbol context.now.theory.now (history_of pool.old context.now.past.now)) term.now) }
     ensures grows { OnOk result (Grows pool.old pool.new) }
 {
     let mut order = in_order(alloc, term)?;
     let mut values = Vec::new(alloc);
-    for _ in 0..u64::MAX {
-        let Some(next) = order.pop() else {
-            return Ok(values.pop());
-        };
-        let goes_on = decode_next(alloc, pool, theory, past, next, &mut values)?;
+    while let Some(next) = order.pop() {
+        let goes_on = decode_next(alloc, pool, context, next, &mut values)?;
         if !goes_on {
             return Ok(None);
         }
     }
-    // There are never so many terms.
-    Err(Memory)
+    Ok(values.pop())
 }
 
 // A term and all terms in it, each before its arguments and the last first.
@@ -54,15 +49,11 @@ fn in_order<'a>(alloc: Global, term: &'a Coded) -> Result<Vec<&'a Coded>, Memory
     let mut order = Vec::new(alloc);
     let mut waiting = Vec::new(alloc);
     waiting.push(term)?;
-    for _ in 0..u64::MAX {
-        let Some(next) = waiting.pop() else {
-            return Ok(order);
-        };
+    while let Some(next) = waiting.pop() {
         order.push(next)?;
         push_arguments(next, &mut waiting)?;
     }
-    // There are never so many terms.
-    Err(Memory)
+    Ok(order)
 }
 
 // Puts the arguments of a term behind others.
@@ -92,18 +83,17 @@ fn push_all<'a>(terms: &'a [Coded], waiting: &mut Vec<&'a Coded>) -> Result<(), 
 fn decode_next(
     alloc: Global,
     pool: &mut Pool,
-    theory: &Theory,
-    past: &Past,
+    context: &Context<'_>,
     term: &Coded,
     values: &mut Vec<u32>,
 ) -> Result<bool, Memory>
-    requires past { IsPast theory.now pool.old past.now }
+    requires past { IsPast context.now.theory.now pool.old context.now.past.now }
     requires values { All (λ n. n < length pool.old.trees) values.old.items }
     ensures within { OnOk result (All (λ n. n < length pool.new.trees) values.new.items) }
     ensures values { IfOk result (λ b. (cs : List CodedTree)
-        → values_after (find_symbol theory.now (history_of pool.old past.now)) (term.now ∷ cs)
+        → values_after (find_symbol context.now.theory.now (history_of pool.old context.now.past.now)) (term.now ∷ cs)
         (map (tree_in pool.old.trees) values.old.items)
-        ≡ (if b then values_after (find_symbol theory.now (history_of pool.old past.now)) cs
+        ≡ (if b then values_after (find_symbol context.now.theory.now (history_of pool.old context.now.past.now)) cs
         (map (tree_in pool.new.trees) values.new.items) else None)) }
     ensures grows { OnOk result (Grows pool.old pool.new) }
 {
@@ -115,7 +105,7 @@ fn decode_next(
         }
         CodedNode::App(symbol, arguments) => {
             let arguments = take_last(alloc, values, arguments.as_slice().len())?;
-            let value = decode_application(alloc, pool, theory, past, *symbol, arguments)?;
+            let value = decode_application(alloc, pool, context, *symbol, arguments)?;
             let Some(number) = value else {
                 return Ok(false);
             };
@@ -151,20 +141,19 @@ fn take_last(alloc: Global, numbers: &mut Vec<u32>, count: usize) -> Result<Numb
 fn decode_application(
     alloc: Global,
     pool: &mut Pool,
-    theory: &Theory,
-    past: &Past,
+    context: &Context<'_>,
     symbol: Symbol,
     arguments: Numbers,
 ) -> Result<Option<u32>, Memory>
-    requires past { IsPast theory.now pool.old past.now }
+    requires past { IsPast context.now.theory.now pool.old context.now.past.now }
     requires arguments { All (λ n. n < length pool.old.trees) arguments }
     ensures within { IfOk result (λ o. IfSome o (λ n. n < length pool.new.trees)) }
     ensures value { IfOk result (λ o. option_map (tree_in pool.new.trees) o
-        ≡ value_of (find_symbol theory.now (history_of pool.old past.now)) symbol
+        ≡ value_of (find_symbol context.now.theory.now (history_of pool.old context.now.past.now)) symbol
         (map (tree_in pool.old.trees) arguments)) }
     ensures grows { OnOk result (Grows pool.old pool.new) }
 {
-    let found = find_operator(alloc, pool, theory, past, symbol, arguments.as_slice())?;
+    let found = find_operator(alloc, pool, context, symbol, arguments.as_slice())?;
     let Some(operator) = found else {
         return Ok(None);
     };
@@ -179,21 +168,21 @@ fn decode_application(
 pub fn decode_equation(
     alloc: Global,
     pool: &mut Pool,
-    theory: &Theory,
-    past: &Past,
+    context: &Context<'_>,
     equation: &CodedEquation,
 ) -> Result<Option<Equated>, Memory>
-    requires { IsPast theory.now pool.old past.now }
+    requires { IsPast context.now.theory.now pool.old context.now.past.now }
     ensures within { IfOk result (λ o. IfSome o (IsEquated pool.new)) }
     ensures says { IfOk result (λ o. option_map (equated_in pool.new) o
-        ≡ decode_equation (find_symbol theory.now (history_of pool.old past.now)) equation.now) }
+        ≡ decode_equation (find_symbol context.now.theory.now (history_of pool.old context.now.past.now))
+        equation.now) }
     ensures grows { OnOk result (Grows pool.old pool.new) }
 {
-    let left = decode(alloc, pool, theory, past, &equation.left)?;
+    let left = decode(alloc, pool, context, &equation.left)?;
     let Some(left) = left else {
         return Ok(None);
     };
-    let right = decode(alloc, pool, theory, past, &equation.right)?;
+    let right = decode(alloc, pool, context, &equation.right)?;
     let Some(right) = right else {
         return Ok(None);
     };

@@ -1,19 +1,19 @@
 ghost use Rattle.std.specs.Prelude.{◌≡◌, ◌<◌, length, map, All, IfOk, IfSome, OnOk, Some, slice_get};
 ghost use Rattle.std.specs.Option.{option_map, option_and_then};
+ghost use Rattle.larch_base.specs.ByNumber.{numbered};
 ghost use Rattle.larch_term.specs.BuiltIn.{bool_sort, built_in};
 ghost use Rattle.larch_term.specs.Sorts.{sorts_of};
 ghost use Rattle.larch_term.specs.Tree.{forest_of};
-ghost use Rattle.larch_tables.specs.Row.{numbered};
 ghost use Rattle.larch_lines.specs.Context.{find_open, find_symbol, last_sort};
 ghost use Rattle.larch_lines.specs.Events.{operators_of, part_operator};
 ghost use Rattle.larch_pool.specs.Pooled.{tree_in, operator_in, operator_of, Grows};
 ghost use Rattle.larch_past.specs.Past.{IsPast, history_of};
 
-use larch_base::{Memory, Name};
+use larch_base::{Memory, Name, numbered};
 use larch_certificate::{BoxPart, Symbol};
-use larch_past::Past;
+use larch_past::Context;
 use larch_pool::{Pool, SortList, SymbolName, intern_operator};
-use larch_term::{BuiltIn, Sort, Theory, bool_sort};
+use larch_term::{BuiltIn, Sort, bool_sort};
 use std::alloc::Global;
 
 /// The number of the operator that a symbol means before arguments, if it means one: one of the theory's, one of an
@@ -21,24 +21,23 @@ use std::alloc::Global;
 pub fn find_operator(
     alloc: Global,
     pool: &mut Pool,
-    theory: &Theory,
-    past: &Past,
+    context: &Context<'_>,
     symbol: Symbol,
     arguments: &[u32],
 ) -> Result<Option<u32>, Memory>
-    requires past { IsPast theory.now pool.old past.now }
+    requires past { IsPast context.now.theory.now pool.old context.now.past.now }
     requires arguments { All (λ n. n < length pool.old.trees) arguments.now }
     ensures operator { IfOk result (λ o. option_and_then (slice_get pool.new.operators) o
-        ≡ find_symbol theory.now (history_of pool.old past.now) symbol
+        ≡ find_symbol context.now.theory.now (history_of pool.old context.now.past.now) symbol
         (sorts_of (forest_of (map (tree_in pool.old.trees) arguments.now)))) }
     ensures within { IfOk result (λ o. IfSome o (λ n. n < length pool.new.operators)) }
     ensures grows { OnOk result (Grows pool.old pool.new) }
     ensures trees { OnOk result (pool.new.trees ≡ pool.old.trees) }
 {
     match symbol {
-        Symbol::Own(number) => Ok(own_operator(pool, theory, past, number)),
+        Symbol::Own(number) => Ok(own_operator(pool, context, number)),
         Symbol::Constant(of_box, number) => {
-            let operator = box_operator(alloc, pool, theory, past, of_box, number)?;
+            let operator = box_operator(alloc, pool, context, of_box, number)?;
             Ok(operator)
         }
         Symbol::BuiltIn(kind) => {
@@ -49,58 +48,40 @@ pub fn find_operator(
 }
 
 /// The number of the theory's operator with a number, counted from 1. It takes no memory.
-pub fn own_operator(pool: &Pool, theory: &Theory, past: &Past, number: u64) -> Option<u32>
-    requires { IsPast theory.now pool.now past.now }
-    ensures operator { option_and_then (slice_get pool.now.operators) result ≡ numbered theory.now.operators number }
+pub fn own_operator(pool: &Pool, context: &Context<'_>, number: u64) -> Option<u32>
+    requires { IsPast context.now.theory.now pool.now context.now.past.now }
+    ensures operator { option_and_then (slice_get pool.now.operators) result
+        ≡ numbered context.now.theory.now.operators number }
     ensures within { IfSome result (λ n. n < length pool.now.operators) }
 {
-    if number == 0 {
-        return None;
-    }
-    number_at(&past.own, number as usize - 1)
-}
-
-fn number_at(numbers: &[u32], index: usize) -> Option<u32>
-    ensures { result ≡ slice_get numbers.now index }
-{
-    numbers.get(index).copied()
+    numbered(&context.past.own, number).copied()
 }
 
 // The number of what an open box makes by the part with a number, counted from 1.
 fn box_operator(
     alloc: Global,
     pool: &mut Pool,
-    theory: &Theory,
-    past: &Past,
+    context: &Context<'_>,
     of_box: u64,
     number: u64,
 ) -> Result<Option<u32>, Memory>
-    requires { IsPast theory.now pool.old past.now }
+    requires { IsPast context.now.theory.now pool.old context.now.past.now }
     ensures operator { IfOk result (λ o. option_and_then (slice_get pool.new.operators) o
-        ≡ option_and_then (λ b. numbered (operators_of b) number) (find_open (history_of pool.old past.now) of_box)) }
+        ≡ option_and_then (λ b. numbered (operators_of b) number)
+        (find_open (history_of pool.old context.now.past.now) of_box)) }
     ensures within { IfOk result (λ o. IfSome o (λ n. n < length pool.new.operators)) }
     ensures grows { OnOk result (Grows pool.old pool.new) }
     ensures trees { OnOk result (pool.new.trees ≡ pool.old.trees) }
 {
-    let Some(known) = past.open_box(of_box) else {
+    let Some(known) = context.past.open_box(of_box) else {
         return Ok(None);
     };
-    let Some(part) = part_at(known.parts.as_slice(), number) else {
+    let Some(part) = numbered(known.parts.as_slice(), number) else {
         return Ok(None);
     };
     let symbol = symbol_of(alloc, known.number, number, part)?;
     let operator = pool.operator(symbol)?;
     Ok(Some(operator))
-}
-
-// The part with a number, counted from 1.
-fn part_at(parts: &[BoxPart], number: u64) -> Option<&BoxPart>
-    ensures { option_map (λ p. p.now) result ≡ numbered parts.now number }
-{
-    if number == 0 {
-        return None;
-    }
-    parts.get(number as usize - 1)
 }
 
 /// What the part with a number makes, of the box with a number.

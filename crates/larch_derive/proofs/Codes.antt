@@ -5,9 +5,9 @@ use Rattle.std.proofs.lemmas.List.{take_more}
 use Rattle.std.proofs.lemmas.Bool.{cond-false}
 use Rattle.larch_base.proofs.Members.{contains_cases, contains_none}
 use Rattle.larch_base.proofs.Options.{some_inj}
+use Rattle.larch_base.specs.ByNumber.{numbered}
 use Rattle.larch_term.specs.BuiltIn.{IsBuiltIn}
 use Rattle.larch_term.specs.OperatorKey.{same_operator, operator_Decides}
-use Rattle.larch_tables.specs.Row.{numbered}
 use Rattle.larch_certificate.specs.declared.symbol.Symbol.TheVariants.{Own}
 use Rattle.larch_derive.specs.OpenBox.{place_from, constant_of}
 use Rattle.larch_term.specs.Operator.{PlainOperator}

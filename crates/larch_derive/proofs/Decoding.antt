@@ -6,6 +6,7 @@ use Rattle.std.specs.List.{slice_get}
 use Rattle.std.proofs.lemmas.List.Elements.{All-contains}
 use Rattle.std.proofs.lemmas.Bool.{cond-true}
 use Rattle.larch_base.proofs.Members.{contains_either, contains_cases, contains_none}
+use Rattle.larch_base.specs.ByNumber.{numbered}
 use Rattle.larch_term.specs.BuiltIn.{IsBuiltIn, built_in, bool_sort}
 use Rattle.larch_term.specs.Operator.{OperatorName, PlainOperator, plain, boxed}
 use Rattle.larch_term.specs.OperatorKey.{sorts_Decides}
@@ -19,7 +20,6 @@ use Rattle.larch_certificate.specs.Coded.{CodedTree, CodedForest, coded_var, cod
 use Rattle.larch_certificate.specs.declared.line.BoxPart.{BoxPart}
 use Rattle.larch_certificate.specs.declared.symbol.Symbol.{Symbol}
 use Rattle.larch_certificate.specs.declared.symbol.Symbol.TheVariants.{Own, Constant, BuiltIn}
-use Rattle.larch_tables.specs.Row.{numbered}
 use Rattle.larch_lines.specs.Context.{theory_of, find_open, find_symbol}
 use Rattle.larch_lines.specs.Decoding.{decode, decode_all, applied_to}
 use Rattle.larch_lines.specs.Events.{PlainBox, Event, Said, Opened, Closed, operators_of, operators_from, part_operator}

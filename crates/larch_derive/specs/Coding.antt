@@ -1,11 +1,11 @@
 -- How terms are written in lines.
 use Rattle.std.specs.Prelude.{◌≡◌, List, [], ◌∷◌, Contains, Some, None}
+use Rattle.larch_base.specs.ByNumber.{numbered}
 use Rattle.larch_term.specs.BuiltIn.{IsBuiltIn, IsBuiltInAs}
 use Rattle.larch_term.specs.Operator.{PlainOperator}
 use Rattle.larch_term.specs.Tree.{Tree, Forest, var, app, none, more}
 use Rattle.larch_term.specs.declared.statement.Statement.{Statement}
 use Rattle.larch_term.specs.declared.statement.Statement.TheVariants.{Equation, Generated, Partitioned}
-use Rattle.larch_tables.specs.Row.{numbered}
 use Rattle.larch_certificate.specs.Coded.{CodedTree, CodedForest, coded_var, coded_app, no_terms, term_then}
 use Rattle.larch_certificate.specs.declared.line.CodedEquation.{CodedEquation}
 use Rattle.larch_certificate.specs.declared.symbol.Symbol.{Symbol}

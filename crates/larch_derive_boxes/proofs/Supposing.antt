@@ -4,9 +4,9 @@ use Rattle.std.specs.Option.{option_map, option_and_then}
 use Rattle.std.specs.List.{slice_get}
 use Rattle.std.proofs.lemmas.List.Elements.{All-head, All-tail, All-contains, All-weaker}
 use Rattle.larch_base.proofs.Members.{got_contains}
+use Rattle.larch_base.specs.ByNumber.{numbered}
 use Rattle.larch_term.specs.Statement.{IsStatementOver}
 use Rattle.larch_term.specs.declared.statement.Statement.{Statement}
-use Rattle.larch_tables.specs.Row.{numbered}
 use Rattle.larch_tables.proofs.Identities.{at_place}
 use Rattle.larch_certificate.specs.declared.line.Line.TheVariants.{Hyp}
 use Rattle.larch_lines.specs.Context.{find_open}

@@ -7,6 +7,7 @@ use Rattle.std.proofs.lemmas.List.Elements.{All-head, All-tail, All-contains}
 use Rattle.std.proofs.lemmas.Slice.Eq.{bytes_eq-Decides}
 use Rattle.larch_base.proofs.Bools.{and_both}
 use Rattle.larch_base.proofs.Lists.{all_from}
+use Rattle.larch_base.specs.ByNumber.{numbered}
 use Rattle.larch_term.specs.BuiltIn.{bool_sort}
 use Rattle.larch_term.specs.Operator.{PlainOperator, boxed}
 use Rattle.larch_term.specs.OperatorKey.{same_operator, operator_Decides}
@@ -21,7 +22,6 @@ use Rattle.larch_calculus.specs.Formula.{applied}
 use Rattle.larch_calculus.specs.Generation.{generation_hypotheses}
 use Rattle.larch_calculus.proofs.RenamedHypotheses.{truth_renamed, generation_renamed}
 use Rattle.larch_certificate.specs.declared.line.Line.TheVariants.{Generated as GeneratedLine}
-use Rattle.larch_tables.specs.Row.{numbered}
 use Rattle.larch_lines.specs.ClauseRules.{own_operators, generated_by, shows_generated, holds_of_variable}
 use Rattle.larch_lines.specs.Context.{find_closed}
 use Rattle.larch_lines.specs.Events.{PlainBox, State, box_predicate}

@@ -1,2 +1,4 @@
 pub mod Instances
+pub mod Places
 pub mod Stated
+pub mod Ways

@@ -5,6 +5,7 @@ use Rattle.std.specs.List.{slice_get}
 use Rattle.std.proofs.lemmas.Bool.{cond-true}
 use Rattle.std.proofs.lemmas.Option.{option_and_then_some, cond_some}
 use Rattle.larch_base.proofs.Options.{some_inj}
+use Rattle.larch_base.specs.ByNumber.{numbered}
 use Rattle.larch_term.specs.BuiltIn.{built_in, bool_sort}
 use Rattle.larch_term.specs.Equality.{same_statement}
 use Rattle.larch_term.specs.Operator.{PlainOperator}
@@ -19,7 +20,6 @@ use Rattle.larch_term.proofs.Decided.{statement_Decides}
 use Rattle.larch_calculus.specs.Formula.{equality}
 use Rattle.larch_calculus.proofs.Identities.{identity_over}
 use Rattle.larch_calculus.proofs.Sorted.{sides_over}
-use Rattle.larch_tables.specs.Row.{numbered}
 use Rattle.larch_tables.specs.Statement.{IsIdentityStatement}
 use Rattle.larch_tables.specs.Tables.{built_in_rows}
 use Rattle.larch_tables.proofs.Identities.{row_identity}

@@ -1,5 +1,5 @@
 use crate::numbers::empty;
-use larch_applying::{ApplyRefusal, Codes, apply_match};
+use larch_applying::{ApplyRefusal, Encodings, apply_match};
 use larch_base::Memory;
 use larch_derive::Builder;
 use larch_plans::truth;
@@ -30,8 +30,8 @@ fn line_for(alloc: Global, builder: &mut Builder, term: &Term) -> Result<u64, Ap
     let Some(found) = first_redex(alloc, &store, rows, &rules, &term)? else {
         return Ok(0);
     };
-    let mut codes = Codes::new(alloc);
-    let applied = apply_match(alloc, &mut store, builder, &mut codes, &found)?;
+    let mut encodings = Encodings::new(alloc);
+    let applied = apply_match(alloc, &mut store, builder, &mut encodings, &found)?;
     Ok(applied.line)
 }
 

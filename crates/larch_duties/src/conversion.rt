@@ -4,8 +4,8 @@ ghost use Rattle.larch_base.specs.Answering.{Answers};
 ghost use Rattle.larch_items.specs.References.{all_same, exact_of, is_meant, only_operator};
 ghost use Rattle.larch_items.specs.Refusals.{told};
 ghost use Rattle.larch_items.specs.Steps.{all_taken, each};
-ghost use Rattle.larch_sorts.specs.Read.{read_term};
-ghost use Rattle.larch_sorts.specs.Refusals.{told as read_told};
+ghost use Rattle.larch_sorts_meaning.specs.Read.{read_term};
+ghost use Rattle.larch_sorts_meaning.specs.Refusals.{told as read_told};
 ghost use Rattle.larch_claims.specs.Implied.{is_among};
 ghost use Rattle.larch_claims.specs.Conversions.{conversion_of, take_converted, take_exempted};
 
@@ -14,7 +14,9 @@ use crate::standing::has_one_of;
 use larch_base::{Code, Memory, Name, Sequence};
 use larch_items::{TraitRefusal, declare_variables, operator_of};
 use larch_raw::{RawConversion, RawEquation, RawOpRef};
-use larch_sorts::{ReadRefusal, Scope, Signature, read_lone};
+use larch_sorts::read_lone;
+use larch_sorts_meaning::{ReadRefusal, Scope};
+use larch_sorts_signature::Signature;
 use larch_term::{Operator, Operators, Term};
 use std::alloc::Global;
 use std::marker::Model;
@@ -151,24 +153,16 @@ fn first_meant<'a>(
 ) -> Option<&'a Operator>
     ensures { option_copied result ≡ find (is_meant exact.now name.now) own.now }
 {
-    for operator in own {
-        if is_meant(operator, exact, name) {
-            return Some(operator);
-        }
-    }
-    None
+    own.iter()
+        .find(|operator| is_meant(operator, exact, name))
 }
 
 // Whether all operators that are meant are equal to one.
 fn are_all_same(own: &[Operator], exact: &Option<Operator>, name: &Name, first: &Operator) -> bool
     ensures { result ≡ all_same (is_meant exact.now name.now) first.now own.now }
 {
-    for operator in own {
-        if is_meant(operator, exact, name) && *first != *operator {
-            return false;
-        }
-    }
-    true
+    own.iter()
+        .all(|operator| !is_meant(operator, exact, name) || *first == *operator)
 }
 
 // Whether a reference of this name, or of this one operator, means an operator.

@@ -18,7 +18,7 @@ use larch_items::{TraitRefusal, state_items};
 use larch_marked::{MarkedStatements, new_among};
 use larch_raw::{RawRef, RawTrait};
 use larch_replacing::{NewNames, replacements_of};
-use larch_sorts::Signature;
+use larch_sorts_signature::Signature;
 use larch_sources::Sources;
 use larch_term::{Operator, Statements};
 use std::alloc::Global;

@@ -16,7 +16,7 @@ use larch_flatten::FlatTraits;
 use larch_gathered::Flat;
 use larch_items::TraitRefusal;
 use larch_raw::RawTrait;
-use larch_sorts::Signature;
+use larch_sorts_signature::Signature;
 use larch_sources::Sources;
 use larch_term::{Statement, Statements, copy_operators};
 use std::alloc::Global;

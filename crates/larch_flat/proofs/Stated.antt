@@ -11,7 +11,7 @@ use Rattle.larch_term.specs.declared.statement.Statement.{Statement}
 use Rattle.larch_term.specs.declared.statement.Statement.TheVariants.{Equation, Generated, Partitioned}
 use Rattle.larch_renaming.specs.Renaming.{Carries, FitsSignatures, KeepsBuiltIns, Renaming, renamed, renamed_all, renamed_statement}
 use Rattle.larch_renaming.proofs.RenamedStatements.{built_in_renamed, renamed_statement_over}
-use Rattle.larch_sorts.specs.Laws.{ForestSorts, IsSortOf, OperatorSorts, StatementSorts, TermSorts, sorts_of_operator}
+use Rattle.larch_sorts_meaning.specs.Laws.{ForestSorts, IsSortOf, OperatorSorts, StatementSorts, TermSorts, sorts_of_operator}
 use Rattle.larch_items.specs.Laws.{NamesOwn}
 use Rattle.larch_flat.specs.Laws.{IsStatedOver}
 

@@ -25,7 +25,7 @@ use Rattle.larch_term.specs.declared.statement.Statement.TheVariants.{Equation, 
 use Rattle.larch_term.specs.declared.variable.Variable.{Variable}
 use Rattle.larch_renaming.specs.Renaming.{Renaming, renamed, renamed_statement, renamed_variable}
 use Rattle.larch_renaming.proofs.Renamed.{renamed_occurrences}
-use Rattle.larch_sorts.specs.Laws.{StatementVariables}
+use Rattle.larch_sorts_meaning.specs.Laws.{StatementVariables}
 use Rattle.larch_items.specs.Declarations.{declared}
 use Rattle.larch_items.specs.Items.{items_state}
 use Rattle.larch_items.specs.Laws.{BindsWords, IsWord}

@@ -24,7 +24,7 @@ use Rattle.larch_term.specs.Operator.{PlainOperator}
 use Rattle.larch_term.specs.Tree.{Tree, Forest, var, app, none, more}
 use Rattle.larch_term.specs.declared.statement.Statement.{Statement}
 use Rattle.larch_term.specs.declared.statement.Statement.TheVariants.{Equation, Generated, Partitioned}
-use Rattle.larch_sorts.specs.Laws.{ForestSorts, IsSortOf, OperatorSorts, StatementSorts, TermSorts, sorts_of_operator}
+use Rattle.larch_sorts_meaning.specs.Laws.{ForestSorts, IsSortOf, OperatorSorts, StatementSorts, TermSorts, sorts_of_operator}
 use Rattle.larch_items.specs.Laws.{DeclaresWords, IsWord}
 use Rattle.larch_items.specs.Steps.{after, all_taken}
 use Rattle.larch_items.proofs.Kept.{after_was, kept, ok_inj, unless_was}

@@ -28,9 +28,9 @@ use Rattle.larch_term.specs.Operator.{PlainOperator}
 use Rattle.larch_term.specs.declared.statement.Statement.{Statement}
 use Rattle.larch_term.specs.declared.statement.Statement.TheVariants.{Equation, Generated, Partitioned}
 use Rattle.larch_term.specs.declared.statement.Theory.{Theory}
-use Rattle.larch_sorts.specs.Read.{read_equation, read_term, unread_in}
-use Rattle.larch_sorts.specs.ReadingLists.{readings}
-use Rattle.larch_sorts.specs.Unknown.{unknown_among}
+use Rattle.larch_sorts_meaning.specs.Read.{read_equation, read_term, unread_in}
+use Rattle.larch_sorts_meaning.specs.ReadingLists.{readings}
+use Rattle.larch_sorts_meaning.specs.Unknown.{unknown_among}
 use Rattle.larch_shorthand.specs.Operators.{operator, constant, on, on_two}
 use Rattle.larch_flat.specs.Files.{Files}
 use Rattle.larch_flat.specs.Flat.{FlatTrait, flat, theory_of}

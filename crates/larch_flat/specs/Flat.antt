@@ -12,7 +12,7 @@ use Rattle.larch_raw.specs.declared.shorthand.RawShorthand.{RawShorthand}
 use Rattle.larch_term.specs.Operator.{PlainOperator}
 use Rattle.larch_term.specs.declared.statement.Statement.{Statement}
 use Rattle.larch_term.specs.declared.statement.Theory.{Theory}
-use Rattle.larch_sorts.specs.Faults.{fault}
+use Rattle.larch_sorts_meaning.specs.Faults.{fault}
 use Rattle.larch_renaming.specs.Renaming.{renamed_statement}
 use Rattle.larch_items.specs.Declarations.{declared}
 use Rattle.larch_items.specs.Items.{items_state}

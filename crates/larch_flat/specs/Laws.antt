@@ -6,7 +6,7 @@ use Rattle.larch_term.specs.BuiltIn.{IsBuiltIn}
 use Rattle.larch_term.specs.Operator.{PlainOperator}
 use Rattle.larch_term.specs.Statement.{IsStatementOver}
 use Rattle.larch_term.specs.declared.statement.Statement.{Statement}
-use Rattle.larch_sorts.specs.Laws.{IsSortOf, StatementSorts}
+use Rattle.larch_sorts_meaning.specs.Laws.{IsSortOf, StatementSorts}
 use Rattle.larch_items.specs.Laws.{NamesOwn}
 use Rattle.larch_flat.specs.Files.{Files, Reaches, is_there}
 use Rattle.larch_flat.specs.Flat.{FlatTrait}

@@ -13,7 +13,7 @@ ghost use Rattle.larch_renaming.specs.Renaming.{FitsSignatures, KeepsBuiltIns};
 ghost use Rattle.larch_term.specs.BuiltIn.{IsBuiltIn};
 ghost use Rattle.larch_term.specs.Operator.{PlainOperator};
 ghost use Rattle.larch_term.specs.Statement.{IsTheory};
-ghost use Rattle.larch_sorts.specs.Laws.{OperatorSorts, StatementSorts, StatementVariables};
+ghost use Rattle.larch_sorts_meaning.specs.Laws.{OperatorSorts, StatementSorts, StatementVariables};
 ghost use Rattle.larch_items.specs.Laws.{IsWord};
 ghost use Rattle.larch_flat.specs.Files.{Files, Reaches, closure, is_there, targets_in};
 ghost use Rattle.larch_flat.specs.Flat.{FlatTrait, flat, flat_by, flat_file, take_flat, take_own, take_rest, theory_of};

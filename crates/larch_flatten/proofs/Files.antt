@@ -4,7 +4,7 @@ use Rattle.std.specs.Prelude.{bytes_eq, not}
 use Rattle.larch_base.specs.declared.code.Code.TheVariants.{TraitName}
 use Rattle.larch_base.specs.declared.fault.Fault.{Fault}
 use Rattle.larch_raw.specs.declared.equation.RawTrait.{RawTrait}
-use Rattle.larch_sorts.specs.Faults.{fault}
+use Rattle.larch_sorts_meaning.specs.Faults.{fault}
 use Rattle.larch_items.specs.Steps.{after, all_taken}
 use Rattle.larch_flat.specs.Flat.{FlatTrait, flat_file, flat_of, take_reference, take_rest}
 use Rattle.larch_flat.specs.Gathered.{Gathered, nothing}

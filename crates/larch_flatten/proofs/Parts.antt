@@ -12,7 +12,7 @@ use Rattle.larch_raw.specs.declared.equation.RawTrait.{RawTrait}
 use Rattle.larch_raw.specs.declared.reference.RawReference.{RawReference}
 use Rattle.larch_term.specs.Operator.{PlainOperator}
 use Rattle.larch_term.specs.declared.statement.Statement.{Statement}
-use Rattle.larch_sorts.specs.Faults.{fault}
+use Rattle.larch_sorts_meaning.specs.Faults.{fault}
 use Rattle.larch_renaming.specs.Renaming.{renamed_statement}
 use Rattle.larch_items.specs.Refusals.{told}
 use Rattle.larch_items.specs.Steps.{after}

@@ -9,7 +9,7 @@ use Rattle.larch_base.specs.declared.position.Pos.{Pos}
 use Rattle.larch_raw.specs.declared.declared.RawForm.{RawForm}
 use Rattle.larch_raw.specs.declared.equation.RawTrait.{RawTrait}
 use Rattle.larch_raw.specs.declared.reference.RawReference.{RawReference}
-use Rattle.larch_sorts.specs.Faults.{fault}
+use Rattle.larch_sorts_meaning.specs.Faults.{fault}
 use Rattle.larch_items.specs.Steps.{after, all_taken}
 use Rattle.larch_items.proofs.Kept.{ok_inj}
 use Rattle.larch_flat.specs.Files.{Files, closure, target}

@@ -4,7 +4,7 @@ use Rattle.std.specs.Prelude.{bytes_eq}
 use Rattle.std.specs.List.{list_any}
 use Rattle.larch_base.specs.declared.code.Code.TheVariants.{Cycle}
 use Rattle.larch_raw.specs.declared.reference.RawReference.{RawReference}
-use Rattle.larch_sorts.specs.Faults.{fault}
+use Rattle.larch_sorts_meaning.specs.Faults.{fault}
 use Rattle.larch_flat.specs.Files.{closure, is_there, target, targets_in}
 use Rattle.larch_flat.specs.Gathered.{Gathered}
 use Rattle.larch_flat.specs.Reach.{reach_count}

@@ -4,6 +4,7 @@ use Rattle.std.specs.Prelude.{codes, slice_get, Option, Some, None, refl}
 use Rattle.std.proofs.Common.{ap, ap₂, arith, cond, sym, subst, ◌∙◌}
 use Rattle.std.proofs.lemmas.Option.{slice_get_past}
 use Rattle.larch_base.proofs.Options.{some_inj}
+use Rattle.larch_base.specs.ByNumber.{numbered}
 use Rattle.larch_term.specs.BuiltIn.{bool_sort}
 use Rattle.larch_term.specs.Substitution.{image, substituted_statement}
 use Rattle.larch_term.specs.Tree.{Tree}
@@ -11,7 +12,7 @@ use Rattle.larch_term.specs.Truth.{truth}
 use Rattle.larch_term.specs.declared.statement.Statement.{Statement}
 use Rattle.larch_term.specs.declared.statement.Statement.TheVariants.{Equation}
 use Rattle.larch_calculus.specs.Formula.{equality}
-use Rattle.larch_tables.specs.Row.{PlainRow, numbered}
+use Rattle.larch_tables.specs.Row.{PlainRow}
 use Rattle.larch_formulas.specs.Consequences.{Follows, found_by, given_by}
 use Rattle.larch_formulas.specs.Instances.{truths, values}
 use Rattle.larch_formulas.specs.declared.consequences.Deduction.{Deduction}

@@ -1,5 +1,6 @@
 -- What follows from an equation by the deduction rows.
 use Rattle.std.specs.Prelude.{◌≡◌, ◌-◌, ℕ, Bool, true, false, not, List, [], ◌∷◌, map, get_or, length, Some}
+use Rattle.larch_base.specs.ByNumber.{numbered}
 use Rattle.larch_term.specs.BuiltIn.{built_in}
 use Rattle.larch_term.specs.Operator.{PlainOperator}
 use Rattle.larch_term.specs.Substitution.{substituted_statement}
@@ -11,7 +12,7 @@ use Rattle.larch_term.specs.declared.statement.Statement.{Statement}
 use Rattle.larch_term.specs.declared.statement.Statement.TheVariants.{Equation}
 use Rattle.larch_term.specs.declared.substitution.Entry.{Entry}
 use Rattle.larch_calculus.specs.Formula.{falsity}
-use Rattle.larch_tables.specs.Row.{PlainRow, numbered}
+use Rattle.larch_tables.specs.Row.{PlainRow}
 use Rattle.larch_tables.specs.Tables.{deduction_rows}
 use Rattle.larch_formulas.specs.declared.consequences.Consequences.{Consequences}
 use Rattle.larch_formulas.specs.declared.consequences.Consequences.TheVariants.{One, Both}

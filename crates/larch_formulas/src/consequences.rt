@@ -1,11 +1,11 @@
 ghost use Rattle.std.specs.Prelude.{◌≡◌, ◌↔◌, ℕ, List, not, IfOk, IfSome, IfNone, IsSome, IsTrue};
 ghost use Rattle.std.specs.List.{AllZip};
+ghost use Rattle.larch_base.specs.ByNumber.{numbered};
 ghost use Rattle.larch_calculus.specs.Formula.{negation};
 ghost use Rattle.larch_derive.specs.Predicates.{Extends, HasEquation, HasStatement};
 ghost use Rattle.larch_formulas.specs.Consequences.{Follows, arguments_of, found_by, given_by, head_of, headed};
 ghost use Rattle.larch_formulas.specs.Consequences.{last_sort, lines_of, sort_within, truth_value};
 ghost use Rattle.larch_formulas.specs.declared.consequences.TheConstants.{DEDUCTIONS};
-ghost use Rattle.larch_tables.specs.Row.{numbered};
 ghost use Rattle.larch_term.specs.BuiltIn.{built_in};
 ghost use Rattle.larch_term.specs.Tree.{Tree, forest_of, more, none};
 ghost use Rattle.larch_term.specs.declared.statement.Statement.TheVariants.{Equation};
@@ -19,7 +19,7 @@ use crate::instances::Places;
 use larch_base::Memory;
 use larch_derive::Builder;
 use larch_derive_lines::equal_line;
-use larch_term::{BuiltIn, Node, Operator, Term, Terms, bool_sort, same_operator, same_term};
+use larch_term::{BuiltIn, Node, Operator, Term, same_operator, same_term};
 use std::alloc::Global;
 
 // The deduction rows by the word at the head of their equations' left sides. For a negation there are two, one where it
@@ -148,9 +148,8 @@ fn truth_value(alloc: Global, value: bool) -> Result<Term, Memory>
     ensures { IfOk result (λ t. t ≡ truth_value value) }
 {
     let word = if value { BuiltIn::True } else { BuiltIn::False };
-    let sort = bool_sort(alloc)?;
-    let operator = word.operator(alloc, &sort)?;
-    Ok(Term::app(operator, Terms::from_vec(Vec::new(alloc))))
+    let term = word.constant(alloc)?;
+    Ok(term)
 }
 
 // The terms that make the left side of a row's equation this term.

@@ -93,8 +93,8 @@ pub fn conjunct_lines(
         first: left,
         second: right,
     };
-    let first = implied_line(alloc, builder, LEFT_OF_CONJUNCTION, &places, left, line)?;
-    let second = implied_line(alloc, builder, RIGHT_OF_CONJUNCTION, &places, right, line)?;
+    let first = affirmed_line(alloc, builder, LEFT_OF_CONJUNCTION, &places, left, line)?;
+    let second = affirmed_line(alloc, builder, RIGHT_OF_CONJUNCTION, &places, right, line)?;
     Ok(BothLines { first, second })
 }
 
@@ -145,7 +145,7 @@ pub fn implication_lines(
         first: left,
         second: right,
     };
-    let first = implied_line(alloc, builder, PREMISE, &places, left, line)?;
+    let first = affirmed_line(alloc, builder, PREMISE, &places, left, line)?;
     let second = denied_line(alloc, builder, CONCLUSION, &places, right, line)?;
     Ok(BothLines { first, second })
 }
@@ -208,7 +208,7 @@ fn opposite_line(
 
 // A line that says that what a step leads to is true.
 #[tactic(auto, using(larch_derive::proofs::Growth::extends_same))]
-fn implied_line(
+fn affirmed_line(
     alloc: Global,
     builder: &mut Builder,
     step: Step,
@@ -263,7 +263,7 @@ fn denied_line(
         (app f (forest_of (done ++ u ∷ rest))) (negation wanted.now)
         → Extends builder.old builder.new }
 {
-    let denied = implied_line(alloc, builder, step, places, wanted, line)?;
+    let denied = affirmed_line(alloc, builder, step, places, wanted, line)?;
     let number = false_line(alloc, builder, wanted, denied)?;
     Ok(number)
 }

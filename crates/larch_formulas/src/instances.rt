@@ -7,9 +7,8 @@ ghost use Rattle.larch_term.specs.Tree.{Tree, app, forest_of};
 
 use larch_base::{Memory, Name};
 use larch_derive::Builder;
-use larch_derive_lines::{inst_line, row_line, sym_line, trans_line};
+use larch_derive_lines::{argument_line, inst_line, row_line, sym_line, trans_line};
 use larch_term::{Entry, Sort, Substitution, Term, bool_sort, copy};
-use larch_ways::argument_line;
 use std::alloc::Global;
 
 // A row, at its sort if it has one, with what takes the places of its variables.

@@ -7,7 +7,7 @@ use Rattle.larch_raw.specs.declared.equation.RawTrait.{RawTrait}
 use Rattle.larch_raw.specs.declared.shorthand.RawShorthand.{RawShorthand}
 use Rattle.larch_term.specs.Operator.{PlainOperator}
 use Rattle.larch_term.specs.declared.statement.Statement.{Statement}
-use Rattle.larch_sorts.specs.Faults.{fault, unless}
+use Rattle.larch_sorts_meaning.specs.Faults.{fault, unless}
 use Rattle.larch_items.specs.Declarations.{declared}
 use Rattle.larch_items.specs.Items.{items_state}
 use Rattle.larch_items.specs.Steps.{after, all_taken}

@@ -17,7 +17,7 @@ use larch_base::{Code, Memory, Sequence};
 use larch_items::{TraitRefusal, declare, state_items};
 use larch_marked::new_among;
 use larch_raw::{RawItem, RawShorthand, RawTrait};
-use larch_sorts::Signature;
+use larch_sorts_signature::Signature;
 use larch_term::{Operator, Operators, Statements, copy_operators};
 use std::alloc::Global;
 

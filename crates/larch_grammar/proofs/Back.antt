@@ -8,7 +8,7 @@ use Rattle.larch_grammar.specs.declared.terminal.Terminal.TheVariants.{Word, Arr
 use Rattle.larch_grammar.specs.declared.machine.Before.TheVariants as before
 use Rattle.larch_grammar.specs.declared.machine.Signing.TheVariants.{Declaration, Reference, Replacement, LoneForm, Conversion}
 use Rattle.larch_grammar.specs.declared.machine.State.{State}
-use Rattle.larch_grammar.specs.declared.machine.State.TheVariants.{Start, AfterName, AfterFormals, NeedTrait, AfterHead, ShortWord, NeedConstants, NeedConstant, AfterConstant, NeedFields, NeedName, AfterNames, NeedFurtherName, NeedNamesSort, AfterField, NeedRef, AfterRefName, AfterRef, AfterRename, InPart, NeedForm, AfterSymbolForm, AfterDotForm, AfterMarker, AfterMarkerSymbol, NeedMarks, AfterMark, NeedMark, AfterForm, NeedSig, AfterSort, NeedSort, NeedRange, AfterReference, AfterLone, InItems, FirstWord, AfterSemicolon, WordBehind, ClauseWord, NeedBy, NeedVariable, AfterVariable, NeedFurtherVariable, NeedVariableSort, AfterGroup, AfterImplies, ImpliedWord, BehindFirst, AfterConverted, NeedExempted, NeedFurtherExempted, NeedEquation, NeedTerm, NeedOperand, NeedPrefixed, NeedPost, NeedField, NeedSortOf, AfterWord, NeedFirst, AfterSymbol, Have}
+use Rattle.larch_grammar.specs.declared.machine.State.TheVariants.{Start, AfterName, AfterFormals, NeedTrait, AfterHead, ShortWord, NeedConstants, NeedConstant, AfterConstant, NeedFields, NeedName, AfterNames, NeedFurtherName, NeedNamesSort, AfterField, NeedRef, AfterRefName, AfterTraitRef, AfterRename, InPart, NeedForm, AfterSymbolForm, AfterDotForm, AfterLeadingMarker, AfterMarkerSymbol, AfterFormBracket, AfterBracketMarker, NeedBracketMarker, AfterForm, NeedSig, AfterSort, NeedSort, NeedRange, AfterOperatorRef, AfterLone, InItems, FirstWord, AfterSemicolon, WordBehind, ClauseWord, NeedBy, NeedVariable, AfterVariable, NeedFurtherVariable, NeedVariableSort, AfterGroup, AfterImplies, ImpliedWord, BehindFirst, AfterConverted, NeedExempted, NeedFurtherExempted, NeedEquation, NeedTerm, NeedOperand, NeedPrefixed, NeedPost, NeedField, NeedSortOf, AfterWord, NeedFirst, AfterSymbol, Have}
 use Rattle.larch_grammar.specs.declared.machine.Whole.{Whole}
 use Rattle.larch_grammar.specs.Composition.{HasFormals, a_ref, fields_of_sort, formals, no_formal}
 use Rattle.larch_grammar.specs.Forms.{Marked, a_word, another_marker, another_word, group, no_word, signature, no_sort, sorts}
@@ -47,17 +47,17 @@ step_back s (NeedNamesSort n ws) (Word sort) = λ i z f. (i, sort, a_word, f)
 step_back s (AfterField n) t = field_back s n t
 step_back s (NeedRef r b) (Word w) = λ i z f. (f.0, _, a_ref a_word f.2, f.3)
 step_back s (AfterRefName r b w) t = ref_name_back s r b w t
-step_back s (AfterRef r b) t = ref_back s r b t
+step_back s (AfterTraitRef r b) t = ref_back s r b t
 step_back s (AfterRename n) t = rename_back s n t
 step_back s (InPart r) t = part_of_decls_back s r t
 step_back s (NeedForm n) t = form_back s n t
 step_back s (AfterSymbolForm n x) t = symbol_form_back s n x t
 step_back s (AfterDotForm n p) (Word w) = λ i z f. (i, w, a_word, f)
-step_back s (AfterMarker n p) t = marker_back s n p t
+step_back s (AfterLeadingMarker n p) t = marker_back s n p t
 step_back s (AfterMarkerSymbol n p x) t = marker_symbol_back s n p x t
-step_back s (NeedMarks c) t = marks_back s c t
-step_back s (AfterMark c m) t = mark_back s c m t
-step_back s (NeedMark c m) (Marker q) = λ i z f. (f.0, f.1, another_marker f.2, f.3)
+step_back s (AfterFormBracket c) t = marks_back s c t
+step_back s (AfterBracketMarker c m) t = mark_back s c m t
+step_back s (NeedBracketMarker c m) (Marker q) = λ i z f. (f.0, f.1, another_marker f.2, f.3)
 step_back s (AfterForm n f) t = form_read_back s n f t
 step_back s (NeedSig n) (Word w) = λ i z f. (f.1, _, signature (sorts a_word f.4) f.5, f.6)
 step_back s (NeedSig n) Arrow = λ i z f. (f.0, _, signature no_sort f.2, f.3)
@@ -69,7 +69,7 @@ step_back s (NeedRange (Reference c rs g) ws) (Word w) = λ i z f. (i, w, a_word
 step_back s (NeedRange (Replacement n g h) ws) (Word w) = λ i z f. (i, w, a_word, f)
 step_back s (NeedRange (LoneForm g) ws) (Word w) = λ i z f. (i, w, a_word, f)
 step_back s (NeedRange (Conversion r rs g) ws) (Word w) = λ i z f. (i, w, a_word, f)
-step_back s (AfterReference c rs) t = reference_back s c rs t
+step_back s (AfterOperatorRef c rs) t = reference_back s c rs t
 step_back s (InItems r) t = item_back s r t
 step_back s (FirstWord r w) t = first_back s r w t
 step_back s (AfterSemicolon j) t = semicolon_back s j.raw j.variables j.equations t

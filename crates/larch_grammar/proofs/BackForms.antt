@@ -24,11 +24,11 @@ use Rattle.larch_grammar.specs.declared.machine.OpenRef.{OpenRef}
 use Rattle.larch_grammar.specs.declared.machine.RefKind.{RefKind}
 use Rattle.larch_grammar.specs.declared.machine.RefKind.TheVariants.{Included, Assumed, First, Further}
 use Rattle.larch_grammar.specs.declared.machine.Before.TheVariants as before
-use Rattle.larch_grammar.specs.declared.machine.State.TheVariants.{NeedConstants, NeedConstant, NeedFields, NeedName, AfterSymbolForm, AfterMarker, AfterMarkerSymbol, NeedMarks, AfterMark}
+use Rattle.larch_grammar.specs.declared.machine.State.TheVariants.{NeedConstants, NeedConstant, NeedFields, NeedName, AfterSymbolForm, AfterLeadingMarker, AfterMarkerSymbol, AfterFormBracket, AfterBracketMarker}
 use Rattle.larch_grammar.specs.declared.machine.Whole.{Whole}
 use Rattle.larch_grammar.specs.Composition.{AreFields, IsField, IsShort, a_tuple, a_union, actuals, an_enumeration, another_actual, another_field, another_ref, assumes, bare, close_fields, close_ref, in_place, includes, no_actual, no_field, next_kind, no_ref, open_fields, open_ref, replaces, shorthand_of, with_actual, with_shorthand}
 use Rattle.larch_grammar.specs.Forms.{Marked, AreMarkers, Markers, another_form, another_reference, no_reference, a_word, bare_field, bare_symbol, bare_word, bracket_behind, bracketed_form, by_form, by_signature, no_word, another_word, empty, field_form, infix_form, marked, no_form, no_marker, postfix_form, prefix_form}
-use Rattle.larch_grammar.specs.Machine.{after_actual, after_constant, after_converted, after_field, after_form, after_head, after_mark, after_marker, after_marker_symbol, after_ref, after_ref_name, after_reference, after_rename, after_symbol_form, begin_claim, begin_conversion, begin_form, begin_item, behind_refs, end_marks, in_part, need_marks, short_word, with_reference}
+use Rattle.larch_grammar.specs.Machine.{after_actual, after_constant, after_converted, after_field, after_form, after_head, after_bracket_marker, after_leading_marker, after_marker_symbol, after_trait_ref, after_ref_name, after_operator_ref, after_rename, after_symbol_form, begin_claim, begin_conversion, begin_form, begin_item, behind_refs, end_marks, in_part, after_form_bracket, short_word, with_reference}
 use Rattle.larch_grammar.specs.Traits.{a_shorthand, another_declaration, assertions, declaration, introduced, no_declaration, nothing_exempted, parts, references, with_conversion}
 use Rattle.larch_grammar.specs.Terminals.{ends_reference}
 use Rattle.larch_grammar.specs.Trees.{bracket_form, infix_name, mixfix, plain_form, postfix_name}
@@ -71,7 +71,7 @@ form_read_back s (Declared r fs) f (Colon p) = λ i z h. (i, p, fs ++ f ∷ [], 
 form_read_back s (Declared r fs) f _ = tt
 form_read_back s (Referred c rs) f (Colon p) = λ i z h. λ j form. (h.0, _, by_signature form h.2, h.3)
 form_read_back s (Referred c rs) f t =
-    passed s (after_reference c (with_reference rs f) t) t (FitsReferences s c (with_reference rs f)) (FitsForm s (Referred c rs) f) (λ m i z h. λ j form. ((t, m) ∷ i, _, by_form form, h)) (reference_back s c (with_reference rs f) t)
+    passed s (after_operator_ref c (with_reference rs f) t) t (FitsReferences s c (with_reference rs f)) (FitsForm s (Referred c rs) f) (λ m i z h. λ j form. ((t, m) ∷ i, _, by_form form, h)) (reference_back s c (with_reference rs f) t)
 form_read_back s (Formal w fs) f Comma = λ i z h. (h.3.0, h.3.1, another_form h.2 h.3.2, h.3.3)
 form_read_back s (Formal w fs) f Close = λ i z h. (i, fs ++ f ∷ [], no_form, h)
 form_read_back s (Formal w fs) f _ = tt
@@ -95,7 +95,7 @@ symbol_form_back s n x (Marker p) = λ i z f. (i, _, prefix_form, f)
 symbol_form_back s n x t = passed s (after_form n (mixfix (infix_name x.name) 2 x.pos) t) t (FitsForm s n (mixfix (infix_name x.name) 2 x.pos)) (Fits s (AfterSymbolForm n x)) (λ m i z f. ((t, m) ∷ i, _, bare_symbol, f)) (form_read_back s n (mixfix (infix_name x.name) 2 x.pos) t)
 
 -- a `__` that begins a form is read
-pub marker_back : (s : Bool) (n : Naming) (p : Pos) (t : Terminal) → Back s (after_marker n p t) t (Fits s (AfterMarker n p))
+pub marker_back : (s : Bool) (n : Naming) (p : Pos) (t : Terminal) → Back s (after_leading_marker n p t) t (Fits s (AfterLeadingMarker n p))
 marker_back s n p (Dot q) = λ i z f. (f.0, _, field_form f.2, f.3)
 marker_back s n p (Symbol x) = λ i z f. f
 marker_back s n p (OpenBracket b q) = λ i z f. (f.0, _, bracket_behind f.2, f.3)
@@ -116,16 +116,16 @@ marks_end_back s n behind Curly m p (CloseBracket Curly) = λ i z f. (i, refl, f
 marks_end_back s n behind b m p _ = tt
 
 -- a bracket of a form is open
-pub marks_back : (s : Bool) (c : FormBracket) (t : Terminal) → Back s (need_marks c t) t (Fits s (NeedMarks c))
+pub marks_back : (s : Bool) (c : FormBracket) (t : Terminal) → Back s (after_form_bracket c t) t (Fits s (AfterFormBracket c))
 marks_back s c (Marker q) = λ i z f. (f.0, f.1, marked f.2, f.3)
 marks_back s c t =
-    passed s (end_marks c.naming c.behind c.bracket 0 c.pos t) t (MarksEnd s c.naming c.behind c.bracket 0 c.pos) (Fits s (NeedMarks c)) (λ m i z f. (f.0, 0, subst (λ x. Markers c.bracket x f.0 0) (sym f.1) empty, f.2)) (marks_end_back s c.naming c.behind c.bracket 0 c.pos t)
+    passed s (end_marks c.naming c.behind c.bracket 0 c.pos t) t (MarksEnd s c.naming c.behind c.bracket 0 c.pos) (Fits s (AfterFormBracket c)) (λ m i z f. (f.0, 0, subst (λ x. Markers c.bracket x f.0 0) (sym f.1) empty, f.2)) (marks_end_back s c.naming c.behind c.bracket 0 c.pos t)
 
 -- so many markers stand in it
-pub mark_back : (s : Bool) (c : FormBracket) (l : ℕ) (t : Terminal) → Back s (after_mark c l t) t (Fits s (AfterMark c l))
+pub mark_back : (s : Bool) (c : FormBracket) (l : ℕ) (t : Terminal) → Back s (after_bracket_marker c l t) t (Fits s (AfterBracketMarker c l))
 mark_back s c l Comma = λ i z f. f
 mark_back s c l t =
-    passed s (end_marks c.naming c.behind c.bracket l c.pos t) t (MarksEnd s c.naming c.behind c.bracket l c.pos) (Fits s (AfterMark c l)) (λ m i z f. (f.0, l, subst (λ x. AreMarkers c.bracket l x f.0 l) (sym f.1) no_marker, f.2)) (marks_end_back s c.naming c.behind c.bracket l c.pos t)
+    passed s (end_marks c.naming c.behind c.bracket l c.pos t) t (MarksEnd s c.naming c.behind c.bracket l c.pos) (Fits s (AfterBracketMarker c l)) (λ m i z f. (f.0, l, subst (λ x. AreMarkers c.bracket l x f.0 l) (sym f.1) no_marker, f.2)) (marks_end_back s c.naming c.behind c.bracket l c.pos t)
 
 -- a form of a declaration, where a declaration may begin
 decl_of_form : (s : Bool) (r : RawTrait) (i : List Marked) (z : Whole) → FitsNaming s (Declared r []) i z → FitsDecls s r i z
@@ -210,11 +210,11 @@ behind_refs_back s First r t = first_back s r t (ends_reference t) refl
 behind_refs_back s Further r t = passed s (begin_item r t) t (FitsItems s before.Anything r) (Follows s Further r) (λ m i z f. (tt, f)) (item_back s r t)
 
 -- a reference is read
-pub ref_back : (s : Bool) (r : RawTrait) (b : RefKind) (t : Terminal) → Back s (after_ref r b t) t (FitsRefs s b r)
+pub ref_back : (s : Bool) (r : RawTrait) (b : RefKind) (t : Terminal) → Back s (after_trait_ref r b t) t (FitsRefs s b r)
 ref_back s r b Comma = λ i z f. (f.3.0, f.3.1, another_ref f.2 f.3.2, comma_follows b Outside i, further_follows s b f.3.1 f.3.0 z f.3.4)
 ref_back s r b t = passed s (behind_refs b r t) t (Follows s b r) (FitsRefs s b r) (λ m i z f. ((t, m) ∷ i, r, no_ref, f.0, f.1)) (behind_refs_back s b r t)
 
 -- the name of a trait that is referred to is read
 pub ref_name_back : (s : Bool) (r : RawTrait) (b : RefKind) (w : RawWord) (t : Terminal) → Back s (after_ref_name r b w t) t (FitsRefName s r b w)
 ref_name_back s r b w (Open p) = λ i z f. let h = f.3 i f.2 in (h.0, h.1, actuals h.2, h.3)
-ref_name_back s r b w t = passed s (after_ref (close_ref (open_ref r b w [])) b t) t (FitsRefs s b (close_ref (open_ref r b w []))) (FitsRefName s r b w) (λ m i z f. ((t, m) ∷ i, [], bare refl, f)) (ref_back s (close_ref (open_ref r b w [])) b t)
+ref_name_back s r b w t = passed s (after_trait_ref (close_ref (open_ref r b w [])) b t) t (FitsRefs s b (close_ref (open_ref r b w []))) (FitsRefName s r b w) (λ m i z f. ((t, m) ∷ i, [], bare refl, f)) (ref_back s (close_ref (open_ref r b w [])) b t)

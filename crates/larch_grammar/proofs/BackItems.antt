@@ -22,7 +22,7 @@ use Rattle.larch_grammar.specs.declared.machine.Waiting.{Waiting}
 use Rattle.larch_grammar.specs.declared.machine.Waiting.TheVariants.{Item}
 use Rattle.larch_grammar.specs.declared.machine.Whole.{Whole}
 use Rattle.larch_grammar.specs.Forms.{Marked, unmarked, another_group, another_reference, no_group, no_reference}
-use Rattle.larch_grammar.specs.Machine.{after_group, after_implies, after_reference, after_semicolon, after_word, begin_equation, begin_exempted, begin_item, begin_part, begin_quantified, behind_first, clause_word, first_word, hand, implied_word, need_exempted, open_conversion, with_clause, word_behind, word_frames, open_item}
+use Rattle.larch_grammar.specs.Machine.{after_group, after_implies, after_operator_ref, after_semicolon, after_word, begin_equation, begin_exempted, begin_item, begin_part, begin_quantified, behind_first, clause_word, first_word, hand, implied_word, need_exempted, open_conversion, with_clause, word_behind, word_frames, open_item}
 use Rattle.larch_grammar.specs.Terms.{call, equal, logic, opens, plain}
 use Rattle.larch_grammar.specs.Traits.{IsClauseWord, a_clause, an_end, another_equation, begins_references, clause, clause_mark, ended, ends_references, exempted, generates, no_end, no_variables, partitions, some_variables, with_equations, without_variables}
 use Rattle.larch_grammar.specs.Trees.{call_tree}
@@ -48,7 +48,7 @@ item_back s r Converts = part_back s before.Anything r Converts
 item_back s r t = passed s (begin_equation t (Item (open_item r [] []))) t (FitsEquation s (Item (open_item r [] []))) (FitsItems s before.Anything r) (λ m i z f. item_of_equation s r ((t, m) ∷ i) z f) (equation_back s (Item (open_item r [] [])) t)
 
 -- a reference is read, and a token stands behind it
-pub reference_back : (s : Bool) (c : Clause) (rs : List RawOpRef) (t : Terminal) → Back s (after_reference c rs t) t (FitsReferences s c rs)
+pub reference_back : (s : Bool) (c : Clause) (rs : List RawOpRef) (t : Terminal) → Back s (after_operator_ref c rs t) t (FitsReferences s c rs)
 reference_back s c rs Comma = λ i z f. let r = f.3 i f.2 in (r.3.0, r.3.1, r.3.2, another_reference r.2 r.3.3, r.3.4, r.3.5)
 reference_back s c rs Semicolon = λ i z f. (_, i, rs, no_reference, an_end, f)
 reference_back s c rs t = passed s (begin_item (with_clause c rs) t) t (FitsItems s before.Anything (with_clause c rs)) (FitsReferences s c rs) (λ m i z f. ((t, m) ∷ i, (t, m) ∷ i, rs, no_reference, no_end, f)) (item_back s (with_clause c rs) t)

@@ -25,7 +25,7 @@ use Rattle.larch_grammar.specs.declared.machine.Scope.{Scope}
 use Rattle.larch_grammar.specs.declared.machine.Signing.{Signing}
 use Rattle.larch_grammar.specs.declared.machine.Signing.TheVariants.{Declaration, Reference, LoneForm, Conversion}
 use Rattle.larch_grammar.specs.declared.machine.State.{State}
-use Rattle.larch_grammar.specs.declared.machine.State.TheVariants.{InPart, NeedForm, AfterSymbolForm, AfterMarkerSymbol, NeedMarks, AfterMark, AfterForm, NeedSig, AfterSort, AfterConverted, AfterReference, NeedVariable, AfterVariable, AfterGroup}
+use Rattle.larch_grammar.specs.declared.machine.State.TheVariants.{InPart, NeedForm, AfterSymbolForm, AfterMarkerSymbol, AfterFormBracket, AfterBracketMarker, AfterForm, NeedSig, AfterSort, AfterConverted, AfterOperatorRef, NeedVariable, AfterVariable, AfterGroup}
 use Rattle.larch_grammar.specs.declared.machine.Whole.{Whole}
 use Rattle.larch_grammar.specs.declared.machine.Whole.TheVariants as whole
 
@@ -66,11 +66,11 @@ marks_end : (n : Naming) (behind : Bool) (b : Bracket) (m : ℕ) (p : Pos) → e
 marks_end n behind Square m p = refl
 marks_end n behind Curly m p = refl
 
-marks_read : {b : Bracket} {m e : ℕ} {i o : List Marked} → AreMarkers b m i o e → (s : Bool) (n : Naming) (behind : Bool) (p : Pos) (z : Whole) → AcceptsFrom s (AfterForm n (bracket_form behind b e p)) o z → AcceptsFrom s (AfterMark (form_bracket n behind b p) m) i z
+marks_read : {b : Bracket} {m e : ℕ} {i o : List Marked} → AreMarkers b m i o e → (s : Bool) (n : Naming) (behind : Bool) (p : Pos) (z : Whole) → AcceptsFrom s (AfterForm n (bracket_form behind b e p)) o z → AcceptsFrom s (AfterBracketMarker (form_bracket n behind b p) m) i z
 marks_read (no_marker {b = b} {n = m}) s n behind p z r = (_, marks_end n behind b m p, r)
 marks_read (another_marker more) s n behind p z r = (_, refl, (_, refl, marks_read more s n behind p z r))
 
-markers_read : {b : Bracket} {e : ℕ} {i o : List Marked} → Markers b i o e → (s : Bool) (n : Naming) (behind : Bool) (p : Pos) (z : Whole) → AcceptsFrom s (AfterForm n (bracket_form behind b e p)) o z → AcceptsFrom s (NeedMarks (form_bracket n behind b p)) i z
+markers_read : {b : Bracket} {e : ℕ} {i o : List Marked} → Markers b i o e → (s : Bool) (n : Naming) (behind : Bool) (p : Pos) (z : Whole) → AcceptsFrom s (AfterForm n (bracket_form behind b e p)) o z → AcceptsFrom s (AfterFormBracket (form_bracket n behind b p)) i z
 markers_read (empty {b = b}) s n behind p z r = (_, marks_end n behind b 0 p, r)
 markers_read (marked more) s n behind p z r = (_, refl, marks_read more s n behind p z r)
 
@@ -113,21 +113,21 @@ pub decl_reads : {i o : List Marked} {d : RawDecl} → IsDecl i o d → (s : Boo
 decl_reads (declaration {j = j} {f = f} {fs = fs} form more sig) s raw z r = form_reads form s (Declared raw []) z (last_form s j raw [] f z (forms_read more s raw z (_, refl, sig_reads sig s (Declaration raw fs) z r)))
 
 -- a reference that is a form alone
-form_alone : (s : Bool) (o : List Marked) (c : Clause) (rs : List RawOpRef) (f : RawForm) (z : Whole) → AcceptsFrom s (AfterReference c (with_reference rs f)) o z → AcceptsFrom s (AfterForm (Referred c rs) f) o z
+form_alone : (s : Bool) (o : List Marked) (c : Clause) (rs : List RawOpRef) (f : RawForm) (z : Whole) → AcceptsFrom s (AfterOperatorRef c (with_reference rs f)) o z → AcceptsFrom s (AfterForm (Referred c rs) f) o z
 form_alone s [] c rs f z r = r
 form_alone s ((Colon p, m) ∷ o) c rs f z r = absurd (none_some r.1)
 form_alone s ((t, m) ∷ o) c rs f z r = r
 
-opref_reads : {i o : List Marked} {q : RawOpRef} → IsOpRef i o q → (s : Bool) (c : Clause) (rs : List RawOpRef) (z : Whole) → AcceptsFrom s (AfterReference c (rs ++ q ∷ [])) o z → AcceptsFrom s (NeedForm (Referred c rs)) i z
+opref_reads : {i o : List Marked} {q : RawOpRef} → IsOpRef i o q → (s : Bool) (c : Clause) (rs : List RawOpRef) (z : Whole) → AcceptsFrom s (AfterOperatorRef c (rs ++ q ∷ [])) o z → AcceptsFrom s (NeedForm (Referred c rs)) i z
 opref_reads (by_form {o = o} {f = f} form) s c rs z r = form_reads form s (Referred c rs) z (form_alone s o c rs f z r)
 opref_reads (by_signature {f = f} form sig) s c rs z r = form_reads form s (Referred c rs) z (_, refl, sig_reads sig s (Reference c rs f) z r)
 
-oprefs_read : {rs qs : List RawOpRef} {i o : List Marked} → AreOpRefs rs i o qs → (s : Bool) (c : Clause) (z : Whole) → AcceptsFrom s (AfterReference c qs) o z → AcceptsFrom s (AfterReference c rs) i z
+oprefs_read : {rs qs : List RawOpRef} {i o : List Marked} → AreOpRefs rs i o qs → (s : Bool) (c : Clause) (z : Whole) → AcceptsFrom s (AfterOperatorRef c qs) o z → AcceptsFrom s (AfterOperatorRef c rs) i z
 oprefs_read no_reference s c z r = r
 oprefs_read (another_reference {rs = rs} q more) s c z r = (_, refl, opref_reads q s c rs z (oprefs_read more s c z r))
 
 -- the references of a clause
-pub references_read : {i j o : List Marked} {q : RawOpRef} {rs : List RawOpRef} → IsOpRef i j q → AreOpRefs (q ∷ []) j o rs → (s : Bool) (c : Clause) (z : Whole) → AcceptsFrom s (AfterReference c rs) o z → AcceptsFrom s (NeedForm (Referred c [])) i z
+pub references_read : {i j o : List Marked} {q : RawOpRef} {rs : List RawOpRef} → IsOpRef i j q → AreOpRefs (q ∷ []) j o rs → (s : Bool) (c : Clause) (z : Whole) → AcceptsFrom s (AfterOperatorRef c rs) o z → AcceptsFrom s (NeedForm (Referred c [])) i z
 references_read q more s c z r = opref_reads q s c [] z (oprefs_read more s c z r)
 
 -- a reference of a conversion that is a form alone

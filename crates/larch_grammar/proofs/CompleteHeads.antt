@@ -24,7 +24,7 @@ use Rattle.larch_grammar.specs.declared.machine.OpenRef.{OpenRef}
 use Rattle.larch_grammar.specs.declared.machine.RefKind.{RefKind}
 use Rattle.larch_grammar.specs.declared.machine.RefKind.TheVariants.{Included, Assumed, First, Further}
 use Rattle.larch_grammar.specs.declared.machine.Signing.TheVariants.{Replacement}
-use Rattle.larch_grammar.specs.declared.machine.State.TheVariants.{InItems, AfterName, AfterFormals, AfterHead, AfterConstant, NeedName, AfterNames, AfterField, NeedRef, AfterRefName, AfterRef, AfterRename, NeedForm, AfterForm}
+use Rattle.larch_grammar.specs.declared.machine.State.TheVariants.{InItems, AfterName, AfterFormals, AfterHead, AfterConstant, NeedName, AfterNames, AfterField, NeedRef, AfterRefName, AfterTraitRef, AfterRename, NeedForm, AfterForm}
 use Rattle.larch_grammar.specs.declared.machine.Whole.{Whole}
 use Rattle.larch_grammar.specs.Terminals.{ends_reference}
 use Rattle.larch_grammar.specs.Traits.{ends_references}
@@ -136,12 +136,12 @@ comma_step : (b : Bool) (n : OpenRef) → behind_actual b n Comma ≡ outside (N
 comma_step false n = refl
 comma_step true n = refl
 
-close_step : (b : Bool) (n : OpenRef) → behind_actual b n Close ≡ outside (AfterRef (close_ref n) n.kind)
+close_step : (b : Bool) (n : OpenRef) → behind_actual b n Close ≡ outside (AfterTraitRef (close_ref n) n.kind)
 close_step false n = refl
 close_step true n = refl
 
 mutual
-  actuals_read : {b : Bool} {ps qs : List RawActual} {i o : List Marked} → AreActuals b ps i o qs → (s : Bool) (raw : RawTrait) (assumed : RefKind) (name : RawWord) (z : Whole) → AcceptsFrom s (AfterRef (close_ref (open_ref raw assumed name qs)) assumed) o z
+  actuals_read : {b : Bool} {ps qs : List RawActual} {i o : List Marked} → AreActuals b ps i o qs → (s : Bool) (raw : RawTrait) (assumed : RefKind) (name : RawWord) (z : Whole) → AcceptsFrom s (AfterTraitRef (close_ref (open_ref raw assumed name qs)) assumed) o z
       → AcceptsFrom s (NeedForm (naming_of b (open_ref raw assumed name ps))) i z
   actuals_read (in_place {ps = ps} {f = f} {j = j} form ends) s raw assumed name z r =
       form_reads form s (Actual (open_ref raw assumed name ps)) z (last_plain s j (open_ref raw assumed name ps) f z (actuals_end ends s raw assumed name z r))
@@ -152,7 +152,7 @@ mutual
         old_reads old s (open_ref raw assumed name ps) f z (last_rename s k (with_actual (open_ref raw assumed name ps) (replacement f q)) z (actuals_end ends s raw assumed name z r)),
       )
 
-  actuals_end : {b : Bool} {ps qs : List RawActual} {i o : List Marked} → EndActuals b ps i o qs → (s : Bool) (raw : RawTrait) (assumed : RefKind) (name : RawWord) (z : Whole) → AcceptsFrom s (AfterRef (close_ref (open_ref raw assumed name qs)) assumed) o z
+  actuals_end : {b : Bool} {ps qs : List RawActual} {i o : List Marked} → EndActuals b ps i o qs → (s : Bool) (raw : RawTrait) (assumed : RefKind) (name : RawWord) (z : Whole) → AcceptsFrom s (AfterTraitRef (close_ref (open_ref raw assumed name qs)) assumed) o z
       → AcceptsBy s (behind_actual b (open_ref raw assumed name ps)) None i z
   actuals_end (no_actual {b = b} {ps = ps}) s raw assumed name z r = (_, close_step b (open_ref raw assumed name ps), r)
   actuals_end (another_actual {b = b} {ps = ps} more) s raw assumed name z r = (_, comma_step b (open_ref raw assumed name ps), actuals_read more s raw assumed name z r)
@@ -160,40 +160,40 @@ mutual
 not_open : false ≡ true → ⊥
 not_open e = cc
 
-bare_ref : (s : Bool) (o : List Marked) (raw : RawTrait) (b : RefKind) (w : RawWord) (z : Whole) → NoOpen o → AcceptsFrom s (AfterRef (close_ref (open_ref raw b w [])) b) o z → AcceptsFrom s (AfterRefName raw b w) o z
+bare_ref : (s : Bool) (o : List Marked) (raw : RawTrait) (b : RefKind) (w : RawWord) (z : Whole) → NoOpen o → AcceptsFrom s (AfterTraitRef (close_ref (open_ref raw b w [])) b) o z → AcceptsFrom s (AfterRefName raw b w) o z
 bare_ref s [] raw b w z n r = r
 bare_ref s ((Open p, m) ∷ o) raw b w z n r = absurd (not_open n)
 bare_ref s ((t, m) ∷ o) raw b w z n r = r
 
-has_actuals_read : {i o : List Marked} {ps : List RawActual} → HasActuals i o ps → (s : Bool) (raw : RawTrait) (b : RefKind) (w : RawWord) (z : Whole) → AcceptsFrom s (AfterRef (close_ref (open_ref raw b w ps)) b) o z → AcceptsFrom s (AfterRefName raw b w) i z
+has_actuals_read : {i o : List Marked} {ps : List RawActual} → HasActuals i o ps → (s : Bool) (raw : RawTrait) (b : RefKind) (w : RawWord) (z : Whole) → AcceptsFrom s (AfterTraitRef (close_ref (open_ref raw b w ps)) b) o z → AcceptsFrom s (AfterRefName raw b w) i z
 has_actuals_read (bare {o = o} n) s raw b w z r = bare_ref s o raw b w z n r
 has_actuals_read (actuals more) s raw b w z r = (_, refl, actuals_read more s raw b w z r)
 
 -- a reference
-pub ref_reads : {i o : List Marked} {q : RawRef} → IsRef i o q → (s : Bool) (raw : RawTrait) (b : RefKind) (z : Whole) → AcceptsFrom s (AfterRef (with_ref raw b q) b) o z → AcceptsFrom s (NeedRef raw b) i z
+pub ref_reads : {i o : List Marked} {q : RawRef} → IsRef i o q → (s : Bool) (raw : RawTrait) (b : RefKind) (z : Whole) → AcceptsFrom s (AfterTraitRef (with_ref raw b q) b) o z → AcceptsFrom s (NeedRef raw b) i z
 ref_reads (a_ref {w = w} a_word more) s raw b z r = (_, refl, has_actuals_read more s raw b w z r)
 
 -- the references behind it, where a further one is for the same
-pub further_read : {b : RefKind} {r t : RawTrait} {i o : List Marked} → AreRefs b r i o t → (s : Bool) (z : Whole) → next_kind b ≡ b → AcceptsFrom s (AfterRef t b) o z → AcceptsFrom s (AfterRef r b) i z
+pub further_read : {b : RefKind} {r t : RawTrait} {i o : List Marked} → AreRefs b r i o t → (s : Bool) (z : Whole) → next_kind b ≡ b → AcceptsFrom s (AfterTraitRef t b) o z → AcceptsFrom s (AfterTraitRef r b) i z
 further_read no_ref s z e h = h
 further_read (another_ref {b = b} {r = r} {z = t} {o = o} q more) s z e h = (
   _,
   refl,
-  ref_reads q s r (next_kind b) z (further_read more s z (ap next_kind e) (subst (λ k. AcceptsFrom s (AfterRef t k) o z) (sym e) h)),
+  ref_reads q s r (next_kind b) z (further_read more s z (ap next_kind e) (subst (λ k. AcceptsFrom s (AfterTraitRef t k) o z) (sym e) h)),
 )
 
 -- what follows references
-pub includes_end : (s : Bool) (o : List Marked) (raw : RawTrait) (z : Whole) → AcceptsFrom s (AfterHead raw) o z → AcceptsFrom s (AfterRef raw Included) o z
+pub includes_end : (s : Bool) (o : List Marked) (raw : RawTrait) (z : Whole) → AcceptsFrom s (AfterHead raw) o z → AcceptsFrom s (AfterTraitRef raw Included) o z
 includes_end s [] raw z r = r
 includes_end s ((Comma, m) ∷ o) raw z r = absurd (none_some r.1)
 includes_end s ((t, m) ∷ o) raw z r = r
 
-pub assumes_end : (s : Bool) (o : List Marked) (raw : RawTrait) (z : Whole) → AcceptsFrom s (AfterHead raw) o z → AcceptsFrom s (AfterRef raw Assumed) o z
+pub assumes_end : (s : Bool) (o : List Marked) (raw : RawTrait) (z : Whole) → AcceptsFrom s (AfterHead raw) o z → AcceptsFrom s (AfterTraitRef raw Assumed) o z
 assumes_end s [] raw z r = r
 assumes_end s ((Comma, m) ∷ o) raw z r = absurd (none_some r.1)
 assumes_end s ((t, m) ∷ o) raw z r = r
 
-further_end : (s : Bool) (o : List Marked) (raw : RawTrait) (z : Whole) → AcceptsFrom s (InItems raw) o z → AcceptsFrom s (AfterRef raw Further) o z
+further_end : (s : Bool) (o : List Marked) (raw : RawTrait) (z : Whole) → AcceptsFrom s (InItems raw) o z → AcceptsFrom s (AfterTraitRef raw Further) o z
 further_end s [] raw z r = r
 further_end s ((Comma, m) ∷ o) raw z r = absurd (none_some r.1)
 further_end s ((t, m) ∷ o) raw z r = r
@@ -203,12 +203,12 @@ where_true : {A : Type 0} (b : Bool) (x y z : A) → IsTrue b → x ≡ z → co
 where_true true x y z h e = e
 where_true false x y z h e = let n : ⊥ = cc in absurd n
 
-first_end : (s : Bool) (o : List Marked) (raw : RawTrait) (z : Whole) → IsTrue (ends_references o) → AcceptsFrom s (InItems raw) o z → AcceptsFrom s (AfterRef raw First) o z
+first_end : (s : Bool) (o : List Marked) (raw : RawTrait) (z : Whole) → IsTrue (ends_references o) → AcceptsFrom s (InItems raw) o z → AcceptsFrom s (AfterTraitRef raw First) o z
 first_end s [] raw z e r = r
 first_end s ((Comma, m) ∷ o) raw z e r = absurd (none_some r.1)
 first_end s ((t, m) ∷ o) raw z e r = (r.0, where_true (ends_reference t) _ None _ e r.1, r.2)
 
 -- the references of an implied part behind the first one, and what follows them
-pub first_read : {r t : RawTrait} {i o : List Marked} → AreRefs First r i o t → (s : Bool) (z : Whole) → IsTrue (ends_references i) → AcceptsFrom s (InItems t) o z → AcceptsFrom s (AfterRef r First) i z
+pub first_read : {r t : RawTrait} {i o : List Marked} → AreRefs First r i o t → (s : Bool) (z : Whole) → IsTrue (ends_references i) → AcceptsFrom s (InItems t) o z → AcceptsFrom s (AfterTraitRef r First) i z
 first_read (no_ref {r = r} {o = o}) s z e h = first_end s o r z e h
 first_read (another_ref {r = r} {z = t} {o = o} q more) s z e h = (_, refl, ref_reads q s r Further z (further_read more s z refl (further_end s o t z h)))

@@ -34,7 +34,7 @@ use Rattle.larch_grammar.specs.declared.machine.RefKind.TheVariants.{Included, A
 use Rattle.larch_grammar.specs.declared.machine.Scope.TheVariants.{Quantified, Exempted}
 use Rattle.larch_grammar.specs.declared.machine.Naming.TheVariants.{Declared, Lone}
 use Rattle.larch_grammar.specs.declared.machine.State.{State}
-use Rattle.larch_grammar.specs.declared.machine.State.TheVariants.{Start, AfterHead, InPart, NeedForm, AfterReference, InItems, FirstWord, AfterSemicolon, WordBehind, ClauseWord, NeedVariable, AfterGroup, NeedEquation, NeedTerm, NeedRef, AfterWord, AfterImplies, ImpliedWord, BehindFirst, AfterConverted, NeedExempted, NeedFurtherExempted, Have}
+use Rattle.larch_grammar.specs.declared.machine.State.TheVariants.{Start, AfterHead, InPart, NeedForm, AfterOperatorRef, InItems, FirstWord, AfterSemicolon, WordBehind, ClauseWord, NeedVariable, AfterGroup, NeedEquation, NeedTerm, NeedRef, AfterWord, AfterImplies, ImpliedWord, BehindFirst, AfterConverted, NeedExempted, NeedFurtherExempted, Have}
 use Rattle.larch_grammar.specs.declared.machine.Waiting.{Waiting}
 use Rattle.larch_grammar.specs.declared.machine.Waiting.TheVariants.{Alone, Item}
 use Rattle.larch_grammar.specs.declared.machine.Whole.{Whole}
@@ -164,13 +164,13 @@ no_item_read s ((Implies lists, m) ∷ i) semicolon raw z h = h
 no_item_read s ((Converts, m) ∷ i) semicolon raw z h = h
 no_item_read s ((t, m) ∷ i) b raw z h = absurd (none_some h.1)
 
-items_after_reference : (s : Bool) (o : List Marked) (c : Clause) (rs : List RawOpRef) (z : Whole) → AcceptsFrom s (InItems (with_clause c rs)) o z → AcceptsFrom s (AfterReference c rs) o z
+items_after_reference : (s : Bool) (o : List Marked) (c : Clause) (rs : List RawOpRef) (z : Whole) → AcceptsFrom s (InItems (with_clause c rs)) o z → AcceptsFrom s (AfterOperatorRef c rs) o z
 items_after_reference s [] c rs z h = h
 items_after_reference s ((Comma, m) ∷ o) c rs z h = absurd (none_some h.1)
 items_after_reference s ((Semicolon, m) ∷ o) c rs z h = absurd (none_some h.1)
 items_after_reference s ((t, m) ∷ o) c rs z h = h
 
-clause_ends : {i o : List Marked} → MayEnd i o → (s : Bool) (c : Clause) (rs : List RawOpRef) (z : Whole) → AcceptsFrom s (InItems (with_clause c rs)) o z → AcceptsFrom s (AfterReference c rs) i z
+clause_ends : {i o : List Marked} → MayEnd i o → (s : Bool) (c : Clause) (rs : List RawOpRef) (z : Whole) → AcceptsFrom s (InItems (with_clause c rs)) o z → AcceptsFrom s (AfterOperatorRef c rs) i z
 clause_ends (no_end {o = o}) s c rs z h = items_after_reference s o c rs z h
 clause_ends an_end s c rs z h = (_, refl, h)
 

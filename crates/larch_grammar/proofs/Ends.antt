@@ -37,7 +37,7 @@ use Rattle.larch_grammar.specs.declared.machine.OpenRef.{OpenRef}
 use Rattle.larch_grammar.specs.declared.machine.Signing.{Signing}
 use Rattle.larch_grammar.specs.declared.machine.Signing.TheVariants.{Declaration, Reference, Replacement, LoneForm, Conversion}
 use Rattle.larch_grammar.specs.declared.machine.State.{State}
-use Rattle.larch_grammar.specs.declared.machine.State.TheVariants.{Start, AfterName, AfterFormals, NeedTrait, AfterHead, ShortWord, NeedConstants, NeedConstant, AfterConstant, NeedFields, NeedName, AfterNames, NeedFurtherName, NeedNamesSort, AfterField, NeedRef, AfterRefName, AfterRef, AfterRename, InPart, NeedForm, AfterSymbolForm, AfterDotForm, AfterMarker, AfterMarkerSymbol, NeedMarks, AfterMark, NeedMark, AfterForm, NeedSig, AfterSort, NeedSort, NeedRange, AfterReference, AfterLone, InItems, FirstWord, AfterSemicolon, WordBehind, ClauseWord, NeedBy, NeedVariable, AfterVariable, NeedFurtherVariable, NeedVariableSort, AfterGroup, AfterImplies, ImpliedWord, BehindFirst, AfterConverted, NeedExempted, NeedFurtherExempted, NeedEquation, NeedTerm, NeedOperand, NeedPrefixed, NeedPost, NeedField, NeedSortOf, AfterWord, NeedFirst, AfterSymbol, Have}
+use Rattle.larch_grammar.specs.declared.machine.State.TheVariants.{Start, AfterName, AfterFormals, NeedTrait, AfterHead, ShortWord, NeedConstants, NeedConstant, AfterConstant, NeedFields, NeedName, AfterNames, NeedFurtherName, NeedNamesSort, AfterField, NeedRef, AfterRefName, AfterTraitRef, AfterRename, InPart, NeedForm, AfterSymbolForm, AfterDotForm, AfterLeadingMarker, AfterMarkerSymbol, AfterFormBracket, AfterBracketMarker, NeedBracketMarker, AfterForm, NeedSig, AfterSort, NeedSort, NeedRange, AfterOperatorRef, AfterLone, InItems, FirstWord, AfterSemicolon, WordBehind, ClauseWord, NeedBy, NeedVariable, AfterVariable, NeedFurtherVariable, NeedVariableSort, AfterGroup, AfterImplies, ImpliedWord, BehindFirst, AfterConverted, NeedExempted, NeedFurtherExempted, NeedEquation, NeedTerm, NeedOperand, NeedPrefixed, NeedPost, NeedField, NeedSortOf, AfterWord, NeedFirst, AfterSymbol, Have}
 use Rattle.larch_grammar.specs.declared.machine.Waiting.{Waiting}
 use Rattle.larch_grammar.specs.declared.machine.Waiting.TheVariants.{Alone, Item}
 use Rattle.larch_grammar.specs.declared.machine.Whole.{Whole}
@@ -132,12 +132,12 @@ final_fits s (AfterHead r) z e = head_end s r z e
 final_fits s (AfterConstant r sort ws) z e = ([], ws, no_word, head_end s _ z e)
 final_fits s (AfterField n) z e = ([], n.fields, no_further_field, head_end s (close_fields n) z e)
 final_fits s (AfterRefName r b w) z e = ([], [], bare tt, refs_end s b (close_ref (open_ref r b w [])) z e)
-final_fits s (AfterRef r b) z e = refs_end s b r z e
+final_fits s (AfterTraitRef r b) z e = refs_end s b r z e
 final_fits s (InPart r) z e = ([], r, r, no_declaration, assertions (conversions no_conversion), some_equal e)
 final_fits s (AfterSymbolForm n x) z e = ([], _, bare_symbol, form_fits s n _ z e)
 final_fits s (AfterMarkerSymbol n p x) z e = ([], _, postfix_form, form_fits s n _ z e)
 final_fits s (AfterForm n f) z e = form_fits s n f z e
-final_fits s (AfterReference c rs) z e = references_end s c rs z e
+final_fits s (AfterOperatorRef c rs) z e = references_end s c rs z e
 final_fits s (AfterLone r) z e = (refl, some_equal e)
 final_fits s (InItems r) z e = items_end s before.Anything r z e
 final_fits s (AfterImplies r) z e = (refl, items_end s before.Anything r z e)
@@ -239,8 +239,8 @@ field_names_some u s n ws = onward u s (AfterNames n ws) colon (sort_some u s n 
 fields_some : (u s : Bool) (n : OpenFields) → Completes u s (NeedName n)
 fields_some u s n = onward u s (NeedName n) word (field_names_some u s n _)
 
-ref_some : (u s : Bool) (r : RawTrait) (b : RefKind) → Completes u s (AfterRef r b)
-ref_some u s r b = ended_in u s (AfterRef r b) _ refl
+ref_some : (u s : Bool) (r : RawTrait) (b : RefKind) → Completes u s (AfterTraitRef r b)
+ref_some u s r b = ended_in u s (AfterTraitRef r b) _ refl
 
 rename_some : (u s : Bool) (n : OpenRef) → Completes u s (AfterRename n)
 rename_some u s n = onward u s (AfterRename n) close (ref_some u s (close_ref n) n.kind)
@@ -257,7 +257,7 @@ formals_some u s w fs = onward u s (AfterFormals w fs) colon (head_some u s w fs
 -- declarations and references
 range_some : (u s : Bool) (n : Signing) (ws : List RawWord) → Completes u s (NeedRange n ws)
 range_some u s (Declaration r fs) ws = onward u s (NeedRange (Declaration r fs) ws) word (ended_in u s (InPart _) _ refl)
-range_some u s (Reference c rs f) ws = onward u s (NeedRange (Reference c rs f) ws) word (ended_in u s (AfterReference c _) _ refl)
+range_some u s (Reference c rs f) ws = onward u s (NeedRange (Reference c rs f) ws) word (ended_in u s (AfterOperatorRef c _) _ refl)
 range_some u s (Replacement n f g) ws = onward u s (NeedRange (Replacement n f g) ws) word (rename_some u s _)
 range_some u s (Conversion r rs f) ws = onward u s (NeedRange (Conversion r rs f) ws) word (ended_in u s (AfterConverted r _) _ refl)
 range_some u s (LoneForm f) ws = onward u s (NeedRange (LoneForm f) ws) word (ended_in u s (AfterLone _) _ refl)
@@ -281,9 +281,9 @@ form_some u s Lone f = ended_in u s (AfterForm Lone f) _ refl
 naming_some : (u s : Bool) (n : Naming) → Completes u s (NeedForm n)
 naming_some u s n = onward u s (NeedForm n) word (form_some u s n _)
 
-marks_some : (u s : Bool) (n : Naming) (front : Bool) (b : Bracket) (m : ℕ) (p : Pos) → Completes u s (AfterMark (form_bracket n front b p) m)
-marks_some u s n front Square m p = onward u s (AfterMark (form_bracket n front Square p) m) close_square (form_some u s n _)
-marks_some u s n front Curly m p = onward u s (AfterMark (form_bracket n front Curly p) m) close_curly (form_some u s n _)
+marks_some : (u s : Bool) (n : Naming) (front : Bool) (b : Bracket) (m : ℕ) (p : Pos) → Completes u s (AfterBracketMarker (form_bracket n front b p) m)
+marks_some u s n front Square m p = onward u s (AfterBracketMarker (form_bracket n front Square p) m) close_square (form_some u s n _)
+marks_some u s n front Curly m p = onward u s (AfterBracketMarker (form_bracket n front Curly p) m) close_curly (form_some u s n _)
 
 by_some : (u s : Bool) (c : Clause) → Completes u s (NeedBy c)
 by_some u s c = onward u s (NeedBy c) by (naming_some u s (Referred c []))
@@ -354,8 +354,8 @@ first_some : (u s : Bool) (b : Bracket) (l : Option RawTree) (p : Pos) (k : List
 first_some u s Square l p k = onward u s (NeedFirst Square l p k) close_square (have_some u s (bracket_tree Square l p []) (InFields ∷ k))
 first_some u s Curly l p k = onward u s (NeedFirst Curly l p k) close_curly (have_some u s (bracket_tree Curly l p []) (InFields ∷ k))
 
-brackets_some : (u s : Bool) (n : Naming) (front : Bool) (b : Bracket) (p : Pos) → Completes u s (NeedMarks (form_bracket n front b p))
-brackets_some u s n front b p = onward u s (NeedMarks (form_bracket n front b p)) marker (marks_some u s n front b 1 p)
+brackets_some : (u s : Bool) (n : Naming) (front : Bool) (b : Bracket) (p : Pos) → Completes u s (AfterFormBracket (form_bracket n front b p))
+brackets_some u s n front b p = onward u s (AfterFormBracket (form_bracket n front b p)) marker (marks_some u s n front b 1 p)
 
 name_some : (u s : Bool) (w : RawWord) → Completes u s (AfterName w)
 name_some u s w = onward u s (AfterName w) colon (head_some u s w [])
@@ -379,23 +379,23 @@ some_fit u s (NeedNamesSort n ws) = sort_some u s n ws
 some_fit u s (AfterField n) = ended_in u s (AfterField n) _ refl
 some_fit u s (NeedRef r b) = onward u s (NeedRef r b) word (ended_in u s (AfterRefName r b _) _ refl)
 some_fit u s (AfterRefName r b w) = ended_in u s (AfterRefName r b w) _ refl
-some_fit u s (AfterRef r b) = ref_some u s r b
+some_fit u s (AfterTraitRef r b) = ref_some u s r b
 some_fit u s (AfterRename n) = rename_some u s n
 some_fit u s (InPart r) = ended_in u s (InPart r) _ refl
 some_fit u s (NeedForm n) = naming_some u s n
 some_fit u s (AfterSymbolForm n x) = onward u s (AfterSymbolForm n x) marker (form_some u s n _)
 some_fit u s (AfterDotForm n p) = onward u s (AfterDotForm n p) word (form_some u s n _)
-some_fit u s (AfterMarker n p) = onward u s (AfterMarker n p) symbol (onward u s (AfterMarkerSymbol n p _) marker (form_some u s n _))
+some_fit u s (AfterLeadingMarker n p) = onward u s (AfterLeadingMarker n p) symbol (onward u s (AfterMarkerSymbol n p _) marker (form_some u s n _))
 some_fit u s (AfterMarkerSymbol n p x) = onward u s (AfterMarkerSymbol n p x) marker (form_some u s n _)
-some_fit u s (NeedMarks c) = brackets_some u s c.naming c.behind c.bracket c.pos
-some_fit u s (AfterMark c m) = marks_some u s c.naming c.behind c.bracket m c.pos
-some_fit u s (NeedMark c m) = onward u s (NeedMark c m) marker (marks_some u s c.naming c.behind c.bracket _ c.pos)
+some_fit u s (AfterFormBracket c) = brackets_some u s c.naming c.behind c.bracket c.pos
+some_fit u s (AfterBracketMarker c m) = marks_some u s c.naming c.behind c.bracket m c.pos
+some_fit u s (NeedBracketMarker c m) = onward u s (NeedBracketMarker c m) marker (marks_some u s c.naming c.behind c.bracket _ c.pos)
 some_fit u s (AfterForm n f) = form_some u s n f
 some_fit u s (NeedSig n) = sig_some u s n
 some_fit u s (AfterSort n ws) = sorts_some u s n ws
 some_fit u s (NeedSort n ws) = onward u s (NeedSort n ws) word (sorts_some u s n _)
 some_fit u s (NeedRange n ws) = range_some u s n ws
-some_fit u s (AfterReference c rs) = ended_in u s (AfterReference c rs) _ refl
+some_fit u s (AfterOperatorRef c rs) = ended_in u s (AfterOperatorRef c rs) _ refl
 some_fit u s (AfterLone r) = ended_in u s (AfterLone r) _ refl
 some_fit u s (InItems r) = ended_in u s (InItems r) _ refl
 some_fit u s (FirstWord r w) = ended_in u s (FirstWord r w) _ refl

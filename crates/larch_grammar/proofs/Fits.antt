@@ -43,7 +43,7 @@ use Rattle.larch_grammar.specs.declared.machine.Scope.TheVariants.{Quantified, E
 use Rattle.larch_grammar.specs.declared.machine.Signing.{Signing}
 use Rattle.larch_grammar.specs.declared.machine.Signing.TheVariants.{Declaration, Reference, Replacement, LoneForm, Conversion}
 use Rattle.larch_grammar.specs.declared.machine.State.{State}
-use Rattle.larch_grammar.specs.declared.machine.State.TheVariants.{Start, AfterName, AfterFormals, NeedTrait, AfterHead, ShortWord, NeedConstants, NeedConstant, AfterConstant, NeedFields, NeedName, AfterNames, NeedFurtherName, NeedNamesSort, AfterField, NeedRef, AfterRefName, AfterRef, AfterRename, InPart, NeedForm, AfterSymbolForm, AfterDotForm, AfterMarker, AfterMarkerSymbol, NeedMarks, AfterMark, NeedMark, AfterForm, NeedSig, AfterSort, NeedSort, NeedRange, AfterReference, AfterLone, InItems, FirstWord, AfterSemicolon, WordBehind, ClauseWord, NeedBy, NeedVariable, AfterVariable, NeedFurtherVariable, NeedVariableSort, AfterGroup, AfterImplies, ImpliedWord, BehindFirst, AfterConverted, NeedExempted, NeedFurtherExempted, NeedEquation, NeedTerm, NeedOperand, NeedPrefixed, NeedPost, NeedField, NeedSortOf, AfterWord, NeedFirst, AfterSymbol, Have}
+use Rattle.larch_grammar.specs.declared.machine.State.TheVariants.{Start, AfterName, AfterFormals, NeedTrait, AfterHead, ShortWord, NeedConstants, NeedConstant, AfterConstant, NeedFields, NeedName, AfterNames, NeedFurtherName, NeedNamesSort, AfterField, NeedRef, AfterRefName, AfterTraitRef, AfterRename, InPart, NeedForm, AfterSymbolForm, AfterDotForm, AfterLeadingMarker, AfterMarkerSymbol, AfterFormBracket, AfterBracketMarker, NeedBracketMarker, AfterForm, NeedSig, AfterSort, NeedSort, NeedRange, AfterOperatorRef, AfterLone, InItems, FirstWord, AfterSemicolon, WordBehind, ClauseWord, NeedBy, NeedVariable, AfterVariable, NeedFurtherVariable, NeedVariableSort, AfterGroup, AfterImplies, ImpliedWord, BehindFirst, AfterConverted, NeedExempted, NeedFurtherExempted, NeedEquation, NeedTerm, NeedOperand, NeedPrefixed, NeedPost, NeedField, NeedSortOf, AfterWord, NeedFirst, AfterSymbol, Have}
 use Rattle.larch_grammar.specs.declared.machine.Waiting.{Waiting}
 use Rattle.larch_grammar.specs.declared.machine.Waiting.TheVariants.{Alone, Item}
 use Rattle.larch_grammar.specs.declared.machine.Whole.{Whole}
@@ -317,23 +317,23 @@ Fits s (NeedNamesSort n ws) i z = (j : List Marked) × (sort : RawWord) × IsWor
 Fits s (AfterField n) i z = FitsFields s n i z
 Fits s (NeedRef r b) i z = (j : List Marked) × (q : RawRef) × IsRef i j q × FitsRefs s b (with_ref r b q) j z
 Fits s (AfterRefName r b w) i z = FitsRefName s r b w i z
-Fits s (AfterRef r b) i z = FitsRefs s b r i z
+Fits s (AfterTraitRef r b) i z = FitsRefs s b r i z
 Fits s (AfterRename n) i z = FitsActual s true n i z
 Fits s (InPart r) i z = FitsDecls s r i z
 Fits s (NeedForm n) i z = FitsNaming s n i z
 Fits s (AfterSymbolForm n x) i z = FitsNaming s n ((Symbol x, Outside) ∷ i) z
 Fits s (AfterDotForm n p) i z = (j : List Marked) × (w : RawWord) × IsWord i j w × FitsForm s n (mixfix (field_name w.name) 1 p) j z
-Fits s (AfterMarker n p) i z = FitsNaming s n ((Marker p, Outside) ∷ i) z
+Fits s (AfterLeadingMarker n p) i z = FitsNaming s n ((Marker p, Outside) ∷ i) z
 Fits s (AfterMarkerSymbol n p x) i z = FitsNaming s n ((Marker p, Outside) ∷ (Symbol x, Outside) ∷ i) z
-Fits s (NeedMarks c) i z = (j : List Marked) × (m : ℕ) × Markers c.bracket i j m × FitsForm s c.naming (bracket_form c.behind c.bracket m c.pos) j z
-Fits s (AfterMark c m) i z = FitsMarks s c.naming c.behind c.bracket m c.pos i z
-Fits s (NeedMark c m) i z = FitsMarks s c.naming c.behind c.bracket m c.pos ((Comma, Outside) ∷ i) z
+Fits s (AfterFormBracket c) i z = (j : List Marked) × (m : ℕ) × Markers c.bracket i j m × FitsForm s c.naming (bracket_form c.behind c.bracket m c.pos) j z
+Fits s (AfterBracketMarker c m) i z = FitsMarks s c.naming c.behind c.bracket m c.pos i z
+Fits s (NeedBracketMarker c m) i z = FitsMarks s c.naming c.behind c.bracket m c.pos ((Comma, Outside) ∷ i) z
 Fits s (AfterForm n f) i z = FitsForm s n f i z
 Fits s (NeedSig n) i z = FitsSig s n i z
 Fits s (AfterSort n ws) i z = FitsSorts s n ws i z
 Fits s (NeedSort n ws) i z = FitsSorts s n ws ((Comma, Outside) ∷ i) z
 Fits s (NeedRange n ws) i z = FitsRange s n ws i z
-Fits s (AfterReference c rs) i z = FitsReferences s c rs i z
+Fits s (AfterOperatorRef c rs) i z = FitsReferences s c rs i z
 Fits s (AfterLone r) i z = (i ≡ []) × (whole.Reference r ≡ z)
 Fits s (InItems r) i z = FitsItems s before.Anything r i z
 Fits s (FirstWord r w) i z = FitsItems s before.Anything r ((Word w, Head) ∷ i) z

@@ -15,7 +15,7 @@ use Rattle.larch_raw.specs.declared.equation.RawTrait.{RawTrait}
 use Rattle.larch_grammar.specs.Answers.{trait_from}
 use Rattle.larch_grammar.specs.Composition.{close_ref, open_ref}
 use Rattle.larch_grammar.specs.Leading.{behind_first, behind_group, behind_word, from_first, from_second, opened, or_further}
-use Rattle.larch_grammar.specs.Machine.{Taking, after_form, after_mark, after_marker, after_marker_symbol, after_ref, after_ref_name, after_rename, after_symbol_form, as_trait, begin_form, begin_item, end_form, end_marks, final, need_marks, outside, step, step_at}
+use Rattle.larch_grammar.specs.Machine.{Taking, after_form, after_bracket_marker, after_leading_marker, after_marker_symbol, after_trait_ref, after_ref_name, after_rename, after_symbol_form, as_trait, begin_form, begin_item, end_form, end_marks, final, after_form_bracket, outside, step, step_at}
 use Rattle.larch_grammar.specs.Refused.{earlier, implied_tokens, is_counted, is_implies, known, position_of_token, reaches_end}
 use Rattle.larch_grammar.specs.Terminals.{ends_reference, terminal_of}
 use Rattle.larch_grammar.specs.declared.terminal.Bracket.{Bracket}
@@ -31,7 +31,7 @@ use Rattle.larch_grammar.specs.declared.machine.RefKind.TheVariants.{First}
 use Rattle.larch_grammar.specs.declared.machine.Signing.{Signing}
 use Rattle.larch_grammar.specs.declared.machine.Signing.TheVariants.{Replacement}
 use Rattle.larch_grammar.specs.declared.machine.State.{State}
-use Rattle.larch_grammar.specs.declared.machine.State.TheVariants.{NeedRef, AfterRefName, AfterRef, AfterRename, NeedForm, AfterSymbolForm, AfterDotForm, AfterMarker, AfterMarkerSymbol, NeedMarks, AfterMark, NeedMark, AfterForm, NeedSig, AfterSort, NeedSort, NeedRange}
+use Rattle.larch_grammar.specs.declared.machine.State.TheVariants.{NeedRef, AfterRefName, AfterTraitRef, AfterRename, NeedForm, AfterSymbolForm, AfterDotForm, AfterLeadingMarker, AfterMarkerSymbol, AfterFormBracket, AfterBracketMarker, NeedBracketMarker, AfterForm, NeedSig, AfterSort, NeedSort, NeedRange}
 use Rattle.larch_grammar.proofs.Places.{Ordered, both_true, first_after, never_itself, not_earlier}
 use Rattle.larch_grammar.proofs.Readings.{Parts, Read, a_part, no_part, parts_in, same, token_read, two_parts}
 
@@ -53,11 +53,11 @@ abbrev inside_kind : State → Option RefKind
 inside_kind (NeedForm n) = naming_kind n
 inside_kind (AfterSymbolForm n x) = naming_kind n
 inside_kind (AfterDotForm n p) = naming_kind n
-inside_kind (AfterMarker n p) = naming_kind n
+inside_kind (AfterLeadingMarker n p) = naming_kind n
 inside_kind (AfterMarkerSymbol n p x) = naming_kind n
-inside_kind (NeedMarks c) = naming_kind c.naming
-inside_kind (AfterMark c m) = naming_kind c.naming
-inside_kind (NeedMark c m) = naming_kind c.naming
+inside_kind (AfterFormBracket c) = naming_kind c.naming
+inside_kind (AfterBracketMarker c m) = naming_kind c.naming
+inside_kind (NeedBracketMarker c m) = naming_kind c.naming
 inside_kind (AfterForm n f) = naming_kind n
 inside_kind (NeedSig n) = signing_kind n
 inside_kind (AfterSort n ws) = signing_kind n
@@ -73,7 +73,7 @@ OfFirst b = b ≡ Some First
 -- a step inside the parenthesis: none, or `)`, or to another state inside it with a token that is no parenthesis
 data Inside : Terminal → Taking → Type 0 where
   refused : {x : Terminal} → Inside x None
-  closes : {r : RawTrait} {b : RefKind} → OfFirst (Some b) → Inside Close (outside (AfterRef r b))
+  closes : {r : RawTrait} {b : RefKind} → OfFirst (Some b) → Inside Close (outside (AfterTraitRef r b))
   goes_on : {x : Terminal} {k : State} → opened x 0 ≡ Some 0 → OfFirst (inside_kind k) → Inside x (outside k)
 
 form_inside : (n : Naming) (f : RawForm) (x : Terminal) → OfFirst (naming_kind n) → Inside x (after_form n f x)
@@ -107,7 +107,7 @@ symbol_inside : (n : Naming) (w : RawWord) (x : Terminal) → OfFirst (naming_ki
 symbol_inside n w (Marker p) e = goes_on refl e
 symbol_inside n w x e = form_inside n _ x e
 
-marker_inside : (n : Naming) (p : Pos) (x : Terminal) → OfFirst (naming_kind n) → Inside x (after_marker n p x)
+marker_inside : (n : Naming) (p : Pos) (x : Terminal) → OfFirst (naming_kind n) → Inside x (after_leading_marker n p x)
 marker_inside n p (Dot q) e = goes_on refl e
 marker_inside n p (Symbol w) e = goes_on refl e
 marker_inside n p (OpenBracket b q) e = goes_on refl e
@@ -118,11 +118,11 @@ marker_symbol_inside : (n : Naming) (p : Pos) (w : RawWord) (x : Terminal) → O
 marker_symbol_inside n p w (Marker q) e = goes_on refl e
 marker_symbol_inside n p w x e = form_inside n _ x e
 
-need_marks_inside : (c : FormBracket) (x : Terminal) → OfFirst (naming_kind c.naming) → Inside x (need_marks c x)
+need_marks_inside : (c : FormBracket) (x : Terminal) → OfFirst (naming_kind c.naming) → Inside x (after_form_bracket c x)
 need_marks_inside c (Marker q) e = goes_on refl e
 need_marks_inside c x e = marks_inside c.naming c.behind c.bracket 0 c.pos x e
 
-mark_inside : (c : FormBracket) (m : ℕ) (x : Terminal) → OfFirst (naming_kind c.naming) → Inside x (after_mark c m x)
+mark_inside : (c : FormBracket) (m : ℕ) (x : Terminal) → OfFirst (naming_kind c.naming) → Inside x (after_bracket_marker c m x)
 mark_inside c m Comma e = goes_on refl e
 mark_inside c m x e = marks_inside c.naming c.behind c.bracket m c.pos x e
 
@@ -142,12 +142,12 @@ step_inside (NeedForm n) x e = begin_inside n x e
 step_inside (AfterSymbolForm n w) x e = symbol_inside n w x e
 step_inside (AfterDotForm n p) (Word w) e = goes_on refl e
 step_inside (AfterDotForm n p) _ e = refused
-step_inside (AfterMarker n p) x e = marker_inside n p x e
+step_inside (AfterLeadingMarker n p) x e = marker_inside n p x e
 step_inside (AfterMarkerSymbol n p w) x e = marker_symbol_inside n p w x e
-step_inside (NeedMarks c) x e = need_marks_inside c x e
-step_inside (AfterMark c m) x e = mark_inside c m x e
-step_inside (NeedMark c m) (Marker q) e = goes_on refl e
-step_inside (NeedMark c m) _ e = refused
+step_inside (AfterFormBracket c) x e = need_marks_inside c x e
+step_inside (AfterBracketMarker c m) x e = mark_inside c m x e
+step_inside (NeedBracketMarker c m) (Marker q) e = goes_on refl e
+step_inside (NeedBracketMarker c m) _ e = refused
 step_inside (AfterForm n f) x e = form_inside n f x e
 step_inside (NeedSig n) (Word w) e = goes_on refl e
 step_inside (NeedSig n) Arrow e = goes_on refl e
@@ -172,11 +172,11 @@ unended : (n : State) → OfFirst (inside_kind n) → as_trait (final n) ≡ Non
 unended (NeedForm n) e = refl
 unended (AfterSymbolForm n w) e = form_unended n _ e
 unended (AfterDotForm n p) e = refl
-unended (AfterMarker n p) e = refl
+unended (AfterLeadingMarker n p) e = refl
 unended (AfterMarkerSymbol n p w) e = form_unended n _ e
-unended (NeedMarks c) e = refl
-unended (AfterMark c m) e = refl
-unended (NeedMark c m) e = refl
+unended (AfterFormBracket c) e = refl
+unended (AfterBracketMarker c m) e = refl
+unended (NeedBracketMarker c m) e = refl
 unended (AfterForm n f) e = form_unended n f e
 unended (NeedSig n) e = refl
 unended (AfterSort n ws) e = refl
@@ -267,7 +267,7 @@ unless_ends p h go f false o c e = not_syntax e c
 
 -- a list of references ends at the token behind the first reference, or goes on with it
 ends_counted : (p : Pos) (h : ℕ) (go : Going) (f : Flaw × Pos) (r : RawTrait) (x : Terminal) → Counts f
-    → Flawed (go_on (at_step p h (after_ref r First x)) go) f → ends_reference x ≡ true
+    → Flawed (go_on (at_step p h (after_trait_ref r First x)) go) f → ends_reference x ≡ true
 ends_counted p h go f r Comma c e = refl
 ends_counted p h go f r x c e = unless_ends p h go f (ends_reference x) (begin_item r x) c e
 
@@ -277,13 +277,13 @@ same_ends two_parts e = e
 
 -- the first reference is closed
 ref_counted : (end : Pos) (ts : List Token) (h : ℕ) (r : RawTrait) (f : Flaw × Pos) → Ordered end ts → Counts f
-    → Flawed (trait_from true end h (AfterRef r First) ts) f → Reaches end f (Some ts)
+    → Flawed (trait_from true end h (AfterTraitRef r First) ts) f → Reaches end f (Some ts)
 ref_counted end [] h r f o c e = not_ok e
 ref_counted end (t ∷ ts) h r f o c e =
     both_true (ends_reference (known t)) _
     (same_ends (token_read t)
     (ends_counted t.pos h (λ m k. trait_from true end m k ts) f r (terminal_of true t) c e))
-    (ap not (not_before true end (t ∷ ts) h (AfterRef r First) f o e))
+    (ap not (not_before true end (t ∷ ts) h (AfterTraitRef r First) f o e))
 
 -- a token inside its parenthesis, of which the rest is known
 inside_counted : {x y : Terminal} {a : Taking} (p end : Pos) (ts : List Token) (h : ℕ) (f : Flaw × Pos) → Read x y
@@ -294,7 +294,7 @@ inside_counted : {x y : Terminal} {a : Taking} (p end : Pos) (ts : List Token) (
     → Reaches end f (or_further (opened x 0) ts (λ n. behind_group known n ts))
 inside_counted p end ts h f rd refused o c rest e = not_syntax e c
 inside_counted p end ts h f (same q) (closes {r} {b} first) o c rest e =
-    ref_counted end ts 0 r f o c (subst (λ x. Flawed (trait_from true end 0 (AfterRef r x) ts) f) (some_equal first) e)
+    ref_counted end ts 0 r f o c (subst (λ x. Flawed (trait_from true end 0 (AfterTraitRef r x) ts) f) (some_equal first) e)
 inside_counted p end ts h f (same q) (goes_on {k = k} opens first) o c rest e =
     subst (λ x. Reaches end f (or_further x ts (λ n. behind_group known n ts))) (sym opens) (rest k first e)
 inside_counted p end ts h f two_parts (goes_on {k = k} opens first) o c rest e = rest k first e

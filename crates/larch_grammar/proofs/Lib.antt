@@ -14,6 +14,7 @@ pub mod Inside
 pub mod Law
 pub mod Markers
 pub mod Places
+pub mod Punctuation
 pub mod Readings
 pub mod Reserved
 pub mod Stands

@@ -45,7 +45,7 @@ use Rattle.larch_grammar.specs.declared.machine.RefKind.TheVariants.{Included, A
 use Rattle.larch_grammar.specs.declared.machine.Scope.{Scope}
 use Rattle.larch_grammar.specs.declared.machine.Scope.TheVariants.{Quantified, Exempted}
 use Rattle.larch_grammar.specs.declared.machine.State.{State}
-use Rattle.larch_grammar.specs.declared.machine.State.TheVariants.{Start, AfterHead, AfterConstant, AfterField, AfterRefName, AfterRef, InPart, AfterSymbolForm, AfterMarkerSymbol, NeedRef, NeedMarks, AfterMark, AfterForm, AfterReference, InItems, FirstWord, AfterSemicolon, WordBehind, AfterGroup, AfterImplies, AfterWord, NeedFirst, AfterSymbol, Have}
+use Rattle.larch_grammar.specs.declared.machine.State.TheVariants.{Start, AfterHead, AfterConstant, AfterField, AfterRefName, AfterTraitRef, InPart, AfterSymbolForm, AfterMarkerSymbol, NeedRef, AfterFormBracket, AfterBracketMarker, AfterForm, AfterOperatorRef, InItems, FirstWord, AfterSemicolon, WordBehind, AfterGroup, AfterImplies, AfterWord, NeedFirst, AfterSymbol, Have}
 use Rattle.larch_grammar.specs.declared.machine.Waiting.{Waiting}
 use Rattle.larch_grammar.specs.declared.machine.Waiting.TheVariants.{Alone, Item}
 use Rattle.larch_grammar.specs.declared.machine.Whole.{Whole}
@@ -349,14 +349,14 @@ parts_in s (AfterHead r) = begin_parts r
 parts_in s (AfterConstant r sort ws) = begin_parts _
 parts_in s (AfterField o) = begin_parts _
 parts_in s (AfterRefName r b w) = behind_refs_parts b _
-parts_in s (AfterRef r b) = behind_refs_parts b r
+parts_in s (AfterTraitRef r b) = behind_refs_parts b r
 parts_in s (InPart r) = begin_parts r
 parts_in s (AfterSymbolForm n x) = form_parts n _
 parts_in s (AfterMarkerSymbol n p x) = form_parts n _
-parts_in s (NeedMarks c) = marks_parts c.naming c.behind c.bracket 0 c.pos
-parts_in s (AfterMark c m) = marks_parts c.naming c.behind c.bracket m c.pos
+parts_in s (AfterFormBracket c) = marks_parts c.naming c.behind c.bracket 0 c.pos
+parts_in s (AfterBracketMarker c m) = marks_parts c.naming c.behind c.bracket m c.pos
 parts_in s (AfterForm n f) = form_parts n f
-parts_in s (AfterReference c rs) = begin_parts _
+parts_in s (AfterOperatorRef c rs) = begin_parts _
 parts_in s (InItems r) = begin_parts r
 parts_in s (FirstWord r w) = hand_parts s (word_frames w (Item (open_item r [] []))) (call_tree w [])
 parts_in s (AfterSemicolon j) = begin_parts _

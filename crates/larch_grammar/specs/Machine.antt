@@ -42,7 +42,7 @@ use Rattle.larch_grammar.specs.declared.machine.Scope.TheVariants.{Quantified, E
 use Rattle.larch_grammar.specs.declared.machine.Signing.{Signing}
 use Rattle.larch_grammar.specs.declared.machine.Signing.TheVariants.{Declaration, Reference, Replacement, LoneForm, Conversion}
 use Rattle.larch_grammar.specs.declared.machine.State.{State}
-use Rattle.larch_grammar.specs.declared.machine.State.TheVariants.{Start, AfterName, AfterFormals, NeedTrait, AfterHead, ShortWord, NeedConstants, NeedConstant, AfterConstant, NeedFields, NeedName, AfterNames, NeedFurtherName, NeedNamesSort, AfterField, NeedRef, AfterRefName, AfterRef, AfterRename, InPart, NeedForm, AfterSymbolForm, AfterDotForm, AfterMarker, AfterMarkerSymbol, NeedMarks, AfterMark, NeedMark, AfterForm, NeedSig, AfterSort, NeedSort, NeedRange, AfterReference, AfterLone, InItems, FirstWord, AfterSemicolon, WordBehind, ClauseWord, NeedBy, NeedVariable, AfterVariable, NeedFurtherVariable, NeedVariableSort, AfterGroup, AfterImplies, ImpliedWord, BehindFirst, AfterConverted, NeedExempted, NeedFurtherExempted, NeedEquation, NeedTerm, NeedOperand, NeedPrefixed, NeedPost, NeedField, NeedSortOf, AfterWord, NeedFirst, AfterSymbol, Have}
+use Rattle.larch_grammar.specs.declared.machine.State.TheVariants.{Start, AfterName, AfterFormals, NeedTrait, AfterHead, ShortWord, NeedConstants, NeedConstant, AfterConstant, NeedFields, NeedName, AfterNames, NeedFurtherName, NeedNamesSort, AfterField, NeedRef, AfterRefName, AfterTraitRef, AfterRename, InPart, NeedForm, AfterSymbolForm, AfterDotForm, AfterLeadingMarker, AfterMarkerSymbol, AfterFormBracket, AfterBracketMarker, NeedBracketMarker, AfterForm, NeedSig, AfterSort, NeedSort, NeedRange, AfterOperatorRef, AfterLone, InItems, FirstWord, AfterSemicolon, WordBehind, ClauseWord, NeedBy, NeedVariable, AfterVariable, NeedFurtherVariable, NeedVariableSort, AfterGroup, AfterImplies, ImpliedWord, BehindFirst, AfterConverted, NeedExempted, NeedFurtherExempted, NeedEquation, NeedTerm, NeedOperand, NeedPrefixed, NeedPost, NeedField, NeedSortOf, AfterWord, NeedFirst, AfterSymbol, Have}
 use Rattle.larch_grammar.specs.declared.machine.Waiting.{Waiting}
 use Rattle.larch_grammar.specs.declared.machine.Waiting.TheVariants.{Alone, Item}
 use Rattle.larch_grammar.specs.declared.machine.Whole.{Whole}
@@ -287,8 +287,8 @@ abbrev pub begin_form : Naming → Terminal → Taking
 begin_form n (Word w) = outside (AfterForm n (plain_form w))
 begin_form n (Symbol x) = outside (AfterSymbolForm n x)
 begin_form n (Dot p) = outside (AfterDotForm n p)
-begin_form n (Marker p) = outside (AfterMarker n p)
-begin_form n (OpenBracket b p) = outside (NeedMarks (form_bracket n false b p))
+begin_form n (Marker p) = outside (AfterLeadingMarker n p)
+begin_form n (OpenBracket b p) = outside (AfterFormBracket (form_bracket n false b p))
 begin_form n _ = None
 
 -- the trait with a clause of these references
@@ -296,10 +296,10 @@ abbrev pub with_clause : Clause → List RawOpRef → RawTrait
 with_clause c rs = with_item c.raw (item.Clause c.kind c.sort rs)
 
 -- a reference is read, the last of these, and a token stands behind it
-abbrev pub after_reference : Clause → List RawOpRef → Terminal → Taking
-after_reference c rs Comma = outside (NeedForm (Referred c rs))
-after_reference c rs Semicolon = outside (InItems (with_clause c rs))
-after_reference c rs t = begin_item (with_clause c rs) t
+abbrev pub after_operator_ref : Clause → List RawOpRef → Terminal → Taking
+after_operator_ref c rs Comma = outside (NeedForm (Referred c rs))
+after_operator_ref c rs Semicolon = outside (InItems (with_clause c rs))
+after_operator_ref c rs t = begin_item (with_clause c rs) t
 
 -- the references with one more, which is a form alone
 abbrev pub with_reference : List RawOpRef → RawForm → List RawOpRef
@@ -308,13 +308,13 @@ with_reference rs f = rs ++ record { form = f; sig = None } ∷ []
 -- an actual is read, the last of these, and a token stands behind it
 abbrev pub after_actual : OpenRef → Terminal → Taking
 after_actual o Comma = outside (NeedForm (Actual o))
-after_actual o Close = outside (AfterRef (close_ref o) o.kind)
+after_actual o Close = outside (AfterTraitRef (close_ref o) o.kind)
 after_actual o _ = None
 
 -- the same of a replacement
 abbrev pub after_rename : OpenRef → Terminal → Taking
 after_rename o Comma = outside (NeedForm (Renaming o))
-after_rename o Close = outside (AfterRef (close_ref o) o.kind)
+after_rename o Close = outside (AfterTraitRef (close_ref o) o.kind)
 after_rename o _ = None
 
 -- a form is read, and a token stands behind it
@@ -323,7 +323,7 @@ after_form (Declared raw fs) f Comma = outside (NeedForm (Declared raw (fs ++ f 
 after_form (Declared raw fs) f (Colon p) = outside (NeedSig (Declaration raw (fs ++ f ∷ [])))
 after_form (Declared raw fs) f _ = None
 after_form (Referred c rs) f (Colon p) = outside (NeedSig (Reference c rs f))
-after_form (Referred c rs) f t = after_reference c (with_reference rs f) t
+after_form (Referred c rs) f t = after_operator_ref c (with_reference rs f) t
 after_form (Formal name fs) f Comma = outside (NeedForm (Formal name (fs ++ f ∷ [])))
 after_form (Formal name fs) f Close = outside (AfterFormals name (fs ++ f ∷ []))
 after_form (Formal name fs) f _ = None
@@ -341,7 +341,7 @@ after_form (Converted raw rs) f t = after_converted raw (with_reference rs f) t
 -- a signature is read: what waits for it takes it
 abbrev pub hand_sig : Signing → RawSig → State
 hand_sig (Declaration raw fs) sig = InPart (with_declaration raw (record { forms = fs; sig = sig }))
-hand_sig (Reference c rs f) sig = AfterReference c (rs ++ record { form = f; sig = Some sig } ∷ [])
+hand_sig (Reference c rs f) sig = AfterOperatorRef c (rs ++ record { form = f; sig = Some sig } ∷ [])
 hand_sig (Replacement o f g) sig = AfterRename (with_actual o (actual.Replace f g (Some sig)))
 hand_sig (LoneForm f) sig = AfterLone (record { form = f; sig = Some sig })
 hand_sig (Conversion raw rs f) sig = AfterConverted raw (rs ++ record { form = f; sig = Some sig } ∷ [])
@@ -352,11 +352,11 @@ after_symbol_form n x (Marker p) = outside (AfterForm n (mixfix (prefix_name x.n
 after_symbol_form n x t = after_form n (mixfix (infix_name x.name) 2 x.pos) t
 
 -- a `__` that begins a form is read
-abbrev pub after_marker : Naming → Pos → Terminal → Taking
-after_marker n p (Dot q) = outside (AfterDotForm n p)
-after_marker n p (Symbol x) = outside (AfterMarkerSymbol n p x)
-after_marker n p (OpenBracket b q) = outside (NeedMarks (form_bracket n true b p))
-after_marker n p _ = None
+abbrev pub after_leading_marker : Naming → Pos → Terminal → Taking
+after_leading_marker n p (Dot q) = outside (AfterDotForm n p)
+after_leading_marker n p (Symbol x) = outside (AfterMarkerSymbol n p x)
+after_leading_marker n p (OpenBracket b q) = outside (AfterFormBracket (form_bracket n true b p))
+after_leading_marker n p _ = None
 
 -- a `__` and a symbol are read
 abbrev pub after_marker_symbol : Naming → Pos → RawWord → Terminal → Taking
@@ -370,14 +370,14 @@ end_marks n behind Curly m p (CloseBracket Curly) = outside (AfterForm n (bracke
 end_marks n behind b m p _ = None
 
 -- a bracket of a form is open
-abbrev pub need_marks : FormBracket → Terminal → Taking
-need_marks c (Marker q) = outside (AfterMark c 1)
-need_marks c t = end_marks c.naming c.behind c.bracket 0 c.pos t
+abbrev pub after_form_bracket : FormBracket → Terminal → Taking
+after_form_bracket c (Marker q) = outside (AfterBracketMarker c 1)
+after_form_bracket c t = end_marks c.naming c.behind c.bracket 0 c.pos t
 
 -- so many markers stand in it
-abbrev pub after_mark : FormBracket → ℕ → Terminal → Taking
-after_mark c m Comma = outside (NeedMark c m)
-after_mark c m t = end_marks c.naming c.behind c.bracket m c.pos t
+abbrev pub after_bracket_marker : FormBracket → ℕ → Terminal → Taking
+after_bracket_marker c m Comma = outside (NeedBracketMarker c m)
+after_bracket_marker c m t = end_marks c.naming c.behind c.bracket m c.pos t
 
 -- the word that begins a clause is read
 abbrev pub clause_word : RawTrait → RawWord → Terminal → Taking
@@ -457,14 +457,14 @@ behind_refs First raw t = cond (ends_reference t) (begin_item raw t) None
 behind_refs Further raw t = begin_item raw t
 
 -- a reference is read, which is for this
-abbrev pub after_ref : RawTrait → RefKind → Terminal → Taking
-after_ref raw b Comma = outside (NeedRef raw (next_kind b))
-after_ref raw b t = behind_refs b raw t
+abbrev pub after_trait_ref : RawTrait → RefKind → Terminal → Taking
+after_trait_ref raw b Comma = outside (NeedRef raw (next_kind b))
+after_trait_ref raw b t = behind_refs b raw t
 
 -- the name of a trait that is referred to is read
 abbrev pub after_ref_name : RawTrait → RefKind → RawWord → Terminal → Taking
 after_ref_name raw b w (Open p) = outside (NeedForm (Actual (open_ref raw b w [])))
-after_ref_name raw b w t = after_ref (close_ref (open_ref raw b w [])) b t
+after_ref_name raw b w t = after_trait_ref (close_ref (open_ref raw b w [])) b t
 
 -- behind `implies` an item or a part may stand
 abbrev pub after_implies : RawTrait → Terminal → Taking
@@ -503,17 +503,17 @@ step s (NeedNamesSort o ws) (Word sort) = outside (AfterField (with_fields o (fi
 step s (AfterField o) t = after_field o t
 step s (NeedRef raw b) (Word w) = outside (AfterRefName raw b w)
 step s (AfterRefName raw b w) t = after_ref_name raw b w t
-step s (AfterRef raw b) t = after_ref raw b t
+step s (AfterTraitRef raw b) t = after_trait_ref raw b t
 step s (AfterRename o) t = after_rename o t
 step s (InPart raw) t = in_part raw t
 step s (NeedForm n) t = begin_form n t
 step s (AfterSymbolForm n x) t = after_symbol_form n x t
 step s (AfterDotForm n p) (Word w) = outside (AfterForm n (mixfix (field_name w.name) 1 p))
-step s (AfterMarker n p) t = after_marker n p t
+step s (AfterLeadingMarker n p) t = after_leading_marker n p t
 step s (AfterMarkerSymbol n p x) t = after_marker_symbol n p x t
-step s (NeedMarks c) t = need_marks c t
-step s (AfterMark c m) t = after_mark c m t
-step s (NeedMark c m) (Marker q) = outside (AfterMark c (suc m))
+step s (AfterFormBracket c) t = after_form_bracket c t
+step s (AfterBracketMarker c m) t = after_bracket_marker c m t
+step s (NeedBracketMarker c m) (Marker q) = outside (AfterBracketMarker c (suc m))
 step s (AfterForm n f) t = after_form n f t
 step s (NeedSig n) (Word w) = outside (AfterSort n (w ∷ []))
 step s (NeedSig n) Arrow = outside (NeedRange n [])
@@ -521,7 +521,7 @@ step s (AfterSort n ws) Comma = outside (NeedSort n ws)
 step s (AfterSort n ws) Arrow = outside (NeedRange n ws)
 step s (NeedSort n ws) (Word w) = outside (AfterSort n (ws ++ w ∷ []))
 step s (NeedRange n ws) (Word w) = outside (hand_sig n (record { domain = ws; range = w }))
-step s (AfterReference c rs) t = after_reference c rs t
+step s (AfterOperatorRef c rs) t = after_operator_ref c rs t
 step s (InItems raw) t = begin_item raw t
 step s (FirstWord raw w) t = first_word s raw w t
 step s (AfterSemicolon j) t = after_semicolon j.raw j.variables j.equations t
@@ -566,12 +566,12 @@ final (AfterHead raw) = Some (whole.Trait raw)
 final (AfterConstant raw sort ws) = Some (whole.Trait (with_shorthand raw (shorthand.Enumeration sort ws)))
 final (AfterField o) = Some (whole.Trait (close_fields o))
 final (AfterRefName raw b w) = Some (whole.Trait (close_ref (open_ref raw b w [])))
-final (AfterRef raw b) = Some (whole.Trait raw)
+final (AfterTraitRef raw b) = Some (whole.Trait raw)
 final (InPart raw) = Some (whole.Trait raw)
 final (AfterSymbolForm n x) = end_form n (mixfix (infix_name x.name) 2 x.pos)
 final (AfterMarkerSymbol n p x) = end_form n (mixfix (postfix_name x.name) 1 p)
 final (AfterForm n f) = end_form n f
-final (AfterReference c rs) = Some (whole.Trait (with_clause c rs))
+final (AfterOperatorRef c rs) = Some (whole.Trait (with_clause c rs))
 final (AfterLone r) = Some (whole.Reference r)
 final (InItems raw) = Some (whole.Trait raw)
 final (AfterImplies raw) = Some (whole.Trait raw)

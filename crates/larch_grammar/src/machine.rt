@@ -253,7 +253,7 @@ pub enum State {
     /// The name of a trait that is referred to: `(`, `,`, or what follows references.
     AfterRefName(Draft, RefKind, RawWord),
     /// A reference: `,`, or what follows references.
-    AfterRef(Draft, RefKind),
+    AfterTraitRef(Draft, RefKind),
     /// A replacement, the last of these actuals: `,` or `)`.
     AfterRename(OpenRef),
     /// `introduces`, or a declaration of its part: a declaration, a part, or the end.
@@ -265,15 +265,15 @@ pub enum State {
     /// A `.` of a form that begins there: a word.
     AfterDotForm(Naming, Pos),
     /// A `__` that begins a form: the rest of it.
-    AfterMarker(Naming, Pos),
+    AfterLeadingMarker(Naming, Pos),
     /// A `__` and a symbol: perhaps `__`.
     AfterMarkerSymbol(Naming, Pos, RawWord),
     /// The bracket of a form: `__` or its end.
-    NeedMarks(FormBracket),
+    AfterFormBracket(FormBracket),
     /// So many `__` in it: `,` or its end.
-    AfterMark(FormBracket, u32),
+    AfterBracketMarker(FormBracket, u32),
     /// A `,` behind them: `__`.
-    NeedMark(FormBracket, u32),
+    NeedBracketMarker(FormBracket, u32),
     /// A form is read.
     AfterForm(Naming, RawForm),
     /// A signature.
@@ -285,7 +285,7 @@ pub enum State {
     /// The `->` behind these sorts: a word.
     NeedRange(Signing, RawWords),
     /// A reference with its signature, the last of these.
-    AfterReference(Clause, RawOpRefs),
+    AfterOperatorRef(Clause, RawOpRefs),
     /// A reference by itself with its signature: nothing follows.
     AfterLone(RawOpRef),
     /// `asserts`, or a clause of its part: an item, a part, or the end.

@@ -1,5 +1,6 @@
 ghost use Rattle.std.specs.Prelude.{◌≡◌, ◌∷◌, [], false, IfOk};
-ghost use Rattle.larch_grammar.specs.Terminals.{begins_reserved, bracket_terminal, claim_word, terminal_by, terminal_of, position_of, punctuation_terminal, run_terminal, head_word, term_word, word_terminal, ends_reference};
+ghost use Rattle.larch_grammar.specs.Terminals.{begins_reserved, claim_word, ends_reference, head_word, position_of, punctuation_terminal, run_terminal};
+ghost use Rattle.larch_grammar.specs.Terminals.{term_word, terminal_by, terminal_of, word_terminal};
 ghost use Rattle.larch_lexer.specs.declared.token.Kind.TheVariants.{Backslash};
 
 use larch_base::{Memory, Name, Pos};
@@ -95,6 +96,7 @@ pub enum Terminal {
 }
 
 /// What the grammar knows of a token, where references follow `implies` or not. It fails where memory runs out.
+#[tactic(auto, using(crate::proofs::Punctuation::not_one_byte))]
 pub fn terminal_of(lists: bool, token: &Token) -> Result<Terminal, Memory>
     ensures { IfOk result (λ terminal. terminal ≡ terminal_of lists token.now) }
 {
@@ -108,8 +110,8 @@ pub fn terminal_of(lists: bool, token: &Token) -> Result<Terminal, Memory>
         }
         Kind::Run => run_terminal(&token.text, token.pos),
         Kind::Punctuation => Ok(match token.text.bytes() {
-            [byte] => mark_terminal(*byte, token.pos),
-            other => punctuation_terminal(other, token.pos),
+            [byte] => punctuation_terminal(*byte, token.pos),
+            _ => Terminal::Other,
         }),
     }
 }
@@ -259,29 +261,8 @@ fn run_terminal(text: &Name, pos: Pos) -> Result<Terminal, Memory>
     }
 }
 
-// A bracket.
-fn bracket_terminal(text: &[u8], pos: Pos) -> Terminal
-    ensures { result ≡ bracket_terminal text.now pos }
-{
-    if text == b"(".as_slice() {
-        Terminal::Open(pos)
-    } else if text == b")".as_slice() {
-        Terminal::Close
-    } else if text == b"[".as_slice() {
-        Terminal::OpenBracket(Bracket::Square, pos)
-    } else if text == b"]".as_slice() {
-        Terminal::CloseBracket(Bracket::Square)
-    } else if text == b"{".as_slice() {
-        Terminal::OpenBracket(Bracket::Curly, pos)
-    } else if text == b"}".as_slice() {
-        Terminal::CloseBracket(Bracket::Curly)
-    } else {
-        Terminal::Other
-    }
-}
-
-// One byte of punctuation.
-fn mark_terminal(byte: u8, pos: Pos) -> Terminal
+// A byte of punctuation.
+fn punctuation_terminal(byte: u8, pos: Pos) -> Terminal
     ensures { result ≡ punctuation_terminal (byte ∷ []) pos }
 {
     match byte {
@@ -296,23 +277,6 @@ fn mark_terminal(byte: u8, pos: Pos) -> Terminal
         b'{' => Terminal::OpenBracket(Bracket::Curly, pos),
         b'}' => Terminal::CloseBracket(Bracket::Curly),
         _ => Terminal::Other,
-    }
-}
-
-// Punctuation.
-fn punctuation_terminal(text: &[u8], pos: Pos) -> Terminal
-    ensures { result ≡ punctuation_terminal text.now pos }
-{
-    if text == b":".as_slice() {
-        Terminal::Colon(pos)
-    } else if text == b",".as_slice() {
-        Terminal::Comma
-    } else if text == b";".as_slice() {
-        Terminal::Semicolon
-    } else if text == b".".as_slice() {
-        Terminal::Dot(pos)
-    } else {
-        bracket_terminal(text, pos)
     }
 }
 

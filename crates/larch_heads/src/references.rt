@@ -26,7 +26,7 @@ fn ends_reference(reference: OpenRef) -> Result<Outcome, Memory>
 {
     let kind = reference.kind;
     let raw = close_ref(reference)?;
-    Ok(outside(State::AfterRef(raw, kind)))
+    Ok(outside(State::AfterTraitRef(raw, kind)))
 }
 
 // An actual is read, the last of these.

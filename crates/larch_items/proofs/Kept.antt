@@ -7,7 +7,7 @@ use Rattle.larch_base.specs.declared.position.Pos.{Pos}
 use Rattle.larch_base.proofs.Lists.{all_from}
 use Rattle.larch_base.proofs.Members.{contains_here, contains_later}
 use Rattle.larch_base.proofs.Options.{some_inj}
-use Rattle.larch_sorts.specs.Faults.{fault_at, unless}
+use Rattle.larch_sorts_meaning.specs.Faults.{fault_at, unless}
 use Rattle.larch_items.specs.Steps.{after, all_behind, all_taken, each, each_several, first_position, one_behind}
 
 abbrev Same : (A E : Type 0) → Result A E → Result A E → Type 0

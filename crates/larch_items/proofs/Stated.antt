@@ -27,15 +27,15 @@ use Rattle.larch_term.specs.declared.statement.Statement.{Statement}
 use Rattle.larch_term.specs.declared.statement.Statement.TheVariants as statement
 use Rattle.larch_term.proofs.BuiltIns.{is_built_in_Decides}
 use Rattle.larch_operators.specs.Sorts.{exists_sort}
-use Rattle.larch_sorts.specs.Faults.{fault, fault_at}
-use Rattle.larch_sorts.specs.Laws.{IsSortOf, OperatorSorts, StatementSorts, StatementVariables}
-use Rattle.larch_sorts.specs.Read.{read_equation}
-use Rattle.larch_sorts.specs.Readings.{ReadsEquation}
-use Rattle.larch_sorts.specs.Scope.{Variables, sort_in}
-use Rattle.larch_sorts.proofs.Existing.{any_contained, exists_Decides}
-use Rattle.larch_sorts.proofs.ReadAnswers.{equation_ok}
-use Rattle.larch_sorts.proofs.Sorted.{statement_in_scope, statement_over}
-use Rattle.larch_sorts.proofs.SortsRead.{own_sorts, statement_names, statement_sorts_exist}
+use Rattle.larch_sorts_meaning.specs.Faults.{fault, fault_at}
+use Rattle.larch_sorts_meaning.specs.Laws.{IsSortOf, OperatorSorts, StatementSorts, StatementVariables}
+use Rattle.larch_sorts_meaning.specs.Read.{read_equation}
+use Rattle.larch_sorts_meaning.specs.Readings.{ReadsEquation}
+use Rattle.larch_sorts_meaning.specs.Scope.{Variables, sort_in}
+use Rattle.larch_sorts_meaning.proofs.Existing.{any_contained, exists_Decides}
+use Rattle.larch_sorts_meaning.proofs.ReadAnswers.{equation_ok}
+use Rattle.larch_sorts_meaning.proofs.Sorted.{statement_in_scope, statement_over}
+use Rattle.larch_sorts_meaning.proofs.SortsRead.{own_sorts, statement_names, statement_sorts_exist}
 use Rattle.larch_items.specs.Declarations.{declared, declared_by, fits, operator_of, own_operator}
 use Rattle.larch_items.specs.Items.{clause_statement, clause_states, item_states, items_state}
 use Rattle.larch_items.specs.Laws.{BindsWords, DeclaresWords, IsWord, NamesOwn}

@@ -13,7 +13,7 @@ use Rattle.larch_term.specs.Tree.{Tree, Forest, var, app, none, more}
 use Rattle.larch_term.specs.declared.statement.Statement.{Statement}
 use Rattle.larch_term.specs.declared.statement.Statement.TheVariants.{Equation, Generated, Partitioned}
 use Rattle.larch_term.specs.declared.statement.Theory.{Theory}
-use Rattle.larch_sorts.specs.Laws.{ForestSorts, IsSortOf, OperatorSorts, StatementSorts, StatementVariables, TermSorts, sorts_of_operator}
+use Rattle.larch_sorts_meaning.specs.Laws.{ForestSorts, IsSortOf, OperatorSorts, StatementSorts, StatementVariables, TermSorts, sorts_of_operator}
 use Rattle.larch_items.specs.Declarations.{declared}
 use Rattle.larch_items.specs.Items.{item_states, items_state}
 use Rattle.larch_items.specs.Laws.{BindsWords, DeclaresWords, IsWord, NamesOwn}

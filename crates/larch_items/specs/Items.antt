@@ -14,8 +14,8 @@ use Rattle.larch_term.specs.Operator.{PlainOperator}
 use Rattle.larch_term.specs.declared.statement.Statement.{Statement}
 use Rattle.larch_term.specs.declared.statement.Statement.TheVariants as statement
 use Rattle.larch_operators.specs.Sorts.{exists_sort}
-use Rattle.larch_sorts.specs.Faults.{fault}
-use Rattle.larch_sorts.specs.Read.{read_equation}
+use Rattle.larch_sorts_meaning.specs.Faults.{fault}
+use Rattle.larch_sorts_meaning.specs.Read.{read_equation}
 use Rattle.larch_items.specs.References.{operators_named}
 use Rattle.larch_items.specs.Steps.{after, each, each_several}
 use Rattle.larch_items.specs.Variables.{variables_declared}

@@ -5,8 +5,8 @@ use Rattle.larch_base.specs.declared.fault.Fault.{Fault}
 use Rattle.larch_raw.specs.declared.equation.RawVar.{RawVar}
 use Rattle.larch_term.specs.Operator.{PlainOperator}
 use Rattle.larch_operators.specs.Sorts.{exists_sort}
-use Rattle.larch_sorts.specs.Faults.{fault, fault_at, unless}
-use Rattle.larch_sorts.specs.Scope.{Variables, sort_in}
+use Rattle.larch_sorts_meaning.specs.Faults.{fault, fault_at, unless}
+use Rattle.larch_sorts_meaning.specs.Scope.{Variables, sort_in}
 use Rattle.larch_items.specs.Steps.{all_taken, first_position}
 
 -- the variables with one more behind them, unless its name is there

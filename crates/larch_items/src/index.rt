@@ -5,7 +5,6 @@ ghost use Rattle.larch_term.specs.Operator.{PlainOperator, plain};
 ghost use Rattle.larch_items.specs.Index.{IsIndex, IsSeen, is_itself, is_made, is_taking, only_seen, seen_at};
 ghost use Rattle.larch_items.specs.Index.{with_seen};
 
-use crate::references::is_same;
 use indexmap::IndexMap;
 use larch_base::{Memory, Name, Sequence};
 use larch_term::{Operator, Sort};
@@ -148,7 +147,7 @@ fn with_seen(before: Option<&Seen>, operator: &Operator) -> Result<Seen, Memory>
         }
         Some(seen) => {
             let first = seen.first.copy()?;
-            let same = seen.same && is_same(&seen.first, operator);
+            let same = seen.same && seen.first == *operator;
             Ok(Seen { first, same })
         }
     }

@@ -8,7 +8,7 @@ ghost use Rattle.larch_term.specs.Operator.{PlainOperator};
 ghost use Rattle.larch_term.specs.Statement.{IsStatementOver, IsTheory, IsWellSortedTheory};
 ghost use Rattle.larch_term.specs.declared.statement.Statement.{Statement};
 ghost use Rattle.larch_term.specs.declared.statement.Theory.{Theory};
-ghost use Rattle.larch_sorts.specs.Laws.{IsSortOf, StatementSorts, StatementVariables};
+ghost use Rattle.larch_sorts_meaning.specs.Laws.{IsSortOf, StatementSorts, StatementVariables};
 ghost use Rattle.larch_items.specs.Items.{item_states};
 ghost use Rattle.larch_items.specs.Laws.{IsWord, NamesOwn};
 ghost use Rattle.larch_items.specs.Presentation.{presentation_of};

@@ -1,7 +1,6 @@
 ghost use Rattle.std.specs.Prelude.{◌≡◌, List, IfOk, IfSome, find};
 ghost use Rattle.std.specs.Option.{option_copied};
 ghost use Rattle.larch_base.specs.Answering.{Answers};
-ghost use Rattle.larch_term.specs.Equality.{same_operator};
 ghost use Rattle.larch_term.specs.Operator.{PlainOperator};
 ghost use Rattle.larch_items.specs.Index.{IsIndex};
 ghost use Rattle.larch_items.specs.References.{all_same, clause_code, is_meant, is_wanted, only_operator};
@@ -13,8 +12,8 @@ use crate::index::{Index, key_of, only_seen};
 use crate::refusal::TraitRefusal;
 use larch_base::{Code, Memory, Name, Sequence};
 use larch_raw::{ClauseKind, RawOpRef};
-use larch_sorts::Signature;
-use larch_term::{Operator, Operators, Sort, same_operator};
+use larch_sorts_signature::Signature;
+use larch_term::{Operator, Operators, Sort};
 use std::alloc::Global;
 
 /// What a reference of a clause is looked for as: the clause's kind and sort, the reference's name, and the one
@@ -189,24 +188,18 @@ fn only_operator<'a>(operators: &'a [Operator], wanted: &Wanted) -> Option<&'a O
 fn first_wanted<'a>(operators: &'a [Operator], wanted: &Wanted) -> Option<&'a Operator>
     ensures { option_copied result ≡ find (is_wanted wanted.now) operators.now }
 {
-    for operator in operators {
-        if is_wanted(wanted, operator) {
-            return Some(operator);
-        }
-    }
-    None
+    operators
+        .iter()
+        .find(|operator| is_wanted(wanted, operator))
 }
 
 // Whether all operators that are wanted are equal to one.
 fn all_same(first: &Operator, operators: &[Operator], wanted: &Wanted) -> bool
     ensures { result ≡ all_same (is_wanted wanted.now) first.now operators.now }
 {
-    for operator in operators {
-        if is_wanted(wanted, operator) && !is_same(first, operator) {
-            return false;
-        }
-    }
-    true
+    operators
+        .iter()
+        .all(|operator| !is_wanted(wanted, operator) || *first == *operator)
 }
 
 // Whether an operator is wanted.
@@ -221,7 +214,7 @@ fn is_meant(wanted: &Wanted, operator: &Operator) -> bool
     ensures { result ≡ is_meant wanted.now.exact wanted.now.name operator.now }
 {
     match &wanted.exact {
-        Some(exact) => is_same(operator, exact),
+        Some(exact) => *operator == *exact,
         None => *operator.name() == wanted.name,
     }
 }
@@ -241,11 +234,4 @@ fn takes(sort: &Sort, operator: &Operator) -> bool
     ensures { result ≡ takes sort.now operator.now }
 {
     operator.domain().iter().any(|taken| *sort == *taken)
-}
-
-// Whether two operators are equal, as the definitions test it.
-pub(crate) fn is_same(left: &Operator, right: &Operator) -> bool
-    ensures { result ≡ same_operator left.now right.now }
-{
-    same_operator(left, right)
 }

@@ -2,12 +2,12 @@
 use Rattle.std.proofs.Common.{◌≡◌, ℕ, suc, List, [], ◌∷◌, ◌++◌, map, All, Contains, Some, option_map, option_and_then, subst, arith}
 use Rattle.std.proofs.lemmas.Option.{option_and_then_some}
 use Rattle.larch_base.proofs.Options.{some_inj}
+use Rattle.larch_base.specs.ByNumber.{numbered}
 use Rattle.larch_term.specs.Operator.{PlainOperator}
 use Rattle.larch_term.specs.Statement.{IsStatementOver, IsWellSortedTheory}
 use Rattle.larch_term.specs.declared.statement.Statement.{Statement}
 use Rattle.larch_term.specs.declared.statement.Statement.TheVariants as statement
 use Rattle.larch_term.specs.declared.statement.Theory.{Theory}
-use Rattle.larch_tables.specs.Row.{numbered}
 use Rattle.larch_calculus.proofs.Boxes.{older_plain, older_later, older_less}
 use Rattle.larch_calculus.proofs.DerivedRules.{stated}
 use Rattle.larch_calculus.specs.Boxes.{IsOlder}

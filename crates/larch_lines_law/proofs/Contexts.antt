@@ -5,11 +5,11 @@ use Rattle.std.proofs.lemmas.List.Kept.{AllPairs-cons}
 use Rattle.std.proofs.lemmas.Option.{option_and_then_some}
 use Rattle.larch_base.proofs.Members.{contains_left, contains_right}
 use Rattle.larch_base.proofs.Options.{some_inj}
+use Rattle.larch_base.specs.ByNumber.{numbered}
 use Rattle.larch_term.specs.Operator.{OperatorName, PlainOperator, boxed}
 use Rattle.larch_term.specs.Statement.{IsStatementOver, IsWellSortedTheory}
 use Rattle.larch_term.specs.declared.statement.Statement.{Statement}
 use Rattle.larch_term.specs.declared.statement.Theory.{Theory}
-use Rattle.larch_tables.specs.Row.{numbered}
 use Rattle.larch_calculus.proofs.Boxes.{new_name, older_later}
 use Rattle.larch_calculus.proofs.Sorted.{extended_well_sorted, included_more}
 use Rattle.larch_calculus.specs.Boxes.{IsOlderName, IsOlder}

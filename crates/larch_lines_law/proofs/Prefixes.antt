@@ -2,6 +2,7 @@
 use Rattle.std.proofs.Common.{◌≡◌, ℕ, zero, suc, ◌==◌, ◌-◌, Bool, true, false, cond, List, [], ◌∷◌, ◌++◌, map, Option, Some, None, option_map, option_and_then, sym, ◌∙◌, ap, subst}
 use Rattle.std.specs.List.{slice_get}
 use Rattle.std.proofs.lemmas.Option.{option_and_then_some}
+use Rattle.larch_base.specs.ByNumber.{numbered}
 use Rattle.larch_term.specs.Operator.{PlainOperator}
 use Rattle.larch_term.specs.Sorts.{sorts_of}
 use Rattle.larch_term.specs.Statement.{statement_zero}
@@ -10,7 +11,6 @@ use Rattle.larch_term.specs.declared.statement.Statement.{Statement}
 use Rattle.larch_term.specs.declared.statement.Statement.TheVariants as statement
 use Rattle.larch_term.specs.declared.statement.Theory.{Theory}
 use Rattle.larch_term.specs.declared.substitution.Entry.{Entry}
-use Rattle.larch_tables.specs.Row.{numbered}
 use Rattle.larch_calculus.specs.Theories.{IsFront, IsPrefix}
 use Rattle.larch_certificate.specs.Coded.{coded_var, coded_app, no_terms, term_then}
 use Rattle.larch_certificate.specs.declared.line.BoxPart.{BoxPart}

@@ -17,7 +17,7 @@ use Rattle.larch_term.specs.declared.statement.Statement.TheVariants.{Equation, 
 use Rattle.larch_term.specs.declared.statement.Theory.{Theory}
 use Rattle.larch_term.specs.declared.substitution.Entry.{Entry}
 use Rattle.larch_tables.proofs.Identities.{row_identity}
-use Rattle.larch_tables.specs.Row.{PlainRow, numbered}
+use Rattle.larch_tables.specs.Row.{PlainRow}
 use Rattle.larch_tables.specs.Statement.{IsIdentityStatement}
 use Rattle.larch_tables.specs.Tables.{built_in_rows}
 use Rattle.larch_calculus.proofs.DerivedRules.{stated}
@@ -25,6 +25,7 @@ use Rattle.larch_calculus.proofs.Sorted.{zero_over}
 use Rattle.larch_calculus.specs.Derivable.{Derivable, axiom_, identity, symmetric, replace, instance, equal}
 use Rattle.larch_calculus.specs.Formula.{equality}
 use Rattle.larch_base.proofs.Members.{contains_here}
+use Rattle.larch_base.specs.ByNumber.{numbered}
 use Rattle.larch_lines.specs.Rules.{axiom_says, row_says, exchanged, instance_by, stands_at, replaced, equated, stated_equal}
 use Rattle.larch_lines_law.proofs.Decoded.{IsEntryOver}
 use Rattle.larch_lines_law.proofs.Told.{cond_either, place_told, statement_told}

@@ -10,6 +10,7 @@ use Rattle.std.proofs.lemmas.Slice.Eq.{bytes_eq-Decides, slice_eq-Decides}
 use Rattle.larch_base.proofs.Bools.{true_or_false, and_left, and_right}
 use Rattle.larch_base.proofs.Members.{contains_here, contains_later, got_contains}
 use Rattle.larch_base.proofs.Options.{some_inj}
+use Rattle.larch_base.specs.ByNumber.{numbered}
 use Rattle.larch_term.proofs.Decided.{tree_Decides, statement_Decides, sorts_Decides}
 use Rattle.larch_term.specs.Equality.{same_tree, same_statement}
 use Rattle.larch_term.specs.Place.{at}
@@ -19,7 +20,6 @@ use Rattle.larch_term.specs.declared.statement.Statement.{Statement}
 use Rattle.larch_term.specs.declared.variable.Variable.{Variable}
 use Rattle.larch_term_laws.proofs.Occurring.{variable_Decides}
 use Rattle.larch_tables.proofs.Identities.{at_place}
-use Rattle.larch_tables.specs.Row.{numbered}
 use Rattle.larch_calculus.specs.Boxes.{constants_from}
 use Rattle.larch_calculus.specs.Derivable.{AreApart}
 use Rattle.larch_calculus.specs.Observation.{AreDifferent}

@@ -27,12 +27,10 @@ use Rattle.larch_duties.specs.TraitDuties.{claimed, trait_duties}
 use Rattle.larch_io.specs.Folder.{FileMap, file_of}
 use Rattle.larch_words.specs.declared.call.Verification.{Verification}
 use Rattle.larch_main.specs.Answer.{IsAnswer, answer_by}
-use Rattle.larch_main.specs.Gather.{and_then, evidence_in, fetching, gathered}
+use Rattle.larch_main.specs.Gather.{Gathered, Whole, Absent, TooLarge, and_then, evidence_in, fetching, gathered}
 use Rattle.larch_main.specs.Verify.{IsShown, duty_among, duty_in, duty_with, judged_by, verdict_told, verified}
 use Rattle.larch_main.specs.declared.answer.Answer.{Answer}
 use Rattle.larch_main.specs.declared.gather.Evidence.{Evidence}
-use Rattle.larch_main.specs.declared.gather.Gathered.{Gathered}
-use Rattle.larch_main.specs.declared.gather.Gathered.TheVariants.{Whole, Absent, TooLarge}
 use Rattle.larch_main.specs.declared.status.Status.TheVariants.{Good}
 
 -- a good answer is that to something whole

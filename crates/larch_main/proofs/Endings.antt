@@ -14,7 +14,7 @@ use Rattle.larch_words.specs.declared.call.Call.TheVariants as call_
 use Rattle.larch_main.specs.Gather.{IsFolder}
 use Rattle.larch_main.specs.Laws.{IsEnd}
 use Rattle.larch_main.specs.Progress.{state_of, Machine, at_line, MayFollow, Wants, Moves}
-use Rattle.larch_main.specs.Program.{IsInput, Answers, WritesFront, BreaksOff, TakesWhole, Writes, TakesInput, Counts, source_failed, sink_failed}
+use Rattle.larch_main.specs.Running.{IsInput, Answers, WritesFront, BreaksOff, TakesWhole, Writes, TakesInput, Counts, source_failed, sink_failed}
 use Rattle.larch_main.specs.Session.{State, start, with_status, waiting, Session, goes_on, ends, breaks_off}
 use Rattle.larch_main.specs.SoFar.{SoFar}
 use Rattle.larch_main.specs.Say.{Says}

@@ -1,5 +1,6 @@
 -- A certificate and files that a folder has.
-use Rattle.std.proofs.Common.{◌≡◌, refl, sym, ap, subst, ◌∙◌, ℕ, ◌≤◌, Bool, true, false, cond, nat_lt, ◌&&◌, List, [], ◌∷◌, length, Option, Some, None, inl, inr, arith}
+use Rattle.std.proofs.Common.{◌≡◌, refl, sym, ap, subst, ◌∙◌, ℕ, ◌≤◌, Bool, true, false, cond, nat_lt, ◌&&◌, List, [], ◌∷◌, length, Option, Some, None, inl, inr, arith, Err}
+use Rattle.std.specs.Prelude.{IfSome}
 use Rattle.std.specs.List.{list_all}
 use Rattle.std.specs.Str.{bytes_eq}
 use Rattle.std.specs.Cmp.Lexicographic.{bytes_decides, nat_list_eq_equiv}
@@ -9,15 +10,16 @@ use Rattle.larch_base.specs.declared.limits.TheConstants.{MAX_FILE_BYTES}
 use Rattle.larch_base.proofs.Bools.{true_or_false}
 use Rattle.larch_io.specs.Folder.{FileMap, file_of, IsFile}
 use Rattle.larch_io.specs.Refusals.{FileRefused}
-use Rattle.larch_io.specs.declared.refusal.FolderRefusal.TheVariants.{TooLong}
+use Rattle.larch_io.specs.declared.refusal.FolderRefusal.{FolderRefusal}
+use Rattle.larch_io.specs.declared.refusal.FolderRefusal.TheVariants.{Failed, Memory, NotThere, TooLong}
+use Rattle.larch_main.specs.declared.gather.GatherRefusal.{GatherRefusal}
+use Rattle.larch_main.specs.declared.gather.GatherRefusal.TheVariants as refusal_
 use Rattle.larch_traits.specs.Files.{Table}
 use Rattle.larch_words.specs.Call.{is_certificate}
-use Rattle.larch_main.specs.Gather.{IsFolder, and_then, fetching, gathered, putting}
-use Rattle.larch_main.specs.Look.{ComesTo, EvidenceFor, Fetches, IsSeen}
+use Rattle.larch_main.specs.Gather.{Gathered, Whole, Absent, TooLarge, IsFolder, and_then, fetching, gathered, putting}
+use Rattle.larch_main.specs.Look.{ComesTo, EvidenceFor, Fetches, IsRefusalFor, IsSeen, found_of}
 use Rattle.larch_main.specs.declared.gather.Evidence.{Evidence}
-use Rattle.larch_main.specs.declared.gather.Gathered.{Gathered}
-use Rattle.larch_main.specs.declared.gather.Gathered.TheVariants.{Whole, Absent, TooLarge}
-use Rattle.larch_main.proofs.Looking.{seen_file, seen_long}
+use Rattle.larch_main.proofs.Looking.{seen_absent, seen_file, seen_long}
 use Rattle.larch_main.proofs.NameTexts.{certificate_is_no_file}
 
 -- what a folder gave under a certificate's name
@@ -26,7 +28,7 @@ fetched told name bytes is short =
     let small : nat_lt MAX_FILE_BYTES (length bytes) ≡ false = grind (arith, nat_tests) in
     record { seen = Some bytes; is_seen = seen_file told name bytes is; comes_to = ap (λ b. cond b TooLarge (Whole bytes)) small }
 
-pub fetched_long : (told : Option FileMap) (name : List ℕ) → FileRefused TooLong told name → Fetches told name TooLarge
+fetched_long : (told : Option FileMap) (name : List ℕ) → FileRefused TooLong told name → Fetches told name TooLarge
 fetched_long told name why =
     let long = seen_long told name why in
     let large : nat_lt MAX_FILE_BYTES (length long.0) ≡ true = let more = long.2 in grind (arith, nat_tests, more) in
@@ -108,6 +110,15 @@ module _ (told : Option FileMap) (certificate : List ℕ) (is : is_certificate c
             (same_gathered comes.folder j.both names all j.same [] ∙ comes.is_found);
       }
 
+  -- the files are not all there
+  pub files_refused : (refusal : GatherRefusal)
+      → IfSome (found_of {A = Table} (Err refusal)) (λ found. ComesTo told names found)
+      → IfSome (found_of {A = Evidence} (Err refusal)) (λ found. EvidenceFor told certificate names found)
+  files_refused (refusal_.Absent name) comes = whole_evidence (Absent name) comes
+  files_refused refusal_.TooLarge comes = whole_evidence TooLarge comes
+  files_refused refusal_.ReadFault comes = tt
+  files_refused refusal_.Memory comes = tt
+
 -- nothing comes of the certificate
 folder_showing : (told : Option FileMap) (certificate : List ℕ) (seen : Option (List ℕ)) → IsSeen told certificate seen
     → (folder : FileMap) × IsFolder told folder × (file_of folder certificate ≡ seen)
@@ -127,10 +138,37 @@ no_evidence told certificate names found ends got stops =
       is_found = ap (λ g. and_then g next) (ap (fetching certificate) f.2 ∙ got.comes_to) ∙ stops next;
     }
 
-pub absent_evidence : (told : Option FileMap) (certificate : List ℕ) (names : List (List ℕ)) (name : List ℕ) → Fetches told certificate (Absent name)
-    → EvidenceFor told certificate names (Absent name)
-absent_evidence told certificate names name got = no_evidence told certificate names (Absent name) (Absent name) got (λ next. refl)
+-- the certificate isn't there
+pub certificate_refused : (told : Option FileMap) (certificate : List ℕ) (names : List (List ℕ))
+    (refusal : GatherRefusal)
+    → IfSome (found_of {A = List ℕ} (Err refusal)) (λ found. Fetches told certificate found)
+    → IfSome (found_of {A = Evidence} (Err refusal)) (λ found. EvidenceFor told certificate names found)
+certificate_refused told certificate names (refusal_.Absent name) got =
+    no_evidence told certificate names (Absent name) (Absent name) got (λ next. refl)
+certificate_refused told certificate names refusal_.TooLarge got =
+    no_evidence told certificate names TooLarge TooLarge got (λ next. refl)
+certificate_refused told certificate names refusal_.ReadFault got = tt
+certificate_refused told certificate names refusal_.Memory got = tt
 
-pub large_evidence : (told : Option FileMap) (certificate : List ℕ) (names : List (List ℕ)) → Fetches told certificate TooLarge
-    → EvidenceFor told certificate names TooLarge
-large_evidence told certificate names got = no_evidence told certificate names TooLarge TooLarge got (λ next. refl)
+-- the folder refused to give the certificate
+pub fetch_refused : (told : Option FileMap) (name : List ℕ) (why : FolderRefusal) (refusal : GatherRefusal)
+    → FileRefused why told name → IsRefusalFor name why refusal
+    → IfSome (found_of {A = List ℕ} (Err refusal)) (λ found. Fetches told name found)
+fetch_refused told name NotThere (refusal_.Absent other) h is =
+    subst (λ n. Fetches told name (Absent n)) (sym is)
+    (record { seen = None; is_seen = seen_absent told name h; comes_to = refl })
+fetch_refused told name NotThere refusal_.TooLarge h is = absurd is
+fetch_refused told name NotThere refusal_.ReadFault h is = absurd is
+fetch_refused told name NotThere refusal_.Memory h is = tt
+fetch_refused told name TooLong (refusal_.Absent other) h is = cc
+fetch_refused told name TooLong refusal_.TooLarge h is = fetched_long told name h
+fetch_refused told name TooLong refusal_.ReadFault h is = cc
+fetch_refused told name TooLong refusal_.Memory h is = tt
+fetch_refused told name Failed (refusal_.Absent other) h is = cc
+fetch_refused told name Failed refusal_.TooLarge h is = cc
+fetch_refused told name Failed refusal_.ReadFault h is = tt
+fetch_refused told name Failed refusal_.Memory h is = tt
+fetch_refused told name Memory (refusal_.Absent other) h is = cc
+fetch_refused told name Memory refusal_.TooLarge h is = cc
+fetch_refused told name Memory refusal_.ReadFault h is = tt
+fetch_refused told name Memory refusal_.Memory h is = tt

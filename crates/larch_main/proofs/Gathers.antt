@@ -1,6 +1,6 @@
 -- How the files that words name come together.
 use Rattle.std.proofs.Common.{◌≡◌, ◌⊎◌, inl, inr, ℕ, Bool, true, false, cond, nat_lt, nat_le, not, ◌&&◌, ◌||◌, List, [], ◌∷◌, length, get_or, drop, ◌+◌, ◌<◌, ◌≤◌, Option, Some, None, Result, Ok, Err, IfOk, refl, sym, subst, ap, ◌∙◌}
-use Rattle.std.specs.Prelude.{is_some, unwrap_or}
+use Rattle.std.specs.Prelude.{IfSome, is_some, unwrap_or}
 use Rattle.std.specs.Cmp.Lexicographic.{bytes_decides, nat_list_eq_equiv}
 use Rattle.std.specs.Str.{bytes_eq}
 use Rattle.std.proofs.lemmas.List.{drop_all, drop_more}
@@ -8,12 +8,13 @@ use Rattle.larch_base.specs.declared.limits.TheConstants.{MAX_FILES, MAX_FILE_BY
 use Rattle.larch_base.proofs.Bools.{true_or_false}
 use Rattle.larch_io.specs.Folder.{FileMap, file_of}
 use Rattle.larch_traits.specs.Files.{Table, has_file, put_file, text_of}
-use Rattle.larch_main.specs.Gather.{IsFolder, putting, and_then, gathered}
-use Rattle.larch_io.specs.declared.refusal.FolderRefusal.TheVariants.{NotThere, TooLong}
-use Rattle.larch_main.specs.Look.{IsSeen, Shows, Looks, AreOf, Gathers, ComesTo}
+use Rattle.larch_main.specs.Gather.{Gathered, Whole, Absent, TooLarge, IsFolder, putting, and_then, gathered}
+use Rattle.larch_io.specs.declared.refusal.FolderRefusal.{FolderRefusal}
+use Rattle.larch_io.specs.declared.refusal.FolderRefusal.TheVariants.{Failed, Memory, NotThere, TooLong}
+use Rattle.larch_main.specs.declared.gather.GatherRefusal.{GatherRefusal}
+use Rattle.larch_main.specs.declared.gather.GatherRefusal.TheVariants as refusal_
+use Rattle.larch_main.specs.Look.{IsRefusalFor, IsSeen, Shows, Looks, AreOf, Gathers, ComesTo, found_of}
 use Rattle.larch_main.specs.Session.{put_is_refused}
-use Rattle.larch_main.specs.declared.gather.Gathered.{Gathered}
-use Rattle.larch_main.specs.declared.gather.Gathered.TheVariants.{Whole, Absent, TooLarge}
 use Rattle.larch_main.proofs.Tables.{none_sorted, file_of_table, text_put, sorted_put, put_again}
 
 -- no file has been looked for yet
@@ -169,26 +170,39 @@ pub ends : (told : Option FileMap) (names : List (List ℕ)) (files : Table) →
 ends None names files g = record { folder = files; is_folder = tt; is_found = g.onward files (own files) }
 ends (Some folder) names files g = record { folder = folder; is_folder = refl; is_found = g.onward folder g.are_of }
 
-done_by : {A : Type 0} (told : Option FileMap) (names : List (List ℕ)) (name : List ℕ) (result : Result (Gathered Table) A) → IfOk result (λ found. found ≡ Absent name)
-    → ComesTo told names (Absent name) → IfOk result (λ found. ComesTo told names found)
-done_by told names name (Ok found) is comes = subst (ComesTo told names) (sym is) comes
-done_by told names name (Err e) is comes = tt
-
 -- the loop is at a name
 module _ (told now : Option FileMap) (same : now ≡ told) (names : List (List ℕ)) (files more : Table) (i : ℕ) (name : List ℕ)
     (inside : i < length names) (is : name ≡ get_or names i name) (g : Gathers told names (drop i names) files) where
   at_name : Gathers told names (name ∷ drop (i + 1) names) files
   at_name = subst (λ rest. Gathers told names rest files) (drop_more names i name inside ∙ ap (λ n. n ∷ drop (i + 1) names) (sym is)) g
 
-  pub is_absent : {A : Type 0} (result : Result (Gathered Table) A) → Looks now files more name (Err NotThere) → IfOk result (λ found. found ≡ Absent name)
-      → IfOk result (λ found. ComesTo told names found)
-  is_absent result shows made =
-      done_by told names name result made
-      (stops told names (drop (i + 1) names) files name (Absent name) at_name (subst (λ t. Shows t files name (Absent name)) same shows) (λ onward. refl))
+  stops_as : (found : Gathered Table) → Shows now files name found
+      → ((onward : Table → Gathered Table) → and_then found onward ≡ found) → ComesTo told names found
+  stops_as found shows ends =
+      stops told names (drop (i + 1) names) files name found at_name
+      (subst (λ t. Shows t files name found) same shows) ends
 
-  pub is_too_large : Looks now files more name (Err TooLong) → ComesTo told names TooLarge
-  is_too_large shows =
-      stops told names (drop (i + 1) names) files name TooLarge at_name (subst (λ t. Shows t files name TooLarge) same shows) (λ onward. refl)
+  -- the folder refused to give the file
+  pub refused_at : (why : FolderRefusal) (refusal : GatherRefusal) → Looks now files more name (Err why)
+      → IsRefusalFor name why refusal
+      → IfSome (found_of {A = Table} (Err refusal)) (λ found. ComesTo told names found)
+  refused_at NotThere (refusal_.Absent other) shows is =
+      subst (λ n. ComesTo told names (Absent n)) (sym is) (stops_as (Absent name) shows (λ onward. refl))
+  refused_at NotThere refusal_.TooLarge shows is = absurd is
+  refused_at NotThere refusal_.ReadFault shows is = absurd is
+  refused_at NotThere refusal_.Memory shows is = tt
+  refused_at TooLong (refusal_.Absent other) shows is = cc
+  refused_at TooLong refusal_.TooLarge shows is = stops_as TooLarge shows (λ onward. refl)
+  refused_at TooLong refusal_.ReadFault shows is = cc
+  refused_at TooLong refusal_.Memory shows is = tt
+  refused_at Failed (refusal_.Absent other) shows is = cc
+  refused_at Failed refusal_.TooLarge shows is = cc
+  refused_at Failed refusal_.ReadFault shows is = tt
+  refused_at Failed refusal_.Memory shows is = tt
+  refused_at Memory (refusal_.Absent other) shows is = cc
+  refused_at Memory refusal_.TooLarge shows is = cc
+  refused_at Memory refusal_.ReadFault shows is = tt
+  refused_at Memory refusal_.Memory shows is = tt
 
   pub went_on : (done : Unit {0}) → Looks now files more name (Ok done) → Gathers told names (drop (i + 1) names) more
   went_on done looked =

@@ -9,10 +9,9 @@ use Rattle.larch_io.specs.Refusals.{FileRefused}
 use Rattle.larch_io.specs.declared.refusal.FolderRefusal.{FolderRefusal}
 use Rattle.larch_io.specs.declared.refusal.FolderRefusal.TheVariants.{Failed, NotThere, TooLong, Memory}
 use Rattle.larch_traits.specs.Files.{Table, has_file, put_file}
-use Rattle.larch_main.specs.Gather.{putting}
+use Rattle.larch_main.specs.Gather.{Whole, TooLarge, putting}
 use Rattle.larch_main.specs.Look.{IsSeen, Shows, Looks}
 use Rattle.larch_main.specs.Session.{put_is_refused}
-use Rattle.larch_main.specs.declared.gather.Gathered.TheVariants.{Whole, TooLarge}
 
 pub seen_absent : (told : Option FileMap) (name : List ℕ) → FileRefused NotThere told name → IsSeen told name None
 seen_absent None name h = tt

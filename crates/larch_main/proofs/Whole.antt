@@ -14,16 +14,14 @@ use Rattle.larch_words.specs.declared.call.Call.{Call}
 use Rattle.larch_words.specs.declared.call.Call.TheVariants as call_
 use Rattle.larch_main.specs.Answer.{TellsAnswer, answer_by, good_or_remains, said}
 use Rattle.larch_main.specs.declared.answer.Answer.{Answer}
-use Rattle.larch_main.specs.declared.gather.Gathered.{Gathered}
-use Rattle.larch_main.specs.declared.gather.Gathered.TheVariants.{Whole, Absent, TooLarge}
 use Rattle.larch_main.specs.declared.progress.Halt.{Halt}
 use Rattle.larch_main.specs.declared.progress.Halt.TheVariants as halt_
 use Rattle.larch_main.specs.declared.status.Status.{Status}
 use Rattle.larch_main.specs.declared.status.Status.TheVariants.{Good, Remains, Words, ReadFault, WriteFault, Memory, Malformed, Size, NoFile}
 use Rattle.larch_main.specs.Check.{checked}
-use Rattle.larch_main.specs.Gather.{IsFolder, evidence_in, gathered}
+use Rattle.larch_main.specs.Gather.{Gathered, Whole, Absent, TooLarge, IsFolder, evidence_in, gathered}
 use Rattle.larch_main.specs.Obligations.{obliged}
-use Rattle.larch_main.specs.Program.{usage_text, Answered, Output, Answers, WritesBefore, WritesFront, Writes, CallTakes, Counts, KeepsFolder, KeepsSource, folder_failed, source_failed, sink_failed, reads_folder, reads_source}
+use Rattle.larch_main.specs.Running.{usage_text, Answered, Output, Answers, WritesBefore, WritesFront, Writes, CallTakes, Counts, KeepsFolder, KeepsSource, folder_failed, source_failed, sink_failed, reads_folder, reads_source}
 use Rattle.larch_main.specs.Progress.{HaltFaults}
 use Rattle.larch_main.specs.Report.{is_good, report_of}
 use Rattle.larch_main.specs.Say.{Says}

@@ -1,9 +1,10 @@
 -- What is answered to a call that names files: a text and a status.
-use Rattle.std.specs.Prelude.{◌≡◌, if◌then◌else◌, ℕ, Bool, List, ◌++◌, codes, Result, Ok, Err, Option}
+use Rattle.std.specs.Prelude.{◌≡◌, if◌then◌else◌, ℕ, Bool, List, ◌++◌, codes, Result, Ok, Err, Option, Some, None}
 use Rattle.larch_main.specs.Say.{Says}
 use Rattle.larch_main.specs.declared.answer.Answer.{Answer}
-use Rattle.larch_main.specs.declared.gather.Gathered.{Gathered}
-use Rattle.larch_main.specs.declared.gather.Gathered.TheVariants.{Whole, Absent, TooLarge}
+use Rattle.larch_main.specs.Gather.{Gathered, Whole, Absent, TooLarge}
+use Rattle.larch_main.specs.declared.gather.GatherRefusal.{GatherRefusal}
+use Rattle.larch_main.specs.declared.gather.GatherRefusal.TheVariants as refusal_
 use Rattle.larch_main.specs.declared.progress.Halt.{Halt}
 use Rattle.larch_main.specs.declared.progress.Halt.TheVariants.{ReadFault, Memory}
 use Rattle.larch_main.specs.declared.status.Status.{Status}
@@ -30,6 +31,18 @@ abbrev pub answer_by : {A : Type 0} → (A → Answer) → Gathered A → Answer
 answer_by told (Whole found) = told found
 answer_by told (Absent name) = no_file name
 answer_by told TooLarge = size_passed
+
+-- what is answered where something isn't gathered; to a fault of the folder or of memory nothing is
+abbrev pub answer_to : GatherRefusal → Option Answer
+answer_to (refusal_.Absent name) = Some (no_file name)
+answer_to refusal_.TooLarge = Some size_passed
+answer_to refusal_.ReadFault = None
+answer_to refusal_.Memory = None
+
+-- the answer that was made, or that to why none was
+abbrev pub answer_of : Result Answer GatherRefusal → Option Answer
+answer_of (Ok answer) = Some answer
+answer_of (Err refusal) = answer_to refusal
 
 -- this text and this status are an answer's
 abbrev pub IsAnswer : Answer → List ℕ → Status → Type 0

@@ -5,8 +5,15 @@ use Rattle.larch_io.specs.Folder.{FileMap, file_of}
 use Rattle.larch_traits.specs.Files.{Table, put_file}
 use Rattle.larch_main.specs.Session.{put_is_refused}
 use Rattle.larch_main.specs.declared.gather.Evidence.{Evidence}
-use Rattle.larch_main.specs.declared.gather.Gathered.{Gathered}
-use Rattle.larch_main.specs.declared.gather.Gathered.TheVariants.{Whole, Absent, TooLarge}
+
+-- what comes of looking for what words name
+pub data Gathered (A : Type 0) : Type 0 where
+  -- all of it is there
+  Whole : A → Gathered A
+  -- there is no file of this name
+  Absent : List ℕ → Gathered A
+  -- a file has too many bytes, or there are too many files
+  TooLarge : Gathered A
 
 -- all that a folder has, where it tells
 abbrev pub IsFolder : Option FileMap → FileMap → Type 0

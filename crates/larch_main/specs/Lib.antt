@@ -8,7 +8,7 @@ pub mod Look
 pub mod Obligations
 pub mod Progress
 pub mod Report
-pub mod Program
+pub mod Running
 pub mod Say
 pub mod Session
 pub mod SoFar

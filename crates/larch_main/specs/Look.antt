@@ -1,5 +1,5 @@
 -- What the code has gathered so far, and what one look at a folder adds.
-use Rattle.std.specs.Prelude.{◌≡◌, ◌⊎◌, true, false, ℕ, nat_lt, List, [], length, Option, Some, IfSome, Result, Ok, Err}
+use Rattle.std.specs.Prelude.{◌≡◌, ◌⊎◌, true, false, ℕ, nat_lt, List, [], length, Option, Some, None, IfSome, Result, Ok, Err}
 use Rattle.std.specs.Cmp.Lexicographic.{slice_cmp}
 use Rattle.std.specs.List.Sorted.{IsStrictlySortedBy}
 use Rattle.std.specs.Ordering.{nat_cmp}
@@ -8,10 +8,36 @@ use Rattle.larch_io.specs.Folder.{FileMap, file_of}
 use Rattle.larch_io.specs.declared.refusal.FolderRefusal.{FolderRefusal}
 use Rattle.larch_io.specs.declared.refusal.FolderRefusal.TheVariants.{Failed, NotThere, TooLong, Memory}
 use Rattle.larch_traits.specs.Files.{Table, has_file, names_of, text_of}
-use Rattle.larch_main.specs.Gather.{IsFolder, evidence_in, fetching, putting, gathered}
+use Rattle.larch_io.specs.Faults.{Rose}
+use Rattle.larch_main.specs.Gather.{Gathered, Whole, Absent, TooLarge, IsFolder, evidence_in, fetching, putting, gathered}
 use Rattle.larch_main.specs.declared.gather.Evidence.{Evidence}
-use Rattle.larch_main.specs.declared.gather.Gathered.{Gathered}
-use Rattle.larch_main.specs.declared.gather.Gathered.TheVariants.{Whole, Absent, TooLarge}
+use Rattle.larch_main.specs.declared.gather.GatherRefusal.{GatherRefusal}
+use Rattle.larch_main.specs.declared.gather.GatherRefusal.TheVariants as refusal_
+
+-- what was gathered, or why not all was; a fault of the folder and want of memory tell nothing
+abbrev pub found_of : {A : Type 0} → Result A GatherRefusal → Option (Gathered A)
+found_of (Ok found) = Some (Whole found)
+found_of (Err (refusal_.Absent name)) = Some (Absent name)
+found_of (Err refusal_.TooLarge) = Some TooLarge
+found_of (Err refusal_.ReadFault) = None
+found_of (Err refusal_.Memory) = None
+
+-- a refusal counts a fault of the folder exactly where that failed
+abbrev pub GatherFaults : GatherRefusal → ℕ → ℕ → Type 0
+GatherFaults (refusal_.Absent name) before now = now ≡ before
+GatherFaults refusal_.TooLarge before now = now ≡ before
+GatherFaults refusal_.ReadFault before now = Rose before now
+GatherFaults refusal_.Memory before now = now ≡ before
+
+-- the refusal for a name, where the folder refused to give its file; that the name isn't there may want memory
+abbrev pub IsRefusalFor : List ℕ → FolderRefusal → GatherRefusal → Type 0
+IsRefusalFor name NotThere (refusal_.Absent other) = other ≡ name
+IsRefusalFor name NotThere refusal_.TooLarge = ⊥
+IsRefusalFor name NotThere refusal_.ReadFault = ⊥
+IsRefusalFor name NotThere refusal_.Memory = Unit {0}
+IsRefusalFor name TooLong refusal = refusal ≡ refusal_.TooLarge
+IsRefusalFor name Failed refusal = refusal ≡ refusal_.ReadFault
+IsRefusalFor name Memory refusal = refusal ≡ refusal_.Memory
 
 -- this is what a folder has under a name, where it tells
 abbrev pub IsSeen : Option FileMap → List ℕ → Option (List ℕ) → Type 0

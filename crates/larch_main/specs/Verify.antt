@@ -14,10 +14,9 @@ use Rattle.larch_traits.specs.Reading.{read_files}
 use Rattle.larch_claims.specs.Duties.{Duties, Duty, all_duties}
 use Rattle.larch_words.specs.declared.call.Verification.{Verification}
 use Rattle.larch_main.specs.Answer.{said}
-use Rattle.larch_main.specs.Gather.{gathered}
+use Rattle.larch_main.specs.Gather.{Whole, gathered}
 use Rattle.larch_main.specs.declared.answer.Answer.{Answer}
 use Rattle.larch_main.specs.declared.gather.Evidence.{Evidence}
-use Rattle.larch_main.specs.declared.gather.Gathered.TheVariants.{Whole}
 use Rattle.larch_main.specs.declared.status.Status.TheVariants.{Good, Remains, Malformed}
 
 -- the first duty whose label has this text

@@ -1,6 +1,9 @@
-ghost use Rattle.std.specs.Prelude.{◌≡◌, IfOk};
-ghost use Rattle.larch_main.specs.Answer.{TellsAnswer, good_or_remains, no_file, said, size_passed};
+ghost use Rattle.std.specs.Prelude.{◌≡◌, ℕ, IfErr, IfOk, OnOk, Some};
+ghost use Rattle.larch_main.specs.Answer.{TellsAnswer, answer_to, good_or_remains, no_file, said};
+ghost use Rattle.larch_main.specs.Look.{GatherFaults};
+ghost use Rattle.larch_main.specs.Progress.{HaltFaults};
 
+use crate::gather::GatherRefusal;
 use crate::progress::Halt;
 use crate::say::say;
 use crate::status::Status;
@@ -24,8 +27,24 @@ pub fn said(alloc: Global, words: &[u8], status: Status) -> Result<Answer, Memor
     Ok(Answer { text, status })
 }
 
-/// There is no file of this name.
-pub fn no_file(alloc: Global, name: &Name) -> Result<Answer, Memory>
+/// What is answered where something isn't gathered: that a file isn't there or that a limit is passed; or there is no
+/// answer, since the folder failed or memory ran out.
+pub fn answer_to(alloc: Global, refusal: GatherRefusal) -> Result<Answer, Halt>
+    ensures answer { IfOk result (λ answer. answer_to refusal ≡ Some answer) }
+    ensures fine { OnOk result ((before now : ℕ) → GatherFaults refusal before now → now ≡ before) }
+    ensures halt { IfErr result (λ halt. (before now : ℕ)
+        → GatherFaults refusal before now → HaltFaults halt before now) }
+{
+    match refusal {
+        GatherRefusal::Absent(name) => Ok(no_file(alloc, &name)?),
+        GatherRefusal::TooLarge => Ok(said(alloc, b"too large\n", Status::Size)?),
+        GatherRefusal::ReadFault => Err(Halt::ReadFault),
+        GatherRefusal::Memory => Err(Halt::Memory),
+    }
+}
+
+// There is no file of this name.
+fn no_file(alloc: Global, name: &Name) -> Result<Answer, Memory>
     ensures { IfOk result (λ answer. answer ≡ no_file name.now) }
 {
     let mut text = Bytes::new(alloc);
@@ -36,14 +55,6 @@ pub fn no_file(alloc: Global, name: &Name) -> Result<Answer, Memory>
         text,
         status: Status::NoFile,
     })
-}
-
-/// A limit is passed.
-pub fn size_passed(alloc: Global) -> Result<Answer, Memory>
-    ensures { IfOk result (λ answer. answer ≡ size_passed) }
-{
-    let answer = said(alloc, b"too large\n", Status::Size)?;
-    Ok(answer)
 }
 
 /// Whether all is good, as a status.

@@ -1,31 +1,18 @@
-ghost use Rattle.std.specs.Prelude.{◌≡◌, ◌≤◌, IfOk, IfErr, OnOk, true, vec_len};
+ghost use Rattle.std.specs.Prelude.{◌≡◌, ◌≤◌, ℕ, IfErr, IfSome, OnOk, true, vec_len};
 ghost use Rattle.std.specs.List.{list_all};
 ghost use Rattle.larch_base.specs.FileNames.{is_file_name};
 ghost use Rattle.larch_base.specs.declared.limits.TheConstants.{MAX_FILE_BYTES};
 ghost use Rattle.larch_io.specs.Refusals.{FolderFaults};
 ghost use Rattle.larch_words.specs.Call.{is_certificate};
-ghost use Rattle.larch_main.specs.Look.{ComesTo, EvidenceFor, Fetches, Looks};
-ghost use Rattle.larch_main.specs.Progress.{HaltFaults};
+ghost use Rattle.larch_main.specs.Look.{ComesTo, EvidenceFor, Fetches, GatherFaults, IsRefusalFor, Looks, found_of};
 ghost use Rattle.larch_traits.specs.Files.{put_file};
 
-use crate::progress::Halt;
 use larch_base::limits::MAX_FILES;
-use larch_base::{Bytes, FileName, Name, NameRefusal};
+use larch_base::{Bytes, FileName, Memory, Name, NameRefusal};
 use larch_io::{Folder, FolderRefusal};
 use larch_traits::Files;
 use larch_words::CertificateName;
 use std::alloc::Global;
-
-/// What comes of looking for what words name.
-#[derive(Drop)]
-pub enum Gathered<T> {
-    /// All of it is there.
-    Whole(T),
-    /// There is no file of this name.
-    Absent(Name),
-    /// A file has too many bytes, or there are too many files.
-    TooLarge,
-}
 
 /// What is looked at to verify a certificate: its text, and the files among which the trait is.
 #[derive(Drop)]
@@ -34,64 +21,74 @@ pub struct Evidence {
     pub files: Files,
 }
 
-/// Looks for the files of these names in the folder, in their order, until one isn't there or passes a limit. A name
-/// that comes again isn't looked at again.
+/// Why what words name isn't all gathered.
+#[derive(Debug, Drop)]
+pub enum GatherRefusal {
+    /// There is no file of this name.
+    Absent(Name),
+    /// A file has too many bytes, or there are too many files.
+    TooLarge,
+    /// The folder failed.
+    ReadFault,
+    /// Out of memory.
+    Memory,
+}
+
+impl From<Memory> for GatherRefusal {
+    ghost use Rattle.larch_main.specs.declared.gather.GatherRefusal.TheVariants.{Memory as out_of_memory};
+
+    ghost from_gives = { λ _ refusal. refusal ≡ out_of_memory };
+
+    fn from(_memory: Memory) -> GatherRefusal {
+        GatherRefusal::Memory
+    }
+}
+
+/// Looks for the files of these names in the folder, in their order, until one isn't there or passes a limit, which is
+/// refused. A name that comes again isn't looked at again.
 pub fn gather<F: Folder>(
     alloc: Global,
     names: &[FileName],
     folder: &mut F,
-) -> Result<Gathered<Files>, Halt>
+) -> Result<Files, GatherRefusal>
     requires { list_all is_file_name names.now ≡ true }
-    ensures found { IfOk result (λ found. ComesTo (F.files folder.old) names.now found) }
+    ensures found { IfSome (found_of result) (λ found. ComesTo (F.files folder.old) names.now found) }
     ensures same { F.files folder.new ≡ F.files folder.old }
     ensures fine { OnOk result (F.faults folder.new ≡ F.faults folder.old) }
-    ensures faults { IfErr result (λ halt. HaltFaults halt (F.faults folder.old) (F.faults folder.new)) }
+    ensures faults { IfErr result (λ refusal. GatherFaults refusal (F.faults folder.old) (F.faults folder.new)) }
 {
     let mut files = Files::new(alloc);
     for name in names {
         match look(alloc, &mut files, name, folder) {
             Ok(()) => {}
-            Err(FolderRefusal::NotThere) => return absent(alloc, name.bytes()),
-            Err(FolderRefusal::TooLong) => return Ok(Gathered::TooLarge),
-            Err(FolderRefusal::Failed) => return Err(Halt::ReadFault),
-            Err(FolderRefusal::Memory) => return Err(Halt::Memory),
+            Err(refusal) => return Err(refusal_for(alloc, name.bytes(), refusal)),
         }
     }
-    Ok(Gathered::Whole(files))
+    Ok(files)
 }
 
-// No file has this name.
-fn absent<T>(alloc: Global, name: &[u8]) -> Result<Gathered<T>, Halt>
-    ensures ok { IfOk result (λ found. found ≡ Gathered.Absent name.now) }
-    ensures memory { IfErr result (λ halt. halt ≡ Halt.Memory) }
-{
-    let name = Name::new(alloc, name)?;
-    Ok(Gathered::Absent(name))
-}
-
-/// Looks for a certificate and then for the files of these names, until one isn't there or passes a limit.
+/// Looks for a certificate and then for the files of these names, until one isn't there or passes a limit, which is
+/// refused.
 pub fn gather_evidence<F: Folder>(
     alloc: Global,
     certificate: &CertificateName,
     names: &[FileName],
     folder: &mut F,
-) -> Result<Gathered<Evidence>, Halt>
+) -> Result<Evidence, GatherRefusal>
     requires names { list_all is_file_name names.now ≡ true }
     requires other { is_certificate certificate.now ≡ true }
-    ensures found { IfOk result (λ found. EvidenceFor (F.files folder.old) certificate.now names.now found) }
+    ensures found { IfSome (found_of result) (λ found.
+        EvidenceFor (F.files folder.old) certificate.now names.now found) }
     ensures same { F.files folder.new ≡ F.files folder.old }
     ensures fine { OnOk result (F.faults folder.new ≡ F.faults folder.old) }
-    ensures faults { IfErr result (λ halt. HaltFaults halt (F.faults folder.old) (F.faults folder.new)) }
+    ensures faults { IfErr result (λ refusal. GatherFaults refusal (F.faults folder.old) (F.faults folder.new)) }
 {
-    match fetch(alloc, certificate, folder)? {
-        Gathered::Whole(certificate) => match gather(alloc, names, folder)? {
-            Gathered::Whole(files) => Ok(Gathered::Whole(Evidence { certificate, files })),
-            Gathered::Absent(name) => Ok(Gathered::Absent(name)),
-            Gathered::TooLarge => Ok(Gathered::TooLarge),
-        },
-        Gathered::Absent(name) => Ok(Gathered::Absent(name)),
-        Gathered::TooLarge => Ok(Gathered::TooLarge),
-    }
+    let text = fetch(alloc, certificate, folder)?;
+    let files = gather(alloc, names, folder)?;
+    Ok(Evidence {
+        certificate: text,
+        files,
+    })
 }
 
 // Looks for a certificate.
@@ -99,18 +96,39 @@ fn fetch<F: Folder>(
     alloc: Global,
     name: &CertificateName,
     folder: &mut F,
-) -> Result<Gathered<Bytes>, Halt>
-    ensures found { IfOk result (λ found. Fetches (F.files folder.old) name.now found) }
+) -> Result<Bytes, GatherRefusal>
+    ensures found { IfSome (found_of result) (λ found. Fetches (F.files folder.old) name.now found) }
     ensures same { F.files folder.new ≡ F.files folder.old }
     ensures fine { OnOk result (F.faults folder.new ≡ F.faults folder.old) }
-    ensures faults { IfErr result (λ halt. HaltFaults halt (F.faults folder.old) (F.faults folder.new)) }
+    ensures faults { IfErr result (λ refusal. GatherFaults refusal (F.faults folder.old) (F.faults folder.new)) }
 {
     match folder.read_file(alloc, name.text()) {
-        Ok(bytes) => Ok(Gathered::Whole(Bytes::from_vec(bytes))),
-        Err(FolderRefusal::NotThere) => absent(alloc, name.text().as_bytes()),
-        Err(FolderRefusal::TooLong) => Ok(Gathered::TooLarge),
-        Err(FolderRefusal::Failed) => Err(Halt::ReadFault),
-        Err(FolderRefusal::Memory) => Err(Halt::Memory),
+        Ok(bytes) => Ok(Bytes::from_vec(bytes)),
+        Err(refusal) => Err(refusal_for(alloc, name.text().as_bytes(), refusal)),
+    }
+}
+
+// The refusal for this name, where the folder refused to give its file.
+fn refusal_for(alloc: Global, name: &[u8], refusal: FolderRefusal) -> GatherRefusal
+    ensures refusal { IsRefusalFor name.now refusal result }
+    ensures faults { (before now : ℕ) → FolderFaults refusal before now → GatherFaults result before now }
+{
+    match refusal {
+        FolderRefusal::NotThere => absence(alloc, name),
+        FolderRefusal::TooLong => GatherRefusal::TooLarge,
+        FolderRefusal::Failed => GatherRefusal::ReadFault,
+        FolderRefusal::Memory => GatherRefusal::Memory,
+    }
+}
+
+// The refusal that no file has this name.
+fn absence(alloc: Global, name: &[u8]) -> GatherRefusal
+    ensures refusal { IsRefusalFor name.now FolderRefusal.NotThere result }
+    ensures faults { (before now : ℕ) → now ≡ before → GatherFaults result before now }
+{
+    match Name::new(alloc, name) {
+        Ok(name) => GatherRefusal::Absent(name),
+        Err(_) => GatherRefusal::Memory,
     }
 }
 

@@ -6,7 +6,7 @@ ghost use Rattle.larch_io.specs.Folder.{FileMap};
 ghost use Rattle.larch_words.specs.declared.call.Call.TheVariants.{Verify};
 ghost use Rattle.larch_words.specs.declared.call.Verification.{Verification};
 ghost use Rattle.larch_main.specs.Laws.{Ends, stem_in};
-ghost use Rattle.larch_main.specs.Program.{Output};
+ghost use Rattle.larch_main.specs.Running.{Output};
 ghost use Rattle.larch_main.specs.Report.{report_of};
 ghost use Rattle.larch_main.specs.Session.{State, Ending, Session};
 ghost use Rattle.larch_main.specs.Verify.{IsShown};

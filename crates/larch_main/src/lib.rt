@@ -7,9 +7,9 @@ mod command;
 mod gather;
 mod laws;
 mod obligations;
-mod program;
 mod progress;
 mod report;
+mod running;
 mod say;
 mod session;
 mod status;
@@ -19,6 +19,6 @@ pub use laws::{
     each_trait_has_one_line, every_session_ends, one_ending, one_output,
     what_is_verified_is_derivable,
 };
-pub use program::run;
 pub use report::ReportLine;
+pub use running::run;
 pub use status::Status;

@@ -1,18 +1,17 @@
-ghost use Rattle.std.specs.Prelude.{◌≡◌, ◌<◌, ◌++◌, length, IfErr, IfOk, OnOk, true};
+ghost use Rattle.std.specs.Prelude.{◌≡◌, ◌<◌, ◌++◌, length, IfErr, IfOk, IfSome, OnOk, true};
 ghost use Rattle.std.specs.List.{list_all};
 ghost use Rattle.larch_base.specs.FileNames.{is_file_name};
 ghost use Rattle.larch_words.specs.declared.call.Call.TheVariants.{Obligations as call_obligations};
-ghost use Rattle.larch_main.specs.Answer.{answer_by};
+ghost use Rattle.larch_main.specs.Answer.{answer_of};
 ghost use Rattle.larch_sources.specs.Sources.{name_at};
 ghost use Rattle.larch_flatten.specs.Known.{AreAllKnown, Knows};
 ghost use Rattle.larch_main.specs.Obligations.{listed_at, listings_of, obliged};
-ghost use Rattle.larch_main.specs.Program.{Answered};
-ghost use Rattle.larch_main.specs.Progress.{HaltFaults};
+ghost use Rattle.larch_main.specs.Running.{Answered};
+ghost use Rattle.larch_main.specs.Look.{GatherFaults};
 ghost use Rattle.larch_main.specs.Report.{IsLineOf, source_lines};
 
-use crate::answer::{Answer, good_or_remains, no_file, size_passed};
-use crate::gather::{Gathered, gather};
-use crate::progress::Halt;
+use crate::answer::{Answer, good_or_remains};
+use crate::gather::{GatherRefusal, gather};
 use crate::report::{ReportLine, append_line, is_good};
 use larch_base::{Bytes, Fault, FileName, Memory, Sequence};
 use larch_duties::list_trait;
@@ -28,27 +27,17 @@ pub fn obligations<F: Folder>(
     alloc: Global,
     names: &[FileName],
     folder: &mut F,
-) -> Result<Answer, Halt>
+) -> Result<Answer, GatherRefusal>
     requires { list_all is_file_name names.now ≡ true }
-    ensures answer { IfOk result (λ answer. Answered (call_obligations names.now) (F.files folder.old) answer) }
+    ensures answer { IfSome (answer_of result) (λ answer.
+        Answered (call_obligations names.now) (F.files folder.old) answer) }
     ensures same { F.files folder.new ≡ F.files folder.old }
     ensures fine { OnOk result (F.faults folder.new ≡ F.faults folder.old) }
-    ensures faults { IfErr result (λ halt. HaltFaults halt (F.faults folder.old) (F.faults folder.new)) }
+    ensures faults { IfErr result (λ refusal. GatherFaults refusal (F.faults folder.old) (F.faults folder.new)) }
 {
-    let found = gather(alloc, names, folder)?;
-    let answer = answer_to(alloc, &found)?;
+    let files = gather(alloc, names, folder)?;
+    let answer = listings(alloc, &files)?;
     Ok(answer)
-}
-
-// What is answered to what was found.
-fn answer_to(alloc: Global, found: &Gathered<Files>) -> Result<Answer, Memory>
-    ensures { IfOk result (λ answer. answer ≡ answer_by obliged found.now) }
-{
-    match found {
-        Gathered::Whole(files) => listings(alloc, files),
-        Gathered::Absent(name) => no_file(alloc, name),
-        Gathered::TooLarge => size_passed(alloc),
-    }
 }
 
 // The listings of all trait files, and whether nothing is wrong with any.

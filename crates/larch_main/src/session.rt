@@ -1,7 +1,7 @@
 ghost use Rattle.std.specs.Prelude.{Option};
 ghost use Rattle.larch_io.specs.Folder.{FileMap};
 ghost use Rattle.larch_words.specs.declared.call.Call.TheVariants.{Session as call_session};
-ghost use Rattle.larch_main.specs.Program.{Writes, TakesInput, Counts, source_failed, sink_failed};
+ghost use Rattle.larch_main.specs.Running.{Writes, TakesInput, Counts, source_failed, sink_failed};
 
 use crate::progress::{Halt, Move, Progress, advance};
 use crate::say::say;

@@ -1,4 +1,4 @@
-ghost use Rattle.std.specs.Prelude.{◌≡◌, List, None, Some, IfErr, IfOk, OnOk, option_map, true};
+ghost use Rattle.std.specs.Prelude.{◌≡◌, List, None, Some, IfErr, IfOk, IfSome, OnOk, option_map, true};
 ghost use Rattle.std.specs.List.{list_all};
 ghost use Rattle.larch_base.specs.FileNames.{is_file_name};
 ghost use Rattle.larch_base.specs.Labels.{label_text};
@@ -6,15 +6,14 @@ ghost use Rattle.larch_certificate.specs.declared.line.Line.{Line};
 ghost use Rattle.larch_claims.specs.Duties.{all_duties};
 ghost use Rattle.larch_words.specs.Call.{is_certificate};
 ghost use Rattle.larch_words.specs.declared.call.Call.TheVariants.{Verify as call_verify};
-ghost use Rattle.larch_main.specs.Answer.{answer_by, said};
-ghost use Rattle.larch_main.specs.Program.{Answered};
-ghost use Rattle.larch_main.specs.Progress.{HaltFaults};
+ghost use Rattle.larch_main.specs.Answer.{answer_of, said};
+ghost use Rattle.larch_main.specs.Running.{Answered};
+ghost use Rattle.larch_main.specs.Look.{GatherFaults};
 ghost use Rattle.larch_main.specs.Verify.{duty_in, duty_with, judged, malformed, verdict_told, verified};
 ghost use Rattle.larch_verify.specs.Verdict.{refusal};
 
-use crate::answer::{Answer, no_file, said, size_passed};
-use crate::gather::{Evidence, Gathered, gather_evidence};
-use crate::progress::Halt;
+use crate::answer::{Answer, said};
+use crate::gather::{Evidence, GatherRefusal, gather_evidence};
 use crate::status::Status;
 use larch_base::{Label, Memory, Name};
 use larch_certificate::Line;
@@ -34,33 +33,18 @@ pub fn verify<F: Folder>(
     alloc: Global,
     asked: &Verification,
     folder: &mut F,
-) -> Result<Answer, Halt>
+) -> Result<Answer, GatherRefusal>
     requires names { list_all is_file_name asked.now.files ≡ true }
     requires other { is_certificate asked.now.certificate ≡ true }
-    ensures answer { IfOk result (λ answer. Answered (call_verify asked.now) (F.files folder.old) answer) }
+    ensures answer { IfSome (answer_of result) (λ answer.
+        Answered (call_verify asked.now) (F.files folder.old) answer) }
     ensures same { F.files folder.new ≡ F.files folder.old }
     ensures fine { OnOk result (F.faults folder.new ≡ F.faults folder.old) }
-    ensures faults { IfErr result (λ halt. HaltFaults halt (F.faults folder.old) (F.faults folder.new)) }
+    ensures faults { IfErr result (λ refusal. GatherFaults refusal (F.faults folder.old) (F.faults folder.new)) }
 {
-    let found = gather_evidence(alloc, &asked.certificate, asked.files.as_slice(), folder)?;
-    let answer = answer_to(alloc, &asked.stem, asked.label, &found)?;
+    let evidence = gather_evidence(alloc, &asked.certificate, asked.files.as_slice(), folder)?;
+    let answer = verified(alloc, &asked.stem, asked.label, &evidence)?;
     Ok(answer)
-}
-
-// What is answered to what was found.
-fn answer_to(
-    alloc: Global,
-    stem: &Name,
-    label: Label,
-    found: &Gathered<Evidence>,
-) -> Result<Answer, Memory>
-    ensures { IfOk result (λ answer. answer ≡ answer_by (verified stem.now label) found.now) }
-{
-    match found {
-        Gathered::Whole(evidence) => verified(alloc, stem, label, evidence),
-        Gathered::Absent(name) => no_file(alloc, name),
-        Gathered::TooLarge => size_passed(alloc),
-    }
 }
 
 // The verdict on a certificate and files. That the certificate is malformed comes first.

@@ -3,7 +3,7 @@ use crate::stop::Stop;
 use larch_base::{Memory, Name, Sequence, let_go};
 use larch_certificate::Numbers;
 use larch_derive::{OpenBox, OpenBoxes};
-use larch_derive_lines::{inst_line, refl_line, row_line, trans_line};
+use larch_derive_lines::{argument_line, inst_line, refl_line, row_line, trans_line};
 use larch_formulas::{equation_line, formula_line};
 use larch_methods::{
     contradicted_line, finish_cases, finish_conjunction, finish_contradiction, finish_implication,
@@ -14,7 +14,6 @@ use larch_plans::{
     induction_variable, partitioning_clause,
 };
 use larch_term::{Node, Sort, Substitution, Term, Variable, copy, sort_of};
-use larch_ways::argument_line;
 use std::alloc::Global;
 
 // What makes a box's result of the line that says that its goal is true.

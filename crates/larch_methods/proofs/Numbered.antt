@@ -6,10 +6,10 @@ use Rattle.std.proofs.Common.{arith, ap, ap₂, sym, subst, ◌∙◌, take}
 use Rattle.std.proofs.lemmas.List.{take_all}
 use Rattle.std.proofs.lemmas.List.Elements.{All-contains, All-get_or, All-more}
 use Rattle.std.proofs.lemmas.Option.{slice_get-get_or}
+use Rattle.larch_base.specs.ByNumber.{numbered}
 use Rattle.larch_term.specs.Equality.{same_operator}
 use Rattle.larch_term.specs.Operator.{PlainOperator}
 use Rattle.larch_term.specs.OperatorKey.{operator_Decides}
-use Rattle.larch_tables.specs.Row.{numbered}
 use Rattle.larch_lines.specs.Decoding.{each}
 
 parts_same : {Y : Type 0} (o p : Option Y) (os ps : List (Option Y)) → o ∷ os ≡ p ∷ ps → (o ≡ p) × (os ≡ ps)

@@ -1,12 +1,12 @@
 -- What is shown in the box of a clause, and the rule that takes it.
 use Rattle.std.specs.Prelude.{◌≡◌, ℕ, All, Contains, List, map, Some}
 use Rattle.std.proofs.Common.{ap, sym, subst, ◌∙◌}
+use Rattle.larch_base.specs.ByNumber.{numbered}
 use Rattle.larch_term.specs.Operator.{PlainOperator}
 use Rattle.larch_term.specs.Tree.{var}
 use Rattle.larch_term.specs.Truth.{truth}
 use Rattle.larch_term.specs.declared.statement.Statement.TheVariants.{Equation, Generated, Partitioned}
 use Rattle.larch_term.specs.declared.statement.Theory.{Theory}
-use Rattle.larch_tables.specs.Row.{numbered}
 use Rattle.larch_calculus.specs.Formula.{applied, constant}
 use Rattle.larch_calculus.specs.Generation.{generation_hypotheses, place_name}
 use Rattle.larch_calculus.specs.Observation.{observations}

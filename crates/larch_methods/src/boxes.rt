@@ -14,7 +14,7 @@ use larch_base::{Memory, Sequence};
 use larch_certificate::{CodedVar, CodedVars};
 use larch_derive::Builder;
 use larch_derive_boxes::{close_box, fresh_line, hyp_line};
-use larch_term::{BuiltIn, Statement, Statements, Term, Terms, Variable, bool_sort, copy};
+use larch_term::{BuiltIn, Statement, Statements, Term, Variable, copy};
 use std::alloc::Global;
 
 /// Closes the innermost box, which supposes nothing, with the equation that a line says, and says it with variables in
@@ -119,10 +119,9 @@ fn supposed(alloc: Global, formula: &Term, value: bool) -> Result<Statements, Me
 pub(crate) fn value_term(alloc: Global, value: bool) -> Result<Term, Memory>
     ensures { IfOk result (λ t. t ≡ value_term value) }
 {
-    let sort = bool_sort(alloc)?;
-    let value = if value { BuiltIn::True } else { BuiltIn::False };
-    let operator = value.operator(alloc, &sort)?;
-    Ok(Term::app(operator, Terms::from_vec(Vec::new(alloc))))
+    let word = if value { BuiltIn::True } else { BuiltIn::False };
+    let term = word.constant(alloc)?;
+    Ok(term)
 }
 
 // A closed box without constants, which supposes that a formula is true and shows just that: its number. A refused call

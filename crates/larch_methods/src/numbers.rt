@@ -1,5 +1,5 @@
 ghost use Rattle.std.specs.Prelude.{◌≡◌, map, Some, All, Contains, IfOk, IfSome, IfNone};
-ghost use Rattle.larch_tables.specs.Row.{numbered};
+ghost use Rattle.larch_base.specs.ByNumber.{numbered};
 
 use larch_base::{Memory, Sequence};
 use larch_certificate::Numbers;

@@ -10,9 +10,8 @@ ghost use Rattle.larch_term.specs.declared.statement.Statement.TheVariants.{Equa
 
 use larch_base::{Memory, Name};
 use larch_derive::Builder;
-use larch_derive_lines::{inst_line, refl_line, row_line, trans_line};
+use larch_derive_lines::{argument_line, inst_line, refl_line, row_line, trans_line};
 use larch_term::{Substitution, Term, bool_sort, copy};
-use larch_ways::argument_line;
 use std::alloc::Global;
 
 // A line that says a row of truth values with a formula in the place of its variable.

@@ -1,4 +1,4 @@
--- The place above the built-in operators.
+-- The height above the built-in operators.
 use Rattle.std.proofs.Common.{◌≡◌, ℕ, suc, ◌+◌, ◌≤◌, ◌<◌, take, map, Bool, true, false, cond, ◌||◌, List, [], ◌∷◌, ◌++◌, length, get_or, refl, sym, ◌∙◌, ap, arith}
 use Rattle.std.specs.List.{list_any}
 use Rattle.std.proofs.lemmas.List.Folds.{list_any-append}
@@ -10,7 +10,7 @@ use Rattle.larch_term.specs.BuiltIn.{is_built_in}
 use Rattle.larch_base.proofs.Bools.{or_left, or_right, or_known_right}
 use Rattle.larch_order.specs.Precedence.{unranked, above_built_ins}
 
--- one entry more: a built-in operator moves the place behind itself
+-- one entry more: a built-in operator moves the height behind itself
 pub above_one_more : (ranks : List Ranked) (r : Ranked) → is_built_in r.operator ≡ true → above_built_ins (ranks ++ r ∷ []) ≡ length ranks + 1
 above_one_more [] r e = rw e refl
 above_one_more (q ∷ ranks) r e =
@@ -35,13 +35,13 @@ above_within [] = omega arith
 above_within (q ∷ ranks) = within_more (list_any (λ p. is_built_in p.operator) (q ∷ ranks)) (above_built_ins ranks) (length ranks) (above_within ranks)
 
 -- a step of the search: the entries so far are one more
-pub next_place : (ranks : List Ranked) (i old new : ℕ) (r : Ranked) (b : Bool) → i < length ranks → r ≡ get_or ranks i r → b ≡ is_built_in r.operator
+pub next_height : (ranks : List Ranked) (i old new : ℕ) (r : Ranked) (b : Bool) → i < length ranks → r ≡ get_or ranks i r → b ≡ is_built_in r.operator
     → (old ≡ above_built_ins (take i ranks)) × (old ≤ i) → new ≡ cond b (i + 1) old → (new ≡ above_built_ins (take (i + 1) ranks)) × (new ≤ i + 1)
-next_place ranks i old new r true lt at is h e =
+next_height ranks i old new r true lt at is h e =
     let t : take (i + 1) ranks ≡ take i ranks ++ r ∷ [] = take_more ranks i r lt ∙ ap (λ q. take i ranks ++ q ∷ []) (sym at) in
     let n : length (take i ranks) ≡ i = length-take-le i ranks (omega arith) in
     (e ∙ sym (rw t (above_one_more (take i ranks) r (sym is) ∙ ap (λ m. m + 1) n)), omega arith)
-next_place ranks i old new r false lt at is h e =
+next_height ranks i old new r false lt at is h e =
     let t : take (i + 1) ranks ≡ take i ranks ++ r ∷ [] = take_more ranks i r lt ∙ ap (λ q. take i ranks ++ q ∷ []) (sym at) in
     (e ∙ h.0 ∙ sym (rw t (above_other_more (take i ranks) r (sym is))), omega arith)
 

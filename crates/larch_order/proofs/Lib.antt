@@ -12,6 +12,6 @@ pub mod Irreflexive
 pub mod Multisets
 pub mod Ordering
 pub mod OrderingLaws
-pub mod Places
+pub mod Heights
 pub mod Stable
 pub mod Transitive

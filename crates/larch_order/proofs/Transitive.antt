@@ -11,7 +11,7 @@ use Rattle.larch_order.specs.declared.precedence.Ranked.{Ranked}
 use Rattle.larch_base.specs.declared.way.Way.{Way}
 use Rattle.larch_base.specs.declared.way.Way.TheVariants.{LeftToRight, RightToLeft, Multiset}
 use Rattle.larch_term.specs.Equality.{same_tree}
-use Rattle.larch_order.specs.Precedence.{above, place_of, is_higher, status_of}
+use Rattle.larch_order.specs.Precedence.{above, height_of, is_higher, status_of}
 use Rattle.larch_order.specs.Greater.{greater, first_greater, last_greater, heads_beat}
 use Rattle.larch_term.proofs.Decided.{tree_Decides}
 use Rattle.larch_order.proofs.Multisets.{In, multiset_transitive}
@@ -35,10 +35,10 @@ same_forests ss ts e = sym (forest_of-list_of ss) ∙ ap forest_of e ∙ forest_
 
 module _ (ranks : List Ranked) where
   pub above_transitive : (f g h : PlainOperator) → above ranks f g ≡ true → above ranks g h ≡ true → above ranks f h ≡ true
-  above_transitive f g h a b = higher_transitive (place_of ranks f) (place_of ranks g) (place_of ranks h) a b
+  above_transitive f g h a b = higher_transitive (height_of ranks f) (height_of ranks g) (height_of ranks h) a b
 
   pub not_above : (f : PlainOperator) → above ranks f f ≡ true → ⊥
-  not_above f a = not_higher (place_of ranks f) a
+  not_above f a = not_higher (height_of ranks f) a
 
   -- the first place at which two lists differ
   pub first_cases : (s t : Tree) (ss : Forest) (ts : List Tree) → first_greater ranks (more s ss) (t ∷ ts) ≡ true

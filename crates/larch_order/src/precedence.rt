@@ -1,7 +1,7 @@
 ghost use Rattle.std.specs.Prelude.{◌≡◌, ◌↔◌, ◌⊎◌, ◌≤◌, ◌<◌, false, IsTrue, IfOk, OnOk, OnErr, IsErrOf, length, get_or};
 ghost use Rattle.std.specs.List.{insert, remove};
 ghost use Rattle.larch_order.specs.declared.precedence.Ranked.{Ranked};
-ghost use Rattle.larch_order.specs.Precedence.{IsIndex, has, place_of, status_of, above, above_built_ins};
+ghost use Rattle.larch_order.specs.Precedence.{IsIndex, has, height_of, status_of, above, above_built_ins};
 ghost use Rattle.larch_order.specs.Precedence.{with_constant, raised, with_status};
 ghost use Rattle.larch_order.specs.declared.precedence.OrderRefusal.TheVariants.{Memory as wants_memory};
 
@@ -20,11 +20,11 @@ pub struct Ranked {
 }
 
 /// A precedence. Contracts see it as the list of its operators with their statuses, from low to high. It finds the
-/// place of an operator by an index.
+/// height of an operator, its index in that list, in a map.
 #[derive(Drop)]
 pub struct Precedence {
     ranks: Vec<Ranked>,
-    places: IndexMap<Operator, usize>,
+    heights: IndexMap<Operator, usize>,
 }
 
 impl Model for Precedence {
@@ -36,7 +36,7 @@ impl Model for Precedence {
 
     ghost view = { λ precedence. precedence.ranks.items };
 
-    ghost invariant = { λ precedence. IsIndex precedence.places.entries precedence.ranks.items };
+    ghost invariant = { λ precedence. IsIndex precedence.heights.entries precedence.ranks.items };
 }
 
 /// Why nothing is registered.
@@ -63,8 +63,8 @@ impl Precedence {
     pub(crate) fn from_ranks(ranks: Vec<Ranked>) -> Result<Precedence, Memory>
         ensures { IfOk result (λ precedence. precedence ≡ ranks.items) }
     {
-        let places = index_of(*ranks.allocator(), ranks.as_slice())?;
-        Ok(Precedence { ranks, places })
+        let heights = index_of(*ranks.allocator(), ranks.as_slice())?;
+        Ok(Precedence { ranks, heights })
     }
 
     /// The same precedence once more.
@@ -81,27 +81,27 @@ impl Precedence {
         ensures err { OnErr result (self.new ≡ self.old) }
     {
         let operator = constant.copy()?;
-        let place = self.above_built_ins();
+        let height = self.above_built_ins();
         let status = Way::LeftToRight;
         let mut ranks = copy_ranks(*self.ranks.allocator(), self.ranks.as_slice())?;
-        ranks.insert(place, Ranked { operator, status })?;
+        ranks.insert(height, Ranked { operator, status })?;
         *self = Precedence::from_ranks(ranks)?;
         Ok(())
     }
 
-    // The place above the last built-in operator.
+    // The height directly above the last built-in operator.
     #[tactic(auto, using(crate::proofs::BuiltIns::above_one_more, crate::proofs::BuiltIns::above_other_more, crate::proofs::BuiltIns::above_within))]
     fn above_built_ins(&self) -> usize
-        ensures place { result ≡ above_built_ins self.now }
+        ensures height { result ≡ above_built_ins self.now }
         ensures within { result ≤ length self.now }
     {
-        let mut place = 0;
+        let mut height = 0;
         for i in 0..self.ranks.len() {
             if is_built_in(&self.ranks[i].operator) {
-                place = i + 1;
+                height = i + 1;
             }
         }
-        place
+        height
     }
 
     /// Puts an operator directly above another one, unless it stands above it already or is that operator.
@@ -115,7 +115,7 @@ impl Precedence {
         ensures unknown { IsErrOf result OrderRefusal.Unknown ↔
             ((has self.old upper.now ≡ false) ⊎ (has self.old lower.now ≡ false)) }
     {
-        let (Some(from), Some(to)) = (self.place(upper), self.place(lower)) else {
+        let (Some(from), Some(to)) = (self.height(upper), self.height(lower)) else {
             return Err(OrderRefusal::Unknown);
         };
         if from < to {
@@ -124,7 +124,7 @@ impl Precedence {
         Ok(())
     }
 
-    // The precedence with the entry at a place moved up to another place.
+    // The precedence with the entry at a height moved up to another one.
     fn moved_up(&self, from: usize, to: usize) -> Result<Precedence, Memory>
         requires { (from < to) × (to < length self.now) }
         ensures { IfOk result (λ moved.
@@ -141,25 +141,25 @@ impl Precedence {
         ensures err { OnErr result (self.new ≡ self.old) }
         ensures unknown { IsErrOf result OrderRefusal.Unknown ↔ (has self.old operator.now ≡ false) }
     {
-        let Some(place) = self.place(operator) else {
+        let Some(height) = self.height(operator) else {
             return Err(OrderRefusal::Unknown);
         };
-        self.ranks[place].status = status;
+        self.ranks[height].status = status;
         Ok(())
     }
 
-    // The place of an operator.
-    fn place(&self, operator: &Operator) -> Option<usize>
-        ensures { result ≡ place_of self.now operator.now }
+    // The height of an operator.
+    fn height(&self, operator: &Operator) -> Option<usize>
+        ensures { result ≡ height_of self.now operator.now }
     {
-        self.places.get(operator).copied()
+        self.heights.get(operator).copied()
     }
 
     /// Whether an operator is above another one. It takes no memory.
     pub fn is_above(&self, upper: &Operator, lower: &Operator) -> bool
         ensures { result ≡ above self.now upper.now lower.now }
     {
-        match (self.place(upper), self.place(lower)) {
+        match (self.height(upper), self.height(lower)) {
             (Some(high), Some(low)) => low < high,
             _ => false,
         }
@@ -169,8 +169,8 @@ impl Precedence {
     pub fn status(&self, operator: &Operator) -> Way
         ensures { result ≡ status_of self.now operator.now }
     {
-        match self.place(operator) {
-            Some(place) => self.ranks[place].status,
+        match self.height(operator) {
+            Some(height) => self.ranks[height].status,
             None => Way::LeftToRight,
         }
     }
@@ -189,21 +189,22 @@ fn copy_ranks(alloc: Global, ranks: &[Ranked]) -> Result<Vec<Ranked>, Memory>
     Ok(copied)
 }
 
-// The place of each operator, from the last entry to the first: where an operator stands twice, the lower place counts.
+// The height of each operator, from the last entry to the first: where an operator stands twice, the lower one
+// counts.
 fn index_of(alloc: Global, ranks: &[Ranked]) -> Result<IndexMap<Operator, usize>, Memory>
-    ensures { IfOk result (λ places. IsIndex places.entries ranks.now) }
+    ensures { IfOk result (λ heights. IsIndex heights.entries ranks.now) }
 {
-    let mut places = IndexMap::new(alloc);
-    let mut place = ranks.len();
-    while place > 0 {
-        place -= 1;
-        let operator = ranks[place].operator.copy()?;
-        places.insert(operator, place)?;
+    let mut heights = IndexMap::new(alloc);
+    let mut height = ranks.len();
+    while height > 0 {
+        height -= 1;
+        let operator = ranks[height].operator.copy()?;
+        heights.insert(operator, height)?;
     }
-    Ok(places)
+    Ok(heights)
 }
 
-// Moves the entry at a place up to another place; those between come down by one.
+// Moves the entry at a height up to another one; those between come down by one.
 fn move_up(ranks: &mut [Ranked], from: usize, to: usize)
     requires { (from < to) × (to < length ranks.old) }
     ensures { (d : Ranked) → ranks.new ≡ insert (remove ranks.old from) to (get_or ranks.old from d) }

@@ -8,8 +8,8 @@ use Rattle.std.proofs.lemmas.List.{get_or_push, get_or_append_left, length_push,
 use Rattle.std.proofs.lemmas.List.Elements.{All-contains}
 use Rattle.std.proofs.lemmas.Option.{slice_get-get_or, slice_get_past, same_Some, none-some}
 use Rattle.larch_base.proofs.Members.{got_contains}
+use Rattle.larch_base.specs.ByNumber.{numbered}
 use Rattle.larch_term.specs.declared.statement.Statement.{Statement}
-use Rattle.larch_tables.specs.Row.{numbered}
 use Rattle.larch_lines.specs.Context.{find_line, find_open, find_closed}
 use Rattle.larch_lines.specs.Events.{PlainBox}
 use Rattle.larch_pool.specs.Pooled.{Pooled}

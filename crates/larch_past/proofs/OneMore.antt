@@ -4,8 +4,8 @@ use Rattle.std.specs.Prelude.{reverse}
 use Rattle.std.proofs.lemmas.List.{reverse-append, length-reverse, length_push, get_or_push, get_or_append_left}
 use Rattle.std.proofs.lemmas.List.Elements.{All-push}
 use Rattle.std.proofs.lemmas.Option.{slice_get-get_or, slice_get_within, get_or_from_slice_get, none-some}
+use Rattle.larch_base.specs.ByNumber.{numbered}
 use Rattle.larch_term.specs.declared.statement.Theory.{Theory}
-use Rattle.larch_tables.specs.Row.{numbered}
 use Rattle.larch_pool.specs.Pooled.{Pooled}
 use Rattle.larch_past.specs.Past.{IsPast, IsStated, IsBox, IsHappened, IsIndexed, event_in, history_in, number_of, open_levels}
 use Rattle.larch_past.proofs.LookUps.{not_same}

@@ -2,10 +2,10 @@
 use Rattle.std.specs.Prelude.{◌≡◌, ℕ, suc, ◌==◌, ◌<◌, if◌then◌else◌, List, [], ◌∷◌, length, map, reverse, All, IfSome}
 use Rattle.std.specs.Prelude.{Option, Some, None, option_map, option_and_then}
 use Rattle.std.specs.List.{slice_get}
+use Rattle.larch_base.specs.ByNumber.{numbered}
 use Rattle.larch_term.specs.declared.statement.Statement.{Statement}
 use Rattle.larch_term.specs.declared.statement.Statement.TheVariants.{Equation, Generated, Partitioned}
 use Rattle.larch_term.specs.declared.statement.Theory.{Theory}
-use Rattle.larch_tables.specs.Row.{numbered}
 use Rattle.larch_lines.specs.Events.{PlainBox, Event, Said, Opened, Closed}
 use Rattle.larch_pool.specs.Pooled.{Pooled, tree_in}
 use Rattle.larch_past.specs.declared.past.Past.{Past}
@@ -79,6 +79,20 @@ open_levels [] = []
 open_levels (Says n s ∷ h) = open_levels h
 open_levels (Opens b ∷ h) = suc (length h) ∷ open_levels h
 open_levels (Closes b s ∷ h) = open_levels h
+
+-- what has happened last is that a box was opened; the newest comes first
+abbrev pub IsOpening : List Happened → Type 0
+IsOpening [] = ⊥
+IsOpening (Says n s ∷ h) = ⊥
+IsOpening (Opens b ∷ h) = Unit {0}
+IsOpening (Closes b s ∷ h) = ⊥
+
+-- the box that an event opens
+abbrev pub opened_box : Option Happened → Option KnownBox
+opened_box None = None
+opened_box (Some (Says n s)) = None
+opened_box (Some (Opens b)) = Some b
+opened_box (Some (Closes b s)) = None
 
 -- the event with a number, if it is still kept
 abbrev pub event_of : List ℕ → List Happened → ℕ → Option Happened

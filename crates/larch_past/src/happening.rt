@@ -1,11 +1,13 @@
-ghost use Rattle.std.specs.Prelude.{◌≡◌, ◌∷◌, [], ◌+◌, IfOk, OnOk, ℕ, List, IsTrue, Some, None, length, map, All};
-ghost use Rattle.std.specs.Prelude.{if◌then◌else◌, slice_get};
+ghost use Rattle.std.specs.Prelude.{◌≡◌, ◌∷◌, [], ◌+◌, ◌++◌, IfOk, OnOk, ℕ, List, IsTrue, Some, None, length, map, All};
+ghost use Rattle.std.specs.Prelude.{if◌then◌else◌, reverse, slice_get};
 ghost use Rattle.larch_term.specs.declared.statement.Theory.{Theory};
 ghost use Rattle.larch_lines.specs.Events.{Event, Said, Opened};
 ghost use Rattle.larch_lines.specs.Run.{done_closes};
 ghost use Rattle.larch_certificate.specs.declared.line.BoxPart.{BoxPart};
 ghost use Rattle.larch_pool.specs.Pooled.{Pooled};
-ghost use Rattle.larch_past.specs.Past.{IsPast, IsStated, IsEquated, history_of, stated_in, equated_in};
+ghost use Rattle.larch_past.specs.Past.{IsEquated, IsOpening, IsPast, IsStated, equated_in, history_of};
+ghost use Rattle.larch_past.specs.Past.{open_levels, opened_box, stated_in};
+ghost use Rattle.larch_past.specs.declared.event.Happened.TheVariants.{Opens};
 
 use crate::event::{EquatedList, Happened, KnownBox};
 use crate::past::Past;
@@ -59,6 +61,7 @@ impl Past {
         ensures history { OnOk result ((p : Pooled)
             → history_of p self.new ≡ Opened (record
             { number = length self.old.places.items + 1; parts = parts; hypotheses = [] }) ∷ history_of p self.old) }
+        ensures opened { OnOk result (IsOpening (reverse self.new.events.items)) }
         ensures count { OnOk result (length self.new.places.items ≡ length self.old.places.items + 1) }
     {
         let number = self.places.len() as u64 + 1;
@@ -75,6 +78,7 @@ impl Past {
 
     /// What the box supposes that the line directly before opened.
     pub fn suppose(&mut self, hypotheses: EquatedList) -> Result<(), Memory>
+        requires { IsOpening (reverse self.old.events.items) }
         ensures past { OnOk result ((t : Theory) (p : Pooled) → IsPast t p self.old → All (IsEquated p) hypotheses
             → IsPast t p self.new) }
         ensures history { OnOk result ((p : Pooled) (n : ℕ) (parts : List BoxPart) (h : List Event)
@@ -83,24 +87,19 @@ impl Past {
             { number = n; parts = parts; hypotheses = map (equated_in p) hypotheses }) ∷ h) }
         ensures count { OnOk result (length self.new.places.items ≡ length self.old.places.items) }
     {
-        match self.events.pop() {
-            Some(Happened::Opens(known)) => {
-                let KnownBox { number, parts, .. } = known;
-                self.events.push(Happened::Opens(KnownBox {
-                    number,
-                    parts,
-                    hypotheses,
-                }))?;
-                Ok(())
-            }
-            // The line directly before opened a box.
-            _ => Err(Memory),
-        }
+        let KnownBox { number, parts, .. } = take_opening(&mut self.events);
+        self.events.push(Happened::Opens(KnownBox {
+            number,
+            parts,
+            hypotheses,
+        }))?;
+        Ok(())
     }
 
     /// A done line closes the innermost box with what the line directly before says in it. `false` where no box is open
     /// or that line says nothing.
     pub fn end_box(&mut self) -> Result<bool, Memory>
+        requires { open_levels (reverse self.old.events.items) ≡ reverse self.old.levels.items }
         ensures past { IfOk result (λ b. IsTrue b → (t : Theory) (p : Pooled) → IsPast t p self.old
             → IsPast t p self.new) }
         ensures history { IfOk result (λ b. (t : Theory) (p : Pooled) → IsPast t p self.old
@@ -114,12 +113,30 @@ impl Past {
             return Ok(false);
         };
         self.events.truncate(level);
-        let Some(Happened::Opens(known)) = self.events.pop() else {
-            // There the innermost box was opened.
-            return Err(Memory);
-        };
+        let known = take_opening(&mut self.events);
         self.places.push(level)?;
         self.events.push(Happened::Closes(known, stated))?;
         Ok(true)
+    }
+}
+
+// Takes away the event of the box that was opened last, and answers the box.
+fn take_opening(events: &mut Vec<Happened>) -> KnownBox
+    requires { IsOpening (reverse events.old.items) }
+    ensures { events.old.items ≡ events.new.items ++ Opens result ∷ [] }
+{
+    let Some(known) = opened_box(events.pop()) else {
+        unreachable!()
+    };
+    known
+}
+
+// The box that an event opens, if it opens one.
+fn opened_box(event: Option<Happened>) -> Option<KnownBox>
+    ensures { result ≡ opened_box event }
+{
+    match event {
+        Some(Happened::Opens(known)) => Some(known),
+        _ => None,
     }
 }

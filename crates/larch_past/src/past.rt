@@ -1,7 +1,7 @@
-ghost use Rattle.std.specs.Prelude.{◌≡◌, All, IfSome, reverse, slice_get};
+ghost use Rattle.std.specs.Prelude.{◌≡◌, All, IfSome, reverse};
 ghost use Rattle.std.specs.Option.{option_map};
+ghost use Rattle.larch_base.specs.ByNumber.{numbered};
 ghost use Rattle.larch_lines.specs.Context.{find_line, find_open, find_closed};
-ghost use Rattle.larch_tables.specs.Row.{numbered};
 ghost use Rattle.larch_pool.specs.Pooled.{Pooled};
 ghost use Rattle.larch_past.specs.Past.{event_of, history_in, history_of, stated_in, box_in, IsHappened, IsStated};
 ghost use Rattle.larch_past.specs.Past.{IsBox, IsIndexed, open_levels};
@@ -9,6 +9,7 @@ ghost use Rattle.larch_past.specs.Levels.{level};
 
 use crate::event::{Happened, KnownBox};
 use crate::stated::Stated;
+use larch_base::numbered;
 
 /// What the lines before leave: what has happened, the oldest first; for each line the place of its event there; for
 /// each open box the number of events when it had been opened, the outermost first; and the numbers of the theory's
@@ -121,15 +122,6 @@ impl Past {
     fn place(&self, number: u64) -> Option<usize>
         ensures { result ≡ numbered self.now.places.items number }
     {
-        if number == 0 {
-            return None;
-        }
-        place_at(&self.places, number as usize - 1)
+        numbered(&self.places, number).copied()
     }
-}
-
-fn place_at(places: &[usize], index: usize) -> Option<usize>
-    ensures { result ≡ slice_get places.now index }
-{
-    places.get(index).copied()
 }

@@ -2,8 +2,10 @@ ghost use Rattle.larch_base.specs.Answering.{Answers};
 ghost use Rattle.std.specs.Prelude.{◌≡◌, ◌++◌, IfOk};
 ghost use Rattle.larch_plans.specs.Planning.{names_of_operators, planned, told};
 
-use crate::cases::{cases, contradiction, implication};
+use crate::cases::cases;
 use crate::conjunction::conjunction;
+use crate::contradiction::contradiction;
+use crate::implication::implication;
 use crate::induction::induction;
 use crate::new_names::{copy_names, names_before};
 use crate::partition::partition;

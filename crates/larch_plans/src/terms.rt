@@ -5,7 +5,7 @@ ghost use Rattle.larch_term.specs.Sorts.{sort_of};
 ghost use Rattle.larch_term.specs.Truth.{truth};
 
 use larch_base::Memory;
-use larch_term::{BuiltIn, Operator, Term, Terms, bool_sort, is_truth, sort_of};
+use larch_term::{BuiltIn, Operator, Term, Terms, is_truth, sort_of};
 use std::alloc::Global;
 
 /// A constant as a term.
@@ -16,20 +16,11 @@ pub fn constant(alloc: Global, operator: &Operator) -> Result<Term, Memory>
     Ok(Term::app(operator, Terms::from_vec(Vec::new(alloc))))
 }
 
-fn truth_value(alloc: Global, value: BuiltIn) -> Result<Term, Memory>
-    ensures { IfOk result (λ t. t ≡ constant (built_in value bool_sort)) }
-{
-    let sort = bool_sort(alloc)?;
-    let operator = value.operator(alloc, &sort)?;
-    let term = constant(alloc, &operator)?;
-    Ok(term)
-}
-
 /// The constant true.
 pub fn truth(alloc: Global) -> Result<Term, Memory>
     ensures { IfOk result (λ t. t ≡ truth) }
 {
-    let truth = truth_value(alloc, BuiltIn::True)?;
+    let truth = BuiltIn::True.constant(alloc)?;
     Ok(truth)
 }
 
@@ -37,7 +28,7 @@ pub fn truth(alloc: Global) -> Result<Term, Memory>
 pub fn falsity(alloc: Global) -> Result<Term, Memory>
     ensures { IfOk result (λ t. t ≡ falsity) }
 {
-    let falsity = truth_value(alloc, BuiltIn::False)?;
+    let falsity = BuiltIn::False.constant(alloc)?;
     Ok(falsity)
 }
 

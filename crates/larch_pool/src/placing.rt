@@ -119,14 +119,10 @@ fn plug(alloc: Global, pool: &mut Pool, frames: Vec<Frame>, by: u32) -> Result<u
 {
     let mut frames = frames;
     let mut here = by;
-    for _ in 0..u64::MAX {
-        let Some(frame) = frames.pop() else {
-            return Ok(here);
-        };
+    while let Some(frame) = frames.pop() {
         here = refit(alloc, pool, frame, here)?;
     }
-    // There are never so many frames.
-    Err(Memory)
+    Ok(here)
 }
 
 // A node with another argument.

@@ -152,9 +152,33 @@ one_indexed old new false rs r g ts e h i = (
   λ f. h f ∙ ap₂ (λ xs ys. xs ++ ys) (i.1 f) (same_head f r g ts e) ∙ sym (filter-append (has_head f) rs (r ∷ [])),
 )
 
-pub same_indexed : (old new : List (PlainOperator × List Rule)) (b : Bool) (rs : List Rule) → new ≡ old
-    → IsIndexed old b rs → IsIndexed new b rs
-same_indexed old new b rs e i = subst (λ es. IsIndexed es b rs) (sym e) i
+-- the same are found
+pub same_indexed : (old new : List (PlainOperator × List Rule)) (b : Bool) (rs : List Rule)
+    → ((f : PlainOperator) → found_under new f ≡ found_under old f) → IsIndexed old b rs → IsIndexed new b rs
+same_indexed old new true rs e i = tt
+same_indexed old new false rs e i = (i.0, λ f. e f ∙ i.1 f)
+
+-- what is found where rules stand, and where none do
+pub found_some : (heads : List (PlainOperator × List Rule)) (g : PlainOperator) (rs : List Rule)
+    → Some rs ≡ lookup (same_operator g) heads → rs ≡ found_under heads g
+found_some heads g rs e = ap found e
+
+pub found_none : (heads : List (PlainOperator × List Rule)) (g : PlainOperator) → None ≡ lookup (same_operator g) heads
+    → [] ≡ found_under heads g
+found_none heads g e = ap found e
+
+-- rules that stood under an operator are put there again
+pub put_same : (old new : List (PlainOperator × List Rule)) (g f : PlainOperator) (rs : List Rule)
+    → Some rs ≡ lookup (same_operator g) old
+    → lookup (same_operator f) new ≡ cond (same_operator g f) (Some rs) (lookup (same_operator f) old)
+    → found_under new f ≡ found_under old f
+put_same old new g f rs e put = put_by (same_operator g f) refl
+  where
+    put_by : (b : Bool) → same_operator g f ≡ b → found_under new f ≡ found_under old f
+    put_by true q =
+        ap found put ∙ ap (λ b. found (cond b (Some rs) (lookup (same_operator f) old))) q ∙ ap found e
+        ∙ ap (found_under old) ((operator_Decides g f).0 q)
+    put_by false q = ap found put ∙ ap (λ b. found (cond b (Some rs) (lookup (same_operator f) old))) q
 
 module _ (old new : List (PlainOperator × List Rule)) (g f : PlainOperator) (more : List Rule) (r : Rule)
     (is : more ≡ found_under old g ++ r ∷ [])

@@ -4,3 +4,4 @@ pub mod Searching
 pub mod Heads
 pub mod Shares
 pub mod Tables
+pub mod Turned

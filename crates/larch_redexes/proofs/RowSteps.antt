@@ -1,5 +1,5 @@
 -- Rows of the table, as rules.
-use Rattle.std.specs.Prelude.{◌≡◌, ℕ, zero, suc, ◌+◌, ◌-◌, ◌==◌, ◌<◌, ◌||◌, ◌↔◌, IsTrue, Bool, true, false, cond, All, List, [], ◌∷◌, ◌++◌, take, map, bytes_eq, Option, Some, None, option_map, refl}
+use Rattle.std.specs.Prelude.{◌≡◌, ℕ, zero, suc, ◌+◌, ◌-◌, ◌==◌, ◌≤◌, ◌<◌, ◌||◌, ◌↔◌, IsSome, IsTrue, Bool, true, false, cond, All, List, [], ◌∷◌, ◌++◌, take, map, bytes_eq, Option, Some, None, option_map, refl}
 use Rattle.std.specs.List.{flat_map, slice_get}
 use Rattle.std.specs.Option.{option_and_then}
 use Rattle.std.proofs.Common.{arith, ap, sym, subst, eqb-true, ◌∙◌}
@@ -16,15 +16,16 @@ use Rattle.larch_term.specs.Tree.{Forest, app}
 use Rattle.larch_redexes.specs.Rule.{all_sides, sides_of_rule, IsRule, IsSaidByRow}
 use Rattle.std.proofs.lemmas.List.{map_push}
 use Rattle.std.proofs.lemmas.List.Elements.{All-push}
+use Rattle.larch_base.specs.ByNumber.{numbered}
 use Rattle.larch_redexes.specs.declared.rule.Rule.{Rule}
-use Rattle.larch_normal_forms.specs.Rewriting.{rewriting_rows, rows_for, tried, sort_at}
+use Rattle.larch_normal_forms.specs.Rewriting.{rewriting_row_count, rewriting_rows, rows_for, tried, sort_at}
 use Rattle.larch_normal_forms.specs.Sides.{Sides, sides_of}
-use Rattle.larch_tables.specs.Row.{PlainRow, numbered}
+use Rattle.larch_tables.specs.Row.{PlainRow}
 use Rattle.larch_tables.specs.Spelling.{equation_of}
 use Rattle.larch_tables.specs.Statement.{offered}
 use Rattle.larch_tables.specs.Tables.{built_in_rows, sort_for, equations_of, row_of, IsRowAt, HasRows}
 use Rattle.larch_tables.specs.declared.row.Row.{Row}
-use Rattle.larch_tables.proofs.Offered.{numbered_some, offered_equation}
+use Rattle.larch_tables.proofs.Offered.{has_number, numbered_none, numbered_some, offered_equation}
 
 -- what a row spells has its mark, and the equation of its sides
 by_given : (given : Option Statement) (further : Option (List Statement)) (b : Bool) (plain : PlainRow)
@@ -54,6 +55,30 @@ at_row table n s row x h e o z same P go =
     (λ p q r. let k = parts z row p r.0 in go p q k.0 (some_inj
     (sym k.1 ∙ (ap (λ t. equation_of t row.given) same
     ∙ (sym (offered_equation table n (sort_for s row) row h e (marked s row.sorted)) ∙ o)))))
+
+-- the rows that rewrite are there
+pub row_is_there : (table : List Row) (n : ℕ) → HasRows built_in_rows table → 1 ≤ n → n ≤ rewriting_row_count
+    → numbered table n ≡ None → ⊥
+row_is_there table n h first last e =
+    let some : IsSome (numbered (built_in_rows bool_sort) n) = (has_number (built_in_rows bool_sort) n).1 (first, omega (arith, last)) in
+    let nothing : numbered (built_in_rows bool_sort) n ≡ None =
+    numbered_none (IsRowAt bool_sort) table (built_in_rows bool_sort) n (h bool_sort) e in
+    nothing_there (numbered (built_in_rows bool_sort) n) some nothing
+  where
+    nothing_there : {X : Type 0} (o : Option X) → IsSome o → o ≡ None → ⊥
+    nothing_there None h e = cc
+    nothing_there (Some x) h e = cc
+
+-- a row is offered at the sort at which it is read
+pub row_is_offered : (table : List Row) (n : ℕ) (s z : List ℕ) (row : Row) → HasRows built_in_rows table
+    → numbered table n ≡ Some row → z ≡ sort_for s row → offered n z ≡ None → ⊥
+row_is_offered table n s z row h e q o =
+    numbered_some (IsRowAt s) table (built_in_rows s) n row (h s) e ⊥
+    (λ p r i. none_of_some (equation_of (sort_for s row) row.given) p.given (parts s row p i.0).1
+    (sym (offered_equation table n (sort_for s row) row h e (marked s row.sorted)) ∙ (ap (offered n) (sym q) ∙ o)))
+  where
+    none_of_some : (o : Option Statement) (x : Statement) → o ≡ Some x → o ≡ None → ⊥
+    none_of_some o x p q = cc
 
 -- what the row says, as a side
 pub row_given : (table : List Row) (n : ℕ) (s : List ℕ) (row : Row) (x : Statement) → HasRows built_in_rows table

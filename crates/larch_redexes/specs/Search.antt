@@ -1,6 +1,7 @@
 -- What a search for a rule that applies finds.
 use Rattle.std.specs.Prelude.{◌≡◌, Bool, true, false, List, [], ◌++◌, Contains, Option, Some, None, option_and_then}
 use Rattle.std.specs.List.{flat_map}
+use Rattle.larch_term.specs.Arguments.{has_two_arguments}
 use Rattle.larch_term.specs.Tree.{Tree}
 use Rattle.larch_term.specs.Substitution.{substituted}
 use Rattle.larch_term.specs.declared.substitution.Entry.{Entry}
@@ -8,7 +9,7 @@ use Rattle.larch_normal_forms.specs.Matching.{matched}
 use Rattle.larch_normal_forms.specs.Rewriting.{tried, rewritten, rewritten_once, rows_for}
 use Rattle.larch_redexes.specs.Bound.{IsBinding, entries_of}
 use Rattle.larch_redexes.specs.Exchanged.{turned}
-use Rattle.larch_redexes.specs.Rule.{sides_of_rule, all_sides}
+use Rattle.larch_redexes.specs.Rule.{sides_of_rule, all_sides, left_of}
 use Rattle.larch_redexes.specs.declared.rule.Rule.{Rule}
 use Rattle.larch_store.specs.Numbered.{Numbered}
 use Rattle.larch_redexes.specs.declared.search.Match.{Match}
@@ -22,9 +23,10 @@ abbrev pub IsBy : Rule → Bool → Tree → List Entry → Type 0
 IsBy r false t es = matched r.left t [] ≡ Some es
 IsBy r true t es = option_and_then (λ l. matched l t []) (turned r.left) ≡ Some es
 
--- the bindings of what is found belong to a store, and bind no variable twice
-abbrev pub IsBoundIn : List Numbered → Match → Type 0
-IsBoundIn store m = IsBinding store m.by
+-- the bindings of what is found belong to a store, and bind no variable twice; a left side that was exchanged has two
+-- arguments
+abbrev pub IsFoundIn : List Numbered → Match → Type 0
+IsFoundIn store m = IsBinding store m.by × (m.exchanged ≡ true → has_two_arguments (left_of m.rule.now) ≡ true)
 
 -- what a rule makes of a term, and by which substitution
 abbrev pub IsMatch : Rule → Tree → Option Match → Type 0

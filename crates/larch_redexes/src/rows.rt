@@ -1,10 +1,10 @@
-ghost use Rattle.std.specs.Prelude.{◌≡◌, ◌∷◌, [], if◌then◌else◌, Some, None, IfOk, All, option_map};
-ghost use Rattle.larch_normal_forms.specs.Rewriting.{rewriting_rows};
+ghost use Rattle.std.specs.Prelude.{◌≡◌, ◌≤◌, ◌∷◌, [], if◌then◌else◌, Some, None, IfOk, All, option_map};
+ghost use Rattle.larch_base.specs.ByNumber.{numbered};
+ghost use Rattle.larch_normal_forms.specs.Rewriting.{rewriting_row_count, rewriting_rows};
 ghost use Rattle.larch_normal_forms.specs.Sides.{sides_of};
 ghost use Rattle.larch_redexes.specs.Rule.{all_sides, sides_of_rule, IsRule, IsSaidByRow};
 ghost use Rattle.larch_redexes.specs.declared.rule.Reason.TheVariants.{Row as IsRow};
-ghost use Rattle.larch_tables.specs.Row.{numbered};
-ghost use Rattle.larch_tables.specs.Statement.{offered};
+ghost use Rattle.larch_tables.specs.Statement.{IsIdentityStatement, offered};
 ghost use Rattle.larch_tables.specs.Tables.{built_in_rows, sort_for};
 ghost use Rattle.larch_term.specs.declared.statement.Statement.TheVariants.{Equation};
 
@@ -27,17 +27,19 @@ pub fn rows_at(alloc: Global, sort: &Sort) -> Result<RuleTable, Memory>
     ensures rules { IfOk result (λ rows. All IsRule rows) }
 {
     let mut rows = RuleTable::new(alloc);
-    for place in 0..REWRITING_ROWS {
-        let row = row_at(alloc, place + 1, sort)?;
+    for index in 0..REWRITING_ROWS {
+        let row = row_at(alloc, index + 1, sort)?;
         let row = SharedRule::new(alloc, row)?;
         rows.push(row)?;
     }
     Ok(rows)
 }
 
-// The row with a number, which is there, as a rule at a sort.
-#[tactic(auto, using(crate::proofs::RowSteps::row_given, crate::proofs::RowSteps::row_said))]
+// The row with a number as a rule at a sort.
+#[tactic(auto, using(crate::proofs::RowSteps::row_given, crate::proofs::RowSteps::row_is_there, crate::proofs::RowSteps::row_said))]
 fn row_at(alloc: Global, number: u32, sort: &Sort) -> Result<Rule, Memory>
+    requires first { 1 ≤ number }
+    requires last { number ≤ rewriting_row_count }
     ensures sides { IfOk result (λ rule.
         option_map (λ row. sides_of row.given) (numbered (built_in_rows sort.now) number)
         ≡ Some (sides_of_rule rule ∷ [])) }
@@ -45,7 +47,7 @@ fn row_at(alloc: Global, number: u32, sort: &Sort) -> Result<Rule, Memory>
     ensures rule { IfOk result IsRule }
 {
     let Some(row) = built_in().row(number) else {
-        return Err(Memory);
+        unreachable!()
     };
     let at = sort_for(alloc, &row, sort)?;
     let statement = equation(alloc, number, &at)?;
@@ -68,11 +70,13 @@ fn sort_for(alloc: Global, row: &Row, sort: &Sort) -> Result<Sort, Memory>
 
 // The equation of a row at a sort where it is offered.
 fn equation(alloc: Global, number: u32, sort: &Sort) -> Result<Statement, Memory>
-    ensures { IfOk result (λ statement. offered number sort.now ≡ Some statement) }
+    requires { offered number sort.now ≡ None → ⊥ }
+    ensures offered { IfOk result (λ statement. offered number sort.now ≡ Some statement) }
+    ensures identity { IfOk result (λ statement. IsIdentityStatement statement) }
 {
     match row_statement(alloc, number, sort) {
         Ok(statement) => Ok(statement),
-        Err(RowRefusal::NoRow) => Err(Memory),
+        Err(RowRefusal::NoRow) => unreachable!(),
         Err(RowRefusal::Memory) => Err(Memory),
     }
 }
@@ -90,6 +94,7 @@ fn reason_for(row: &Row, number: u32, sort: &Sort) -> Result<Reason, Memory>
 
 // The rule of an equation.
 fn rule_of(alloc: Global, statement: Statement, reason: Reason) -> Result<Rule, Memory>
+    requires { IsIdentityStatement statement }
     ensures { IfOk result (λ rule. (statement ≡ Equation rule.left rule.right) × (rule.reason ≡ reason) × IsRule rule) }
 {
     match statement {
@@ -97,6 +102,6 @@ fn rule_of(alloc: Global, statement: Statement, reason: Reason) -> Result<Rule, 
             let rule = Rule::new(alloc, left, right, reason)?;
             Ok(rule)
         }
-        _ => Err(Memory),
+        _ => unreachable!(),
     }
 }

@@ -1,13 +1,13 @@
 ghost use Rattle.std.specs.Prelude.{◌≡◌, IfOk};
 ghost use Rattle.larch_redexes.specs.Rule.{IsRuleOf, left_of, right_of, reason_of};
 ghost use Rattle.larch_normal_forms.specs.Rewriting.{sort_at};
-ghost use Rattle.larch_term.specs.Tree.{app, more, none, forest_of};
-ghost use Rattle.larch_redexes.specs.Exchanged.{turned, turned_arguments};
+ghost use Rattle.larch_term.specs.Tree.{app, more, none};
+ghost use Rattle.larch_redexes.specs.Exchanged.{turned};
 ghost use Rattle.larch_term.specs.BuiltIn.{is_built_in_as};
 ghost use Rattle.larch_term.specs.declared.built_in.BuiltIn.TheVariants.{Equal};
 
 use larch_base::{Memory, Name};
-use larch_term::{BuiltIn, Node, Operator, Sort, Term, Terms, copy};
+use larch_term::{BuiltIn, Operator, Sort, Term, Terms, copy, two_arguments};
 use std::alloc::Global;
 
 /// What says that the sides of a rule are equal.
@@ -65,38 +65,17 @@ impl Rule {
 }
 
 // A term with the sides of an equality exchanged, if it is one.
+#[tactic(auto, using(crate::proofs::Turned::turned_of_other, crate::proofs::Turned::turned_of_two))]
 fn turned(alloc: Global, term: &Term) -> Result<Option<Term>, Memory>
     ensures { IfOk result (λ t. t ≡ turned term.now) }
 {
-    match term.node() {
-        Node::Var(_, _) => Ok(None),
-        Node::App(operator, arguments) => {
-            let made = turned_arguments(alloc, operator, arguments.as_slice())?;
-            Ok(made)
-        }
-    }
-}
-
-fn turned_arguments(
-    alloc: Global,
-    operator: &Operator,
-    arguments: &[Term],
-) -> Result<Option<Term>, Memory>
-    ensures { IfOk result (λ t. t ≡ turned_arguments operator.now (forest_of arguments.now)) }
-{
-    let [left, further @ ..] = arguments else {
+    let Some(two) = two_arguments(term) else {
         return Ok(None);
     };
-    let [right, others @ ..] = further else {
-        return Ok(None);
-    };
-    if let [_, ..] = others {
+    if !is_equality(alloc, two.operator)? {
         return Ok(None);
     }
-    if !is_equality(alloc, operator)? {
-        return Ok(None);
-    }
-    let made = joined(alloc, operator, right, left)?;
+    let made = joined(alloc, two.operator, two.right, two.left)?;
     Ok(Some(made))
 }
 

@@ -1,7 +1,7 @@
 ghost use Rattle.std.specs.Prelude.{◌≡◌, IfOk, IfSome, All, Contains};
 ghost use Rattle.larch_redexes.specs.Heads.{Suffice};
 ghost use Rattle.larch_redexes.specs.Rule.{IsRule};
-ghost use Rattle.larch_redexes.specs.Search.{AreRowsFor, IsBoundIn, IsFirst, IsMatch, IsRedex};
+ghost use Rattle.larch_redexes.specs.Search.{AreRowsFor, IsFoundIn, IsFirst, IsMatch, IsRedex};
 ghost use Rattle.larch_store.specs.Numbered.{term_of};
 ghost use Rattle.larch_store.specs.Stored.{Belongs};
 
@@ -36,7 +36,7 @@ pub fn first_redex<'a>(
     requires row_rules { All IsRule rows.now }
     requires rules { All IsRule rules.now }
     ensures found { IfOk result (IsRedex rows.now rules.now (term_of term.now)) }
-    ensures bound { IfOk result (λ found. IfSome found (IsBoundIn store.now)) }
+    ensures bound { IfOk result (λ found. IfSome found (IsFoundIn store.now)) }
 {
     if let Some(found) = first_match(alloc, store, rows, term)? {
         return Ok(Some(found));
@@ -70,7 +70,7 @@ pub fn first_match<'a>(
     requires term { Belongs store.now term.now }
     requires rules { All IsRule rules.now }
     ensures first { IfOk result (IsFirst rules.now (term_of term.now)) }
-    ensures bound { IfOk result (λ found. IfSome found (IsBoundIn store.now)) }
+    ensures bound { IfOk result (λ found. IfSome found (IsFoundIn store.now)) }
 {
     for rule in rules {
         if let Some(found) = match_rule(alloc, store, rule.rule(), term)? {
@@ -80,7 +80,7 @@ pub fn first_match<'a>(
     Ok(None)
 }
 
-#[tactic(auto, using(crate::proofs::Searching::tried_by))]
+#[tactic(auto, using(crate::proofs::Searching::tried_by, crate::proofs::Turned::turned_has_two))]
 fn match_rule<'a>(
     alloc: Global,
     store: &Store,
@@ -90,7 +90,7 @@ fn match_rule<'a>(
     requires term { Belongs store.now term.now }
     requires rule { IsRule rule.now }
     ensures made { IfOk result (IsMatch rule.now (term_of term.now)) }
-    ensures bound { IfOk result (λ found. IfSome found (IsBoundIn store.now)) }
+    ensures bound { IfOk result (λ found. IfSome found (IsFoundIn store.now)) }
 {
     if let Some(by) = matching(alloc, store, &rule.left, term)? {
         return Ok(Some(Match {

@@ -6,7 +6,7 @@ ghost use Rattle.larch_term.specs.Equality.{same_operator};
 ghost use Rattle.larch_term.specs.Operator.{PlainOperator};
 ghost use Rattle.larch_term.specs.Tree.{Forest, app, var};
 
-use crate::shared::{RuleList, SharedRule, copy_rules};
+use crate::shared::{RuleList, SharedRule};
 use indexmap::IndexMap;
 use larch_base::{Memory, Sequence};
 use larch_term::{Node, Operator};
@@ -75,15 +75,15 @@ impl RuleTable {
         Ok(copied)
     }
 
-    /// The rules without the one at a place.
-    pub fn without(&self, place: usize) -> Result<RuleTable, Memory>
-        requires { place < length self.now }
-        ensures { IfOk result (λ table. table ≡ take place self.now ++ drop (place + 1) self.now) }
+    /// The rules without the one at an index.
+    pub fn without(&self, index: usize) -> Result<RuleTable, Memory>
+        requires { index < length self.now }
+        ensures { IfOk result (λ table. table ≡ take index self.now ++ drop (index + 1) self.now) }
     {
         let rules = self.rules.as_slice();
         let mut others = RuleTable::new(self.alloc);
-        others.append(&rules[..place])?;
-        others.append(&rules[place + 1..])?;
+        others.append(&rules[..index])?;
+        others.append(&rules[index + 1..])?;
         Ok(others)
     }
 
@@ -105,7 +105,7 @@ impl RuleTable {
     {
         let copied = rule.copy()?;
         self.rules.push(copied)?;
-        let Ok(()) = index(self.alloc, &mut self.heads, &mut self.has_variable, &rule) else {
+        let Ok(()) = add_to_heads(self.alloc, &mut self.heads, &mut self.has_variable, &rule) else {
             let _ = self.rules.pop();
             return Err(Memory);
         };
@@ -142,7 +142,7 @@ impl RuleTable {
 // Finds a rule behind others by its head too, or notes that its left side is a variable. Where memory runs out nothing
 // is found otherwise.
 #[tactic(auto, using(crate::proofs::Heads::one_indexed, crate::proofs::Heads::same_indexed))]
-fn index(
+fn add_to_heads(
     alloc: Global,
     heads: &mut IndexMap<Operator, RuleList>,
     has_variable: &mut bool,
@@ -166,7 +166,7 @@ fn index(
 }
 
 // Puts a rule behind those of one head. Where memory runs out the same are found.
-#[tactic(auto, using(crate::proofs::Heads::put_behind))]
+#[tactic(auto, using(crate::proofs::Heads::put_behind, crate::proofs::Heads::put_same, crate::proofs::Heads::found_some, crate::proofs::Heads::found_none))]
 fn put(
     alloc: Global,
     heads: &mut IndexMap<Operator, RuleList>,
@@ -175,10 +175,14 @@ fn put(
 ) -> Result<(), Memory>
     ensures ok { OnOk result ((f : PlainOperator) → found_under heads.new.entries f
         ≡ found_under heads.old.entries f ++ cond (same_operator operator.now f) (rule.now ∷ []) []) }
-    ensures err { OnErr result (heads.new.entries ≡ heads.old.entries) }
+    ensures err { OnErr result ((f : PlainOperator) → found_under heads.new.entries f
+        ≡ found_under heads.old.entries f) }
 {
-    let mut rules = copy_rules(alloc, found(heads, operator))?;
     let rule = rule.copy()?;
+    if let Some(rules) = heads.get_mut(operator) {
+        return rules.push(rule);
+    }
+    let mut rules = Sequence::new(alloc);
     rules.push(rule)?;
     let operator = operator.copy()?;
     heads.insert(operator, rules)?;

@@ -236,12 +236,9 @@ fn none_or_any(by: &Replacements, new: &RawForm, operators: &[Operator]) -> bool
 fn any_cannot(by: &Replacements, new: &RawForm, operators: &[Operator]) -> bool
     ensures { result ≡ list_any (cannot_rename by.now new.now) operators.now }
 {
-    for operator in operators {
-        if cannot_rename(by, new, operator) {
-            return true;
-        }
-    }
-    false
+    operators
+        .iter()
+        .any(|operator| cannot_rename(by, new, operator))
 }
 
 // Whether an operator can't get this name.

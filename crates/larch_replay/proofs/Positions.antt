@@ -16,14 +16,14 @@ use Rattle.larch_term.specs.Equality.{same_statement, same_tree}
 use Rattle.larch_term.specs.Sorts.{sort_of}
 use Rattle.larch_term.specs.declared.statement.Statement.TheVariants.{Equation}
 use Rattle.larch_operators.specs.Sorts.{exists_sort}
-use Rattle.larch_sorts.specs.Faults.{fault, fault_at, unless}
-use Rattle.larch_sorts.specs.Parts.{parts, parts_of, sides, in_sides, right_sides, head_of}
-use Rattle.larch_sorts.specs.Read.{is_empty, unread_in, first_unread, only, answer, read_equation, read_term}
-use Rattle.larch_sorts.specs.ReadingLists.{readings, choices, applications, variable_or, right_readings, equation_readings, lone_readings}
-use Rattle.larch_sorts.specs.Readings.{variable_sort}
-use Rattle.larch_sorts.specs.Scope.{Variables}
-use Rattle.larch_sorts.specs.Signature.{taking_part}
-use Rattle.larch_sorts.specs.Unknown.{sort_words, sort_words_of, unknown_among, unknown_sort}
+use Rattle.larch_sorts_meaning.specs.Faults.{fault, fault_at, unless}
+use Rattle.larch_sorts_meaning.specs.Parts.{parts, parts_of, sides, in_sides, right_sides, head_of}
+use Rattle.larch_sorts_meaning.specs.Read.{is_empty, unread_in, first_unread, only, answer, read_equation, read_term}
+use Rattle.larch_sorts_meaning.specs.ReadingLists.{readings, choices, applications, variable_or, right_readings, equation_readings, lone_readings}
+use Rattle.larch_sorts_meaning.specs.Readings.{variable_sort}
+use Rattle.larch_sorts_meaning.specs.Scope.{Variables}
+use Rattle.larch_sorts_meaning.specs.Signature.{taking_part}
+use Rattle.larch_sorts_meaning.specs.Unknown.{sort_words, sort_words_of, unknown_among, unknown_sort}
 use Rattle.larch_replay.specs.Commands.{placed, placed_all, placed_equation, placed_right, unplaced, unplaced_all, unplaced_equation}
 use Rattle.larch_replay.specs.Steps.{read_or}
 

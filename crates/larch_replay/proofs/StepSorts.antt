@@ -25,10 +25,10 @@ use Rattle.larch_calculus.specs.Formula.{formula}
 use Rattle.larch_calculus.specs.Theories.{AreNew, IsFront}
 use Rattle.larch_calculus.proofs.Sorted.{knows_more, statement_over_more, zero_over}
 use Rattle.larch_items.specs.Steps.{after}
-use Rattle.larch_sorts.specs.Read.{read_equation, read_term}
-use Rattle.larch_sorts.specs.Readings.{ReadsEquation}
-use Rattle.larch_sorts.proofs.ReadAnswers.{equation_ok, term_ok}
-use Rattle.larch_sorts.proofs.Sorted.{statement_over, well_sorted}
+use Rattle.larch_sorts_meaning.specs.Read.{read_equation, read_term}
+use Rattle.larch_sorts_meaning.specs.Readings.{ReadsEquation}
+use Rattle.larch_sorts_meaning.proofs.ReadAnswers.{equation_ok, term_ok}
+use Rattle.larch_sorts_meaning.proofs.Sorted.{statement_over, well_sorted}
 use Rattle.larch_normal_forms.specs.Sides.{Sides, AreSidesOver, sides_under}
 use Rattle.larch_normal_forms.proofs.Matches.{AreBound, IsBound}
 use Rattle.larch_critical_pairs.specs.Overlap.{AreSorted, IsApplication}

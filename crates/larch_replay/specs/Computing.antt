@@ -3,9 +3,9 @@ use Rattle.std.specs.Fmt.{digits}
 use Rattle.larch_term.specs.Equality.{same_tree, same_statement}
 use Rattle.larch_term.specs.OperatorKey.{same_operator}
 use Rattle.larch_term.specs.BuiltIn.{is_built_in}
-use Rattle.larch_sorts.specs.Read.{read_equation, read_term, unread_in}
-use Rattle.larch_sorts.specs.ReadingLists.{readings}
-use Rattle.larch_sorts.specs.Unknown.{unknown_among}
+use Rattle.larch_sorts_meaning.specs.Read.{read_equation, read_term, unread_in}
+use Rattle.larch_sorts_meaning.specs.ReadingLists.{readings}
+use Rattle.larch_sorts_meaning.specs.Unknown.{unknown_among}
 use Rattle.larch_normal_forms.specs.NormalForm.{normal}
 use Rattle.larch_critical_pairs.specs.Pairs.{critical_pairs, pair_at}
 use Rattle.larch_pairs.specs.Unify.{unify, unify_from}

@@ -13,7 +13,7 @@ use Rattle.larch_term.specs.Truth.{truth}
 use Rattle.larch_term.specs.declared.statement.Statement.{Statement}
 use Rattle.larch_term.specs.declared.statement.Theory.{Theory}
 use Rattle.larch_items.specs.Steps.{after}
-use Rattle.larch_sorts.specs.Scope.{Variables}
+use Rattle.larch_sorts_meaning.specs.Scope.{Variables}
 use Rattle.larch_order.specs.Precedence.{with_constant}
 use Rattle.larch_order.specs.declared.precedence.Ranked.{Ranked}
 use Rattle.larch_normal_forms.specs.Work.{Work, Made, OverLimit, OverSize}

@@ -21,8 +21,8 @@ use Rattle.larch_term.specs.declared.statement.Statement.TheVariants.{Equation, 
 use Rattle.larch_operators.specs.Sorts.{exists_sort}
 use Rattle.larch_calculus.specs.Formula.{formula}
 use Rattle.larch_items.specs.Steps.{after}
-use Rattle.larch_sorts.specs.Read.{read_equation, read_term}
-use Rattle.larch_sorts.specs.Scope.{Variables, sort_in}
+use Rattle.larch_sorts_meaning.specs.Read.{read_equation, read_term}
+use Rattle.larch_sorts_meaning.specs.Scope.{Variables, sort_in}
 use Rattle.larch_order.specs.Precedence.{raised, with_status}
 use Rattle.larch_normal_forms.specs.Sides.{Sides, sides_under}
 use Rattle.larch_critical_pairs.specs.Pairs.{critical_pairs}

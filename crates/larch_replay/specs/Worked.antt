@@ -1,4 +1,4 @@
--- Traits and duties of the examples. Written by tools/replay_examples.py.
+-- Traits and duties of the examples. Written by tools/make/replay_examples.py.
 use Rattle.std.specs.Prelude.{[], ◌∷◌, codes}
 use Rattle.larch_term.specs.Operator.{PlainOperator, plain}
 use Rattle.larch_term.specs.Tree.{var, app, forest_of}

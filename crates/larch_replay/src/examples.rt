@@ -1,6 +1,6 @@
 //! What blocks come to, computed by the definitions. No function here does anything.
 //!
-//! Written by `tools/replay_examples.py`; the traits and duties are in `specs/Worked.antt`.
+//! Written by `tools/make/replay_examples.py`; the traits and duties are in `specs/Worked.antt`.
 ghost use Rattle.std.specs.Prelude.{◌≡◌, true, false, [], ◌∷◌, codes, None, Some};
 ghost use Rattle.larch_base.specs.declared.code.Code.TheVariants as refusal;
 ghost use Rattle.larch_term.specs.Tree.{var, app, forest_of};

@@ -3,8 +3,8 @@ use Rattle.std.specs.Prelude.{◌≡◌, ◌+◌, ℕ, List, [], ◌∷◌, ◌+
 use Rattle.std.proofs.Common.{ap, ap₂, sym, subst, inl, inr, ◌∙◌}
 use Rattle.std.proofs.lemmas.List.Elements.{All-nil, All-push, All-weaker}
 use Rattle.larch_term.specs.Tree.{Tree, AllOf, forest_of}
-use Rattle.larch_applying.specs.Codes.{AreCodes}
-use Rattle.larch_applying.specs.declared.code.Code.{Code}
+use Rattle.larch_applying.specs.Encodings.{AreEncodings}
+use Rattle.larch_applying.specs.declared.encoding.Encoding.{Encoding}
 use Rattle.larch_applying.specs.Holding.{RuleHolds, RulesHold, ReasonSays}
 use Rattle.larch_applying.proofs.Entries.{known_arguments}
 use Rattle.larch_derive.specs.Builder.{IsCodeIn}
@@ -16,8 +16,8 @@ use Rattle.larch_redexes.specs.declared.rule.Reason.{Reason}
 use Rattle.larch_redexes.specs.declared.rule.Reason.TheVariants.{Row, Line}
 use Rattle.larch_redexes.specs.declared.rule.Rule.{Rule}
 use Rattle.larch_store.specs.Numbered.{Numbered, term_of}
-use Rattle.larch_ways.specs.Way.{Leads}
-use Rattle.larch_ways.proofs.Ways.{leads_stays, leads_known}
+use Rattle.larch_derive_lines.specs.Way.{Leads}
+use Rattle.larch_derive_lines.proofs.Ways.{leads_stays, leads_known}
 use Rattle.larch_rewrite.specs.Kept.{IsKeptAt, IsKeptBehind, IsLed, kept_of}
 use Rattle.larch_rewrite.specs.Levels.{HaveOneStart, IsApplication, IsArgument, IsLast, further_of, level_of, operator_of, start_of}
 use Rattle.larch_rewrite.specs.Ways.{AreWaysTo, IsWayTo, MayBegin, Says, reached, with_argument, with_done}
@@ -45,11 +45,11 @@ led_stays a b kept x h =
     All-weaker (IsLed a) (IsLed b) (λ k p. leads_stays a b k.way (term_of k.start) (term_of k.form) x p) kept h
 
 -- terms that are written
-pub none_written : (b : Builder) (codes : List Code) → codes ≡ [] → AreCodes b codes
-none_written b codes e = subst (AreCodes b) (sym e) (All-nil (λ k. IsCodeIn b (term_of k.term) k.coded))
+pub none_written : (b : Builder) (encodings : List Encoding) → encodings ≡ [] → AreEncodings b encodings
+none_written b encodings e = subst (AreEncodings b) (sym e) (All-nil (λ k. IsCodeIn b (term_of k.term) k.coded))
 
-pub means_written : (b : Builder) (m n : Means) → n ≡ m → AreCodes b m.codes → AreCodes b n.codes
-means_written b m n e h = subst (λ (o : Means). AreCodes b o.codes) (sym e) h
+pub means_written : (b : Builder) (m n : Means) → n ≡ m → AreEncodings b m.encodings → AreEncodings b n.encodings
+means_written b m n e h = subst (λ (o : Means). AreEncodings b o.encodings) (sym e) h
 
 pub ways_stay : (a b : Builder) (t : Tree) (fs : List Frame) → Extends a b → AreWaysTo a t fs → AreWaysTo b t fs
 ways_stay a b t [] x h = tt

@@ -22,7 +22,7 @@ use Rattle.larch_redexes.specs.declared.rule.Reason.TheVariants.{Row, Line}
 use Rattle.larch_redexes.specs.declared.rule.Rule.{Rule}
 use Rattle.larch_store.specs.Numbered.{Numbered, term_of}
 use Rattle.larch_store.specs.Stored.{most_nodes}
-use Rattle.larch_ways.specs.Way.{Leads}
+use Rattle.larch_derive_lines.specs.Way.{Leads}
 use Rattle.larch_rewrite.specs.Kept.{IsForm}
 use Rattle.larch_rewrite.specs.Refusals.{TellsEvent, from_application}
 use Rattle.larch_rewrite.specs.declared.kept.KeptForm.{KeptForm}

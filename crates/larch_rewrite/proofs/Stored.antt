@@ -3,8 +3,8 @@ use Rattle.std.specs.Prelude.{◌≡◌, ℕ, List, [], ◌∷◌, ◌++◌, All
 use Rattle.std.proofs.Common.{ap, sym, subst, inl, inr, ◌∙◌}
 use Rattle.std.proofs.lemmas.List.{append_assoc, append-nil}
 use Rattle.std.proofs.lemmas.List.Elements.{All-contains, All-nil, All-push, All-weaker}
-use Rattle.larch_applying.specs.Codes.{AreOfStore}
-use Rattle.larch_applying.specs.declared.code.Code.{Code}
+use Rattle.larch_applying.specs.Encodings.{AreOfStore}
+use Rattle.larch_applying.specs.declared.encoding.Encoding.{Encoding}
 use Rattle.larch_base.proofs.Members.{got_contains}
 use Rattle.larch_store.specs.Numbered.{Numbered}
 use Rattle.larch_store.specs.Stored.{Belongs, AllBelong, Grows}
@@ -39,11 +39,11 @@ kept_behind s kept new k h o (inl e) = subst (All (IsOfStore s)) (sym e) h
 kept_behind s kept new k h o (inr e) = subst (All (IsOfStore s)) (sym e) (All-push (IsOfStore s) kept k h o)
 
 -- so does what is written
-pub none_of_store : (s : List Numbered) (codes : List Code) → codes ≡ [] → AreOfStore s codes
-none_of_store s codes e = subst (AreOfStore s) (sym e) (All-nil (λ k. Belongs s k.term))
+pub none_of_store : (s : List Numbered) (encodings : List Encoding) → encodings ≡ [] → AreOfStore s encodings
+none_of_store s encodings e = subst (AreOfStore s) (sym e) (All-nil (λ k. Belongs s k.term))
 
-pub means_stay : (s : List Numbered) (m n : Means) → n ≡ m → AreOfStore s m.codes → AreOfStore s n.codes
-means_stay s m n e h = subst (λ (o : Means). AreOfStore s o.codes) (sym e) h
+pub means_stay : (s : List Numbered) (m n : Means) → n ≡ m → AreOfStore s m.encodings → AreOfStore s n.encodings
+means_stay s m n e h = subst (λ (o : Means). AreOfStore s o.encodings) (sym e) h
 
 -- what is kept of a turn's level belongs to the store
 pub all_kept : (s : List Numbered) (kept new : List KeptForm) (turn : Turn) (n : ℕ) → IsKeptAt kept turn n new

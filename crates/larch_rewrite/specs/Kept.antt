@@ -5,7 +5,7 @@ use Rattle.larch_normal_forms.specs.Sides.{Sides}
 use Rattle.larch_normal_laws.specs.Cost.{HasCost}
 use Rattle.larch_store.specs.Numbered.{Numbered, term_of}
 use Rattle.larch_store.specs.Stored.{Belongs}
-use Rattle.larch_ways.specs.Way.{Leads}
+use Rattle.larch_derive_lines.specs.Way.{Leads}
 use Rattle.larch_rewrite.specs.declared.kept.KeptForm.{KeptForm}
 use Rattle.larch_rewrite.specs.declared.level.Level.{Level}
 use Rattle.larch_rewrite.specs.declared.level.Turn.{Turn}

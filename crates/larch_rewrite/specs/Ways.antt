@@ -6,7 +6,7 @@ use Rattle.larch_derive.specs.Predicates.{Known}
 use Rattle.larch_derive.specs.declared.builder.Builder.{Builder}
 use Rattle.larch_redexes.specs.declared.rule.Rule.{Rule}
 use Rattle.larch_store.specs.Numbered.{Numbered, leaf, branch, term_of, listed}
-use Rattle.larch_ways.specs.Way.{Leads}
+use Rattle.larch_derive_lines.specs.Way.{Leads}
 use Rattle.larch_rewrite.specs.declared.kept.KeptForm.{KeptForm}
 use Rattle.larch_rewrite.specs.declared.level.Frame.{Frame}
 use Rattle.larch_rewrite.specs.declared.level.Turn.{Turn}

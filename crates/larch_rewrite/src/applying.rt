@@ -1,5 +1,5 @@
 ghost use Rattle.std.specs.Prelude.{◌≡◌, ◌+◌, List, All, Some, false, IfOk, IfErr, OnOk};
-ghost use Rattle.larch_applying.specs.Codes.{AreCodes, AreOfStore};
+ghost use Rattle.larch_applying.specs.Encodings.{AreEncodings, AreOfStore};
 ghost use Rattle.larch_applying.specs.Holding.{RuleHolds, RulesHold};
 ghost use Rattle.larch_derive.specs.Predicates.{Extends, Known};
 ghost use Rattle.larch_normal_forms.specs.Rewriting.{rewritten_once};
@@ -8,7 +8,7 @@ ghost use Rattle.larch_normal_forms.specs.Work.{is_large};
 ghost use Rattle.larch_normal_laws.specs.Level.{root_work};
 ghost use Rattle.larch_redexes.specs.Rule.{IsRule, all_sides, right_of};
 ghost use Rattle.larch_redexes.specs.Bound.{entries_of};
-ghost use Rattle.larch_redexes.specs.Search.{IsBoundIn, IsBy};
+ghost use Rattle.larch_redexes.specs.Search.{IsFoundIn, IsBy};
 ghost use Rattle.larch_rewrite.specs.Levels.{HaveOneStart, IsTurnOf, work_at};
 ghost use Rattle.larch_rewrite.specs.Refusals.{TellsEvent};
 ghost use Rattle.larch_rewrite.specs.Ways.{IsWayTo};
@@ -17,20 +17,21 @@ ghost use Rattle.larch_store.specs.Numbered.{term_of};
 ghost use Rattle.larch_store.specs.Stored.{Belongs, Grows};
 ghost use Rattle.larch_term.specs.Substitution.{substituted};
 ghost use Rattle.larch_term.specs.Tree.{Tree};
-ghost use Rattle.larch_ways.specs.Way.{Leads};
+ghost use Rattle.larch_derive_lines.specs.Way.{Leads};
 
 use crate::kept::Kept;
 use crate::level::{Level, Means, Turn};
 use crate::refusal::RewriteRefusal;
 use larch_applying::{Applied, apply_match};
 use larch_derive::Builder;
+use larch_derive_lines::further_line;
 use larch_redexes::{Match, RuleTable, first_redex};
 use larch_store::Store;
-use larch_ways::further_line;
 use std::alloc::Global;
 
-/// The turn behind the root of a term whose arguments are normal: the first rule that applies is applied, or the term
-/// is the normal form.
+/// The turn that comes after `Turn::Root`: the arguments of the level's term are normal, so the first rule that applies
+/// at its root is applied and the work on what that makes begins, or no rule applies and the term is the normal form.
+/// `kept` has the built-in rows as well, and makes those at a sort when it first comes up; its normal forms stay.
 #[tactic(auto, using(larch_derive::proofs::Growth::extends_same, larch_store::proofs::Growth::grows_refl, crate::proofs::Roots::root_is_normal, crate::proofs::Roots::root_is_made, crate::proofs::Roots::root_tells))]
 pub(crate) fn rewrite(
     store: &mut Store,
@@ -42,19 +43,20 @@ pub(crate) fn rewrite(
 ) -> Result<Turn, RewriteRefusal>
     requires rules { All IsRule rules.now }
     requires turn { IsTurnOf store.old (at_root level) }
-    requires codes { AreOfStore store.old means.old.codes }
+    requires encodings { AreOfStore store.old means.old.encodings }
     ensures start { IfOk result (λ t. HaveOneStart t (at_root level)) }
     ensures turn { IfOk result (IsTurnOf store.new) }
     ensures work { IfOk result (λ t.
         work_at (all_sides rules.now) (at_root level) means.old.left ≡ work_at (all_sides rules.now) t means.new.left) }
     ensures refused { IfErr result (TellsEvent (work_at (all_sides rules.now) (at_root level) means.old.left)) }
     ensures says { IfOk result (λ t. (x : Tree) → RulesHold builder.old rules.now
-        → IsWayTo builder.old x (at_root level) → AreCodes builder.old means.old.codes → IsWayTo builder.new x t) }
+        → IsWayTo builder.old x (at_root level)
+        → AreEncodings builder.old means.old.encodings → IsWayTo builder.new x t) }
     ensures extends { (x : Tree) → RulesHold builder.old rules.now → IsWayTo builder.old x (at_root level)
-        → AreCodes builder.old means.old.codes → Extends builder.old builder.new }
+        → AreEncodings builder.old means.old.encodings → Extends builder.old builder.new }
     ensures grows { Grows store.old store.new }
-    ensures belong { AreOfStore store.new means.new.codes }
-    ensures codes { AreCodes builder.old means.old.codes → AreCodes builder.old means.new.codes }
+    ensures belong { AreOfStore store.new means.new.encodings }
+    ensures encodings { AreEncodings builder.old means.old.encodings → AreEncodings builder.old means.new.encodings }
     ensures kept { kept.new ≡ kept.old }
 {
     store.sizes_are_told();
@@ -78,8 +80,8 @@ fn apply<'a>(
     level: Level,
     means: &mut Means,
 ) -> Result<Level, RewriteRefusal>
-    requires bound { IsBoundIn store.old found.now }
-    requires codes { AreOfStore store.old means.old.codes }
+    requires bound { IsFoundIn store.old found.now }
+    requires encodings { AreOfStore store.old means.old.encodings }
     ensures level { IfOk result (λ l. (l.start ≡ level.start) × (l.begun ≡ level.begun)) }
     ensures term { IfOk result (λ l. term_of l.term
         ≡ substituted (entries_of found.now.by) (right_of found.now.rule.now)) }
@@ -89,19 +91,21 @@ fn apply<'a>(
         → rewritten_once rs t ≡ Some (substituted (entries_of found.now.by) (right_of found.now.rule.now))
         → TellsEvent (root_work rs t means.old.left) e) }
     ensures says { IfOk result (λ l. (s t : Tree) → Known builder.old t → RuleHolds builder.old found.now.rule.now
-        → IsBy found.now.rule.now found.now.exchanged t (entries_of found.now.by) → AreCodes builder.old means.old.codes
+        → IsBy found.now.rule.now found.now.exchanged t (entries_of found.now.by)
+        → AreEncodings builder.old means.old.encodings
         → Leads builder.old level.way s t → Leads builder.new l.way s (term_of l.term)) }
     ensures extends { (s t : Tree) → Known builder.old t → RuleHolds builder.old found.now.rule.now
-        → IsBy found.now.rule.now found.now.exchanged t (entries_of found.now.by) → AreCodes builder.old means.old.codes
+        → IsBy found.now.rule.now found.now.exchanged t (entries_of found.now.by)
+        → AreEncodings builder.old means.old.encodings
         → Leads builder.old level.way s t → Extends builder.old builder.new }
     ensures grows { Grows store.old store.new }
-    ensures belong { AreOfStore store.new means.new.codes }
-    ensures codes { AreCodes builder.old means.old.codes → AreCodes builder.old means.new.codes }
+    ensures belong { AreOfStore store.new means.new.encodings }
+    ensures encodings { AreEncodings builder.old means.old.encodings → AreEncodings builder.old means.new.encodings }
 {
     if means.left == 0 {
         return Err(RewriteRefusal::Limit);
     }
-    let Applied { term, line } = apply_match(alloc, store, builder, &mut means.codes, found)?;
+    let Applied { term, line } = apply_match(alloc, store, builder, &mut means.encodings, found)?;
     let line = further_line(alloc, builder, level.way, line)?;
     means.left -= 1;
     Ok(Level {

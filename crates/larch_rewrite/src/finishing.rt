@@ -6,14 +6,14 @@ ghost use Rattle.larch_rewrite.specs.Ways.{with_argument};
 ghost use Rattle.larch_store.specs.Numbered.{term_of};
 ghost use Rattle.larch_term.specs.Operator.{PlainOperator};
 ghost use Rattle.larch_term.specs.Tree.{Tree, app, forest_of};
-ghost use Rattle.larch_ways.specs.Way.{Leads};
+ghost use Rattle.larch_derive_lines.specs.Way.{Leads};
 
 use crate::kept::{Kept, KeptForm};
 use crate::level::{Frame, Level, Turn};
 use larch_base::Memory;
 use larch_derive::Builder;
+use larch_derive_lines::{argument_line, way_line};
 use larch_store::{Shared, Store};
-use larch_ways::{argument_line, way_line};
 use std::alloc::Global;
 
 /// Keeps the normal form to which a turn's level has come, unless that of its start is kept already, or memory runs

@@ -24,7 +24,7 @@ pub struct KeptForm {
 #[derive(Drop)]
 pub(crate) struct Kept {
     forms: Vec<KeptForm>,
-    places: IndexMap<u64, usize>,
+    slots: IndexMap<u64, usize>,
     rows: RowTables,
 }
 
@@ -49,7 +49,7 @@ impl Kept {
     {
         Kept {
             forms: Vec::new(alloc),
-            places: IndexMap::new(alloc),
+            slots: IndexMap::new(alloc),
             rows: RowTables::new(alloc),
         }
     }
@@ -85,8 +85,8 @@ impl Kept {
         requires kept { All (IsOfStore store.now) self.now }
         ensures { IfSome result (λ k. Contains self.now k.now × (term_of k.now.start ≡ term_of term.now)) }
     {
-        let place = *self.places.get(&store.number(term))?;
-        let kept = self.forms.get(place)?;
+        let slot = *self.slots.get(&store.number(term))?;
+        let kept = self.forms.get(slot)?;
         if store.same(&kept.start, term) {
             return Some(kept);
         }
@@ -98,7 +98,7 @@ impl Kept {
         ensures ok { OnOk result (self.new ≡ self.old ++ form ∷ []) }
         ensures err { OnErr result (self.new ≡ self.old) }
     {
-        self.places
+        self.slots
             .insert(store.number(&form.start), self.forms.len())?;
         self.forms.push(form)?;
         Ok(())

@@ -1,7 +1,7 @@
 ghost use Rattle.std.specs.Prelude.{◌≡◌};
 ghost use Rattle.larch_rewrite.specs.Levels.{level_of};
 
-use larch_applying::Codes;
+use larch_applying::Encodings;
 use larch_store::{Shared, SharedList};
 
 /// The work on one term: the term whose normal form is sought, the budget with which that began, and the term that it
@@ -38,7 +38,7 @@ pub(crate) enum Turn {
 #[derive(Drop)]
 pub(crate) struct Means {
     pub(crate) left: u32,
-    pub(crate) codes: Codes,
+    pub(crate) encodings: Encodings,
 }
 
 impl Turn {

@@ -1,5 +1,5 @@
 ghost use Rattle.std.specs.Prelude.{◌≡◌, ℕ, List, All, true, IfOk, IfErr, OnOk};
-ghost use Rattle.larch_applying.specs.Codes.{AreCodes, AreOfStore};
+ghost use Rattle.larch_applying.specs.Encodings.{AreEncodings, AreOfStore};
 ghost use Rattle.larch_derive.specs.Predicates.{Extends, HasEquation, Known};
 ghost use Rattle.larch_derive.specs.declared.builder.Builder.{Builder as is_builder};
 ghost use Rattle.larch_normal_forms.specs.NormalForm.{normal};
@@ -15,7 +15,7 @@ ghost use Rattle.larch_rewrite.specs.declared.level.Turn.TheVariants.{Arguments 
 ghost use Rattle.larch_store.specs.Numbered.{term_of};
 ghost use Rattle.larch_store.specs.Stored.{Belongs, Grows};
 ghost use Rattle.larch_term.specs.Tree.{Tree};
-ghost use Rattle.larch_ways.specs.Way.{Leads};
+ghost use Rattle.larch_derive_lines.specs.Way.{Leads};
 
 use crate::applying::rewrite;
 use crate::finishing::{keep, resume, whole_line};
@@ -23,7 +23,7 @@ use crate::kept::Kept;
 use crate::level::{Frame, Level, Means, Turn};
 use crate::refusal::RewriteRefusal;
 use crate::turning::{argument, begin, first_level, form};
-use larch_applying::Codes;
+use larch_applying::Encodings;
 use larch_base::Memory;
 use larch_derive::Builder;
 use larch_redexes::RuleTable;
@@ -58,7 +58,7 @@ fn step(
 ) -> Result<Turn, RewriteRefusal>
     requires rules { All IsRule rules.now }
     requires stored { IsStored store.old kept.old pending.old.frames.items turn }
-    requires codes { AreOfStore store.old pending.old.means.codes }
+    requires encodings { AreOfStore store.old pending.old.means.encodings }
     ensures stored { IfOk result (IsStored store.new kept.new pending.new.frames.items) }
     ensures grows { Grows store.old store.new }
     ensures front { IsFront kept.old kept.new }
@@ -69,13 +69,13 @@ fn step(
         → Works (all_sides rules.now) whole budget kept.old pending.old.frames.items turn pending.old.means.left
         → TellsEvent (normal (all_sides rules.now) whole budget) e) }
     ensures says { IfOk result (λ t. Says builder.old rules.now kept.old pending.old.frames.items turn
-        → AreCodes builder.old pending.old.means.codes
+        → AreEncodings builder.old pending.old.means.encodings
         → Says builder.new rules.now kept.new pending.new.frames.items t) }
     ensures extends { Says builder.old rules.now kept.old pending.old.frames.items turn
-        → AreCodes builder.old pending.old.means.codes → Extends builder.old builder.new }
-    ensures belong { OnOk result (AreOfStore store.new pending.new.means.codes) }
-    ensures codes { OnOk result (AreCodes builder.old pending.old.means.codes
-        → AreCodes builder.old pending.new.means.codes) }
+        → AreEncodings builder.old pending.old.means.encodings → Extends builder.old builder.new }
+    ensures belong { OnOk result (AreOfStore store.new pending.new.means.encodings) }
+    ensures encodings { OnOk result (AreEncodings builder.old pending.old.means.encodings
+        → AreEncodings builder.old pending.new.means.encodings) }
 {
     let alloc = *pending.frames.allocator();
     match turn {
@@ -218,12 +218,12 @@ pub(crate) fn run(
         → All (IsLed builder.new) kept.new) }
     ensures extends { MayBegin builder.old rules.now kept.old (term_of term.now) → Extends builder.old builder.new }
 {
-    let codes = Codes::new(kept.allocator());
+    let encodings = Encodings::new(kept.allocator());
     let mut pending = Pending {
         frames: Vec::new(kept.allocator()),
         means: Means {
             left: budget,
-            codes,
+            encodings,
         },
     };
     let first = first_level(term, budget)?;

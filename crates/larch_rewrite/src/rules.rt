@@ -117,11 +117,11 @@ impl Rules {
         ensures removed { IfOk result (IsRemoved name.now self.old self.new) }
         ensures err { OnErr result (self.new ≡ self.old) }
     {
-        let Some(place) = place_of(self.names.as_slice(), name) else {
+        let Some(index) = index_of(self.names.as_slice(), name) else {
             return Ok(false);
         };
-        let others = self.rules.without(place)?;
-        let _ = self.names.remove(place);
+        let others = self.rules.without(index)?;
+        let _ = self.names.remove(index);
         self.rules = others;
         self.kept.cut(0);
         Ok(true)
@@ -166,14 +166,14 @@ impl Rules {
     }
 }
 
-// The place of a name, if it stands there.
-fn place_of(names: &[FactName], name: &FactName) -> Option<usize>
+// The index of a name, if it is there.
+fn index_of(names: &[FactName], name: &FactName) -> Option<usize>
     ensures some { IfSome result (λ i. slice_get names.now i ≡ Some name.now) }
     ensures none { IfNone result (All (λ other. other ≡ name.now → ⊥) names.now) }
 {
-    for place in 0..names.len() {
-        if names[place] == *name {
-            return Some(place);
+    for index in 0..names.len() {
+        if names[index] == *name {
+            return Some(index);
         }
     }
     None

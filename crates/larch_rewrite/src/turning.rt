@@ -10,15 +10,15 @@ ghost use Rattle.larch_rewrite.specs.declared.level.Turn.TheVariants.{Begin, Arg
 ghost use Rattle.larch_store.specs.Numbered.{children_of, term_of};
 ghost use Rattle.larch_store.specs.Stored.{Grows};
 ghost use Rattle.larch_term.specs.Tree.{Tree};
-ghost use Rattle.larch_ways.specs.Way.{Leads};
+ghost use Rattle.larch_derive_lines.specs.Way.{Leads};
 
 use crate::kept::{Kept, KeptForm};
 use crate::level::{Frame, Level, Turn};
 use crate::refusal::RewriteRefusal;
 use larch_base::Memory;
 use larch_derive::Builder;
+use larch_derive_lines::further_line;
 use larch_store::{Shared, SharedList, SharedNode, Store};
-use larch_ways::further_line;
 use std::alloc::Global;
 
 /// The level at which the work on a term under a budget begins.
@@ -134,11 +134,11 @@ pub(crate) fn argument(frame: &Frame, left: u32) -> Result<Option<Level>, Memory
         return Ok(None);
     };
     let arguments = arguments.as_slice();
-    let place = frame.done.as_slice().len();
-    if place >= arguments.len() {
+    let index = frame.done.as_slice().len();
+    if index >= arguments.len() {
         return Ok(None);
     }
-    let level = first_level(&arguments[place], left)?;
+    let level = first_level(&arguments[index], left)?;
     Ok(Some(level))
 }
 

@@ -3,8 +3,8 @@ ghost use Rattle.larch_term.specs.BuiltIn.{built_in};
 ghost use Rattle.larch_term.specs.Sorts.{sort_of};
 ghost use Rattle.larch_term.specs.Tree.{app, forest_of};
 ghost use Rattle.larch_term.specs.Truth.{truth};
-ghost use Rattle.larch_calculus.specs.Formula.{equality, falsity};
-ghost use Rattle.larch_pool.specs.Pooled.{tree_in, Grows, HasTree};
+ghost use Rattle.larch_calculus.specs.Formula.{applied, equality, falsity};
+ghost use Rattle.larch_pool.specs.Pooled.{operator_in, tree_in, Grows, HasTree};
 
 use larch_base::Memory;
 use larch_pool::{Numbers, Pool, intern_operator};
@@ -27,6 +27,20 @@ pub fn apply_built_in(
     let operator = kind.operator(alloc, sort)?;
     let operator = intern_operator(alloc, pool, &operator)?;
     let number = pool.apply(operator, arguments)?;
+    Ok(number)
+}
+
+/// The application of an operator to one argument.
+pub fn apply_to(alloc: Global, pool: &mut Pool, operator: u32, argument: u32) -> Result<u32, Memory>
+    requires operator { operator < length pool.old.operators }
+    requires argument { argument < length pool.old.trees }
+    ensures tree { IfOk result (λ n. HasTree pool.new n
+        (applied (operator_in pool.old.operators operator) (tree_in pool.old.trees argument))) }
+    ensures grows { OnOk result (Grows pool.old pool.new) }
+{
+    let mut arguments = Vec::with_capacity(alloc, 1)?;
+    arguments.push(argument)?;
+    let number = pool.apply(operator, Numbers::from_vec(arguments))?;
     Ok(number)
 }
 

@@ -2,11 +2,9 @@
 #![tactic(auto)]
 
 mod building;
-mod context;
 mod different;
 mod naming;
 
-pub use building::{apply_built_in, equality_in, falsity_in, truth_in, two_numbers};
-pub use context::Context;
+pub use building::{apply_built_in, apply_to, equality_in, falsity_in, truth_in, two_numbers};
 pub use different::are_different;
 pub use naming::{equation_of, sides_of};

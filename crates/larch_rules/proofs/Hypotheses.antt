@@ -6,8 +6,8 @@ use Rattle.std.specs.Option.{option_map, option_and_then}
 use Rattle.std.proofs.lemmas.List.Elements.{All-contains}
 use Rattle.std.proofs.lemmas.Option.{slice_get-map}
 use Rattle.larch_base.proofs.Members.{got_contains}
+use Rattle.larch_base.specs.ByNumber.{numbered}
 use Rattle.larch_tables.proofs.Identities.{at_place}
-use Rattle.larch_tables.specs.Row.{numbered}
 use Rattle.larch_lines.specs.Events.{PlainBox}
 use Rattle.larch_term.specs.declared.statement.Statement.{Statement}
 

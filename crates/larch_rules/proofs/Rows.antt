@@ -4,9 +4,10 @@ use Rattle.std.specs.Option.{is_some, option_map, option_and_then}
 use Rattle.std.specs.List.{slice_get}
 use Rattle.std.proofs.lemmas.Option.{slice_get_past}
 use Rattle.std.proofs.lemmas.Slice.Eq.{bytes_eq-Decides}
+use Rattle.larch_base.specs.ByNumber.{numbered}
 use Rattle.larch_term.specs.BuiltIn.{bool_sort}
 use Rattle.larch_term.specs.declared.statement.Statement.{Statement}
-use Rattle.larch_tables.specs.Row.{PlainRow, numbered}
+use Rattle.larch_tables.specs.Row.{PlainRow}
 use Rattle.larch_tables.specs.Spelling.{equation_of}
 use Rattle.larch_tables.specs.Statement.{is_offered, offered}
 use Rattle.larch_tables.specs.Tables.{built_in_rows, sort_for, equations_of, row_of, IsRowAt, HasRows}

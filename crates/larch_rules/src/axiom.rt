@@ -2,11 +2,10 @@ ghost use Rattle.std.specs.Prelude.{◌≡◌, ◌∷◌, [], All, IfOk, IfSome,
 ghost use Rattle.std.specs.List.{slice_get};
 ghost use Rattle.std.specs.Option.{option_map};
 ghost use Rattle.larch_term.specs.Statement.{statement_zero};
-ghost use Rattle.larch_tables.specs.Row.{numbered};
 ghost use Rattle.larch_pool.specs.Pooled.{Pooled};
 ghost use Rattle.larch_past.specs.Past.{IsStated, stated_in};
 
-use larch_base::{Memory, Sequence};
+use larch_base::{Memory, Sequence, numbered};
 use larch_past::{Stated, copy_stated};
 use larch_term::{BuiltIn, bool_sort};
 use std::alloc::Global;
@@ -22,21 +21,11 @@ pub fn axiom_line(alloc: Global, axioms: &[Stated], number: u64) -> Result<Optio
         let stated = truth_values(alloc)?;
         return Ok(Some(stated));
     }
-    let Some(stated) = statement_at(axioms, number) else {
+    let Some(stated) = numbered(axioms, number) else {
         return Ok(None);
     };
     let stated = copy_stated(alloc, stated)?;
     Ok(Some(stated))
-}
-
-// The statement with a number, counted from 1.
-fn statement_at(axioms: &[Stated], number: u64) -> Option<&Stated>
-    ensures { option_map (λ s. s.now) result ≡ numbered axioms.now number }
-{
-    if number == 0 {
-        return None;
-    }
-    axioms.get(number as usize - 1)
 }
 
 // What every theory states of the truth values.

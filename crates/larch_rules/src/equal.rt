@@ -5,9 +5,9 @@ ghost use Rattle.larch_pool.specs.Pooled.{tree_in, Grows};
 ghost use Rattle.larch_past.specs.Past.{IsPast, IsEquated, equated_in, history_of};
 
 use larch_base::Memory;
-use larch_past::Equated;
+use larch_past::{Context, Equated};
 use larch_pool::{Pool, at};
-use larch_rule_parts::{Context, equality_in, equation_of, truth_in};
+use larch_rule_parts::{equality_in, equation_of, truth_in};
 use std::alloc::Global;
 
 /// An equation that a line states as a term that is true.

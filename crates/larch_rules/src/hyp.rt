@@ -1,11 +1,10 @@
 ghost use Rattle.std.specs.Prelude.{◌≡◌, All, IfSome, reverse};
-ghost use Rattle.std.specs.List.{slice_get};
 ghost use Rattle.std.specs.Option.{option_map};
-ghost use Rattle.larch_tables.specs.Row.{numbered};
 ghost use Rattle.larch_lines.specs.Rules.{hyp_says};
 ghost use Rattle.larch_pool.specs.Pooled.{Pooled};
 ghost use Rattle.larch_past.specs.Past.{IsHappened, IsIndexed, IsEquated, equated_in, history_of};
 
+use larch_base::numbered;
 use larch_past::{Equated, Past};
 
 /// A hypothesis of an open box. It takes no memory.
@@ -17,21 +16,5 @@ pub fn hyp_line(past: &Past, of_box: u64, number: u64) -> Option<Equated>
     let Some(known) = past.open_box(of_box) else {
         return None;
     };
-    sides_at(known.hypotheses.as_slice(), number)
-}
-
-// The equation with a number, counted from 1.
-fn sides_at(equations: &[Equated], number: u64) -> Option<Equated>
-    ensures { result ≡ numbered equations.now number }
-{
-    if number == 0 {
-        return None;
-    }
-    sides_in(equations, number as usize - 1)
-}
-
-fn sides_in(equations: &[Equated], index: usize) -> Option<Equated>
-    ensures { result ≡ slice_get equations.now index }
-{
-    equations.get(index).copied()
+    numbered(known.hypotheses.as_slice(), number).copied()
 }

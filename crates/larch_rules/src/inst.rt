@@ -12,9 +12,9 @@ ghost use Rattle.larch_rules.specs.Instances.{IsBinding, entry_of, instance_in};
 use larch_base::Memory;
 use larch_certificate::Binding;
 use larch_decoding::{decode, decode_variable};
-use larch_past::Equated;
+use larch_past::{Context, Equated};
 use larch_pool::{Pool, substitute};
-use larch_rule_parts::{Context, are_different, equation_of};
+use larch_rule_parts::{are_different, equation_of};
 use std::alloc::Global;
 
 /// The equation of a line with different variables replaced at once by terms of their sorts.
@@ -104,7 +104,7 @@ fn decode_binding(
         ≡ decode_binding (find_symbol context.now.theory.now (history_of pool.old context.now.past.now)) binding.now) }
     ensures grows { OnOk result (Grows pool.old pool.new) }
 {
-    let image = decode(alloc, pool, context.theory, context.past, &binding.term)?;
+    let image = decode(alloc, pool, context, &binding.term)?;
     let Some(image) = image else {
         return Ok(None);
     };

@@ -8,9 +8,8 @@ ghost use Rattle.larch_past.specs.Past.{IsPast, IsEquated, equated_in, history_o
 use larch_base::Memory;
 use larch_certificate::Coded;
 use larch_decoding::decode;
-use larch_past::Equated;
+use larch_past::{Context, Equated};
 use larch_pool::Pool;
-use larch_rule_parts::Context;
 use std::alloc::Global;
 
 /// A term equals itself.
@@ -26,7 +25,7 @@ pub fn refl_line(
         ≡ refl_says (find_symbol context.now.theory.now (history_of pool.old context.now.past.now)) term.now) }
     ensures grows { OnOk result (Grows pool.old pool.new) }
 {
-    let number = decode(alloc, pool, context.theory, context.past, term)?;
+    let number = decode(alloc, pool, context, term)?;
     let Some(number) = number else {
         return Ok(None);
     };

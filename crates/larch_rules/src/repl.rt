@@ -5,9 +5,9 @@ ghost use Rattle.larch_pool.specs.Pooled.{Grows};
 ghost use Rattle.larch_past.specs.Past.{IsPast, IsEquated, equated_in, history_of};
 
 use larch_base::Memory;
-use larch_past::Equated;
+use larch_past::{Context, Equated};
 use larch_pool::{Pool, at, replace_at};
-use larch_rule_parts::{Context, equation_of};
+use larch_rule_parts::equation_of;
 use std::alloc::Global;
 
 /// The equation of a line whose right side is changed at a place by the equation of another line.

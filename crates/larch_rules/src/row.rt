@@ -1,7 +1,7 @@
 ghost use Rattle.std.specs.Prelude.{◌≡◌, if◌then◌else◌, true, false, IfOk, IfSome, OnOk, Option, Some, None, List, ℕ};
 ghost use Rattle.std.specs.Option.{option_map, option_and_then};
+ghost use Rattle.larch_base.specs.ByNumber.{numbered};
 ghost use Rattle.larch_term.specs.BuiltIn.{bool_sort};
-ghost use Rattle.larch_tables.specs.Row.{numbered};
 ghost use Rattle.larch_tables.specs.Tables.{built_in_rows};
 ghost use Rattle.larch_lines.specs.Rules.{row_says};
 ghost use Rattle.larch_pool.specs.Pooled.{Grows};

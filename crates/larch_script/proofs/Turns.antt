@@ -5,15 +5,15 @@ use Rattle.larch_lexer.specs.TokenList.{TokenList}
 use Rattle.larch_script.specs.Instances.{behind_others, instance_at, instances_at, with_further}
 
 -- while there are turns left, an instance is read
-pub turn_on : (all : TokenList) (n k place : ℕ) → k < n
-    → instances_at (n - k) all place ≡ option_and_then (with_further all (λ next. instances_at (n - (k + 1)) all next)) (instance_at all place)
-turn_on all n k place h =
+pub turn_on : (all : TokenList) (n k index : ℕ) → k < n
+    → instances_at (n - k) all index ≡ option_and_then (with_further all (λ next. instances_at (n - (k + 1)) all next)) (instance_at all index)
+turn_on all n k index h =
     let e : n - k ≡ suc (n - (k + 1)) = omega arith in
     rw e refl
 
 -- no turn is left
-pub last_turn : (all : TokenList) (n k place : ℕ) → n ≤ k → instances_at (n - k) all place ≡ None
-last_turn all n k place h =
+pub last_turn : (all : TokenList) (n k index : ℕ) → n ≤ k → instances_at (n - k) all index ≡ None
+last_turn all n k index h =
     let e : n - k ≡ 0 = omega arith in
     rw e refl
 

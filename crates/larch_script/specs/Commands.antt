@@ -112,7 +112,7 @@ above all upper =
 abbrev pub height : TokenList → Option CommandKind
 height all = option_and_then (above all) (reference_at all 2)
 
--- the status behind `register status`, with the place behind it
+-- the status behind `register status`, with the index after it
 abbrev pub way_of : List Token → Option (Way × ℕ)
 way_of tokens =
     if says tokens 2 (codes "multiset") then Some (Multiset, 3)

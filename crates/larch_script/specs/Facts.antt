@@ -29,22 +29,22 @@ named (byte ∷ digits) =
 abbrev pub part_of : FactName → ℕ → FactName
 part_of fact part = record { letter = fact.letter; number = fact.number; part = part }
 
--- a fact by the text at a place: its part with this number, where a dot and a number follow, or else its first part;
--- with the place behind it
+-- a fact by the text at an index: its part with this number, where a dot and a number follow, or else its first part;
+-- with the index after it
 abbrev pub with_part : List Token → ℕ → FactName → Option (FactName × ℕ)
-with_part tokens place fact =
-    if says tokens (place + 1) (codes ".")
-    then option_map (λ part. (part_of fact part, place + 3)) (number_of (text_at tokens (place + 2)))
-    else Some (fact, place + 1)
+with_part tokens index fact =
+    if says tokens (index + 1) (codes ".")
+    then option_map (λ part. (part_of fact part, index + 3)) (number_of (text_at tokens (index + 2)))
+    else Some (fact, index + 1)
 
--- the fact that is named at a place, with the place behind it
+-- the fact that is named at an index, with the index after it
 abbrev pub fact_at : List Token → ℕ → Option (FactName × ℕ)
-fact_at tokens place = option_and_then (with_part tokens place) (named (text_at tokens place))
+fact_at tokens index = option_and_then (with_part tokens index) (named (text_at tokens index))
 
 -- the fact with which the line ends
 abbrev pub at_end : List Token → FactName × ℕ → Option FactName
 at_end tokens found = if ends tokens found.1 then Some found.0 else None
 
--- the fact that is all that stands from a place on
+-- the fact that is all that stands from an index on
 abbrev pub whole_fact_at : List Token → ℕ → Option FactName
-whole_fact_at tokens place = option_and_then (at_end tokens) (fact_at tokens place)
+whole_fact_at tokens index = option_and_then (at_end tokens) (fact_at tokens index)

@@ -11,18 +11,18 @@ use Rattle.larch_script.specs.Facts.{whole_fact_at}
 use Rattle.larch_script.specs.Terms.{term_at}
 use Rattle.larch_script.specs.Texts.{says, word_at}
 
--- a variable with a term that stands there, and the place behind it
+-- a variable with a term that stands there, and the index after it
 abbrev pub instance_of : RawWord → RawEquation × ℕ → RawInstance × ℕ
 instance_of name found = (record { name = name; term = found.0 }, found.1)
 
--- a variable, `by` and a term, with the place behind them
+-- a variable, `by` and a term, with the index after them
 abbrev pub instance_at : TokenList → ℕ → Option (RawInstance × ℕ)
-instance_at all place =
+instance_at all index =
     option_and_then
     (λ name.
-    if says all.tokens (place + 1) (codes "by") then option_map (instance_of name)
-    (term_at all (place + 2)) else None)
-    (word_at all.tokens place)
+    if says all.tokens (index + 1) (codes "by") then option_map (instance_of name)
+    (term_at all (index + 2)) else None)
+    (word_at all.tokens index)
 
 -- instances with others before them
 abbrev pub behind_others : List RawInstance → Option (List RawInstance × ℕ) → Option (List RawInstance × ℕ)
@@ -33,7 +33,7 @@ behind_others before (Some found) = Some (before ++ found.0, found.1)
 abbrev pub last_one : RawInstance × ℕ → List RawInstance × ℕ
 last_one first = (first.0 ∷ [], first.1 + 1)
 
--- an instance with those that follow it: behind `,` further ones, from their place on, or behind `in` none
+-- an instance with those that follow it: behind `,` further ones, from their index on, or behind `in` none
 abbrev pub with_further : TokenList → (ℕ → Option (List RawInstance × ℕ)) → RawInstance × ℕ
     → Option (List RawInstance × ℕ)
 with_further all further first =
@@ -41,11 +41,11 @@ with_further all further first =
     else if says all.tokens first.1 (codes "in") then Some (last_one first)
     else None
 
--- at most so many instances between commas from a place on, then `in`; with the place behind that
+-- at most so many instances between commas from an index on, then `in`; with the index after that
 abbrev pub instances_at : ℕ → TokenList → ℕ → Option (List RawInstance × ℕ)
-instances_at zero all place = None
-instances_at (suc count) all place =
-    option_and_then (with_further all (λ next. instances_at count all next)) (instance_at all place)
+instances_at zero all index = None
+instances_at (suc count) all index =
+    option_and_then (with_further all (λ next. instances_at count all next)) (instance_at all index)
 
 -- instances of a fact that is all that stands behind them
 abbrev pub instances_of_fact : TokenList → List RawInstance × ℕ → Option CommandKind

@@ -16,31 +16,31 @@ read (Err fault) = None
 abbrev pub whole : {Value : Type 0} → ℕ → Value × ℕ → Option Value
 whole end found = if found.1 == end then Some found.0 else None
 
--- the equation at the front of the tokens from a place on, with the place behind it
+-- the equation at the front of the tokens from an index on, with the index after it
 abbrev pub equation_at : TokenList → ℕ → Option (RawEquation × ℕ)
-equation_at all place = if nat_le place (length all.tokens) then read (term_of all place) else None
+equation_at all index = if nat_le index (length all.tokens) then read (term_of all index) else None
 
--- the equation that all tokens from a place on are
+-- the equation that all tokens from an index on are
 abbrev pub whole_equation_at : TokenList → ℕ → Option RawEquation
-whole_equation_at all place = option_and_then (whole (length all.tokens)) (equation_at all place)
+whole_equation_at all index = option_and_then (whole (length all.tokens)) (equation_at all index)
 
 -- an equation without a right side, which is a term
 abbrev pub term_alone : RawEquation → Option RawEquation
 term_alone equation = if is_some equation.right then None else Some equation
 
--- the term that all tokens from a place on are
+-- the term that all tokens from an index on are
 abbrev pub whole_term_at : TokenList → ℕ → Option RawEquation
-whole_term_at all place = option_and_then term_alone (whole_equation_at all place)
+whole_term_at all index = option_and_then term_alone (whole_equation_at all index)
 
--- the term at the front of the tokens from a place on, with the place behind it
+-- the term at the front of the tokens from an index on, with the index after it
 abbrev pub term_at : TokenList → ℕ → Option (RawEquation × ℕ)
-term_at all place =
-    option_and_then (λ found. option_map (λ term. (term, found.1)) (term_alone found.0)) (equation_at all place)
+term_at all index =
+    option_and_then (λ found. option_map (λ term. (term, found.1)) (term_alone found.0)) (equation_at all index)
 
--- the reference to operators at the front of the tokens from a place on, with the place behind it
+-- the reference to operators at the front of the tokens from an index on, with the index after it
 abbrev pub reference_at : TokenList → ℕ → Option (RawOpRef × ℕ)
-reference_at all place = if nat_le place (length all.tokens) then read (reference_of all place) else None
+reference_at all index = if nat_le index (length all.tokens) then read (reference_of all index) else None
 
--- the reference that all tokens from a place on are
+-- the reference that all tokens from an index on are
 abbrev pub whole_reference_at : TokenList → ℕ → Option RawOpRef
-whole_reference_at all place = option_and_then (whole (length all.tokens)) (reference_at all place)
+whole_reference_at all index = option_and_then (whole (length all.tokens)) (reference_at all index)

@@ -9,28 +9,28 @@ use Rattle.larch_grammar.specs.declared.terminal.Terminal.TheVariants.{Word}
 use Rattle.larch_lexer.specs.declared.token.Token.{Token}
 use Rattle.larch_raw.specs.declared.declared.RawWord.{RawWord}
 
--- the text of the token at a place; nothing behind the last
+-- the text of the token at an index; nothing behind the last
 abbrev pub text_at : List Token → ℕ → List ℕ
-text_at tokens place = option_map_or (λ token. token.text) (slice_get tokens place) []
+text_at tokens index = option_map_or (λ token. token.text) (slice_get tokens index) []
 
--- the token at a place has that text
+-- the token at an index has that text
 abbrev pub says : List Token → ℕ → List ℕ → Bool
-says tokens place text = bytes_eq (text_at tokens place) text
+says tokens index text = bytes_eq (text_at tokens index) text
 
--- two words with a dash between them stand from a place on
+-- two words with a dash between them stand from an index on
 abbrev pub says_dashed : List Token → ℕ → List ℕ → List ℕ → Bool
-says_dashed tokens place first second =
-    says tokens place first && (says tokens (place + 1) (codes "-") && says tokens (place + 2) second)
+says_dashed tokens index first second =
+    says tokens index first && (says tokens (index + 1) (codes "-") && says tokens (index + 2) second)
 
 -- so many tokens are all
 abbrev pub ends : List Token → ℕ → Bool
-ends tokens place = length tokens == place
+ends tokens index = length tokens == index
 
 -- a word that isn't reserved
 abbrev pub plain : Terminal → Option RawWord
 plain (Word w) = Some w
 plain _ = None
 
--- the word at a place, unless it is reserved
+-- the word at an index, unless it is reserved
 abbrev pub word_at : List Token → ℕ → Option RawWord
-word_at tokens place = option_and_then (λ token. plain (terminal_of false token)) (slice_get tokens place)
+word_at tokens index = option_and_then (λ token. plain (terminal_of false token)) (slice_get tokens index)

@@ -323,22 +323,22 @@ fn critical(tokens: &[Token]) -> Option<CommandKind>
     ensures { result ≡ critical tokens.now }
 {
     if says(tokens, 1, b"-") && says(tokens, 2, b"pairs") {
-        let (first, place) = fact_at(tokens, 3)?;
-        with_second(tokens, first, place)
+        let (first, index) = fact_at(tokens, 3)?;
+        with_second(tokens, first, index)
     } else {
         None
     }
 }
 
 // `with` and the second fact behind the first one.
-fn with_second(tokens: &[Token], first: FactName, place: usize) -> Option<CommandKind>
-    requires { place ≤ 6 }
-    ensures { result ≡ with_second tokens.now (first, place) }
+fn with_second(tokens: &[Token], first: FactName, index: usize) -> Option<CommandKind>
+    requires { index ≤ 6 }
+    ensures { result ≡ with_second tokens.now (first, index) }
 {
-    if !says(tokens, place, b"with") {
+    if !says(tokens, index, b"with") {
         return None;
     }
-    let second = whole_fact_at(tokens, place + 1)?;
+    let second = whole_fact_at(tokens, index + 1)?;
     Some(CommandKind::CriticalPairs(first, second))
 }
 

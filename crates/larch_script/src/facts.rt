@@ -6,22 +6,22 @@ use crate::tokens::{ends, says, text_at};
 use larch_base::{FactLetter, FactName};
 use larch_lexer::Token;
 
-/// The fact that is named at this place, with the place behind it.
-pub(crate) fn fact_at(tokens: &[Token], place: usize) -> Option<(FactName, usize)>
-    requires { place + 3 < 2 ^ 64 }
-    ensures fact { result ≡ fact_at tokens.now place }
-    ensures near { IfSome result (λ found. found.1 ≤ place + 3) }
+/// The fact that is named at this index, with the index after it.
+pub(crate) fn fact_at(tokens: &[Token], index: usize) -> Option<(FactName, usize)>
+    requires { index + 3 < 2 ^ 64 }
+    ensures fact { result ≡ fact_at tokens.now index }
+    ensures near { IfSome result (λ found. found.1 ≤ index + 3) }
 {
-    let fact = named(text_at(tokens, place))?;
-    with_part(tokens, place, fact)
+    let fact = named(text_at(tokens, index))?;
+    with_part(tokens, index, fact)
 }
 
-/// The fact that is all that stands from this place on.
-pub(crate) fn whole_fact_at(tokens: &[Token], place: usize) -> Option<FactName>
-    requires { place + 3 < 2 ^ 64 }
-    ensures { result ≡ whole_fact_at tokens.now place }
+/// The fact that is all that stands from this index on.
+pub(crate) fn whole_fact_at(tokens: &[Token], index: usize) -> Option<FactName>
+    requires { index + 3 < 2 ^ 64 }
+    ensures { result ≡ whole_fact_at tokens.now index }
 {
-    let (fact, behind) = fact_at(tokens, place)?;
+    let (fact, behind) = fact_at(tokens, index)?;
     if ends(tokens, behind) {
         Some(fact)
     } else {
@@ -29,17 +29,17 @@ pub(crate) fn whole_fact_at(tokens: &[Token], place: usize) -> Option<FactName>
     }
 }
 
-// A part of a fact that is named at this place, with the place behind it.
-fn with_part(tokens: &[Token], place: usize, fact: FactName) -> Option<(FactName, usize)>
-    requires { place + 3 < 2 ^ 64 }
-    ensures fact { result ≡ with_part tokens.now place fact }
-    ensures near { IfSome result (λ found. found.1 ≤ place + 3) }
+// A part of a fact that is named at this index, with the index after it.
+fn with_part(tokens: &[Token], index: usize, fact: FactName) -> Option<(FactName, usize)>
+    requires { index + 3 < 2 ^ 64 }
+    ensures fact { result ≡ with_part tokens.now index fact }
+    ensures near { IfSome result (λ found. found.1 ≤ index + 3) }
 {
-    if !says(tokens, place + 1, b".") {
-        return Some((fact, place + 1));
+    if !says(tokens, index + 1, b".") {
+        return Some((fact, index + 1));
     }
-    let part = number_of(text_at(tokens, place + 2))?;
-    Some((part_of(fact, part), place + 3))
+    let part = number_of(text_at(tokens, index + 2))?;
+    Some((part_of(fact, part), index + 3))
 }
 
 fn part_of(fact: FactName, part: u32) -> FactName

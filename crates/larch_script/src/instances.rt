@@ -16,15 +16,15 @@ pub(crate) fn instantiation(alloc: Global, tokens: &Tokens) -> Result<Option<Com
     ensures { IfOk result (λ kind. kind ≡ instantiation tokens.now) }
 {
     match instances_at(alloc, tokens)? {
-        Some((instances, place)) => {
-            let fact = whole_fact_at(tokens.as_slice(), place);
+        Some((instances, index)) => {
+            let fact = whole_fact_at(tokens.as_slice(), index);
             Ok(fact.map(|fact| CommandKind::Instantiate(instances, fact)))
         }
         None => Ok(None),
     }
 }
 
-// The instances between commas, then `in`; with the place behind that.
+// The instances between commas, then `in`; with the index after that.
 #[tactic(auto, using(crate::proofs::Turns::turn_on, crate::proofs::Turns::last_turn, crate::proofs::Turns::behind_both))]
 fn instances_at(alloc: Global, tokens: &Tokens) -> Result<Option<(RawInstances, usize)>, Memory>
     ensures found { IfOk result (λ found. found ≡ instances_at (length tokens.now.tokens) tokens.now 1) }
@@ -32,14 +32,14 @@ fn instances_at(alloc: Global, tokens: &Tokens) -> Result<Option<(RawInstances, 
 {
     let all = tokens.as_slice();
     let mut instances = Sequence::new(alloc);
-    let mut place: usize = 1;
+    let mut index: usize = 1;
     for _turn in 0..all.len() {
-        let Some((instance, behind)) = instance_at(alloc, tokens, place)? else {
+        let Some((instance, behind)) = instance_at(alloc, tokens, index)? else {
             return Ok(None);
         };
         instances.push(instance)?;
         if says(all, behind, b",") {
-            place = behind + 1;
+            index = behind + 1;
         } else if says(all, behind, b"in") {
             return Ok(Some((instances, behind + 1)));
         } else {
@@ -49,37 +49,37 @@ fn instances_at(alloc: Global, tokens: &Tokens) -> Result<Option<(RawInstances, 
     Ok(None)
 }
 
-// A variable, `by` and a term, with the place behind them.
+// A variable, `by` and a term, with the index after them.
 fn instance_at(
     alloc: Global,
     tokens: &Tokens,
-    place: usize,
+    index: usize,
 ) -> Result<Option<(RawInstance, usize)>, Memory>
-    requires { place + 2 < 2 ^ 64 }
-    ensures found { IfOk result (λ found. found ≡ instance_at tokens.now place) }
+    requires { index + 2 < 2 ^ 64 }
+    ensures found { IfOk result (λ found. found ≡ instance_at tokens.now index) }
     ensures small { IfOk result (λ found. IfSome found (λ behind. behind.1 < 2 ^ 32)) }
 {
-    let Some(name) = word_at(tokens.as_slice(), place)? else {
+    let Some(name) = word_at(tokens.as_slice(), index)? else {
         return Ok(None);
     };
-    if says(tokens.as_slice(), place + 1, b"by") {
-        with_term(alloc, tokens, name, place + 2)
+    if says(tokens.as_slice(), index + 1, b"by") {
+        with_term(alloc, tokens, name, index + 2)
     } else {
         Ok(None)
     }
 }
 
-// The instance of this variable by the term at this place.
+// The instance of this variable by the term at this index.
 fn with_term(
     alloc: Global,
     tokens: &Tokens,
     name: RawWord,
-    place: usize,
+    index: usize,
 ) -> Result<Option<(RawInstance, usize)>, Memory>
-    ensures found { IfOk result (λ found. found ≡ option_map (instance_of name) (term_at tokens.now place)) }
+    ensures found { IfOk result (λ found. found ≡ option_map (instance_of name) (term_at tokens.now index)) }
     ensures small { IfOk result (λ found. IfSome found (λ behind. behind.1 < 2 ^ 32)) }
 {
-    match term_at(alloc, tokens, place)? {
+    match term_at(alloc, tokens, index)? {
         Some((term, behind)) => Ok(Some((RawInstance { name, term }, behind))),
         None => Ok(None),
     }

@@ -27,7 +27,7 @@ fn height(alloc: Global, tokens: &Tokens) -> Result<Option<CommandKind>, Memory>
     ensures { IfOk result (λ kind. kind ≡ height tokens.now) }
 {
     match reference_at(alloc, tokens, 2)? {
-        Some((upper, place)) => above(alloc, tokens, upper, place),
+        Some((upper, index)) => above(alloc, tokens, upper, index),
         None => Ok(None),
     }
 }
@@ -37,15 +37,15 @@ fn above(
     alloc: Global,
     tokens: &Tokens,
     upper: RawOpRef,
-    place: usize,
+    index: usize,
 ) -> Result<Option<CommandKind>, Memory>
-    requires { place < 2 ^ 32 }
-    ensures { IfOk result (λ kind. kind ≡ above tokens.now (upper, place)) }
+    requires { index < 2 ^ 32 }
+    ensures { IfOk result (λ kind. kind ≡ above tokens.now (upper, index)) }
 {
-    if !says(tokens.as_slice(), place, b">") {
+    if !says(tokens.as_slice(), index, b">") {
         return Ok(None);
     }
-    match whole_reference_at(alloc, tokens, place + 1)? {
+    match whole_reference_at(alloc, tokens, index + 1)? {
         Some(lower) => Ok(Some(CommandKind::Height(upper, lower))),
         None => Ok(None),
     }
@@ -56,7 +56,7 @@ fn status(alloc: Global, tokens: &Tokens) -> Result<Option<CommandKind>, Memory>
     ensures { IfOk result (λ kind. kind ≡ status tokens.now) }
 {
     match way_of(tokens.as_slice()) {
-        Some((way, place)) => of_status(alloc, tokens, way, place),
+        Some((way, index)) => of_status(alloc, tokens, way, index),
         None => Ok(None),
     }
 }
@@ -66,17 +66,17 @@ fn of_status(
     alloc: Global,
     tokens: &Tokens,
     way: Way,
-    place: usize,
+    index: usize,
 ) -> Result<Option<CommandKind>, Memory>
-    ensures { IfOk result (λ kind. kind ≡ of_status tokens.now (way, place)) }
+    ensures { IfOk result (λ kind. kind ≡ of_status tokens.now (way, index)) }
 {
-    match whole_reference_at(alloc, tokens, place)? {
+    match whole_reference_at(alloc, tokens, index)? {
         Some(operator) => Ok(Some(CommandKind::Status(way, operator))),
         None => Ok(None),
     }
 }
 
-// The status behind `register status`, with the place behind it.
+// The status behind `register status`, with the index after it.
 fn way_of(tokens: &[Token]) -> Option<(Way, usize)>
     ensures { result ≡ way_of tokens.now }
 {

@@ -1,7 +1,10 @@
-ghost use Rattle.std.specs.Prelude.{◌≡◌, ◌≤◌, ◌<◌, ◌^◌, IfOk, IfSome, length};
-ghost use Rattle.larch_script.specs.Terms.{equation_at, read, reference_at, term_alone, term_at, whole_equation_at};
+ghost use Rattle.std.specs.Prelude.{◌≡◌, ◌≤◌, ◌<◌, ◌^◌, ℕ, IfOk, IfSome, None, Option, Result, Some, cond, length, nat_le};
+ghost use Rattle.std.specs.Prelude.{option_and_then};
+ghost use Rattle.larch_base.specs.Answering.{Answers};
+ghost use Rattle.larch_base.specs.declared.fault.Fault.{Fault};
+ghost use Rattle.larch_script.specs.Terms.{equation_at, read, reference_at, term_alone, term_at, whole, whole_equation_at};
 ghost use Rattle.larch_script.specs.Terms.{whole_reference_at, whole_term_at};
-ghost use Rattle.larch_syntax.specs.Read.{reference_of, term_of};
+ghost use Rattle.larch_syntax.specs.Refusals.{told};
 
 use larch_base::Memory;
 use larch_lexer::Tokens;
@@ -9,46 +12,63 @@ use larch_raw::{RawEquation, RawOpRef};
 use larch_syntax::{SyntaxRefusal, read_reference, read_term};
 use std::alloc::Global;
 
-// What stands at the front of tokens, if it isn't refused, with the place behind it.
+// What stands at the front of tokens, if it isn't refused, with the index after it.
 type Found<T> = Result<Option<(T, usize)>, Memory>;
 
-// The equation at the front of the tokens from this one on.
-fn read_equation(alloc: Global, tokens: &Tokens, from: u32) -> Found<RawEquation>
-    requires { from ≤ length tokens.now.tokens }
-    ensures found { IfOk result (λ found. found ≡ read (term_of tokens.now from)) }
-    ensures small { IfOk result (λ found. IfSome found (λ behind. behind.1 < 2 ^ 32)) }
+// What was read, unless it is refused.
+fn unless_refused<T: Drop>(reading: Result<(T, u32), SyntaxRefusal>) -> Found<T>
+    ensures found { (answer : Result (T × ℕ) Fault) → Answers told reading answer
+        → IfOk result (λ found. found ≡ read answer) }
+    ensures small { IfOk result (λ found. IfSome found (λ tree. tree.1 < 2 ^ 32)) }
 {
-    match read_term(alloc, tokens, from) {
-        Ok((equation, behind)) => Ok(Some((equation, behind as usize))),
+    match reading {
+        Ok((tree, after)) => Ok(Some((tree, after as usize))),
         Err(SyntaxRefusal::Memory) => Err(Memory),
         Err(_refusal) => Ok(None),
     }
 }
 
-// The same, where there is such a place.
-fn equation_at(alloc: Global, tokens: &Tokens, place: usize) -> Found<RawEquation>
-    ensures found { IfOk result (λ found. found ≡ equation_at tokens.now place) }
-    ensures small { IfOk result (λ found. IfSome found (λ behind. behind.1 < 2 ^ 32)) }
+// The index, where no more tokens stand before it than there are.
+fn start_at(tokens: &Tokens, index: usize) -> Result<Option<u32>, Memory>
+    ensures { IfOk result (λ from. from ≡ cond (nat_le index (length tokens.now.tokens)) (Some index) None) }
 {
-    if place > tokens.as_slice().len() {
+    if index > tokens.as_slice().len() {
         return Ok(None);
     }
-    let from = u32::try_from(place).map_err(|_| Memory)?;
-    read_equation(alloc, tokens, from)
+    let from = u32::try_from(index).map_err(|_| Memory)?;
+    Ok(Some(from))
 }
 
-/// The equation that all tokens from this place on are.
+// What was found, where it goes to the end of the tokens.
+fn whole<T: Drop>(tokens: &Tokens, found: Option<(T, usize)>) -> Option<T>
+    ensures { result ≡ option_and_then (whole (length tokens.now.tokens)) found }
+{
+    match found {
+        Some((tree, after)) if after == tokens.as_slice().len() => Some(tree),
+        _ => None,
+    }
+}
+
+// The equation at the front of the tokens from this index on.
+fn equation_at(alloc: Global, tokens: &Tokens, index: usize) -> Found<RawEquation>
+    ensures found { IfOk result (λ found. found ≡ equation_at tokens.now index) }
+    ensures small { IfOk result (λ found. IfSome found (λ equation. equation.1 < 2 ^ 32)) }
+{
+    match start_at(tokens, index)? {
+        Some(from) => unless_refused(read_term(alloc, tokens, from)),
+        None => Ok(None),
+    }
+}
+
+/// The equation that all tokens from this index on are.
 pub(crate) fn whole_equation_at(
     alloc: Global,
     tokens: &Tokens,
-    place: usize,
+    index: usize,
 ) -> Result<Option<RawEquation>, Memory>
-    ensures { IfOk result (λ equation. equation ≡ whole_equation_at tokens.now place) }
+    ensures { IfOk result (λ equation. equation ≡ whole_equation_at tokens.now index) }
 {
-    match equation_at(alloc, tokens, place)? {
-        Some((equation, behind)) if behind == tokens.as_slice().len() => Ok(Some(equation)),
-        _ => Ok(None),
-    }
+    Ok(whole(tokens, equation_at(alloc, tokens, index)?))
 }
 
 // An equation without a right side, which is a term.
@@ -61,66 +81,49 @@ fn term_alone(equation: RawEquation) -> Option<RawEquation>
     }
 }
 
-/// The term that all tokens from this place on are.
+/// The term that all tokens from this index on are.
 pub(crate) fn whole_term_at(
     alloc: Global,
     tokens: &Tokens,
-    place: usize,
+    index: usize,
 ) -> Result<Option<RawEquation>, Memory>
-    ensures { IfOk result (λ term. term ≡ whole_term_at tokens.now place) }
+    ensures { IfOk result (λ term. term ≡ whole_term_at tokens.now index) }
 {
-    match whole_equation_at(alloc, tokens, place)? {
+    match whole_equation_at(alloc, tokens, index)? {
         Some(equation) => Ok(term_alone(equation)),
         None => Ok(None),
     }
 }
 
-/// The term at the front of the tokens from this place on, with the place behind it.
-pub(crate) fn term_at(alloc: Global, tokens: &Tokens, place: usize) -> Found<RawEquation>
-    ensures found { IfOk result (λ found. found ≡ term_at tokens.now place) }
-    ensures small { IfOk result (λ found. IfSome found (λ behind. behind.1 < 2 ^ 32)) }
+/// The term at the front of the tokens from this index on, with the index after it.
+pub(crate) fn term_at(alloc: Global, tokens: &Tokens, index: usize) -> Found<RawEquation>
+    ensures found { IfOk result (λ found. found ≡ term_at tokens.now index) }
+    ensures small { IfOk result (λ found. IfSome found (λ term. term.1 < 2 ^ 32)) }
 {
-    match equation_at(alloc, tokens, place)? {
-        Some((equation, behind)) => Ok(term_alone(equation).map(|term| (term, behind))),
+    match equation_at(alloc, tokens, index)? {
+        Some((equation, after)) => Ok(term_alone(equation).map(|term| (term, after))),
         None => Ok(None),
     }
 }
 
-// The reference to operators at the front of the tokens from this one on.
-fn read_operators(alloc: Global, tokens: &Tokens, from: u32) -> Found<RawOpRef>
-    requires { from ≤ length tokens.now.tokens }
-    ensures found { IfOk result (λ found. found ≡ read (reference_of tokens.now from)) }
-    ensures small { IfOk result (λ found. IfSome found (λ behind. behind.1 < 2 ^ 32)) }
+/// The reference to operators at the front of the tokens from this index on, with the index after it.
+pub(crate) fn reference_at(alloc: Global, tokens: &Tokens, index: usize) -> Found<RawOpRef>
+    ensures found { IfOk result (λ found. found ≡ reference_at tokens.now index) }
+    ensures small { IfOk result (λ found. IfSome found (λ reference. reference.1 < 2 ^ 32)) }
 {
-    match read_reference(alloc, tokens, from) {
-        Ok((reference, behind)) => Ok(Some((reference, behind as usize))),
-        Err(SyntaxRefusal::Memory) => Err(Memory),
-        Err(_refusal) => Ok(None),
+    match start_at(tokens, index)? {
+        Some(from) => unless_refused(read_reference(alloc, tokens, from)),
+        None => Ok(None),
     }
 }
 
-/// The same, where there is such a place; with the place behind it.
-pub(crate) fn reference_at(alloc: Global, tokens: &Tokens, place: usize) -> Found<RawOpRef>
-    ensures found { IfOk result (λ found. found ≡ reference_at tokens.now place) }
-    ensures small { IfOk result (λ found. IfSome found (λ behind. behind.1 < 2 ^ 32)) }
-{
-    if place > tokens.as_slice().len() {
-        return Ok(None);
-    }
-    let from = u32::try_from(place).map_err(|_| Memory)?;
-    read_operators(alloc, tokens, from)
-}
-
-/// The reference that all tokens from this place on are.
+/// The reference that all tokens from this index on are.
 pub(crate) fn whole_reference_at(
     alloc: Global,
     tokens: &Tokens,
-    place: usize,
+    index: usize,
 ) -> Result<Option<RawOpRef>, Memory>
-    ensures { IfOk result (λ reference. reference ≡ whole_reference_at tokens.now place) }
+    ensures { IfOk result (λ reference. reference ≡ whole_reference_at tokens.now index) }
 {
-    match reference_at(alloc, tokens, place)? {
-        Some((reference, behind)) if behind == tokens.as_slice().len() => Ok(Some(reference)),
-        _ => Ok(None),
-    }
+    Ok(whole(tokens, reference_at(alloc, tokens, index)?))
 }

@@ -24,9 +24,9 @@ use Rattle.larch_term.specs.Truth.{truth}
 use Rattle.larch_term.specs.declared.built_in.BuiltIn.{BuiltIn as Kind}
 use Rattle.larch_term.specs.declared.built_in.BuiltIn.TheVariants.{True, False, Not, And, Or, Implies, Iff, Equal, Unequal, If}
 use Rattle.larch_term.specs.declared.statement.Statement.TheVariants.{Generated, Partitioned}
-use Rattle.larch_sorts.specs.Faults.{fault_at}
-use Rattle.larch_sorts.specs.Laws.{IsSortOf, OperatorSorts}
-use Rattle.larch_sorts.proofs.SortsRead.{own_sorts}
+use Rattle.larch_sorts_meaning.specs.Faults.{fault_at}
+use Rattle.larch_sorts_meaning.specs.Laws.{IsSortOf, OperatorSorts}
+use Rattle.larch_sorts_meaning.proofs.SortsRead.{own_sorts}
 use Rattle.larch_items.proofs.Kept.{missed_is, ok_inj, unless_was}
 use Rattle.larch_shorthand.specs.Enumeration.{all_differ, all_followed, differ, elements, enumerated, enumeration, enumeration_operators, followed, followed_from, successor}
 use Rattle.larch_shorthand.specs.Operators.{constant, on, on_two, operator}

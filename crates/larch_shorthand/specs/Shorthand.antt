@@ -11,7 +11,7 @@ use Rattle.larch_raw.specs.declared.shorthand.RawShorthand.{RawShorthand}
 use Rattle.larch_raw.specs.declared.shorthand.RawShorthand.TheVariants.{Enumeration, Tuple, Union}
 use Rattle.larch_term.specs.BuiltIn.{bool_sort}
 use Rattle.larch_term.specs.Operator.{PlainOperator}
-use Rattle.larch_sorts.specs.Faults.{fault_at, unless}
+use Rattle.larch_sorts_meaning.specs.Faults.{fault_at, unless}
 use Rattle.larch_shorthand.specs.Enumeration.{enumeration}
 use Rattle.larch_shorthand.specs.Tuple.{tuple}
 use Rattle.larch_shorthand.specs.Union.{union_}

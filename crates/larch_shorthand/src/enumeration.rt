@@ -1,5 +1,4 @@
 ghost use Rattle.std.specs.Prelude.{◌≡◌, ◌∷◌, [], map, IfOk};
-ghost use Rattle.larch_term.specs.Truth.{truth};
 ghost use Rattle.larch_term.specs.declared.statement.Statement.TheVariants.{Generated};
 ghost use Rattle.larch_shorthand.specs.Enumeration.{all_differ, all_followed, differ, elements, enumerated};
 ghost use Rattle.larch_shorthand.specs.Enumeration.{enumeration, enumeration_operators, followed, followed_from};
@@ -9,10 +8,7 @@ use crate::append::append;
 use crate::expansion::Expansion;
 use crate::operators::{constant, constant_of, from_one, on, on_two};
 use larch_base::{Memory, Name, Sequence};
-use larch_term::{
-    BuiltIn, Operator, Operators, Sort, Statement, Statements, Term, Terms, bool_sort,
-    copy_operators,
-};
+use larch_term::{BuiltIn, Operator, Operators, Sort, Statement, Statements, copy_operators};
 use std::alloc::Global;
 
 // What an enumeration stands for.
@@ -142,17 +138,8 @@ fn differ(
     let first = constant(alloc, first)?;
     let second = constant(alloc, second)?;
     let difference = on_two(alloc, unequal, first, second)?;
-    let truth = truth(alloc)?;
+    let truth = BuiltIn::True.constant(alloc)?;
     Ok(Statement::Equation(difference, truth))
-}
-
-// The constant true.
-fn truth(alloc: Global) -> Result<Term, Memory>
-    ensures { IfOk result (λ term. term ≡ truth) }
-{
-    let sort = bool_sort(alloc)?;
-    let operator = BuiltIn::True.operator(alloc, &sort)?;
-    Ok(Term::app(operator, Terms::from_vec(Vec::new(alloc))))
 }
 
 // That each element but the last is followed by the next.

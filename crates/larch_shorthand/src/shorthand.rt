@@ -2,7 +2,7 @@ ghost use Rattle.std.specs.Prelude.{◌≡◌, ◌++◌, ◌∷◌, [], false, b
 ghost use Rattle.std.specs.List.{list_any};
 ghost use Rattle.larch_base.specs.Answering.{Answers};
 ghost use Rattle.larch_base.specs.declared.code.Code.TheVariants.{FieldTwice};
-ghost use Rattle.larch_sorts.specs.Faults.{fault_at, unless};
+ghost use Rattle.larch_sorts_meaning.specs.Faults.{fault_at, unless};
 ghost use Rattle.larch_shorthand.specs.Shorthand.{expand, expand_operators, field_twice, names_in, names_truth};
 ghost use Rattle.larch_shorthand.specs.Shorthand.{truth_among, twice, wrong_elements, wrong_in};
 ghost use Rattle.larch_shorthand.specs.Refusals.{told};

@@ -1,34 +1,33 @@
 -- What the sides of equations and lone terms read as.
-use Rattle.std.proofs.Common.{◌≡◌, inl, inr, ℕ, Bool, true, false, cond, ◌&&◌, List, [], ◌∷◌, Contains, Option, Some, None, bytes_eq, refl, sym, ◌∙◌, ap, subst}
+use Rattle.std.proofs.Common.{◌≡◌, inl, inr, ℕ, ◌&&◌, List, [], ◌∷◌, Contains, Option, Some, None, refl, sym, ◌∙◌, ap, subst}
 use Rattle.std.specs.Bool.{Decides}
-use Rattle.std.specs.Map.{lookup}
 use Rattle.std.proofs.lemmas.Bool.Decides.{Decides-and, Decides-like}
-use Rattle.std.proofs.lemmas.Slice.Eq.{bytes_eq-Decides}
+use Rattle.std.specs.List.{fold}
 use Rattle.larch_raw.specs.declared.equation.RawRight.{RawRight}
 use Rattle.larch_raw.specs.declared.equation.RawEquation.{RawEquation}
 use Rattle.larch_term.specs.Operator.{PlainOperator}
 use Rattle.larch_term.specs.Sorts.{sort_of}
 use Rattle.larch_term.specs.Tree.{Tree}
 use Rattle.larch_term.specs.BuiltIn.{bool_sort}
-use Rattle.larch_sorts.specs.Read.{unread_in, first_unread}
-use Rattle.larch_sorts.specs.Parts.{parts, right_sides, in_sides}
-use Rattle.larch_sorts.specs.Scope.{Variables}
-use Rattle.larch_sorts.specs.Readings.{Reads, ReadsRight, ReadsLone}
 use Rattle.larch_term.specs.Truth.{truth}
 use Rattle.larch_term.specs.Equality.{same_tree}
-use Rattle.larch_sorts.specs.Table.{Entries, reading_at}
-use Rattle.larch_sorts.specs.Found.{Tells}
-use Rattle.larch_sorts.specs.Tabulate.{TableTells, Unread}
-use Rattle.std.specs.List.{fold}
-use Rattle.larch_sorts.specs.Sides.{AreFound, with_found, sorts_in, found_anywhere, same_sides, paired, sides_found, formula_found, ReadsSides}
-use Rattle.larch_sorts.specs.declared.found.Found.{Found}
-use Rattle.larch_sorts.specs.declared.found.Found.TheVariants.{One, Several}
-use Rattle.larch_sorts.specs.declared.found.Sides.{Sides}
-use Rattle.larch_sorts.specs.declared.refusal.ReadRefusal.{ReadRefusal}
-use Rattle.larch_base.proofs.Members.{contains_here, contains_later}
 use Rattle.larch_term.proofs.Decided.{tree_Decides}
-use Rattle.larch_sorts.proofs.Telling.{tells_same, tells_at_all}
-use Rattle.larch_sorts.proofs.Unread.{read_first, unread_first}
+use Rattle.larch_sorts_meaning.specs.Read.{unread_in, first_unread}
+use Rattle.larch_sorts_meaning.specs.Parts.{parts, right_sides, in_sides}
+use Rattle.larch_sorts_meaning.specs.Scope.{Variables}
+use Rattle.larch_sorts_meaning.specs.Readings.{Reads, ReadsRight, ReadsLone}
+use Rattle.larch_sorts_signature.specs.Table.{Entries, reading_at, sorts_in}
+use Rattle.larch_sorts_meaning.specs.Found.{Tells, with_found}
+use Rattle.larch_sorts.specs.Tabulate.{TableTells}
+use Rattle.larch_sorts_meaning.specs.Refusals.{Unread}
+use Rattle.larch_sorts.specs.Sides.{AreFound, found_anywhere, same_sides, paired, sides_found, formula_found, ReadsSides}
+use Rattle.larch_sorts_meaning.specs.declared.found.Found.{Found}
+use Rattle.larch_sorts_meaning.specs.declared.found.Found.TheVariants.{One, Several}
+use Rattle.larch_sorts.specs.declared.found.Sides.{Sides}
+use Rattle.larch_sorts_meaning.specs.declared.refusal.ReadRefusal.{ReadRefusal}
+use Rattle.larch_sorts_meaning.proofs.Telling.{tells_same, tells_at_all}
+use Rattle.larch_sorts_meaning.proofs.Unread.{read_first, unread_first}
+use Rattle.larch_sorts_signature.proofs.Arguments.{found_in_entry}
 
 pub equal_sides : (p q : Sides) → p.left ≡ q.left → p.right ≡ q.right → p ≡ q
 equal_sides p q l r = λ i. record { left = l i; right = r i }
@@ -37,16 +36,6 @@ sides_Decides : (p q : Sides) → Decides (same_sides p q) (p ≡ q)
 sides_Decides p q =
     Decides-like (same_tree p.left q.left && same_tree p.right q.right) (λ h. equal_sides p q h.0 h.1) (λ e. (ap (λ s. s.left) e, ap (λ s. s.right) e))
     (Decides-and (same_tree p.left q.left) (same_tree p.right q.right) (tree_Decides p.left q.left) (tree_Decides p.right q.right))
-
-found_or_later : (s : List ℕ) (e : List ℕ × Found Tree) (es : Entries) (x : Found Tree) (b : Bool) → bytes_eq s e.0 ≡ b → (lookup (bytes_eq s) es ≡ Some x → Contains (sorts_in es) s)
-    → cond b (Some e.1) (lookup (bytes_eq s) es) ≡ Some x → Contains (sorts_in (e ∷ es)) s
-found_or_later s e es x true q later h = subst (Contains (sorts_in (e ∷ es))) (sym ((bytes_eq-Decides s e.0).0 q)) (contains_here e.0 (sorts_in es))
-found_or_later s e es x false q later h = contains_later e.0 s (sorts_in es) (later h)
-
--- what is found stands in an entry
-pub found_in_entry : (es : Entries) (s : List ℕ) (x : Found Tree) → reading_at es s ≡ Some x → Contains (sorts_in es) s
-found_in_entry [] s x h = cc
-found_in_entry (e ∷ es) s x h = found_or_later s e es x (bytes_eq s e.0) refl (found_in_entry es s x) h
 
 in_sorts_by : (P : Tree → Type 0) (es : Entries) (t : Tree) (o : Option (Found Tree)) → reading_at es (sort_of t) ≡ o → Tells o (λ u. P u × (sort_of u ≡ sort_of t)) → P t → Contains (sorts_in es) (sort_of t)
 in_sorts_by P es t None e h p = absurd (h t (p, refl))

@@ -1,34 +1,81 @@
 -- What tables tell.
-use Rattle.std.proofs.Common.{◌≡◌, ℕ, ◌⊎◌, inl, inr, Bool, true, false, cond, List, [], ◌∷◌, Contains, Option, Some, None, bytes_eq, refl, sym, ◌∙◌, ap, ap₂, subst}
+use Rattle.std.proofs.Common.{◌≡◌, ℕ, ◌⊎◌, inl, inr, Bool, true, false, cond, List, [], ◌∷◌, Option, Some, None, bytes_eq, refl, sym, ◌∙◌, ap, ap₂, subst, ◌+◌, ◌<◌, ◌++◌, take, get_or, length, map}
 use Rattle.std.specs.List.{fold}
 use Rattle.std.proofs.lemmas.Slice.Eq.{bytes_eq-Decides}
+use Rattle.std.proofs.lemmas.List.{take_more, map-append}
 use Rattle.larch_base.specs.declared.position.Pos.{Pos}
+use Rattle.larch_base.proofs.Members.{contains_here, contains_later, contains_cases, contains_none}
 use Rattle.larch_raw.specs.RawTree.{RawTree, RawForest, apply, qualified, raw_forest}
 use Rattle.larch_raw.specs.declared.declared.RawWord.{RawWord}
-use Rattle.larch_term.specs.Operator.{PlainOperator, plain}
-use Rattle.larch_term.specs.Sorts.{sort_of, sorts_of}
-use Rattle.larch_term.specs.Tree.{Tree, var, app, forest_of, list_of}
-use Rattle.larch_term.proofs.TreeLists.{forest_of_inj, forest_of-list_of}
-use Rattle.larch_sorts.specs.Signature.{taking_part}
-use Rattle.larch_sorts.specs.Scope.{Variables}
-use Rattle.larch_sorts.specs.Readings.{variable_sort, Reads, a_variable, an_operator, of_sort, AllRead, all_read, one_read}
-use Rattle.larch_term.specs.Equality.{same_name, same_tree}
-use Rattle.larch_sorts.specs.Table.{Entries, reading_at, application}
-use Rattle.larch_sorts.specs.Found.{Tells}
+use Rattle.larch_term.specs.Operator.{PlainOperator}
+use Rattle.larch_term.specs.Sorts.{sort_of}
+use Rattle.larch_term.specs.Tree.{Tree, var, app, forest_of}
+use Rattle.larch_term.proofs.TreeLists.{forest_of_inj}
+use Rattle.larch_term.specs.Equality.{same_tree}
+use Rattle.larch_term.proofs.Decided.{tree_Decides}
+use Rattle.larch_sorts_meaning.specs.Signature.{taking_part, named}
+use Rattle.larch_sorts_meaning.specs.Scope.{Variables}
+use Rattle.larch_sorts_meaning.specs.Readings.{variable_sort, Reads, a_variable, of_sort, all_read, ReadAt}
+use Rattle.larch_sorts_signature.specs.Table.{Entries, reading_at, application}
+use Rattle.larch_sorts_meaning.specs.Found.{Tells}
 use Rattle.larch_sorts.specs.Tabulate.{TableTells, AllTell}
-use Rattle.larch_sorts.specs.Narrow.{ReadAt}
-use Rattle.larch_sorts.specs.Operators.{with_argument, arguments_at, extended, with_operator, operators_at}
-use Rattle.larch_sorts.specs.Overloads.{AreEnough, IsMade}
-use Rattle.larch_sorts.specs.Signature.{named}
-use Rattle.larch_sorts.specs.declared.found.Found.{Found}
-use Rattle.larch_sorts.specs.declared.found.Found.TheVariants.{One, Several}
-use Rattle.larch_base.proofs.Members.{contains_here, contains_later, contains_cases, contains_none, contains_filter, contained_in_filter}
-use Rattle.larch_term.proofs.Decided.{name_Decides, tree_Decides}
-use Rattle.larch_sorts.proofs.Telling.{tells_same, tells_merged, tells_applied}
+use Rattle.larch_sorts_signature.specs.Operators.{with_argument, arguments_at, extended, with_operator, operators_at}
+use Rattle.larch_sorts_signature.specs.Overloads.{AreEnough, IsMade}
+use Rattle.larch_sorts_meaning.specs.declared.found.Found.{Found}
+use Rattle.larch_sorts_meaning.specs.declared.found.Found.TheVariants.{One, Several}
+use Rattle.larch_sorts_meaning.proofs.Telling.{tells_same, tells_merged}
+use Rattle.larch_sorts_meaning.proofs.Applications.{FirstAndRest, none_at_sorts, some_at_none, only_empty, put_together, taken_apart, ByOperator, ByOperators, from_reads, to_reads, only_variable, inside}
+use Rattle.larch_sorts_meaning.specs.Read.{unread_in}
+use Rattle.larch_sorts_meaning.specs.Parts.{head_of, parts, inner_parts}
+use Rattle.larch_sorts_meaning.proofs.Unread.{unread_without, read_with}
 
--- a list whose first thing has one property, and the further ones another
-abbrev pub FirstAndRest : (Tree → Type 0) → (List Tree → Type 0) → List Tree → Type 0
-FirstAndRest P Q us = (t : Tree) × (ts : List Tree) × (us ≡ t ∷ ts) × P t × Q ts
+-- an application is read where its arguments are
+pub tells_applied : (f : PlainOperator) (Q : List Tree → Type 0) (R : Tree → Type 0) (found : Found (List Tree))
+    → ((ts : List Tree) → Q ts → R (app f (forest_of ts))) → ((t : Tree) → R t → (ts : List Tree) × Q ts × (t ≡ app f (forest_of ts)))
+    → ((ts us : List Tree) → app f (forest_of ts) ≡ app f (forest_of us) → ts ≡ us)
+    → Tells (Some found) Q → Tells (Some (application f found)) R
+tells_applied f Q R (One ts) to from inj h =
+    (to ts h.0, λ y r. let w = from y r in w.2 ∙ ap (λ us. app f (forest_of us)) (h.1 w.0 w.1))
+tells_applied f Q R Several to from inj h =
+    (app f (forest_of h.0), app f (forest_of h.1), to h.0 h.2, to h.1 h.3, λ e. h.4 (inj h.0 h.1 e))
+
+of_found : (P Q : Tree → Type 0) (found : Found Tree) → Tells (Some found) (λ t. P t × Q t) → (t : Tree) × P t
+of_found P Q (One t) k = (t, k.0.0)
+of_found P Q Several k = (k.0, k.2.0)
+
+-- a table with an entry has a reading
+has_reading : (fs : List PlainOperator) (vs : Variables) (raw : RawTree) (s : List ℕ) (found : Found Tree) (es : Entries) → TableTells ((s, found) ∷ es) (Reads fs vs raw) → (t : Tree) × Reads fs vs raw t
+has_reading fs vs raw s found es h =
+    let here : reading_at ((s, found) ∷ es) s ≡ Some found = rw ((bytes_eq-Decides s s).1 refl) refl in
+    of_found (Reads fs vs raw) (λ t. sort_of t ≡ s) found (subst (λ x. Tells x (λ t. Reads fs vs raw t × (sort_of t ≡ s))) here (h s))
+
+-- the same of a table
+pub unread_here : (fs : List PlainOperator) (vs : Variables) (raw : RawTree) (es : Entries) → length es ≡ 0 → unread_in fs vs (inner_parts raw) ≡ None → TableTells es (Reads fs vs raw)
+    → unread_in fs vs (parts raw) ≡ Some (head_of raw)
+unread_here fs vs raw [] l e h = unread_without fs vs raw e (λ t r. h (sort_of t) t (r, refl))
+unread_here fs vs raw (x ∷ es) l e h = cc
+
+pub read_here : (fs : List PlainOperator) (vs : Variables) (raw : RawTree) (es : Entries) → (length es ≡ 0 → ⊥) → unread_in fs vs (inner_parts raw) ≡ None → TableTells es (Reads fs vs raw)
+    → unread_in fs vs (parts raw) ≡ None
+read_here fs vs raw [] l e h = absurd (l refl)
+read_here fs vs raw (x ∷ es) l e h = let r = has_reading fs vs raw x.0 x.1 es h in read_with fs vs raw r.0 e r.1
+
+-- one more table tells what one more argument reads as
+pub all_tell_more : (fs : List PlainOperator) (vs : Variables) (tables : List Entries) (raws : List RawTree) (es : Entries) (raw : RawTree) → AllTell fs vs tables raws → TableTells es (Reads fs vs raw)
+    → AllTell fs vs (tables ++ es ∷ []) (raws ++ raw ∷ [])
+all_tell_more fs vs [] [] es raw h k = (k, tt)
+all_tell_more fs vs [] (x ∷ raws) es raw h k = absurd h
+all_tell_more fs vs (x ∷ tables) [] es raw h k = absurd h
+all_tell_more fs vs (x ∷ tables) (y ∷ raws) es raw h k = (h.0, all_tell_more fs vs tables raws es raw h.1 k)
+
+-- one more table of the code tells what one more argument reads as
+pub all_tell_next : {X : Type 0} (f : X → Entries) (fs : List PlainOperator) (vs : Variables) (old new : List X) (table : X) (raws : List RawTree) (i : ℕ) (raw : RawTree)
+    → i < length raws → raw ≡ get_or raws i raw → new ≡ old ++ table ∷ [] → AllTell fs vs (map f old) (take i raws) → TableTells (f table) (Reads fs vs raw) → AllTell fs vs (map f new) (take (i + 1) raws)
+all_tell_next f fs vs old new table raws i raw lt e grown told h =
+    let tables : map f new ≡ map f old ++ f table ∷ [] = ap (map f) grown ∙ map-append f old (table ∷ []) in
+    let more : take (i + 1) raws ≡ take i raws ++ raw ∷ [] = take_more raws i raw lt ∙ ap (λ r. take i raws ++ r ∷ []) (sym e) in
+    subst (λ ts. AllTell fs vs ts (take (i + 1) raws)) (sym tables)
+    (subst (AllTell fs vs (map f old ++ f table ∷ [])) (sym more) (all_tell_more fs vs (map f old) (take i raws) (f table) raw told h))
 
 tells_with_argument : (P : Tree → Type 0) (Q : List Tree → Type 0) (first : Option (Found Tree)) (rest : Option (Found (List Tree)))
     → Tells first P → Tells rest Q → Tells (with_argument first rest) (FirstAndRest P Q)
@@ -38,31 +85,6 @@ tells_with_argument P Q (Some Several) (Some (One ts)) h k = (h.0 ∷ ts, h.1 �
 tells_with_argument P Q (Some Several) (Some Several) h k = (h.0 ∷ k.0, h.1 ∷ k.0, (h.0, k.0, refl, h.2, k.2), (h.1, k.0, refl, h.3, k.2), λ e. h.4 cc)
 tells_with_argument P Q (Some (One t)) (Some Several) h k = (t ∷ k.0, t ∷ k.1, (t, k.0, refl, h.0, k.2), (t, k.1, refl, h.0, k.3), λ e. k.4 cc)
 tells_with_argument P Q (Some (One t)) (Some (One ts)) h k = ((t, ts, refl, h.0, k.0), λ us w. w.2 ∙ ap₂ (λ u us. u ∷ us) (h.1 w.0 w.3) (k.1 w.1 w.4))
-
-pub none_at_sorts : (fs : List PlainOperator) (vs : Variables) (s : List ℕ) (ss : List (List ℕ)) (ts : List Tree) → ReadAt fs vs [] (s ∷ ss) ts → ⊥
-none_at_sorts fs vs s ss [] (all_read, e) = cc
-none_at_sorts fs vs s ss (t ∷ ts) r = elim r.0 [ ]
-
-pub some_at_none : (fs : List PlainOperator) (vs : Variables) (raw : RawTree) (raws : List RawTree) (ts : List Tree) → ReadAt fs vs (raw ∷ raws) [] ts → ⊥
-some_at_none fs vs raw raws [] r = elim r.0 [ ]
-some_at_none fs vs raw raws (t ∷ ts) (one_read r all, e) = cc
-
-pub only_empty : (fs : List PlainOperator) (vs : Variables) (ts : List Tree) → ReadAt fs vs [] [] ts → ts ≡ []
-only_empty fs vs [] r = refl
-only_empty fs vs (t ∷ ts) r = elim r.0 [ ]
-
-pub put_together : (fs : List PlainOperator) (vs : Variables) (raw : RawTree) (raws : List RawTree) (s : List ℕ) (ss : List (List ℕ)) (us : List Tree)
-    → FirstAndRest (λ t. Reads fs vs raw t × (sort_of t ≡ s)) (ReadAt fs vs raws ss) us → ReadAt fs vs (raw ∷ raws) (s ∷ ss) us
-put_together fs vs raw raws s ss us w =
-    subst (ReadAt fs vs (raw ∷ raws) (s ∷ ss)) (sym w.2) (one_read w.3.0 w.4.0, ap₂ (λ z zs. z ∷ zs) w.3.1 w.4.1)
-
-pub taken_apart : (fs : List PlainOperator) (vs : Variables) (raw : RawTree) (raws : List RawTree) (s : List ℕ) (ss : List (List ℕ)) (us : List Tree)
-    → ReadAt fs vs (raw ∷ raws) (s ∷ ss) us → FirstAndRest (λ t. Reads fs vs raw t × (sort_of t ≡ s)) (ReadAt fs vs raws ss) us
-taken_apart fs vs raw raws s ss [] r = elim r.0 [ ]
-taken_apart fs vs raw raws s ss (t ∷ ts) (one_read r all, e) =
-    let a : sort_of t ≡ s = cc in
-    let b : sorts_of (forest_of ts) ≡ ss = cc in
-    (t, ts, refl, (r, a), (all, b))
 
 -- the arguments in tables are those that are read
 pub arguments_tell : (fs : List PlainOperator) (vs : Variables) (tables : List Entries) (raws : List RawTree) (ss : List (List ℕ))
@@ -76,14 +98,6 @@ arguments_tell fs vs (es ∷ tables) (raw ∷ raws) (s ∷ ss) h =
     tells_same (FirstAndRest (λ t. Reads fs vs raw t × (sort_of t ≡ s)) (ReadAt fs vs raws ss)) (ReadAt fs vs (raw ∷ raws) (s ∷ ss))
     (put_together fs vs raw raws s ss) (taken_apart fs vs raw raws s ss) (with_argument (reading_at es s) (arguments_at tables ss))
     (tells_with_argument (λ t. Reads fs vs raw t × (sort_of t ≡ s)) (ReadAt fs vs raws ss) (reading_at es s) (arguments_at tables ss) (h.0 s) (arguments_tell fs vs tables raws ss h.1))
-
--- a term that an operator makes of arguments that are read at its domain
-abbrev pub ByOperator : List PlainOperator → Variables → List RawTree → PlainOperator → Tree → Type 0
-ByOperator fs vs raws f t = (ts : List Tree) × ReadAt fs vs raws f.domain ts × (t ≡ app f (forest_of ts))
-
--- a term that one of some operators makes of them
-abbrev pub ByOperators : List PlainOperator → Variables → List RawTree → List PlainOperator → Tree → Type 0
-ByOperators fs vs raws gs t = (f : PlainOperator) × Contains gs f × ByOperator fs vs raws f t
 
 module _ (fs : List PlainOperator) (vs : Variables) (tables : List Entries) (raws : List RawTree) (told : AllTell fs vs tables raws) (s : List ℕ) where
   extended_tells : (P : Tree → Type 0) (before : Option (Found Tree)) (f : PlainOperator) (arguments : Option (Found (List Tree)))
@@ -133,22 +147,6 @@ module _ (fs : List PlainOperator) (vs : Variables) (tables : List Entries) (raw
       tells_same (λ t. ⊥ ⊎ (ByOperators fs vs raws gs t × (sort_of t ≡ s))) (λ t. ByOperators fs vs raws gs t × (sort_of t ≡ s))
       (λ t p. elim p [ inl a ↦ absurd a | inr b ↦ b ]) (λ t p. inr p) (operators_at tables gs s) (folded (λ t. ⊥) None gs (λ t p. p))
 
-pub from_reads : (fs : List PlainOperator) (vs : Variables) (n : List ℕ) (raws : List RawTree) (rs : RawForest) (p : Pos) (t : Tree) → rs ≡ raw_forest raws → variable_sort vs n rs ≡ None
-    → Reads fs vs (apply n rs p) t → ByOperators fs vs raws (named n (taking_part fs)) t
-from_reads fs vs n raws rs p (var m s) i unbound (a_variable e) = cc
-from_reads fs vs n raws rs p (app f ts) i unbound (an_operator e c d all sorts) =
-    let back = forest_of-list_of ts in (
-      f,
-      contains_filter (λ g. same_name g.name (plain n)) (taking_part fs) f c ((name_Decides f.name (plain n)).1 d),
-      (list_of ts, (subst (λ us. AllRead fs vs (raw_forest raws) us) (sym back) (subst (λ us. AllRead fs vs us ts) i all), ap sorts_of back ∙ sorts), ap (app f) (sym back)),
-    )
-
-pub to_reads : (fs : List PlainOperator) (vs : Variables) (n : List ℕ) (raws : List RawTree) (p : Pos) (t : Tree) → variable_sort vs n (raw_forest raws) ≡ None
-    → ByOperators fs vs raws (named n (taking_part fs)) t → Reads fs vs (apply n (raw_forest raws) p) t
-to_reads fs vs n raws p t unbound b =
-    let c = contained_in_filter (λ g. same_name g.name (plain n)) (taking_part fs) b.0 b.1 in
-    subst (Reads fs vs (apply n (raw_forest raws) p)) (sym b.2.2) (an_operator unbound c.0 ((name_Decides b.0.name (plain n)).0 c.1) b.2.1.0 b.2.1.1)
-
 -- enough operators make the same terms
 fewer : (fs : List PlainOperator) (vs : Variables) (raws : List RawTree) (tables : List Entries) (hs gs : List PlainOperator) (t : Tree) → AreEnough tables hs gs → ByOperators fs vs raws gs t → ByOperators fs vs raws hs t
 fewer fs vs raws tables hs gs t enough b = (b.0, enough.0 b.0 b.1, b.2)
@@ -171,10 +169,6 @@ application_tells fs vs n raws p es tables unbound told made = λ s.
     (λ t q. (all_made fs vs raws tables (named n (taking_part fs)) made.0 t told made.1 (from_reads fs vs n raws (raw_forest raws) p t refl unbound q.0), q.1)) (reading_at es s)
     (subst (λ x. Tells x (λ t. ByOperators fs vs raws made.0 t × (sort_of t ≡ s))) (sym (made.2 s)) (operators_tell fs vs tables raws told s made.0))
 
-pub only_variable : (fs : List PlainOperator) (vs : Variables) (n z : List ℕ) (rs : RawForest) (p : Pos) (t : Tree) → variable_sort vs n rs ≡ Some z → Reads fs vs (apply n rs p) t → t ≡ var n z
-only_variable fs vs n z rs p (var m s) some (a_variable e) = ap (var n) (let q : Some s ≡ Some z = sym e ∙ some in cc)
-only_variable fs vs n z rs p (app f ts) some (an_operator e c d all sorts) = absurd (let q : None ≡ Some z = sym e ∙ some in cc)
-
 pub variable_at : (fs : List PlainOperator) (vs : Variables) (n z : List ℕ) (rs : RawForest) (p : Pos) (s : List ℕ) (b : Bool) → variable_sort vs n rs ≡ Some z → bytes_eq z s ≡ b
     → Tells (cond b (Some (One (var n z))) None) (λ t. Reads fs vs (apply n rs p) t × (sort_of t ≡ s))
 variable_at fs vs n z rs p s true some e = ((a_variable some, (bytes_eq-Decides z s).0 e), λ t q. only_variable fs vs n z rs p t some q.0)
@@ -187,9 +181,6 @@ pub variable_tells : (fs : List PlainOperator) (vs : Variables) (n z : List ℕ)
     → ((s : List ℕ) → reading_at es s ≡ cond (bytes_eq z s) (Some (One (var n z))) None) → TableTells es (Reads fs vs (apply n rs p))
 variable_tells fs vs n z rs p es some is = λ s.
     subst (λ x. Tells x (λ t. Reads fs vs (apply n rs p) t × (sort_of t ≡ s))) (sym (is s)) (variable_at fs vs n z rs p s (bytes_eq z s) some refl)
-
-pub inside : (fs : List PlainOperator) (vs : Variables) (raw : RawTree) (w : RawWord) (p : Pos) (t : Tree) → Reads fs vs (qualified raw w p) t → Reads fs vs raw t × (sort_of t ≡ w.name)
-inside fs vs raw w p t (of_sort r e) = (r, e)
 
 narrowed_at : (fs : List PlainOperator) (vs : Variables) (raw : RawTree) (w : RawWord) (p : Pos) (old : Entries) (s : List ℕ) (b : Bool) → bytes_eq w.name s ≡ b → TableTells old (Reads fs vs raw)
     → Tells (cond b (reading_at old w.name) None) (λ t. Reads fs vs (qualified raw w p) t × (sort_of t ≡ s))

@@ -1,47 +1,59 @@
 -- What counts tell of terms and equations.
-use Rattle.std.proofs.Common.{◌≡◌, ℕ, ◌<◌, suc, inl, List, [], ◌∷◌, ◌++◌, Option, Some, None, IfSome, length, refl, sym, ◌∙◌, ap, subst}
-use Rattle.larch_base.specs.declared.position.Pos.{Pos}
-use Rattle.larch_raw.specs.RawTree.{RawTree, qualified}
-use Rattle.larch_raw.specs.declared.declared.RawWord.{RawWord}
+use Rattle.std.proofs.Common.{◌≡◌, ℕ, ◌<◌, inl, List, [], ◌∷◌, ◌++◌, Option, Some, None, IfSome, length, refl, sym, ◌∙◌, ap, subst, ◌+◌, inr}
+use Rattle.larch_raw.specs.RawTree.{RawTree}
 use Rattle.larch_raw.specs.declared.equation.RawEquation.{RawEquation}
 use Rattle.larch_raw.specs.declared.equation.RawRight.{RawRight}
 use Rattle.larch_term.specs.Operator.{PlainOperator}
 use Rattle.larch_term.specs.Tree.{Tree}
-use Rattle.larch_sorts.specs.Count.{IsCount, alone, count_at, sum_to, times}
-use Rattle.larch_sorts.specs.Counts.{AreCounts, AreRead, TellsUnread}
-use Rattle.larch_sorts.specs.Found.{Tells}
-use Rattle.larch_sorts.specs.Narrow.{ReadsAt}
-use Rattle.larch_sorts.specs.Numbers.{AreNumbers, number_of}
-use Rattle.larch_sorts.specs.Parts.{head_of, in_sides, inner_parts, parts, right_sides}
-use Rattle.larch_sorts.specs.Read.{first_unread, unread_in}
-use Rattle.larch_sorts.specs.Readings.{Reads, ReadsLone, ReadsRight}
-use Rattle.larch_sorts.specs.Scope.{Variables}
+use Rattle.larch_term.specs.Sorts.{sort_of}
+use Rattle.larch_sorts_counts.specs.Count.{IsCount, count_at, sum_to, times}
+use Rattle.larch_sorts_counts.specs.Counts.{AreCounts, CountsTell}
+use Rattle.larch_sorts_meaning.specs.Found.{Tells}
+use Rattle.larch_sorts_meaning.specs.Readings.{ReadsAt, Reads, ReadsLone, ReadsRight}
+use Rattle.larch_sorts_counts.specs.Numbers.{AreNumbers, number_of}
+use Rattle.larch_sorts_meaning.specs.Parts.{in_sides, parts, right_sides}
+use Rattle.larch_sorts_meaning.specs.Read.{first_unread, unread_in}
+use Rattle.larch_sorts_meaning.specs.Scope.{Variables}
 use Rattle.larch_sorts.specs.Sides.{ReadBoth, ReadsFormula, ReadsSides}
-use Rattle.larch_sorts.specs.Signature.{taking_part}
-use Rattle.larch_sorts.specs.Tabulate.{Unread}
-use Rattle.larch_sorts.specs.declared.count.Count.{Count}
-use Rattle.larch_sorts.specs.declared.count.Count.TheVariants.{Never}
-use Rattle.larch_sorts.specs.declared.found.Found.{Found}
+use Rattle.larch_sorts_meaning.specs.Signature.{taking_part}
+use Rattle.larch_sorts_meaning.specs.Refusals.{Unread}
+use Rattle.larch_sorts_counts.specs.declared.count.Count.{Count}
+use Rattle.larch_sorts_counts.specs.declared.count.Count.TheVariants.{Never}
+use Rattle.larch_sorts_meaning.specs.declared.found.Found.{Found}
 use Rattle.larch_sorts.specs.declared.found.Sides.{Sides}
-use Rattle.larch_sorts.specs.declared.numbers.Numbers.{Numbers}
-use Rattle.larch_sorts.specs.declared.refusal.ReadRefusal.{ReadRefusal}
-use Rattle.larch_sorts.proofs.Counting.{counted_thing}
-use Rattle.larch_sorts.proofs.CountsTold.{at_sort, both_counted, qualified_counted, total_counted}
-use Rattle.larch_sorts.proofs.SidesTold.{formula_read, sides_read}
-use Rattle.larch_sorts.proofs.Telling.{tells_same}
-use Rattle.larch_sorts.proofs.Unread.{read_first, read_with, unread_inside, unread_without}
+use Rattle.larch_sorts_counts.specs.declared.numbers.Numbers.{Numbers}
+use Rattle.larch_sorts_meaning.specs.declared.refusal.ReadRefusal.{ReadRefusal}
+use Rattle.larch_sorts.proofs.SidesTold.{formula_read, sides_read, equal_sides}
+use Rattle.larch_sorts_meaning.proofs.Telling.{tells_same}
+use Rattle.larch_sorts_meaning.proofs.Unread.{read_first}
+use Rattle.larch_sorts_counts.proofs.Counting.{count_all, count_both, count_same, earlier_or_now}
+use Rattle.larch_sorts_counts.proofs.Numbering.{one_number}
+use Rattle.larch_sorts_counts.proofs.CountsTold.{below_next}
 
--- the count at a sort that has a number
-pub count_told : (numbers : Numbers) (fs : List PlainOperator) (vs : Variables) (raw : RawTree) (counts : List Count) (s : List ℕ) (c : Count) → AreNumbers numbers (taking_part fs)
-    → AreCounts numbers vs raw counts → number_of numbers.sorts.keys s < length numbers.sorts.keys → c ≡ count_at counts (number_of numbers.sorts.keys s) → IsCount c (ReadsAt fs vs raw s)
-count_told numbers fs vs raw counts s c are h l e =
-    subst (λ d. IsCount d (ReadsAt fs vs raw s)) (sym e) (at_sort numbers.sorts.keys fs vs raw counts s (h fs are) (inl l))
+-- sides that have sorts of one number
+abbrev pub SidesAt : List (List ℕ) → List PlainOperator → Variables → RawTree → RawTree → ℕ → Sides → Type 0
+SidesAt ss fs vs left right i p =
+    (Reads fs vs left p.left × (number_of ss (sort_of p.left) ≡ i)) × (Reads fs vs right p.right × (number_of ss (sort_of p.right) ≡ i))
 
--- the count of all readings
-pub total_told : (numbers : Numbers) (fs : List PlainOperator) (vs : Variables) (raw : RawTree) (counts : List Count) (c : Count) → AreNumbers numbers (taking_part fs)
-    → AreCounts numbers vs raw counts → c ≡ sum_to (count_at counts) (suc (length numbers.sorts.keys)) → IsCount c (Reads fs vs raw)
-total_told numbers fs vs raw counts c are h e =
-    subst (λ d. IsCount d (Reads fs vs raw)) (sym e) (total_counted numbers.sorts.keys fs vs raw counts (h fs are))
+module _ (ss : List (List ℕ)) (fs : List PlainOperator) (vs : Variables) (left right : RawTree) (lefts rights : List Count) (h : CountsTell ss fs vs left lefts) (k : CountsTell ss fs vs right rights) where
+  sides_at : (i : ℕ) → IsCount (times (count_at lefts i) (count_at rights i)) (SidesAt ss fs vs left right i)
+  sides_at i =
+      count_both (λ t. Reads fs vs left t × (number_of ss (sort_of t) ≡ i)) (λ t. Reads fs vs right t × (number_of ss (sort_of t) ≡ i)) (SidesAt ss fs vs left right i)
+      (λ l r. record { left = l; right = r }) (λ l r p q. (p, q)) (λ p q. (p.left, p.right, equal_sides p (record { left = p.left; right = p.right }) refl refl, q.0, q.1))
+      (λ x u y v e. ap (λ p. p.left) e) (λ x u y v e. ap (λ p. p.right) e) (count_at lefts i) (count_at rights i) (h i) (k i)
+
+  -- how often two terms read as terms of one sort
+  pub both_counted : times (count_at lefts (length ss)) (count_at rights (length ss)) ≡ Never
+      → IsCount (sum_to (λ i. times (count_at lefts i) (count_at rights i)) (length ss)) (ReadBoth fs vs left right)
+  both_counted last =
+      count_all (ReadBoth fs vs left right) (λ p. number_of ss (sort_of p.left)) (λ i. times (count_at lefts i) (count_at rights i)) (length ss)
+      (λ p r. elim (earlier_or_now (number_of ss (sort_of p.left)) (length ss) (below_next (sort_of p.left) ss)) [
+        | inl l ↦ l
+        | inr e ↦ absurd (subst (λ c. IsCount c (SidesAt ss fs vs left right (length ss))) last (sides_at (length ss)) p ((r.0, e), (r.1.0, ap (number_of ss) (sym r.1.1) ∙ e)))
+      ])
+      (λ i l. count_same (SidesAt ss fs vs left right i) (λ p. ReadBoth fs vs left right p × (number_of ss (sort_of p.left) ≡ i))
+      (λ p q. ((q.0.0, (q.1.0, one_number ss (sort_of p.left) (sort_of p.right) (q.0.1 ∙ sym q.1.1) (subst (λ n. n < length ss) (sym q.1.1) l))), q.0.1))
+      (λ p q. ((q.0.0, q.1), (q.0.1.0, ap (number_of ss) (sym q.0.1.1) ∙ q.1))) (times (count_at lefts i) (count_at rights i)) (sides_at i))
 
 -- the count of sides of one sort
 pub sides_told : (numbers : Numbers) (fs : List PlainOperator) (vs : Variables) (left right : RawTree) (lefts rights : List Count) (c : Count) → AreNumbers numbers (taking_part fs)
@@ -71,30 +83,6 @@ sides_picked fs vs left right s l r h k = (h.0, (k.0, h.1 ∙ sym k.1))
 -- what was found at a sort
 pub picked_reads : (fs : List PlainOperator) (vs : Variables) (raw : RawTree) (s : List ℕ) (found : Option Tree) (t : Tree) → found ≡ Some t → IfSome found (ReadsAt fs vs raw s) → Reads fs vs raw t
 picked_reads fs vs raw s found t e h = (subst (λ o. IfSome o (ReadsAt fs vs raw s)) e h).0
-
--- a term without a reading, whose parts are read
-pub counts_unread : (numbers : Numbers) (vs : Variables) (raw : RawTree) (counts : List Count) → AreCounts numbers vs raw counts → sum_to (count_at counts) (suc (length numbers.sorts.keys)) ≡ Never
-    → AreRead numbers vs (inner_parts raw) → (fs : List PlainOperator) → AreNumbers numbers (taking_part fs) → unread_in fs vs (parts raw) ≡ Some (head_of raw)
-counts_unread numbers vs raw counts h e r fs are = unread_without fs vs raw (r fs are) (total_told numbers fs vs raw counts Never are h (sym e))
-
--- a term with a reading, whose parts are read
-pub counts_read : (numbers : Numbers) (vs : Variables) (raw : RawTree) (counts : List Count) → AreCounts numbers vs raw counts → (sum_to (count_at counts) (suc (length numbers.sorts.keys)) ≡ Never → ⊥)
-    → AreRead numbers vs (inner_parts raw) → AreRead numbers vs (parts raw)
-counts_read numbers vs raw counts h n r = λ fs are.
-    let t = counted_thing (Reads fs vs raw) (sum_to (count_at counts) (suc (length numbers.sorts.keys))) n (total_counted numbers.sorts.keys fs vs raw counts (h fs are)) in
-    read_with fs vs raw t.0 (r fs are) t.1
-
--- what is unread inside a term
-pub unread_outside : (numbers : Numbers) (vs : Variables) (raw : RawTree) (refusal : ReadRefusal) → TellsUnread numbers vs (inner_parts raw) refusal → TellsUnread numbers vs (parts raw) refusal
-unread_outside numbers vs raw refusal u = λ fs are. unread_inside fs vs refusal raw (u fs are)
-
--- the counts of a qualification, if its sort has a number
-pub qualified_told : {X : Type 0} (f : X → List Count) (numbers : Numbers) (vs : Variables) (raw : RawTree) (w : RawWord) (p : Pos) (inner : X) (found : Option X) → AreCounts numbers vs raw (f inner)
-    → IfSome found (λ now. (number_of numbers.sorts.keys w.name < length numbers.sorts.keys)
-    × (f now ≡ alone (length numbers.sorts.keys) (number_of numbers.sorts.keys w.name) (count_at (f inner) (number_of numbers.sorts.keys w.name))))
-    → IfSome found (λ now. AreCounts numbers vs (qualified raw w p) (f now))
-qualified_told f numbers vs raw w p inner None h k = tt
-qualified_told f numbers vs raw w p inner (Some now) h k = qualified_counted numbers vs raw w p (f inner) (f now) h k.0 k.1
 
 if_told : {X : Type 0} (P Q : X → Type 0) → ((x : X) → P x → Q x) → (o : Option X) → IfSome o P → IfSome o Q
 if_told P Q to None h = tt

@@ -10,7 +10,7 @@ use Rattle.larch_raw.specs.RawTree.{RawTree, raw_forest}
 use Rattle.larch_raw.specs.declared.declared.RawWord.{RawWord}
 use Rattle.larch_term.specs.Operator.{PlainOperator}
 use Rattle.larch_operators.specs.Sorts.{exists_sort}
-use Rattle.larch_sorts.specs.Unknown.{unknown_among, sort_words, sort_words_of}
+use Rattle.larch_sorts_meaning.specs.Unknown.{unknown_among, sort_words, sort_words_of}
 
 unknown_append : (fs : List PlainOperator) (xs ys : List RawWord) → unknown_among fs (xs ++ ys) ≡ option_or (unknown_among fs xs) (unknown_among fs ys)
 unfolding unknown_among

@@ -1,5 +1,5 @@
 -- What was found of the sides of an equation.
-use Rattle.std.specs.Prelude.{Bool, List, None, Option, Some, fold, map, ℕ, ◌&&◌, ◌≡◌, ◌⊎◌}
+use Rattle.std.specs.Prelude.{Bool, List, None, Option, Some, fold, ℕ, ◌&&◌, ◌≡◌, ◌⊎◌}
 use Rattle.larch_raw.specs.RawTree.{RawTree}
 use Rattle.larch_raw.specs.declared.equation.RawEquation.{RawEquation}
 use Rattle.larch_term.specs.Operator.{PlainOperator}
@@ -8,23 +8,15 @@ use Rattle.larch_term.specs.Sorts.{sort_of}
 use Rattle.larch_term.specs.Tree.{Tree}
 use Rattle.larch_term.specs.declared.statement.Statement.TheVariants.{Equation}
 use Rattle.larch_term.specs.Equality.{same_tree}
-use Rattle.larch_sorts.specs.Parts.{sides}
-use Rattle.larch_sorts.specs.Readings.{Reads, ReadsEquation}
 use Rattle.larch_term.specs.Truth.{truth}
-use Rattle.larch_sorts.specs.Scope.{Variables}
-use Rattle.larch_sorts.specs.Table.{Entries, merged_by, reading_at}
-use Rattle.larch_sorts.specs.declared.found.Found.{Found}
-use Rattle.larch_sorts.specs.declared.found.Found.TheVariants.{One, Several}
+use Rattle.larch_sorts_meaning.specs.Parts.{sides}
+use Rattle.larch_sorts_meaning.specs.Readings.{Reads, ReadsEquation}
+use Rattle.larch_sorts_meaning.specs.Scope.{Variables}
+use Rattle.larch_sorts_signature.specs.Table.{Entries, reading_at, sorts_in}
+use Rattle.larch_sorts_meaning.specs.declared.found.Found.{Found}
+use Rattle.larch_sorts_meaning.specs.declared.found.Found.TheVariants.{One, Several}
 use Rattle.larch_sorts.specs.declared.found.Sides.{Sides}
-
--- what was found before together with what was found now, if anything
-abbrev pub with_found : {A : Type 0} → (A → A → Bool) → Option (Found A) → Option (Found A) → Option (Found A)
-with_found same before None = before
-with_found same before (Some now) = Some (merged_by same before now)
-
--- the sorts that have an entry
-abbrev pub sorts_in : Entries → List (List ℕ)
-sorts_in es = map (λ e. e.0) es
+use Rattle.larch_sorts_meaning.specs.Found.{with_found}
 
 -- what was found of all sorts
 abbrev pub found_anywhere : Entries → Option (Found Tree)

@@ -1,18 +1,13 @@
 -- Tables that tell what terms read as.
-use Rattle.std.specs.Prelude.{IfSome, List, Option, Some, [], ℕ, ◌∷◌, ◌≡◌}
-use Rattle.larch_base.specs.declared.code.Code.TheVariants.{NoReading}
-use Rattle.larch_base.specs.declared.position.Pos.{Pos}
+use Rattle.std.specs.Prelude.{List, [], ℕ, ◌∷◌, ◌≡◌}
 use Rattle.larch_raw.specs.RawTree.{RawTree}
 use Rattle.larch_term.specs.Operator.{PlainOperator}
 use Rattle.larch_term.specs.Sorts.{sort_of}
 use Rattle.larch_term.specs.Tree.{Tree}
-use Rattle.larch_sorts.specs.Faults.{fault_at}
-use Rattle.larch_sorts.specs.Found.{Tells}
-use Rattle.larch_sorts.specs.Readings.{Reads}
-use Rattle.larch_sorts.specs.Refusals.{told}
-use Rattle.larch_sorts.specs.Scope.{Variables}
-use Rattle.larch_sorts.specs.Table.{Entries, reading_at}
-use Rattle.larch_sorts.specs.declared.refusal.ReadRefusal.{ReadRefusal}
+use Rattle.larch_sorts_meaning.specs.Found.{Tells}
+use Rattle.larch_sorts_meaning.specs.Readings.{Reads}
+use Rattle.larch_sorts_meaning.specs.Scope.{Variables}
+use Rattle.larch_sorts_signature.specs.Table.{Entries, reading_at}
 
 -- a table tells of each sort what has a property and the sort
 abbrev pub TableTells : Entries → (Tree → Type 0) → Type 0
@@ -24,7 +19,3 @@ AllTell fs vs [] [] = Unit {0}
 AllTell fs vs [] (raw ∷ raws) = ⊥
 AllTell fs vs (es ∷ tables) [] = ⊥
 AllTell fs vs (es ∷ tables) (raw ∷ raws) = TableTells es (Reads fs vs raw) × AllTell fs vs tables raws
-
--- why a term has no table: a fault that the refusal tells is NO-READING, at the first part that has no reading
-abbrev pub Unread : ReadRefusal → Option Pos → Type 0
-Unread refusal pos = IfSome (told refusal) (λ f. fault_at NoReading pos ≡ Some f)

@@ -1,27 +1,23 @@
 ghost use Rattle.std.specs.Prelude.{◌≡◌, IfErr, IfOk, IfSome, None};
 ghost use Rattle.std.specs.Option.{option_copied};
 ghost use Rattle.larch_term.specs.Sorts.{WellSorted, IsOver};
-ghost use Rattle.larch_sorts.specs.Read.{read_term, first_unread};
+ghost use Rattle.larch_sorts_meaning.specs.Read.{read_term, first_unread};
 ghost use Rattle.larch_base.specs.Answering.{Answers};
-ghost use Rattle.larch_sorts.specs.Refusals.{told};
-ghost use Rattle.larch_sorts.specs.Scope.{HasVariablesOf};
-ghost use Rattle.larch_sorts.specs.Unknown.{unknown_sort};
-ghost use Rattle.larch_sorts.specs.Stands.{Stands};
-ghost use Rattle.larch_sorts.specs.Readings.{ReadsLone, IsOnly};
-ghost use Rattle.larch_sorts.specs.Found.{Tells};
-ghost use Rattle.larch_sorts.specs.Tabulate.{Unread};
+ghost use Rattle.larch_sorts_meaning.specs.Refusals.{told, Unread};
+ghost use Rattle.larch_sorts_meaning.specs.Scope.{HasVariablesOf};
+ghost use Rattle.larch_sorts_meaning.specs.Unknown.{unknown_sort};
+ghost use Rattle.larch_sorts_meaning.specs.Stands.{Stands};
+ghost use Rattle.larch_sorts_meaning.specs.Readings.{ReadsLone, IsOnly};
+ghost use Rattle.larch_sorts_meaning.specs.Found.{Tells};
 
 use crate::counted::{counted_anywhere, counted_at};
-use crate::found::Found;
-use crate::reading::{Reading, term_of};
-use crate::refusal::ReadRefusal;
-use crate::scope::Scope;
 use crate::sides::anywhere;
-use crate::signature::Signature;
-use crate::table::{at, copy_found};
-use crate::tabulate::{equation_head, table_of};
+use crate::tabulate::table_of;
 use crate::unknown::unknown_sort;
 use larch_raw::RawEquation;
+use larch_sorts_meaning::{Found, ReadRefusal, Scope, equation_head};
+use larch_sorts_signature::table::{at, copy_found};
+use larch_sorts_signature::{Reading, Signature, term_of};
 use larch_term::{Sort, Term};
 use std::alloc::Global;
 

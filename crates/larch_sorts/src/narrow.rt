@@ -1,22 +1,16 @@
 ghost use Rattle.std.specs.Prelude.{◌≡◌, IfOk, IfSome, Some, None, cond, bytes_eq};
 ghost use Rattle.std.specs.Option.{option_copied};
 ghost use Rattle.larch_term.specs.Tree.{var};
-ghost use Rattle.larch_sorts.specs.Makers.{maker_among, making};
-ghost use Rattle.larch_sorts.specs.Narrow.{ReadAt, ReadsAt, application_of, the_one};
-ghost use Rattle.larch_sorts.specs.Readings.{IsOnly};
-ghost use Rattle.larch_sorts.specs.Signature.{named, taking_part};
+ghost use Rattle.larch_sorts_meaning.specs.Readings.{ReadAt, ReadsAt, IsOnly};
+ghost use Rattle.larch_sorts.specs.Narrow.{application_of, the_one};
 
 use crate::counted::counted_at;
-use crate::found::Found;
-use crate::place::Place;
-use crate::reading::Reading;
-use crate::refusal::ReadRefusal;
-use crate::scope::Scope;
-use crate::signature::Signature;
-use crate::table::at;
-use crate::tabulate::{table_of, variable_sort};
+use crate::tabulate::table_of;
 use larch_base::{Memory, Name, Sequence};
 use larch_raw::{RawNode, RawTerm, RawTerms};
+use larch_sorts_meaning::{Found, ReadRefusal, Scope, variable_sort};
+use larch_sorts_signature::table::at;
+use larch_sorts_signature::{Reading, Signature, maker_of};
 use larch_term::{Operator, Sort};
 use std::alloc::Global;
 
@@ -127,29 +121,6 @@ fn applied(
     };
     let reading = Reading::app(alloc, operator, arguments.into_vec())?;
     Ok(Some(reading))
-}
-
-// The operator of a name that makes a sort of so many arguments, or that there are several.
-pub(crate) fn maker_of(
-    signature: &Signature,
-    name: &Name,
-    arity: usize,
-    sort: &Sort,
-) -> Result<Option<Found<Operator>>, Memory>
-    ensures { IfOk result (λ found. found
-        ≡ maker_among (making arity sort.now) (named name.now (taking_part signature.now))) }
-{
-    let Some(overloads) = signature.named(name) else {
-        return Ok(None);
-    };
-    let sort = sort.copy()?;
-    let place = Place {
-        arity,
-        position: 0,
-        sort,
-    };
-    let found = overloads.maker(&place)?;
-    Ok(found)
 }
 
 // What the counts of a term tell at a sort, or else its table, if that is one thing.

@@ -1,20 +1,15 @@
 ghost use Rattle.std.specs.Option.{option_copied};
 ghost use Rattle.std.specs.Prelude.{◌≡◌, Contains, IfOk, IfSome};
-ghost use Rattle.larch_sorts.specs.Narrow.{ReadAt, ReadsAt};
-ghost use Rattle.larch_sorts.specs.Signature.{named, taking_part};
+ghost use Rattle.larch_sorts_meaning.specs.Readings.{ReadAt, ReadsAt};
+ghost use Rattle.larch_sorts_meaning.specs.Signature.{named, taking_part};
 
-use crate::count::Count;
-use crate::counts::Counted;
-use crate::found::Found;
-use crate::narrow::{maker_of, variable_at};
-use crate::numbers::Numbered;
-use crate::reading::Reading;
-use crate::scope::Scope;
-use crate::signature::Signature;
-use crate::tabulate::variable_sort;
-use crate::tally::product;
+use crate::narrow::variable_at;
 use larch_base::{Memory, Name, Sequence};
 use larch_raw::{RawNode, RawTerm, RawTerms};
+use larch_sorts_counts::tally::product;
+use larch_sorts_counts::{Count, Counted, Numbered};
+use larch_sorts_meaning::{Found, Scope, variable_sort};
+use larch_sorts_signature::{Reading, Signature, maker_of};
 use larch_term::{Operator, Sort};
 use std::alloc::Global;
 

@@ -2,15 +2,16 @@ ghost use Rattle.std.specs.Prelude.{◌≡◌, Some, None, IfOk, IsTrue};
 ghost use Rattle.larch_term.specs.BuiltIn.{bool_sort};
 ghost use Rattle.larch_term.specs.Truth.{truth};
 ghost use Rattle.larch_term.specs.Equality.{same_tree};
-ghost use Rattle.larch_sorts.specs.Table.{reading_at, merged_by};
-ghost use Rattle.larch_sorts.specs.Sides.{AreFound, sorts_in, with_found, found_anywhere, paired, same_sides};
-ghost use Rattle.larch_sorts.specs.Sides.{sides_found, formula_found};
-ghost use Rattle.larch_sorts.specs.declared.found.Found.TheVariants.{One, Several};
+ghost use Rattle.larch_sorts_signature.specs.Table.{reading_at, sorts_in};
+ghost use Rattle.larch_sorts_meaning.specs.Found.{merged_by, with_found};
+ghost use Rattle.larch_sorts.specs.Sides.{AreFound, found_anywhere, paired, same_sides, sides_found, formula_found};
+ghost use Rattle.larch_sorts_meaning.specs.declared.found.Found.TheVariants.{One, Several};
 
-use crate::found::{Found, Sides, Table};
-use crate::reading::Reading;
-use crate::table::{at, copy_found, is_same, join};
+use crate::found::Sides;
 use larch_base::Memory;
+use larch_sorts_meaning::Found;
+use larch_sorts_signature::table::{at, copy_found, is_same, join};
+use larch_sorts_signature::{Reading, Table};
 use larch_term::{BuiltIn, Sort, bool_sort};
 use std::alloc::Global;
 

@@ -1,31 +1,26 @@
 ghost use Rattle.std.specs.Prelude.{◌≡◌, ℕ, List, IfOk, IfErr, Some, None, map, cond, bytes_eq};
-ghost use Rattle.std.specs.Option.{option_copied};
-ghost use Rattle.larch_base.specs.declared.position.Pos.{Pos};
 ghost use Rattle.larch_raw.specs.RawTree.{raw_forest};
-ghost use Rattle.larch_sorts.specs.Read.{unread_in};
-ghost use Rattle.larch_sorts.specs.Parts.{equation_head, head_of, parts, parts_of};
-ghost use Rattle.larch_sorts.specs.Readings.{Reads, variable_sort};
-ghost use Rattle.larch_sorts.specs.declared.found.Found.TheVariants.{One};
+ghost use Rattle.larch_sorts_meaning.specs.Read.{unread_in};
+ghost use Rattle.larch_sorts_meaning.specs.Parts.{head_of, parts, parts_of, inner_parts};
+ghost use Rattle.larch_sorts_meaning.specs.Readings.{Reads, variable_sort};
+ghost use Rattle.larch_sorts_meaning.specs.declared.found.Found.TheVariants.{One};
 ghost use Rattle.larch_term.specs.Tree.{var};
-ghost use Rattle.larch_sorts.specs.Tabulate.{AllTell, TableTells, Unread};
-ghost use Rattle.larch_sorts.specs.Parts.{inner_parts};
-ghost use Rattle.larch_sorts.specs.Table.{reading_at};
+ghost use Rattle.larch_sorts.specs.Tabulate.{AllTell, TableTells};
+ghost use Rattle.larch_sorts_meaning.specs.Refusals.{Unread};
+ghost use Rattle.larch_sorts_signature.specs.Table.{reading_at};
 
-use crate::application::applied;
-use crate::found::{Found, Table};
-use crate::reading::Reading;
-use crate::refusal::ReadRefusal;
-use crate::scope::Scope;
-use crate::signature::Signature;
-use crate::table::{narrowed, single};
-use larch_base::{Memory, Name, Pos, Sequence};
-use larch_raw::{RawEquation, RawNode, RawTerm, RawTerms};
+use larch_base::{Memory, Name, Sequence};
+use larch_raw::{RawNode, RawTerm, RawTerms};
+use larch_sorts_meaning::{Found, ReadRefusal, Scope, head_of, variable_sort};
+use larch_sorts_signature::application::applied;
+use larch_sorts_signature::table::{narrowed, single};
+use larch_sorts_signature::{Reading, Signature, Table};
 use larch_term::Sort;
 use std::alloc::Global;
 
 // What a term reads as, or the head token of the first part that has no reading.
 #[cycle(tabulate)]
-#[tactic(auto, using(crate::proofs::Unread::unread_inside, crate::proofs::Unread::unread_here, crate::proofs::Unread::read_here))]
+#[tactic(auto, using(larch_sorts_meaning::proofs::Unread::unread_inside, crate::proofs::Tables::unread_here, crate::proofs::Tables::read_here))]
 pub(crate) fn table_of(
     alloc: Global,
     signature: &Signature,
@@ -100,20 +95,6 @@ fn tables_of(
     Ok(tables)
 }
 
-// The sort of the variable that a name with these arguments means.
-pub(crate) fn variable_sort<'a>(
-    scope: &'a Scope,
-    name: &Name,
-    arguments: &RawTerms,
-) -> Option<&'a Sort>
-    ensures { option_copied result ≡ variable_sort scope.now name.now (raw_forest arguments.now) }
-{
-    if !arguments.as_slice().is_empty() {
-        return None;
-    }
-    scope.get(name)
-}
-
 // What a variable reads as.
 fn table_of_variable(alloc: Global, name: &Name, sort: &Sort) -> Result<Table, Memory>
     ensures { IfOk result (λ table. (s : List ℕ)
@@ -125,24 +106,4 @@ fn table_of_variable(alloc: Global, name: &Name, sort: &Sort) -> Result<Table, M
     let reading = Reading::var(alloc, name, copied)?;
     let table = single(alloc, sort, Found::One(reading))?;
     Ok(table)
-}
-
-// Where the head token of a term stands.
-pub(crate) fn head_of(raw: &RawTerm) -> Pos
-    ensures { result ≡ head_of raw.now }
-{
-    match raw.node() {
-        RawNode::Apply(_, _, pos) => *pos,
-        RawNode::Qualified(_, _, pos) => *pos,
-    }
-}
-
-// Where the head token of an equation stands.
-pub(crate) fn equation_head(raw: &RawEquation) -> Pos
-    ensures { result ≡ equation_head raw.now raw.now.right }
-{
-    match &raw.right {
-        None => head_of(&raw.left),
-        Some(right) => right.pos,
-    }
 }

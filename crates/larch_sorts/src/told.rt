@@ -4,18 +4,16 @@ ghost use Rattle.larch_term.specs.BuiltIn.{bool_sort};
 ghost use Rattle.larch_term.specs.Sorts.{sort_of};
 ghost use Rattle.larch_term.specs.Tree.{Tree};
 ghost use Rattle.larch_term.specs.Truth.{truth};
-ghost use Rattle.larch_sorts.specs.Narrow.{ReadsAt};
-ghost use Rattle.larch_sorts.specs.Readings.{IsOnly, Reads};
+ghost use Rattle.larch_sorts_meaning.specs.Readings.{ReadsAt, IsOnly, Reads};
 ghost use Rattle.larch_sorts.specs.Sides.{ReadsSides};
 
 use crate::found::Sides;
 use crate::narrow::only_at;
-use crate::scope::Scope;
 use crate::sides::truth;
-use crate::signature::Signature;
-use crate::tabulate::variable_sort;
 use larch_base::Memory;
 use larch_raw::{RawEquation, RawNode, RawTerm};
+use larch_sorts_meaning::{Scope, variable_sort};
+use larch_sorts_signature::Signature;
 use larch_term::{Sort, bool_sort};
 use std::alloc::Global;
 

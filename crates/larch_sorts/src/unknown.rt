@@ -1,10 +1,10 @@
 ghost use Rattle.std.specs.Prelude.{◌≡◌};
 ghost use Rattle.larch_raw.specs.RawTree.{raw_forest};
-ghost use Rattle.larch_sorts.specs.Unknown.{unknown_among, unknown_sort, sort_words, sort_words_of};
+ghost use Rattle.larch_sorts_meaning.specs.Unknown.{unknown_among, unknown_sort, sort_words, sort_words_of};
 
-use crate::signature::Signature;
 use larch_base::Pos;
 use larch_raw::{RawEquation, RawNode, RawTerm, RawTerms};
+use larch_sorts_signature::Signature;
 
 // Where the first sort of a qualification in an equation stands that doesn't exist.
 #[tactic(auto, using(crate::proofs::UnknownSorts::unknown_first, crate::proofs::UnknownSorts::known_first, crate::proofs::UnknownSorts::known_last))]

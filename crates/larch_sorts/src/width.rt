@@ -1,10 +1,8 @@
-use crate::overloads::Overloads;
-use crate::scope::Scope;
-use crate::signature::Signature;
-use crate::tabulate::variable_sort;
 use crate::told::told_sort;
 use larch_base::Memory;
 use larch_raw::{RawNode, RawTerm, RawTerms};
+use larch_sorts_meaning::{Scope, variable_sort};
+use larch_sorts_signature::{Overloads, Signature};
 
 // So many sorts of one term are many: a table of them is large.
 const MANY: usize = 64;

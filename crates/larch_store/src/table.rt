@@ -23,10 +23,10 @@ pub fn find(keys: &IndexSet<Key>, shared: &[Shared], key: &Key) -> Result<Option
         (λ x. (i : ℕ) × (slice_get keys.now.keys i ≡ Some key.now) × (slice_get shared.now i ≡ Some x))) }
     ensures none { IfOk result (λ o. IfNone o (list_any (key_eq.ghosts.eq key.now) keys.now.keys ≡ false)) }
 {
-    let Some(place) = keys.get_index_of(key) else {
+    let Some(index) = keys.get_index_of(key) else {
         return Ok(None);
     };
-    let found = shared[place].copy()?;
+    let found = shared[index].copy()?;
     Ok(Some(found))
 }
 

@@ -1,5 +1,5 @@
 -- No state takes a token that stands nowhere, so what it does there is how the text ends.
-use Rattle.std.proofs.Common.{◌≡◌, ℕ, Bool, true, Some, None, List, [], ◌∷◌, refl, ap}
+use Rattle.std.proofs.Common.{◌≡◌, ◌∙◌, ℕ, Bool, true, Option, Some, None, List, [], ◌∷◌, refl, sym, ap}
 use Rattle.larch_base.specs.declared.position.Pos.{Pos}
 use Rattle.larch_raw.specs.RawTree.{RawTree}
 use Rattle.larch_raw.specs.declared.declared.RawForm.{RawForm}
@@ -13,12 +13,14 @@ use Rattle.larch_grammar.specs.declared.machine.Scope.TheVariants.{Quantified, E
 use Rattle.larch_grammar.specs.declared.machine.Naming.{Naming}
 use Rattle.larch_grammar.specs.declared.machine.Naming.TheVariants.{Declared, Referred, Formal, Actual, Renaming, Renamed, Lone, Converted}
 use Rattle.larch_grammar.specs.declared.machine.State.{State}
-use Rattle.larch_grammar.specs.declared.machine.State.TheVariants.{AfterGroup, AfterRef, AfterRefName, AfterSymbolForm, AfterMarkerSymbol, NeedMarks, AfterMark, AfterForm, AfterWord, NeedFirst, AfterSymbol, Have}
+use Rattle.larch_grammar.specs.declared.machine.State.TheVariants.{AfterGroup, AfterTraitRef, AfterRefName, AfterSymbolForm, AfterMarkerSymbol, AfterFormBracket, AfterBracketMarker, AfterForm, AfterWord, NeedFirst, AfterSymbol, Have}
 use Rattle.larch_grammar.specs.declared.machine.Waiting.TheVariants.{Alone, Item}
+use Rattle.larch_grammar.specs.declared.machine.Whole.{Whole}
 use Rattle.larch_grammar.specs.declared.terminal.Bracket.{Bracket}
 use Rattle.larch_grammar.specs.declared.terminal.Bracket.TheVariants.{Square, Curly}
 use Rattle.larch_grammar.specs.declared.terminal.Terminal.TheVariants.{Other}
 use Rattle.larch_heads.specs.Outcome.{outcome, stepped}
+use Rattle.larch_heads.specs.declared.outcome.Outcome.{Outcome}
 use Rattle.larch_heads.specs.declared.outcome.Outcome.TheVariants.{Stops}
 
 hand_nothing : (r : RawTree) (k : List Frame) → hand true r k Other ≡ None
@@ -62,8 +64,8 @@ marks_nothing n behind Curly m p = refl
 step_nothing : (n : State) → step true n Other ≡ None
 step_nothing (AfterSymbolForm n x) = form_nothing n (mixfix (infix_name x.name) 2 x.pos)
 step_nothing (AfterMarkerSymbol n p x) = form_nothing n (mixfix (postfix_name x.name) 1 p)
-step_nothing (NeedMarks c) = marks_nothing c.naming c.behind c.bracket 0 c.pos
-step_nothing (AfterMark c m) = marks_nothing c.naming c.behind c.bracket m c.pos
+step_nothing (AfterFormBracket c) = marks_nothing c.naming c.behind c.bracket 0 c.pos
+step_nothing (AfterBracketMarker c m) = marks_nothing c.naming c.behind c.bracket m c.pos
 step_nothing (AfterForm n f) = form_nothing n f
 step_nothing (AfterWord w k) = hand_nothing (call_tree w []) k
 step_nothing (NeedFirst Square l p k) = refl
@@ -74,13 +76,21 @@ step_nothing (AfterRefName raw Included w) = refl
 step_nothing (AfterRefName raw Assumed w) = refl
 step_nothing (AfterRefName raw First w) = refl
 step_nothing (AfterRefName raw Further w) = refl
-step_nothing (AfterRef raw Included) = refl
-step_nothing (AfterRef raw Assumed) = refl
-step_nothing (AfterRef raw First) = refl
-step_nothing (AfterRef raw Further) = refl
+step_nothing (AfterTraitRef raw Included) = refl
+step_nothing (AfterTraitRef raw Assumed) = refl
+step_nothing (AfterTraitRef raw First) = refl
+step_nothing (AfterTraitRef raw Further) = refl
 step_nothing (AfterGroup (Quantified raw) vs) = refl
 step_nothing (AfterGroup (Exempted raw rs) vs) = refl
 step_nothing n = refl
 
 pub stops_at_end : (n : State) → stepped n Other ≡ Stops (final n)
 stops_at_end n = ap (λ o. outcome o (final n)) (step_nothing n)
+
+-- a whole that ends there is the state's
+pub ended_so : (n : State) (o : Outcome) (w : Option Whole) → o ≡ stepped n Other → o ≡ Stops w → w ≡ final n
+ended_so n o w e s = let q : Stops w ≡ Stops (final n) = sym s ∙ e ∙ stops_at_end n in cc
+
+-- and one ends there
+pub ends_so : (n : State) (o : Outcome) → o ≡ stepped n Other → ((w : Option Whole) → o ≡ Stops w → ⊥) → ⊥
+ends_so n o e h = h (final n) (e ∙ stops_at_end n)

@@ -8,7 +8,7 @@ use Rattle.larch_raw.specs.declared.declared.RawWord.{RawWord}
 use Rattle.larch_raw.specs.declared.equation.RawEquation.{RawEquation}
 use Rattle.larch_raw.specs.declared.equation.RawTrait.{RawTrait}
 use Rattle.larch_raw.specs.declared.equation.RawVar.{RawVar}
-use Rattle.larch_grammar.specs.Machine.{after_converted, after_form, after_group, after_implies, after_ref, after_ref_name, after_reference, after_symbol, after_word, begin_bracket, begin_conversion, begin_exempted, begin_item, begin_operand, begin_post, begin_prefixed, begin_quantified, begin_term, behind_refs, close_conversion, first_word, hand, hand_equation, hand_exempted, implied_word, need_exempted, open_conversion, plainly, with_clause, with_reference, word_behind, word_frames, open_item}
+use Rattle.larch_grammar.specs.Machine.{after_converted, after_form, after_group, after_implies, after_trait_ref, after_ref_name, after_operator_ref, after_symbol, after_word, begin_bracket, begin_conversion, begin_exempted, begin_item, begin_operand, begin_post, begin_prefixed, begin_quantified, begin_term, behind_refs, close_conversion, first_word, hand, hand_equation, hand_exempted, implied_word, need_exempted, open_conversion, plainly, with_clause, with_reference, word_behind, word_frames, open_item}
 use Rattle.larch_grammar.specs.Terms.{formula_of}
 use Rattle.larch_grammar.specs.Trees.{bracket_tree, call_tree, postfix_tree}
 use Rattle.larch_grammar.specs.declared.terminal.Bracket.{Bracket}
@@ -49,12 +49,12 @@ pub other_group : (sc : Scope) (vs : List RawVar) (t : Terminal) → (t ≡ Comm
 other_group sc vs Comma h = absurd (h refl)
 other_group sc vs t h = refl
 
-pub other_ref : (raw : RawTrait) (b : RefKind) (t : Terminal) → (t ≡ Comma → ⊥) → after_ref raw b t ≡ behind_refs b raw t
+pub other_ref : (raw : RawTrait) (b : RefKind) (t : Terminal) → (t ≡ Comma → ⊥) → after_trait_ref raw b t ≡ behind_refs b raw t
 other_ref raw b Comma h = absurd (h refl)
 other_ref raw b t h = refl
 
 pub other_ref_name : (raw : RawTrait) (b : RefKind) (w : RawWord) (t : Terminal) → ((p : Pos) → t ≡ Open p → ⊥)
-    → after_ref_name raw b w t ≡ after_ref (close_ref (open_ref raw b w [])) b t
+    → after_ref_name raw b w t ≡ after_trait_ref (close_ref (open_ref raw b w [])) b t
 other_ref_name raw b w (Open p) h = absurd (h p refl)
 other_ref_name raw b w t h = refl
 
@@ -87,12 +87,12 @@ pub other_exempted : (raw : RawTrait) (rs : List RawOpRef) (t : Terminal) → (t
 other_exempted raw rs ForAll h = absurd (h refl)
 other_exempted raw rs t h = refl
 
-pub other_reference : (c : Clause) (rs : List RawOpRef) (t : Terminal) → (t ≡ Comma → ⊥) → (t ≡ Semicolon → ⊥) → after_reference c rs t ≡ begin_item (with_clause c rs) t
+pub other_reference : (c : Clause) (rs : List RawOpRef) (t : Terminal) → (t ≡ Comma → ⊥) → (t ≡ Semicolon → ⊥) → after_operator_ref c rs t ≡ begin_item (with_clause c rs) t
 other_reference c rs Comma h i = absurd (h refl)
 other_reference c rs Semicolon h i = absurd (i refl)
 other_reference c rs t h i = refl
 
-pub other_referred : (c : Clause) (rs : List RawOpRef) (f : RawForm) (t : Terminal) → ((p : Pos) → t ≡ Colon p → ⊥) → after_form (Referred c rs) f t ≡ after_reference c (with_reference rs f) t
+pub other_referred : (c : Clause) (rs : List RawOpRef) (f : RawForm) (t : Terminal) → ((p : Pos) → t ≡ Colon p → ⊥) → after_form (Referred c rs) f t ≡ after_operator_ref c (with_reference rs f) t
 other_referred c rs f (Colon p) h = absurd (h p refl)
 other_referred c rs f t h = refl
 

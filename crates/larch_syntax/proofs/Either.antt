@@ -1,5 +1,6 @@
 -- Of the two readings of a text the one that is answered.
 use Rattle.std.proofs.Common.{◌≡◌, Bool, true, false, Option, Some, None, IfSome, Result, Ok, Err, refl, ap, ◌∙◌}
+use Rattle.larch_base.specs.Answering.{Answers}
 use Rattle.larch_base.specs.declared.position.Pos.{Pos}
 use Rattle.larch_fronts.specs.declared.mark.Flaw.{Flaw}
 use Rattle.larch_fronts.specs.declared.mark.Flaw.TheVariants as flaw
@@ -9,7 +10,7 @@ use Rattle.larch_grammar.specs.Answers.{either, trait_by}
 use Rattle.larch_grammar.specs.Refused.{which}
 use Rattle.larch_syntax.specs.Read.{trait_of, with_fault}
 use Rattle.larch_syntax.specs.Refusals.{fault_of, flaw_told, told}
-use Rattle.larch_syntax.specs.Refused.{of_two, place, refused}
+use Rattle.larch_syntax.specs.Refused.{of_two, position, refused}
 use Rattle.larch_syntax.specs.declared.refusal.SyntaxRefusal.{SyntaxRefusal}
 use Rattle.larch_syntax.specs.declared.refusal.SyntaxRefusal.TheVariants.{Syntax, Mixed, Deep, Large, Memory}
 use Rattle.larch_syntax.proofs.Told.{err_back, ok_back}
@@ -37,8 +38,14 @@ either_list tokens None raw r found s f = let n : ⊥ = cc in absurd n
 either_list tokens (Some other) raw r found s f =
     ap (λ x. with_fault (either tokens x (trait_by true tokens))) r ∙ ap (λ x. with_fault (either tokens (Err other) x)) f
 
+-- what is read so, and not refused
+pub first_read : (tokens : TokenList) (r : Result RawTrait SyntaxRefusal) → ((e : SyntaxRefusal) → r ≡ Err e → ⊥)
+    → Answers told r (with_fault (trait_by false tokens)) → Answers told r (trait_of tokens)
+first_read tokens (Ok raw) n e = item_read tokens raw e
+first_read tokens (Err refusal) n e = absurd (n refusal refl)
+
 -- the trait where references follow it
-pub list_read : (tokens : TokenList) (item : SyntaxRefusal) (p : Pos) (raw : RawTrait) → place item ≡ Some p
+pub list_read : (tokens : TokenList) (item : SyntaxRefusal) (p : Pos) (raw : RawTrait) → position item ≡ Some p
     → IfSome (told item) (λ fault. with_fault (trait_by false tokens) ≡ Err fault) → with_fault (trait_by true tokens) ≡ Ok raw → trait_of tokens ≡ Ok raw
 list_read tokens (Syntax q) p raw d r e =
     either_list tokens (Some (flaw.Syntax, q)) raw (reading_refused false tokens (Syntax q) r) (flaw.Syntax, q) refl (ok_back (trait_by true tokens) raw e)
@@ -49,6 +56,13 @@ list_read tokens (Deep q) p raw d r e =
 list_read tokens (Large q) p raw d r e =
     either_list tokens (Some (flaw.Large, q)) raw (reading_refused false tokens (Large q) r) (flaw.Large, q) refl (ok_back (trait_by true tokens) raw e)
 list_read tokens Memory p raw d r e = let n : ⊥ = cc in absurd n
+
+-- what is read so, and not refused
+pub second_read : (tokens : TokenList) (item : SyntaxRefusal) (p : Pos) (r : Result RawTrait SyntaxRefusal) → position item ≡ Some p
+    → IfSome (told item) (λ fault. with_fault (trait_by false tokens) ≡ Err fault) → ((e : SyntaxRefusal) → r ≡ Err e → ⊥)
+    → Answers told r (with_fault (trait_by true tokens)) → Answers told r (trait_of tokens)
+second_read tokens item p (Ok raw) d h n e = list_read tokens item p raw d h e
+second_read tokens item p (Err refusal) d h n e = absurd (n refusal refl)
 
 flaws_refused : (tokens : TokenList) (item list : Option (Flaw × Pos)) (found : Flaw × Pos) → Refuses item (trait_by false tokens) → Refuses list (trait_by true tokens)
     → of_two tokens item list ≡ Some found → trait_of tokens ≡ Err (fault_of found)

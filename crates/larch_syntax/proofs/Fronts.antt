@@ -1,24 +1,31 @@
 -- What taking a token makes of the answer.
-use Rattle.std.proofs.Common.{◌≡◌, ◌+◌, ℕ, suc, Bool, true, false, Option, Some, None, IfSome, Result, Ok, Err, List, ◌∷◌, ◌∙◌, refl, sym, ap, arith}
+use Rattle.std.proofs.Common.{◌≡◌, ◌+◌, ◌<◌, ℕ, suc, length, drop, get_or, Bool, true, false, Option, Some, None, IfSome, Result, Ok, Err, List, [], ◌∷◌, ◌∙◌, refl, sym, ap, subst, arith}
+use Rattle.std.specs.Prelude.{unwrap_or}
+use Rattle.std.proofs.lemmas.List.{drop_more}
+use Rattle.larch_base.specs.Answering.{Answers}
 use Rattle.larch_base.specs.declared.fault.Fault.{Fault}
 use Rattle.larch_base.specs.declared.position.Pos.{Pos}
 use Rattle.larch_grammar.specs.Answers.{trait_from}
 use Rattle.larch_grammar.specs.Refused.{position_of_token}
-use Rattle.larch_grammar.specs.Machine.{Taking, final, step_at}
+use Rattle.larch_grammar.specs.Machine.{Taking, as_equation, as_reference, as_trait, final, step_at}
+use Rattle.larch_grammar.specs.declared.machine.Naming.TheVariants.{Lone}
 use Rattle.larch_grammar.specs.declared.machine.State.{State}
+use Rattle.larch_grammar.specs.declared.machine.State.TheVariants.{NeedEquation, NeedForm}
+use Rattle.larch_grammar.specs.declared.machine.Waiting.TheVariants.{Alone}
 use Rattle.larch_grammar.specs.declared.machine.Whole.{Whole}
+use Rattle.larch_lexer.specs.TokenList.{TokenList}
 use Rattle.larch_lexer.specs.declared.token.Token.{Token}
-use Rattle.larch_fronts.specs.Answer.{at_front, at_mark, at_step, front, front_at, front_on, go_on}
+use Rattle.larch_fronts.specs.Answer.{at_end, at_front, at_mark, at_step, front, front_at, front_on, go_on}
 use Rattle.larch_fronts.specs.Mark.{admitted}
 use Rattle.larch_fronts.specs.declared.mark.Flaw.{Flaw}
 use Rattle.larch_fronts.specs.declared.mark.Flaw.TheVariants as flaw
+use Rattle.larch_raw.specs.declared.declared.RawOpRef.{RawOpRef}
+use Rattle.larch_raw.specs.declared.equation.RawEquation.{RawEquation}
 use Rattle.larch_raw.specs.declared.equation.RawTrait.{RawTrait}
-use Rattle.larch_grammar.specs.Terminals.{terminal_of}
-use Rattle.larch_grammar.specs.declared.terminal.Terminal.{Terminal}
-use Rattle.larch_heads.specs.Outcome.{outcome, stepped}
-use Rattle.larch_heads.specs.declared.outcome.Outcome.{Outcome}
-use Rattle.larch_syntax.specs.Read.{counted, fault_at, leads_to, taken_at, with_fault}
+use Rattle.larch_heads.specs.Outcome.{outcome}
+use Rattle.larch_syntax.specs.Read.{counted, fault_at, from_there, front_after, leads_to, longest, reference_of, taken_at, term_of, with_fault}
 use Rattle.larch_syntax.specs.Refusals.{fault_of, told}
+use Rattle.larch_syntax.specs.declared.read.Front.{Front}
 use Rattle.larch_syntax.specs.declared.read.Taken.{Taken}
 use Rattle.larch_syntax.specs.declared.read.Taken.TheVariants.{On, Stops}
 use Rattle.larch_syntax.specs.declared.refusal.SyntaxRefusal.{SyntaxRefusal}
@@ -45,40 +52,10 @@ trait_step g end heads state token rest t e =
     trait_taken token.pos heads (final state) (step_at g true state token) (λ m a. trait_from g end m a rest)
     ∙ ap (λ x. trait_behind token.pos x (λ m a. with_fault (trait_from g end m a rest))) e
 
--- a trait goes on behind a token that is taken
-pub trait_goes_on : (g : Bool) (end : Pos) (heads more : ℕ) (state after : State) (token : Token) (rest ts : List Token) (answer : Result RawTrait Fault) → taken_at g heads state token ≡ Ok (On more after)
-    → ts ≡ token ∷ rest → with_fault (trait_from g end heads state ts) ≡ answer → with_fault (trait_from g end more after rest) ≡ answer
-trait_goes_on g end heads more state after token rest ts answer e l h =
-    sym (trait_step g end heads state token rest (Ok (On more after)) e) ∙ ap (λ x. with_fault (trait_from g end heads state x)) (sym l) ∙ h
-
--- it is refused at a token that no step takes
-pub trait_stops : (g : Bool) (end : Pos) (heads : ℕ) (state : State) (whole : Option Whole) (token : Token) (rest ts : List Token) (answer : Result RawTrait Fault) → taken_at g heads state token ≡ Ok (Stops whole)
-    → ts ≡ token ∷ rest → with_fault (trait_from g end heads state ts) ≡ answer → answer ≡ Err (fault_of (flaw.Syntax, token.pos))
-trait_stops g end heads state whole token rest ts answer e l h =
-    sym h ∙ ap (λ x. with_fault (trait_from g end heads state x)) l ∙ trait_step g end heads state token rest (Ok (Stops whole)) e
-
 -- what is true of each fault is true of the one that is told
-told_on : (o : Option Fault) (P Q : Fault → Type 0) → ((f : Fault) → P f → Q f) → IfSome o P → IfSome o Q
+pub told_on : (o : Option Fault) (P Q : Fault → Type 0) → ((f : Fault) → P f → Q f) → IfSome o P → IfSome o Q
 told_on None P Q k h = tt
 told_on (Some f) P Q k h = k f h
-
--- it is refused by what is counted at a token
-pub trait_counted : (g : Bool) (end : Pos) (heads : ℕ) (state : State) (refusal : SyntaxRefusal) (token : Token) (rest ts : List Token) (answer : Result RawTrait Fault) → IfSome (told refusal) (λ fault. taken_at g heads state token ≡ Err fault)
-    → ts ≡ token ∷ rest → with_fault (trait_from g end heads state ts) ≡ answer → IfSome (told refusal) (λ fault. answer ≡ Err fault)
-trait_counted g end heads state refusal token rest ts answer e l h =
-    told_on (told refusal) (λ fault. taken_at g heads state token ≡ Err fault) (λ fault. answer ≡ Err fault)
-    (λ fault q. sym h ∙ ap (λ x. with_fault (trait_from g end heads state x)) l ∙ trait_step g end heads state token rest (Err fault) q) e
-
--- what is found in a state says what the token does
-pub taken_by : (g : Bool) (heads : ℕ) (state : State) (token : Token) (terminal : Terminal) (found now : Outcome) → terminal ≡ terminal_of g token → found ≡ stepped state terminal → found ≡ now
-    → taken_at g heads state token ≡ counted token.pos heads now
-taken_by g heads state token terminal found now t s n = ap (λ x. counted token.pos heads (stepped state x)) (sym t) ∙ ap (counted token.pos heads) (sym s ∙ n)
-
--- what is counted at a token that would be taken is what the token does
-pub flaw_taken : (g : Bool) (heads : ℕ) (state after : State) (token : Token) (r : Result ℕ Fault) (refusal : SyntaxRefusal) → taken_at g heads state token ≡ leads_to after r
-    → IfSome (told refusal) (λ fault. r ≡ Err fault) → IfSome (told refusal) (λ fault. taken_at g heads state token ≡ Err fault)
-flaw_taken g heads state after token r refusal e h =
-    told_on (told refusal) (λ fault. r ≡ Err fault) (λ fault. taken_at g heads state token ≡ Err fault) (λ fault q. e ∙ ap (leads_to after) q) h
 
 -- the tree at the longest front of these tokens from a state on, which is a part of the whole that ends there
 abbrev pub front_by : {T : Type 0} → (Option Whole → Option T) → Pos → ℕ → ℕ → State → List Token → Result (T × ℕ) (Flaw × Pos)
@@ -106,22 +83,132 @@ front_step part end heads taken state token rest t e =
     front_taken part token.pos heads taken (final state) (step_at false true state token) (λ m a. front_by part end m (suc taken) a rest)
     ∙ ap (λ x. front_behind part token.pos taken x (λ m a. with_fault (front_by part end m (suc taken) a rest))) e
 
--- it goes on behind a token that is taken
-pub front_goes_on : {T : Type 0} (part : Option Whole → Option T) (end : Pos) (heads more taken : ℕ) (state after : State) (token : Token) (rest ts : List Token) (answer : Result (T × ℕ) Fault) → taken_at false heads state token ≡ Ok (On more after)
-    → ts ≡ token ∷ rest → with_fault (front_by part end heads taken state ts) ≡ answer → with_fault (front_by part end more (taken + 1) after rest) ≡ answer
-front_goes_on part end heads more taken state after token rest ts answer e l h =
-    let next : taken + 1 ≡ suc taken = omega arith in
-    ap (λ n. with_fault (front_by part end more n after rest)) next ∙ sym (front_step part end heads taken state token rest (Ok (On more after)) e) ∙ ap (λ x. with_fault (front_by part end heads taken state x)) (sym l) ∙ h
+-- the tokens from this one on
+pub cut_at : (ts : List Token) (i : ℕ) (token : Token) → i < length ts → get_or ts i token ≡ token
+    → drop i ts ≡ token ∷ drop (i + 1) ts
+cut_at ts i token within here = drop_more ts i token within ∙ ap (λ t. t ∷ drop (i + 1) ts) here
 
--- it ends before a token that no step takes, or is refused there
-pub front_stops : {T : Type 0} (part : Option Whole → Option T) (end : Pos) (heads taken : ℕ) (state : State) (whole : Option Whole) (token : Token) (rest ts : List Token) (answer : Result (T × ℕ) Fault) → taken_at false heads state token ≡ Ok (Stops whole)
-    → ts ≡ token ∷ rest → with_fault (front_by part end heads taken state ts) ≡ answer → with_fault (at_front token.pos taken (part whole)) ≡ answer
-front_stops part end heads taken state whole token rest ts answer e l h =
-    sym (front_step part end heads taken state token rest (Ok (Stops whole)) e) ∙ ap (λ x. with_fault (front_by part end heads taken state x)) (sym l) ∙ h
+-- a front goes on after a token that is taken
+pub goes_on : (g : Bool) (heads more taken : ℕ) (state after : State) (token : Token) (rest ts : List Token) (answer : Result Front Fault)
+    → taken_at g heads state token ≡ Ok (On more after) → ts ≡ token ∷ rest → longest g heads taken state ts ≡ answer
+    → longest g more (taken + 1) after rest ≡ answer
+goes_on g heads more taken state after token rest ts answer e l h =
+    let next : taken + 1 ≡ suc taken = omega arith in
+    ap (λ n. longest g more n after rest) next
+    ∙ sym (ap (λ t. front_after token.pos taken t (λ m a. longest g m (suc taken) a rest)) e)
+    ∙ ap (longest g heads taken state) (sym l) ∙ h
+
+-- it ends before a token that no step takes
+pub stops : (g : Bool) (heads taken : ℕ) (state : State) (whole : Option Whole) (token : Token) (rest ts : List Token) (answer : Result Front Fault)
+    → taken_at g heads state token ≡ Ok (Stops whole) → ts ≡ token ∷ rest → longest g heads taken state ts ≡ answer
+    → answer ≡ Ok (record { whole = whole; taken = taken; next = Some token.pos })
+stops g heads taken state whole token rest ts answer e l h =
+    sym h ∙ ap (longest g heads taken state) l
+    ∙ ap (λ t. front_after token.pos taken t (λ m a. longest g m (suc taken) a rest)) e
 
 -- it is refused by what is counted at a token
-pub front_counted : {T : Type 0} (part : Option Whole → Option T) (end : Pos) (heads taken : ℕ) (state : State) (refusal : SyntaxRefusal) (token : Token) (rest ts : List Token) (answer : Result (T × ℕ) Fault) → IfSome (told refusal) (λ fault. taken_at false heads state token ≡ Err fault)
-    → ts ≡ token ∷ rest → with_fault (front_by part end heads taken state ts) ≡ answer → IfSome (told refusal) (λ fault. answer ≡ Err fault)
-front_counted part end heads taken state refusal token rest ts answer e l h =
-    told_on (told refusal) (λ fault. taken_at false heads state token ≡ Err fault) (λ fault. answer ≡ Err fault)
-    (λ fault q. sym h ∙ ap (λ x. with_fault (front_by part end heads taken state x)) l ∙ front_step part end heads taken state token rest (Err fault) q) e
+pub refused : (g : Bool) (heads taken : ℕ) (state : State) (refusal : SyntaxRefusal) (token : Token) (rest ts : List Token) (answer : Result Front Fault)
+    → IfSome (told refusal) (λ fault. taken_at g heads state token ≡ Err fault) → ts ≡ token ∷ rest
+    → longest g heads taken state ts ≡ answer → IfSome (told refusal) (λ fault. answer ≡ Err fault)
+refused g heads taken state refusal token rest ts answer e l h =
+    told_on (told refusal) (λ fault. taken_at g heads state token ≡ Err fault) (λ fault. answer ≡ Err fault)
+    (λ fault q. sym h ∙ ap (longest g heads taken state) l
+    ∙ ap (λ t. front_after token.pos taken t (λ m a. longest g m (suc taken) a rest)) q) e
+
+-- the tree at a front, or SYNTAX after it
+abbrev pub tree_of : {T : Type 0} → (Option Whole → Option T) → Pos → Result Front Fault → Result (T × ℕ) Fault
+tree_of part end (Ok found) = with_fault (at_front (unwrap_or found.next end) found.taken (part found.whole))
+tree_of part end (Err fault) = Err fault
+
+tree_after : {T : Type 0} (part : Option Whole → Option T) (end pos : Pos) (taken : ℕ) (t : Result Taken Fault)
+    (trees : ℕ → State → Result (T × ℕ) Fault) (fronts : ℕ → State → Result Front Fault)
+    → ((m : ℕ) (a : State) → trees m a ≡ tree_of part end (fronts m a))
+    → front_behind part pos taken t trees ≡ tree_of part end (front_after pos taken t fronts)
+tree_after part end pos taken (Ok (On more after)) trees fronts k = k more after
+tree_after part end pos taken (Ok (Stops whole)) trees fronts k = refl
+tree_after part end pos taken (Err fault) trees fronts k = refl
+
+-- the tree is that of the longest front
+pub front_tree : {T : Type 0} (part : Option Whole → Option T) (end : Pos) (heads taken : ℕ) (state : State) (ts : List Token)
+    → with_fault (front_by part end heads taken state ts) ≡ tree_of part end (longest false heads taken state ts)
+front_tree part end heads taken state [] = refl
+front_tree part end heads taken state (token ∷ rest) =
+    front_step part end heads taken state token rest (taken_at false heads state token) refl
+    ∙ tree_after part end token.pos taken (taken_at false heads state token) (λ m a. with_fault (front_by part end m (suc taken) a rest))
+    (λ m a. longest false m (suc taken) a rest) (λ m a. front_tree part end m (suc taken) a rest)
+
+-- the trait that ends at a front, if no token is after it
+abbrev pub trait_at : Pos → Option Pos → Option Whole → Result RawTrait Fault
+trait_at end None whole = with_fault (at_end end (as_trait whole))
+trait_at end (Some pos) whole = Err (fault_of (flaw.Syntax, pos))
+
+abbrev pub trait_of_front : Pos → Result Front Fault → Result RawTrait Fault
+trait_of_front end (Ok found) = trait_at end found.next found.whole
+trait_of_front end (Err fault) = Err fault
+
+trait_after : (end pos : Pos) (taken : ℕ) (t : Result Taken Fault)
+    (traits : ℕ → State → Result RawTrait Fault) (fronts : ℕ → State → Result Front Fault)
+    → ((m : ℕ) (a : State) → traits m a ≡ trait_of_front end (fronts m a))
+    → trait_behind pos t traits ≡ trait_of_front end (front_after pos taken t fronts)
+trait_after end pos taken (Ok (On more after)) traits fronts k = k more after
+trait_after end pos taken (Ok (Stops whole)) traits fronts k = refl
+trait_after end pos taken (Err fault) traits fronts k = refl
+
+-- the trait is that of the longest front
+pub front_trait : (g : Bool) (end : Pos) (heads taken : ℕ) (state : State) (ts : List Token)
+    → with_fault (trait_from g end heads state ts) ≡ trait_of_front end (longest g heads taken state ts)
+front_trait g end heads taken state [] = refl
+front_trait g end heads taken state (token ∷ rest) =
+    trait_step g end heads state token rest (taken_at g heads state token) refl
+    ∙ trait_after end token.pos taken (taken_at g heads state token) (λ m a. with_fault (trait_from g end m a rest))
+    (λ m a. longest g m (suc taken) a rest) (λ m a. front_trait g end m (suc taken) a rest)
+
+-- what is told of the longest front is told of the tree
+pub tree_refused : {T : Type 0} (part : Option Whole → Option T) (end : Pos) (from : ℕ) (state : State) (ts : List Token) (refusal : SyntaxRefusal)
+    → IfSome (told refusal) (λ fault. longest false 0 0 state ts ≡ Err fault)
+    → IfSome (told refusal) (λ fault. from_there from (with_fault (front_by part end 0 0 state ts)) ≡ Err fault)
+tree_refused part end from state ts refusal h =
+    told_on (told refusal) (λ fault. longest false 0 0 state ts ≡ Err fault)
+    (λ fault. from_there from (with_fault (front_by part end 0 0 state ts)) ≡ Err fault)
+    (λ fault q. ap (from_there from) (front_tree part end 0 0 state ts ∙ ap (tree_of part end) q)) h
+
+-- the tree at the longest front is the one that is read
+pub tree_read : {T : Type 0} (part : Option Whole → Option T) (end : Pos) (from : ℕ) (state : State) (ts : List Token) (found : Front)
+    → longest false 0 0 state ts ≡ Ok found
+    → from_there from (with_fault (at_front (unwrap_or found.next end) found.taken (part found.whole)))
+    ≡ from_there from (with_fault (front_by part end 0 0 state ts))
+tree_read part end from state ts found h = sym (ap (from_there from) (front_tree part end 0 0 state ts ∙ ap (tree_of part end) h))
+
+-- what is told of the longest front is told of the trait
+pub trait_refused : (g : Bool) (end : Pos) (state : State) (ts : List Token) (refusal : SyntaxRefusal)
+    → IfSome (told refusal) (λ fault. longest g 0 0 state ts ≡ Err fault)
+    → IfSome (told refusal) (λ fault. with_fault (trait_from g end 0 state ts) ≡ Err fault)
+trait_refused g end state ts refusal h =
+    told_on (told refusal) (λ fault. longest g 0 0 state ts ≡ Err fault)
+    (λ fault. with_fault (trait_from g end 0 state ts) ≡ Err fault)
+    (λ fault q. front_trait g end 0 0 state ts ∙ ap (trait_of_front end) q) h
+
+-- the trait at the longest front is the one that is read
+pub trait_read : (g : Bool) (end : Pos) (state : State) (ts : List Token) (found : Front) → longest g 0 0 state ts ≡ Ok found
+    → with_fault (trait_from g end 0 state ts) ≡ trait_at end found.next found.whole
+trait_read g end state ts found h = front_trait g end 0 0 state ts ∙ ap (trait_of_front end) h
+
+-- what is told of the tree at the longest front is told of the equation
+pub term_told : (tokens : TokenList) (from : ℕ) (found : Front) (p : Pos) (t : Option RawEquation) (r : Result (RawEquation × ℕ) SyntaxRefusal)
+    → longest false 0 0 (NeedEquation Alone) (drop from tokens.tokens) ≡ Ok found → p ≡ unwrap_or found.next tokens.end → t ≡ as_equation found.whole
+    → Answers told r (from_there from (with_fault (at_front p found.taken t))) → Answers told r (term_of tokens from)
+term_told tokens from found p t r h a b =
+    subst (Answers told r)
+    (ap (λ q. from_there from (with_fault (at_front q found.taken t))) a
+    ∙ ap (λ u. from_there from (with_fault (at_front (unwrap_or found.next tokens.end) found.taken u))) b
+    ∙ tree_read as_equation tokens.end from (NeedEquation Alone) (drop from tokens.tokens) found h)
+
+-- what is told of the tree at the longest front is told of the reference
+pub reference_told : (tokens : TokenList) (from : ℕ) (found : Front) (p : Pos) (t : Option RawOpRef) (r : Result (RawOpRef × ℕ) SyntaxRefusal)
+    → longest false 0 0 (NeedForm Lone) (drop from tokens.tokens) ≡ Ok found → p ≡ unwrap_or found.next tokens.end → t ≡ as_reference found.whole
+    → Answers told r (from_there from (with_fault (at_front p found.taken t))) → Answers told r (reference_of tokens from)
+reference_told tokens from found p t r h a b =
+    subst (Answers told r)
+    (ap (λ q. from_there from (with_fault (at_front q found.taken t))) a
+    ∙ ap (λ u. from_there from (with_fault (at_front (unwrap_or found.next tokens.end) found.taken u))) b
+    ∙ tree_read as_reference tokens.end from (NeedForm Lone) (drop from tokens.tokens) found h)

@@ -6,18 +6,18 @@ use Rattle.larch_fronts.specs.declared.mark.Flaw.TheVariants as flaw
 use Rattle.larch_lexer.specs.TokenList.{TokenList}
 use Rattle.larch_grammar.specs.Refused.{earlier, is_counted, reaches, which}
 use Rattle.larch_syntax.specs.Refusals.{flaw_told}
-use Rattle.larch_syntax.specs.Refused.{counted, of_two, place, refused}
+use Rattle.larch_syntax.specs.Refused.{counted, of_two, position, refused}
 use Rattle.larch_syntax.specs.declared.refusal.SyntaxRefusal.{SyntaxRefusal}
 use Rattle.larch_syntax.specs.declared.refusal.SyntaxRefusal.TheVariants.{Syntax, Mixed, Deep, Large, Memory}
 
--- a refusal with a place tells a flaw there, which is counted where the refusal is
+-- a refusal with a position tells a flaw there, which is counted where the refusal is
 abbrev TellsAt : SyntaxRefusal → Pos → Type 0
 TellsAt r p = (f : Flaw) × (flaw_told r ≡ Some (f, p)) × (is_counted f ≡ counted r)
 
 told_there : (q p : Pos) (f : Flaw) → Some q ≡ Some p → ◌≡◌ {A = Option (Flaw × Pos)} (Some (f, q)) (Some (f, p))
 told_there q p f e = let s : q ≡ p = cc in ap (λ x. Some (f, x)) s
 
-tells_at : (r : SyntaxRefusal) (p : Pos) → place r ≡ Some p → TellsAt r p
+tells_at : (r : SyntaxRefusal) (p : Pos) → position r ≡ Some p → TellsAt r p
 tells_at (Syntax q) p e = (flaw.Syntax, told_there q p flaw.Syntax e, refl)
 tells_at (Mixed q) p e = (flaw.Mixed, told_there q p flaw.Mixed e, refl)
 tells_at (Deep q) p e = (flaw.Deep, told_there q p flaw.Deep e, refl)
@@ -40,28 +40,28 @@ by_answers tokens first second r c l e f g =
     ∙ ap (λ b. cond r second (cond c first (cond b second first))) g
 
 -- the one where references follow stands where it isn't inside their parenthesis
-pub list_stands : (tokens : TokenList) (item list : SyntaxRefusal) (p q : Pos) → place item ≡ Some p → place list ≡ Some q → reaches tokens q ≡ true
+pub list_stands : (tokens : TokenList) (item list : SyntaxRefusal) (p q : Pos) → position item ≡ Some p → position list ≡ Some q → reaches tokens q ≡ true
     → refused tokens item list list
 list_stands tokens item list p q d e h =
     let a = tells_at item p d in let b = tells_at list q e in
     stands tokens item list list (a.0, p) (b.0, q) (b.0, q) a.1 b.1 b.1 (by_answers tokens (a.0, p) (b.0, q) true (is_counted a.0) (earlier p q) h refl refl)
 
 -- else the one where an item follows stands where it is counted
-pub counted_stands : (tokens : TokenList) (item list : SyntaxRefusal) (p q : Pos) → place item ≡ Some p → place list ≡ Some q → reaches tokens q ≡ false
+pub counted_stands : (tokens : TokenList) (item list : SyntaxRefusal) (p q : Pos) → position item ≡ Some p → position list ≡ Some q → reaches tokens q ≡ false
     → counted item ≡ true → refused tokens item list item
 counted_stands tokens item list p q d e h c =
     let a = tells_at item p d in let b = tells_at list q e in
     stands tokens item list item (a.0, p) (b.0, q) (a.0, p) a.1 b.1 a.1 (by_answers tokens (a.0, p) (b.0, q) false true (earlier p q) h (a.2 ∙ c) refl)
 
 -- else the later one
-pub later_stands : (tokens : TokenList) (item list : SyntaxRefusal) (p q : Pos) → place item ≡ Some p → place list ≡ Some q → reaches tokens q ≡ false
+pub later_stands : (tokens : TokenList) (item list : SyntaxRefusal) (p q : Pos) → position item ≡ Some p → position list ≡ Some q → reaches tokens q ≡ false
     → counted item ≡ false → earlier p q ≡ true → refused tokens item list list
 later_stands tokens item list p q d e h c l =
     let a = tells_at item p d in let b = tells_at list q e in
     stands tokens item list list (a.0, p) (b.0, q) (b.0, q) a.1 b.1 b.1 (by_answers tokens (a.0, p) (b.0, q) false false true h (a.2 ∙ c) l)
 
 -- and where it isn't the later one, the one where an item follows
-pub item_stands : (tokens : TokenList) (item list : SyntaxRefusal) (p q : Pos) → place item ≡ Some p → place list ≡ Some q → reaches tokens q ≡ false
+pub item_stands : (tokens : TokenList) (item list : SyntaxRefusal) (p q : Pos) → position item ≡ Some p → position list ≡ Some q → reaches tokens q ≡ false
     → counted item ≡ false → earlier p q ≡ false → refused tokens item list item
 item_stands tokens item list p q d e h c l =
     let a = tells_at item p d in let b = tells_at list q e in

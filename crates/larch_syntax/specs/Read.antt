@@ -1,11 +1,12 @@
 -- What reading tokens as a trait or a term answers.
-use Rattle.std.specs.Prelude.{◌≡◌, ℕ, Bool, ◌+◌, None, IfSome, Result, Ok, Err, drop}
+use Rattle.std.specs.Prelude.{◌≡◌, ℕ, suc, Bool, ◌+◌, Some, None, IfSome, Result, Ok, Err, List, [], ◌∷◌, drop}
 use Rattle.larch_base.specs.declared.fault.Fault.{Fault}
 use Rattle.larch_base.specs.declared.position.Pos.{Pos}
 use Rattle.larch_fronts.specs.Claims.{MeansFront}
 use Rattle.larch_fronts.specs.Mark.{admitted}
 use Rattle.larch_fronts.specs.declared.mark.Flaw.{Flaw}
 use Rattle.larch_grammar.specs.Answers.{Equations, References, reference_answer, term_answer, trait_answer}
+use Rattle.larch_grammar.specs.Machine.{final}
 use Rattle.larch_grammar.specs.Refused.{position_of_token}
 use Rattle.larch_grammar.specs.Terminals.{terminal_of}
 use Rattle.larch_grammar.specs.declared.machine.State.{State}
@@ -18,6 +19,7 @@ use Rattle.larch_heads.specs.Outcome.{stepped}
 use Rattle.larch_syntax.specs.Refusals.{fault_of, flaw_told}
 use Rattle.larch_heads.specs.declared.outcome.Outcome.{Outcome}
 use Rattle.larch_heads.specs.declared.outcome.Outcome.TheVariants as outcome
+use Rattle.larch_syntax.specs.declared.read.Front.{Front}
 use Rattle.larch_syntax.specs.declared.read.Taken.{Taken}
 use Rattle.larch_syntax.specs.declared.read.Taken.TheVariants.{On, Stops}
 use Rattle.larch_syntax.specs.declared.refusal.SyntaxRefusal.{SyntaxRefusal}
@@ -86,3 +88,17 @@ counted pos heads (outcome.Stops whole) = Ok (Stops whole)
 -- what a token does in a state behind so many head tokens, where references follow `implies` or not
 abbrev pub taken_at : Bool → ℕ → State → Token → Result Taken Fault
 taken_at lists heads state token = counted token.pos heads (stepped state (terminal_of lists token))
+
+-- how a front goes on after a token that stands there, so many being before it, by what the token does
+abbrev pub front_after : Pos → ℕ → Result Taken Fault → (ℕ → State → Result Front Fault) → Result Front Fault
+front_after pos taken (Ok (On more after)) further = further more after
+front_after pos taken (Ok (Stops whole)) further = Ok (record { whole = whole; taken = taken; next = Some pos })
+front_after pos taken (Err fault) further = Err fault
+
+-- the longest front of these tokens from a state on, with so many head tokens and tokens before them, where references
+-- follow `implies` or not; or the first fault
+abbrev pub longest : Bool → ℕ → ℕ → State → List Token → Result Front Fault
+longest lists heads taken state [] = Ok (record { whole = final state; taken = taken; next = None })
+longest lists heads taken state (token ∷ tokens) =
+    front_after token.pos taken (taken_at lists heads state token)
+    (λ more after. longest lists more (suc taken) after tokens)

@@ -18,13 +18,13 @@ abbrev pub refused : TokenList → SyntaxRefusal → SyntaxRefusal → SyntaxRef
 refused tokens item list result =
     IfSome (flaw_told result) (λ found. of_two tokens (flaw_told item) (flaw_told list) ≡ Some found)
 
--- the place of a refusal; out of memory has none
-abbrev pub place : SyntaxRefusal → Option Pos
-place (Syntax pos) = Some pos
-place (Mixed pos) = Some pos
-place (Deep pos) = Some pos
-place (Large pos) = Some pos
-place Memory = None
+-- the position of a refusal; out of memory has none
+abbrev pub position : SyntaxRefusal → Option Pos
+position (Syntax pos) = Some pos
+position (Mixed pos) = Some pos
+position (Deep pos) = Some pos
+position (Large pos) = Some pos
+position Memory = None
 
 -- it is MIXED, DEEP or SIZE
 abbrev pub counted : SyntaxRefusal → Bool

@@ -29,9 +29,9 @@ pub(crate) fn begin_form(naming: Naming, terminal: Terminal) -> Outcome
         Terminal::Word(word) => outside(State::AfterForm(naming, plain_form(word))),
         Terminal::Symbol(symbol) => outside(State::AfterSymbolForm(naming, symbol)),
         Terminal::Dot(pos) => outside(State::AfterDotForm(naming, pos)),
-        Terminal::Marker(pos) => outside(State::AfterMarker(naming, pos)),
+        Terminal::Marker(pos) => outside(State::AfterLeadingMarker(naming, pos)),
         Terminal::OpenBracket(bracket, pos) => {
-            outside(State::NeedMarks(FormBracket {
+            outside(State::AfterFormBracket(FormBracket {
                 naming,
                 behind: false,
                 bracket,
@@ -82,14 +82,14 @@ pub(crate) fn after_dot_form(
 }
 
 // A `__` that begins a form is read.
-pub(crate) fn after_marker(naming: Naming, pos: Pos, terminal: Terminal) -> Outcome
-    ensures { settled result ≡ stepped (State.AfterMarker naming pos) terminal }
+pub(crate) fn after_leading_marker(naming: Naming, pos: Pos, terminal: Terminal) -> Outcome
+    ensures { settled result ≡ stepped (State.AfterLeadingMarker naming pos) terminal }
 {
     match terminal {
         Terminal::Dot(_dot) => outside(State::AfterDotForm(naming, pos)),
         Terminal::Symbol(symbol) => outside(State::AfterMarkerSymbol(naming, pos, symbol)),
         Terminal::OpenBracket(bracket, _open) => {
-            outside(State::NeedMarks(FormBracket {
+            outside(State::AfterFormBracket(FormBracket {
                 naming,
                 behind: true,
                 bracket,
@@ -150,45 +150,45 @@ fn end_marks(
 }
 
 // A bracket of a form is open.
-pub(crate) fn need_marks(
+pub(crate) fn after_form_bracket(
     alloc: Global,
     form: FormBracket,
     terminal: Terminal,
 ) -> Result<Outcome, Memory>
-    ensures { Settles result (stepped (State.NeedMarks form) terminal) }
+    ensures { Settles result (stepped (State.AfterFormBracket form) terminal) }
 {
     match terminal {
-        Terminal::Marker(_marker) => Ok(outside(State::AfterMark(form, 1))),
+        Terminal::Marker(_marker) => Ok(outside(State::AfterBracketMarker(form, 1))),
         other => end_marks(alloc, form, 0, other),
     }
 }
 
 // So many markers stand in it.
-pub(crate) fn after_mark(
+pub(crate) fn after_bracket_marker(
     alloc: Global,
     form: FormBracket,
     markers: u32,
     terminal: Terminal,
 ) -> Result<Outcome, Memory>
-    ensures { Settles result (stepped (State.AfterMark form markers) terminal) }
+    ensures { Settles result (stepped (State.AfterBracketMarker form markers) terminal) }
 {
     match terminal {
-        Terminal::Comma => Ok(outside(State::NeedMark(form, markers))),
+        Terminal::Comma => Ok(outside(State::NeedBracketMarker(form, markers))),
         other => end_marks(alloc, form, markers, other),
     }
 }
 
 // A `,` behind them is read.
-pub(crate) fn need_mark(
+pub(crate) fn need_bracket_marker(
     form: FormBracket,
     markers: u32,
     terminal: Terminal,
 ) -> Result<Outcome, Memory>
-    ensures { Settles result (stepped (State.NeedMark form markers) terminal) }
+    ensures { Settles result (stepped (State.NeedBracketMarker form markers) terminal) }
 {
     match terminal {
         Terminal::Marker(_marker) => match markers.checked_add(1) {
-            Some(more) => Ok(outside(State::AfterMark(form, more))),
+            Some(more) => Ok(outside(State::AfterBracketMarker(form, more))),
             None => Err(let_go(Memory, form)),
         },
         other => Ok(let_go(stops(), (form, other))),
@@ -274,7 +274,7 @@ fn after_referred(
             clause, refs, form,
         )))),
         other => match with_reference(refs, form) {
-            Ok(refs) => after_reference(alloc, clause, refs, other),
+            Ok(refs) => after_operator_ref(alloc, clause, refs, other),
             Err(error) => Err(let_go(error, (clause, other))),
         },
     }
@@ -282,13 +282,13 @@ fn after_referred(
 
 // A reference is read, the last of these.
 #[tactic(auto, using(crate::proofs::Defaults::other_reference))]
-pub(crate) fn after_reference(
+pub(crate) fn after_operator_ref(
     alloc: Global,
     clause: Clause,
     refs: RawOpRefs,
     terminal: Terminal,
 ) -> Result<Outcome, Memory>
-    ensures { Settles result (stepped (State.AfterReference clause refs) terminal) }
+    ensures { Settles result (stepped (State.AfterOperatorRef clause refs) terminal) }
 {
     match terminal {
         Terminal::Comma => Ok(outside(State::NeedForm(Naming::Referred(clause, refs)))),
@@ -408,10 +408,10 @@ fn replaced(reference: OpenRef, actual: RawActual) -> Result<State, Memory>
 
 // A reference of a clause with its signature is read.
 fn referred(clause: Clause, refs: RawOpRefs, reference: RawOpRef) -> Result<State, Memory>
-    ensures { IfOk result (λ state. state ≡ State.AfterReference clause (refs ++ reference ∷ [])) }
+    ensures { IfOk result (λ state. state ≡ State.AfterOperatorRef clause (refs ++ reference ∷ [])) }
 {
     match with_signed(refs, reference) {
-        Ok(refs) => Ok(State::AfterReference(clause, refs)),
+        Ok(refs) => Ok(State::AfterOperatorRef(clause, refs)),
         Err(error) => Err(let_go(error, clause)),
     }
 }

@@ -35,7 +35,7 @@ pub(crate) fn after_ref_name(
     match terminal {
         Terminal::Open(_pos) => Ok(outside(State::NeedForm(Naming::Actual(reference)))),
         other => match close_ref(reference) {
-            Ok(raw) => after_ref(alloc, raw, kind, other),
+            Ok(raw) => after_trait_ref(alloc, raw, kind, other),
             Err(error) => Err(let_go(error, other)),
         },
     }
@@ -43,13 +43,13 @@ pub(crate) fn after_ref_name(
 
 // A reference is read.
 #[tactic(auto, using(crate::proofs::Defaults::other_ref))]
-pub(crate) fn after_ref(
+pub(crate) fn after_trait_ref(
     alloc: Global,
     raw: Draft,
     kind: RefKind,
     terminal: Terminal,
 ) -> Result<Outcome, Memory>
-    ensures { Settles result (stepped (State.AfterRef raw kind) terminal) }
+    ensures { Settles result (stepped (State.AfterTraitRef raw kind) terminal) }
 {
     match terminal {
         Terminal::Comma => Ok(outside(State::NeedRef(raw, next_kind(kind)))),

@@ -1,15 +1,15 @@
-ghost use Rattle.std.specs.Prelude.{◌≡◌, ◌+◌, ◌≤◌, length, false, Err, IfOk, IfSome};
+ghost use Rattle.std.specs.Prelude.{◌≡◌, ◌+◌, ◌≤◌, drop, length, false, Err, IfOk, IfSome};
 ghost use Rattle.larch_base.specs.Answering.{Answers};
-ghost use Rattle.larch_fronts.specs.Answer.{at_front};
+ghost use Rattle.larch_fronts.specs.Answer.{at_end, at_front};
 ghost use Rattle.larch_fronts.specs.Mark.{admitted};
-ghost use Rattle.larch_grammar.specs.Answers.{MeansTrait, reference_from, term_from, trait_by};
+ghost use Rattle.larch_grammar.specs.Answers.{MeansTrait, trait_by};
 ghost use Rattle.larch_grammar.specs.Machine.{as_equation, as_reference, as_trait};
-ghost use Rattle.larch_syntax.specs.Read.{MeansFrom, MeansReference, ClaimHolds, fault_at, reference_of, taken_at, term_of};
-ghost use Rattle.larch_syntax.specs.Read.{trait_of, with_fault};
+ghost use Rattle.larch_syntax.specs.Read.{ClaimHolds, MeansFrom, MeansReference, fault_at, from_there, longest};
+ghost use Rattle.larch_syntax.specs.Read.{reference_of, taken_at, term_of, trait_of, with_fault};
 ghost use Rattle.larch_syntax.specs.Refusals.{told};
 
 use crate::refusal::{SyntaxRefusal, refusal_of};
-use crate::refused::{place_of, which_refusal};
+use crate::refused::{position_of, which_refusal};
 use crate::step::{last, step};
 use larch_base::{Memory, Pos};
 use larch_fronts::{Mark, admit};
@@ -22,28 +22,21 @@ use std::alloc::Global;
 /// The raw trait that these tokens are, all of them; or the first refusal. Of several that stand at one token the order
 /// is MIXED, SYNTAX, DEEP, SIZE. One pass over the tokens, without recursion; where it is refused a second one, with
 /// references behind `implies`.
+#[tactic(auto, using(crate::proofs::Either::first_read, crate::proofs::Told::trait_said))]
 pub fn read_trait(alloc: Global, tokens: &Tokens) -> Result<RawTrait, SyntaxRefusal>
     ensures answer { Answers told result (trait_of tokens.now) }
 
     // The grammar says the same without a machine.
     ensures grammar { ClaimHolds (MeansTrait tokens.now) result }
 {
-    either_reading(alloc, tokens)
-}
-
-// The same, by the machine.
-#[tactic(auto, using(crate::proofs::Either::item_read))]
-fn either_reading(alloc: Global, tokens: &Tokens) -> Result<RawTrait, SyntaxRefusal>
-    ensures { Answers told result (trait_of tokens.now) }
-{
     match trait_by_steps(alloc, false, tokens) {
-        Ok(raw) => Ok(raw),
         Err(item) => or_references(alloc, tokens, item),
+        read => read,
     }
 }
 
-// The same, where a trait of which an item follows `implies` is refused so.
-#[tactic(auto, using(crate::proofs::Either::list_read, crate::proofs::Either::both_refused))]
+// The trait, where one of which an item follows `implies` is refused so.
+#[tactic(auto, using(crate::proofs::Either::second_read, crate::proofs::Either::both_refused))]
 fn or_references(
     alloc: Global,
     tokens: &Tokens,
@@ -52,12 +45,12 @@ fn or_references(
     requires { IfSome (told item) (λ fault. with_fault (trait_by false tokens.now) ≡ Err fault) }
     ensures { Answers told result (trait_of tokens.now) }
 {
-    let Some(_place) = place_of(item) else {
+    let Some(_position) = position_of(item) else {
         return Err(SyntaxRefusal::Memory);
     };
     match trait_by_steps(alloc, true, tokens) {
-        Ok(raw) => Ok(raw),
         Err(list) => Err(which_refusal(tokens, item, list)),
+        read => read,
     }
 }
 
@@ -65,36 +58,24 @@ fn or_references(
 fn trait_by_steps(alloc: Global, lists: bool, tokens: &Tokens) -> Result<RawTrait, SyntaxRefusal>
     ensures { Answers told result (with_fault (trait_by lists tokens.now)) }
 {
-    let mut state = State::Start;
-    let mut heads: u32 = 0;
-    for token in tokens.as_slice() {
-        let terminal = terminal_of(lists, token)?;
-        match step(alloc, state, terminal) {
-            Ok(Outcome::Taken(mark, after)) => match count(heads, mark, token.pos) {
-                Ok(more) => {
-                    heads = more;
-                    state = after;
-                }
-                Err(refusal) => return Err(refusal),
-            },
-            Ok(Outcome::Stops(_whole)) => return Err(SyntaxRefusal::Syntax(token.pos)),
-            Ok(Outcome::Handed(_term, _stack, _terminal)) => {
-                return Err(SyntaxRefusal::Syntax(token.pos));
-            }
-            Err(Memory) => return Err(SyntaxRefusal::Memory),
-        }
+    let Front {
+        whole,
+        taken: _,
+        next,
+    } = longest_front(alloc, lists, tokens.as_slice(), State::Start)?;
+    match next {
+        Some(pos) => Err(SyntaxRefusal::Syntax(pos)),
+        None => whole_trait(whole, tokens.end()),
     }
-    let whole = last(alloc, state)?;
-    as_trait(whole).ok_or(SyntaxRefusal::Syntax(tokens.end()))
 }
 
-// The whole as a trait.
-fn as_trait(whole: Option<Whole>) -> Option<RawTrait>
-    ensures { result ≡ as_trait whole }
+// The whole as a trait, or SYNTAX at the end of the text.
+fn whole_trait(whole: Option<Whole>, end: Pos) -> Result<RawTrait, SyntaxRefusal>
+    ensures { Answers told result (with_fault (at_end end (as_trait whole))) }
 {
     match whole {
-        Some(Whole::Trait(draft)) => Some(draft.into_raw()),
-        _ => None,
+        Some(Whole::Trait(draft)) => Ok(draft.into_raw()),
+        _ => Err(SyntaxRefusal::Syntax(end)),
     }
 }
 
@@ -112,59 +93,18 @@ pub fn read_term(
     // The grammar says the same without a machine.
     ensures grammar { ClaimHolds (MeansFrom tokens.now from) result }
 {
-    front_by_steps(alloc, tokens, from)
-}
-
-// The same, by the machine.
-fn front_by_steps(
-    alloc: Global,
-    tokens: &Tokens,
-    from: u32,
-) -> Result<(RawEquation, u32), SyntaxRefusal>
-    requires { from ≤ length tokens.now.tokens }
-    ensures { Answers told result (term_of tokens.now from) }
-{
-    let (equation, taken) = front(alloc, &tokens.as_slice()[from as usize..], tokens.end())?;
-    let next = behind(from, taken)?;
-    Ok((equation, next))
-}
-
-// The number of the token so many behind this one.
-fn behind(from: u32, taken: usize) -> Result<u32, Memory>
-    ensures { IfOk result (λ next. next ≡ from + taken) }
-{
-    let taken = u32::try_from(taken).map_err(|_| Memory)?;
-    from.checked_add(taken).ok_or(Memory)
-}
-
-// The equation at the front of these tokens and its number of tokens, where the text ends there.
-fn front(alloc: Global, tokens: &[Token], end: Pos) -> Result<(RawEquation, usize), SyntaxRefusal>
-    ensures { Answers told result (with_fault (term_from end 0 0 (State.NeedEquation Waiting.Alone) tokens.now)) }
-{
-    let mut state = State::NeedEquation(Waiting::Alone);
-    let mut heads: u32 = 0;
-    for (taken, token) in tokens.iter().enumerate() {
-        match take(alloc, false, heads, state, token) {
-            Ok(Taken::On(more, after)) => {
-                heads = more;
-                state = after;
-            }
-            Ok(Taken::Stops(whole)) => return front_at(as_equation(whole), taken, token.pos),
-            Err(refusal) => return Err(refusal),
-        }
-    }
-    let whole = last(alloc, state)?;
-    front_at(as_equation(whole), tokens.len(), end)
-}
-
-// What is read with its number of tokens, or SYNTAX behind them.
-fn front_at<T: Drop>(tree: Option<T>, taken: usize, pos: Pos) -> Result<(T, usize), SyntaxRefusal>
-    ensures { Answers told result (with_fault (at_front pos taken tree)) }
-{
-    match tree {
-        Some(tree) => Ok((tree, taken)),
-        None => Err(SyntaxRefusal::Syntax(pos)),
-    }
+    let Front { whole, taken, next } = front_from(
+        alloc,
+        tokens,
+        from,
+        State::NeedEquation(Waiting::Alone),
+    )?;
+    tree_from(
+        from,
+        as_equation(whole),
+        taken,
+        next.unwrap_or(tokens.end()),
+    )
 }
 
 // The whole as an equation by itself.
@@ -191,46 +131,18 @@ pub fn read_reference(
     // The grammar says the same without a machine.
     ensures grammar { ClaimHolds (MeansReference tokens.now from) result }
 {
-    reference_by_steps(alloc, tokens, from)
-}
-
-// The same, by the machine.
-fn reference_by_steps(
-    alloc: Global,
-    tokens: &Tokens,
-    from: u32,
-) -> Result<(RawOpRef, u32), SyntaxRefusal>
-    requires { from ≤ length tokens.now.tokens }
-    ensures { Answers told result (reference_of tokens.now from) }
-{
-    let rest = &tokens.as_slice()[from as usize..];
-    let (reference, taken) = reference_front(alloc, rest, tokens.end())?;
-    let next = behind(from, taken)?;
-    Ok((reference, next))
-}
-
-// The reference at the front of these tokens and its number of tokens, where the text ends there.
-fn reference_front(
-    alloc: Global,
-    tokens: &[Token],
-    end: Pos,
-) -> Result<(RawOpRef, usize), SyntaxRefusal>
-    ensures { Answers told result (with_fault (reference_from end 0 0 (State.NeedForm Naming.Lone) tokens.now)) }
-{
-    let mut state = State::NeedForm(Naming::Lone);
-    let mut heads: u32 = 0;
-    for (taken, token) in tokens.iter().enumerate() {
-        match take(alloc, false, heads, state, token) {
-            Ok(Taken::On(more, after)) => {
-                heads = more;
-                state = after;
-            }
-            Ok(Taken::Stops(whole)) => return front_at(as_reference(whole), taken, token.pos),
-            Err(refusal) => return Err(refusal),
-        }
-    }
-    let whole = last(alloc, state)?;
-    front_at(as_reference(whole), tokens.len(), end)
+    let Front { whole, taken, next } = front_from(
+        alloc,
+        tokens,
+        from,
+        State::NeedForm(Naming::Lone),
+    )?;
+    tree_from(
+        from,
+        as_reference(whole),
+        taken,
+        next.unwrap_or(tokens.end()),
+    )
 }
 
 // The whole as a reference by itself.
@@ -241,6 +153,84 @@ fn as_reference(whole: Option<Whole>) -> Option<RawOpRef>
         Some(Whole::Reference(reference)) => Some(reference),
         _ => None,
     }
+}
+
+// A tree of so many tokens from this one on, with the number of the token after it; or SYNTAX there.
+fn tree_from<T: Drop>(
+    from: u32,
+    tree: Option<T>,
+    taken: usize,
+    pos: Pos,
+) -> Result<(T, u32), SyntaxRefusal>
+    ensures { Answers told result (from_there from (with_fault (at_front pos taken tree))) }
+{
+    match tree {
+        Some(tree) => Ok((tree, number_after(from, taken)?)),
+        None => Err(SyntaxRefusal::Syntax(pos)),
+    }
+}
+
+// The number of the token so many after this one.
+fn number_after(from: u32, taken: usize) -> Result<u32, Memory>
+    ensures { IfOk result (λ next. next ≡ from + taken) }
+{
+    let taken = u32::try_from(taken).map_err(|_| Memory)?;
+    from.checked_add(taken).ok_or(Memory)
+}
+
+/// The longest front of tokens with which a text goes on.
+#[derive(Drop)]
+pub(crate) struct Front {
+    /// The whole that ends there, if there is one.
+    whole: Option<Whole>,
+    /// Its number of tokens.
+    taken: usize,
+    /// Where the token after it stands, if there is one.
+    next: Option<Pos>,
+}
+
+// The longest front of the tokens from this one on, from a state on.
+fn front_from(
+    alloc: Global,
+    tokens: &Tokens,
+    from: u32,
+    state: State,
+) -> Result<Front, SyntaxRefusal>
+    requires { from ≤ length tokens.now.tokens }
+    ensures { Answers told result (longest false 0 0 state (drop from tokens.now.tokens)) }
+{
+    longest_front(alloc, false, &tokens.as_slice()[from as usize..], state)
+}
+
+// The longest front of these tokens from a state on, where references follow `implies` or not.
+fn longest_front(
+    alloc: Global,
+    lists: bool,
+    tokens: &[Token],
+    state: State,
+) -> Result<Front, SyntaxRefusal>
+    ensures { Answers told result (longest lists 0 0 state tokens.now) }
+{
+    let mut state = state;
+    let mut heads: u32 = 0;
+    for (taken, token) in tokens.iter().enumerate() {
+        match take(alloc, lists, heads, state, token)? {
+            Taken::On(more, after) => {
+                heads = more;
+                state = after;
+            }
+            Taken::Stops(whole) => return Ok(Front {
+                whole,
+                taken,
+                next: Some(token.pos),
+            }),
+        }
+    }
+    Ok(Front {
+        whole: last(alloc, state)?,
+        taken: tokens.len(),
+        next: None,
+    })
 }
 
 /// What a token does behind so many head tokens.
@@ -265,10 +255,8 @@ fn take(
     let terminal = terminal_of(lists, token)?;
     match step(alloc, state, terminal)? {
         Outcome::Taken(mark, after) => {
-            match count(heads, mark, token.pos) {
-                Ok(more) => Ok(Taken::On(more, after)),
-                Err(refusal) => Err(refusal),
-            }
+            let more = count(heads, mark, token.pos)?;
+            Ok(Taken::On(more, after))
         }
         Outcome::Stops(whole) => Ok(Taken::Stops(whole)),
         Outcome::Handed(_term, _stack, _terminal) => Ok(Taken::Stops(None)),
@@ -279,8 +267,5 @@ fn take(
 fn count(heads: u32, mark: Mark, pos: Pos) -> Result<u32, SyntaxRefusal>
     ensures { Answers told result (fault_at pos (admitted heads mark)) }
 {
-    match admit(heads, mark) {
-        Ok(more) => Ok(more),
-        Err(flaw) => Err(refusal_of(flaw, pos)),
-    }
+    admit(heads, mark).map_err(|flaw| refusal_of(flaw, pos))
 }

@@ -1,7 +1,7 @@
 ghost use Rattle.std.specs.Prelude.{◌≡◌, IfOk, Some, option_map};
 ghost use Rattle.larch_grammar.specs.Leading.{behind_first, behind_group, behind_word, opened};
 ghost use Rattle.larch_grammar.specs.Refused.{earlier, implied_tokens, is_implies, known, reaches, reaches_end};
-ghost use Rattle.larch_syntax.specs.Refused.{counted, place, refused};
+ghost use Rattle.larch_syntax.specs.Refused.{counted, position, refused};
 
 use crate::refusal::SyntaxRefusal;
 use larch_base::{Memory, Pos};
@@ -17,21 +17,21 @@ pub(crate) fn which_refusal(
 ) -> SyntaxRefusal
     ensures { refused tokens.now item list result }
 {
-    let (Some(before), Some(place)) = (place_of(item), place_of(list)) else {
+    let (Some(before), Some(position)) = (position_of(item), position_of(list)) else {
         return SyntaxRefusal::Memory;
     };
-    match reaches(tokens, place) {
+    match reaches(tokens, position) {
         Ok(true) => list,
         Ok(false) if is_counted(item) => item,
-        Ok(false) if earlier(before, place) => list,
+        Ok(false) if earlier(before, position) => list,
         Ok(false) => item,
         Err(Memory) => SyntaxRefusal::Memory,
     }
 }
 
-// The place of a refusal.
-pub(crate) fn place_of(refusal: SyntaxRefusal) -> Option<Pos>
-    ensures { result ≡ place refusal }
+// The position of a refusal.
+pub(crate) fn position_of(refusal: SyntaxRefusal) -> Option<Pos>
+    ensures { result ≡ position refusal }
 {
     match refusal {
         SyntaxRefusal::Syntax(pos)
@@ -52,33 +52,33 @@ fn is_counted(refusal: SyntaxRefusal) -> bool
     )
 }
 
-// Whether a place stands before another one.
-fn earlier(place: Pos, other: Pos) -> bool
-    ensures { result ≡ earlier place other }
+// Whether a position stands before another one.
+fn earlier(position: Pos, other: Pos) -> bool
+    ensures { result ≡ earlier position other }
 {
-    place.line < other.line || place.line == other.line && place.column < other.column
+    position.line < other.line || position.line == other.line && position.column < other.column
 }
 
-// Whether what stands behind `implies` begins with a reference, and the place isn't inside its parenthesis.
-fn reaches(tokens: &Tokens, place: Pos) -> Result<bool, Memory>
-    ensures { IfOk result (λ reached. reached ≡ reaches tokens.now place) }
+// Whether what stands behind `implies` begins with a reference, and the position isn't inside its parenthesis.
+fn reaches(tokens: &Tokens, position: Pos) -> Result<bool, Memory>
+    ensures { IfOk result (λ reached. reached ≡ reaches tokens.now position) }
 {
     let implied = behind_implies(tokens.as_slice())?;
     match behind_first(implied)? {
-        Some(behind) => reaches_end(behind, place, tokens.end()),
+        Some(behind) => reaches_end(behind, position, tokens.end()),
         None => Ok(false),
     }
 }
 
-// Whether a list of references ends before these tokens or goes on with them, and the place isn't before them.
-fn reaches_end(tokens: &[Token], place: Pos, end: Pos) -> Result<bool, Memory>
-    ensures { IfOk result (λ reached. reached ≡ reaches_end place end (Some tokens.now)) }
+// Whether a list of references ends before these tokens or goes on with them, and the position isn't before them.
+fn reaches_end(tokens: &[Token], position: Pos, end: Pos) -> Result<bool, Memory>
+    ensures { IfOk result (λ reached. reached ≡ reaches_end position end (Some tokens.now)) }
 {
     let [first, ..] = tokens else {
-        return Ok(!earlier(place, end));
+        return Ok(!earlier(position, end));
     };
     let terminal = terminal_of(false, first)?;
-    Ok(ends_reference(&terminal) && !earlier(place, first.pos))
+    Ok(ends_reference(&terminal) && !earlier(position, first.pos))
 }
 
 // The tokens behind `implies`; none where it stands nowhere.

@@ -1,19 +1,18 @@
-ghost use Rattle.std.specs.Prelude.{◌≡◌, IfOk, None, Option};
+ghost use Rattle.std.specs.Prelude.{◌≡◌, IfOk};
 ghost use Rattle.larch_grammar.specs.Machine.{final};
 ghost use Rattle.larch_heads.specs.Outcome.{Settles, stepped};
-ghost use Rattle.larch_heads.specs.declared.outcome.Outcome.TheVariants.{Stops};
 
 use crate::begin::{
     begin_bracket, begin_equation, begin_operand, begin_post, begin_prefixed, begin_term,
 };
 use crate::conversions::{after_converted, begin_exempted, need_exempted};
 use crate::forms::{
-    after_dot_form, after_form, after_mark, after_marker, after_marker_symbol, after_reference,
-    after_sort, after_symbol_form, begin_form, need_mark, need_marks, need_range, need_sig,
-    need_sort,
+    after_bracket_marker, after_dot_form, after_form, after_form_bracket, after_leading_marker,
+    after_marker_symbol, after_operator_ref, after_sort, after_symbol_form, begin_form,
+    need_bracket_marker, need_range, need_sig, need_sort,
 };
 use crate::hand::{after_symbol, after_word, hand, need_field, need_sort_of};
-use crate::implied::{after_implies, after_ref, after_ref_name, behind_first, implied_word};
+use crate::implied::{after_implies, after_ref_name, after_trait_ref, behind_first, implied_word};
 use crate::items::{
     after_group, after_semicolon, after_variable, begin_item, clause_word, first_word, in_part,
     need_by, need_further_variable, need_variable, need_variable_sort, word_behind,
@@ -88,34 +87,18 @@ fn step_elsewhere(alloc: Global, state: State, terminal: Terminal) -> Result<Out
 }
 
 // The whole that ends in a state, if there is one: the end of a text is like a token that stands nowhere.
-#[tactic(auto, using(crate::proofs::AtEnd::stops_at_end))]
+#[tactic(auto, using(crate::proofs::AtEnd::ended_so, crate::proofs::AtEnd::ends_so))]
 pub(crate) fn last(alloc: Global, state: State) -> Result<Option<Whole>, Memory>
     ensures { IfOk result (λ whole. whole ≡ final state) }
 {
-    let outcome = step(alloc, state, Terminal::Other)?;
-    Ok(whole_of(outcome))
-}
-
-// The whole that ends before a token that is not taken.
-fn whole_of(outcome: Outcome) -> Option<Whole>
-    ensures { (whole : Option Whole) → outcome ≡ Stops whole → result ≡ whole }
-{
-    match outcome {
-        Outcome::Stops(whole) => whole,
-        Outcome::Taken(_mark, after) => no_whole(after),
-        Outcome::Handed(term, stack, terminal) => no_whole((term, (stack, terminal))),
+    match step(alloc, state, Terminal::Other)? {
+        Outcome::Stops(whole) => Ok(whole),
+        _ => unreachable!(),
     }
 }
 
-// No whole ends where a token is taken.
-fn no_whole<T: Drop>(_after: T) -> Option<Whole>
-    ensures { result ≡ None }
-{
-    None
-}
-
-// The same, until a term is handed on, first in the states of variables. What a function may hold takes time at its
-// start, so the states of most tokens have functions of their own.
+// What a token does, until a term is handed on, first in the states of variables. What a function may hold takes time
+// at its start, so the states of most tokens have functions of their own.
 #[inline(never)]
 fn step_in_variables(alloc: Global, state: State, terminal: Terminal) -> Result<Outcome, Memory>
     ensures { Settles result (stepped state terminal) }
@@ -175,7 +158,7 @@ fn step_anywhere(alloc: Global, state: State, terminal: Terminal) -> Result<Outc
         State::AfterField(shorthand) => after_field(alloc, shorthand, terminal),
         State::NeedRef(raw, kind) => Ok(need_ref(raw, kind, terminal)),
         State::AfterRefName(raw, kind, name) => after_ref_name(alloc, raw, kind, name, terminal),
-        State::AfterRef(raw, kind) => after_ref(alloc, raw, kind, terminal),
+        State::AfterTraitRef(raw, kind) => after_trait_ref(alloc, raw, kind, terminal),
         State::AfterRename(reference) => after_rename(reference, terminal),
         State::InPart(raw) => Ok(in_part(alloc, raw, terminal)),
         State::NeedForm(naming) => Ok(begin_form(naming, terminal)),
@@ -183,19 +166,21 @@ fn step_anywhere(alloc: Global, state: State, terminal: Terminal) -> Result<Outc
             alloc, naming, symbol, terminal,
         ),
         State::AfterDotForm(naming, pos) => after_dot_form(alloc, naming, pos, terminal),
-        State::AfterMarker(naming, pos) => Ok(after_marker(naming, pos, terminal)),
+        State::AfterLeadingMarker(naming, pos) => Ok(after_leading_marker(naming, pos, terminal)),
         State::AfterMarkerSymbol(naming, pos, symbol) => after_marker_symbol(
             alloc, naming, pos, symbol, terminal,
         ),
-        State::NeedMarks(form) => need_marks(alloc, form, terminal),
-        State::AfterMark(form, markers) => after_mark(alloc, form, markers, terminal),
-        State::NeedMark(form, markers) => need_mark(form, markers, terminal),
+        State::AfterFormBracket(form) => after_form_bracket(alloc, form, terminal),
+        State::AfterBracketMarker(form, markers) => after_bracket_marker(
+            alloc, form, markers, terminal,
+        ),
+        State::NeedBracketMarker(form, markers) => need_bracket_marker(form, markers, terminal),
         State::AfterForm(naming, form) => after_form(alloc, naming, form, terminal),
         State::NeedSig(signing) => need_sig(alloc, signing, terminal),
         State::AfterSort(signing, sorts) => Ok(after_sort(signing, sorts, terminal)),
         State::NeedSort(signing, sorts) => need_sort(signing, sorts, terminal),
         State::NeedRange(signing, sorts) => need_range(signing, sorts, terminal),
-        State::AfterReference(clause, refs) => after_reference(alloc, clause, refs, terminal),
+        State::AfterOperatorRef(clause, refs) => after_operator_ref(alloc, clause, refs, terminal),
         State::AfterLone(reference) => Ok(Outcome::Stops(Some(Whole::Reference(reference)))),
         State::InItems(raw) => begin_item(alloc, raw, terminal),
         State::FirstWord(raw, word) => first_word(alloc, raw, word, terminal),

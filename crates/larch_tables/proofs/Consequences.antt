@@ -1,6 +1,7 @@
 -- What follows from the equations of the deduction rows.
 use Rattle.std.proofs.Common.{rules, sym, ◌≡◌, ℕ, ◌-◌, Bool, true, false, cond, List, [], ◌∷◌, All, codes, Some, refl, ◌∙◌, ap}
 use Rattle.std.proofs.lemmas.List.Elements.{All-nil, All-cons}
+use Rattle.larch_base.specs.ByNumber.{numbered}
 use Rattle.larch_term.specs.Operator.{PlainOperator}
 use Rattle.larch_term.specs.Tree.{Tree}
 use Rattle.larch_term.specs.BuiltIn.{bool_sort, built_in}
@@ -18,7 +19,7 @@ use Rattle.larch_calculus.specs.Letters.{two, x_letter, y_letter}
 use Rattle.larch_calculus.specs.Theories.{IsTermOf}
 use Rattle.larch_term.specs.Sorts.{IsTermOver}
 use Rattle.larch_term.specs.Statement.{IsStatementOver}
-use Rattle.larch_tables.specs.Row.{PlainRow, numbered}
+use Rattle.larch_tables.specs.Row.{PlainRow}
 use Rattle.larch_tables.specs.Spelling.{x, y, a, b}
 use Rattle.larch_tables.specs.Tables.{deduction_rows}
 use Rattle.larch_tables.proofs.Identities.{assigned, Every, every_at, at_place}

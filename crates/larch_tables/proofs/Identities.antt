@@ -11,12 +11,13 @@ use Rattle.larch_term.specs.declared.built_in.BuiltIn.TheVariants.{True, False, 
 use Rattle.larch_term.specs.declared.statement.Statement.{Statement}
 use Rattle.larch_term.specs.declared.statement.Statement.TheVariants.{Equation, Generated, Partitioned}
 use Rattle.larch_calculus.specs.Identity.{Proposition, letter, always, never, denied, both, either, implied, equivalent, equal, unequal, chosen, term_of, agree, value, propositional, equal_itself, equal_exchanged, unequal_denied, chosen_first, chosen_second, chosen_same}
-use Rattle.larch_tables.specs.Row.{PlainRow, numbered}
+use Rattle.larch_tables.specs.Row.{PlainRow}
 use Rattle.larch_tables.specs.Spelling.{words}
 use Rattle.larch_tables.specs.Statement.{is_offered, offered, IsIdentityStatement}
 use Rattle.larch_tables.specs.Tables.{built_in_rows}
 use Rattle.larch_base.proofs.Bools.{both_true}
 use Rattle.larch_base.proofs.Options.{some_inj}
+use Rattle.larch_base.specs.ByNumber.{numbered}
 
 -- the first of some words that has a name
 abbrev word_named : List ℕ → List BuiltIn → BuiltIn

@@ -1,6 +1,5 @@
--- Rows: what one says, as the code holds it, and by its number.
-use Rattle.std.specs.Prelude.{ℕ, ◌==◌, ◌-◌, Bool, if◌then◌else◌, List, [], ◌∷◌, Option, None}
-use Rattle.std.specs.List.{slice_get}
+-- Rows: what one says, as the code holds it.
+use Rattle.std.specs.Prelude.{Bool, List, [], ◌∷◌}
 use Rattle.larch_term.specs.declared.statement.Statement.{Statement}
 use Rattle.larch_tables.specs.declared.row.Row.{Row}
 use Rattle.larch_tables.specs.declared.row.Entry.{Entry}
@@ -19,7 +18,3 @@ row_of_entry entry = record {
   count = entry.count;
   sorted = entry.sorted;
 }
-
--- what has a number in a list, counted from 1
-abbrev pub numbered : {X : Type 0} → List X → ℕ → Option X
-numbered rows n = if n == 0 then None else slice_get rows (n - 1)

@@ -1,10 +1,11 @@
 //! What holds of the rows, for crates above to cite. No function here does anything.
 ghost use Rattle.std.specs.Prelude.{◌≡◌, ◌↔◌, ◌≤◌, ℕ, List, All, Some, IsSome};
+ghost use Rattle.larch_base.specs.ByNumber.{numbered};
 ghost use Rattle.larch_term.specs.declared.statement.Statement.{Statement};
 ghost use Rattle.larch_term.specs.declared.statement.Theory.{Theory};
 ghost use Rattle.larch_term.specs.declared.substitution.Entry.{Entry};
 ghost use Rattle.larch_calculus.specs.Derivable.{Derivable};
-ghost use Rattle.larch_tables.specs.Row.{PlainRow, numbered};
+ghost use Rattle.larch_tables.specs.Row.{PlainRow};
 ghost use Rattle.larch_tables.specs.Statement.{offered, IsIdentityStatement};
 ghost use Rattle.larch_tables.specs.Tables.{built_in_rows, deduction_rows};
 ghost use Rattle.larch_term.specs.Substitution.{substituted_statement};

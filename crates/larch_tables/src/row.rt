@@ -1,5 +1,5 @@
 ghost use Rattle.std.specs.Prelude.{◌≡◌};
-ghost use Rattle.larch_tables.specs.Row.{numbered};
+ghost use Rattle.larch_base.specs.ByNumber.{numbered};
 
 use std::marker::Model;
 

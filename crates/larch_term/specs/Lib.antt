@@ -1,3 +1,4 @@
+pub mod Arguments
 pub mod BuiltIn
 pub mod BuiltInNames
 pub mod Equality

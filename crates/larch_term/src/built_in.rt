@@ -4,6 +4,7 @@ ghost use Rattle.larch_term.specs.BuiltIn.{IsBuiltIn, IsBuiltInAs, built_in_doma
 ghost use Rattle.larch_term.specs.BuiltInNames.{built_in_named, built_in_between, built_in_at_each_sort};
 
 use crate::operator::{Operator, Sort, Sorts};
+use crate::term::{Term, Terms};
 use larch_base::{Memory, Name, Sequence};
 use std::alloc::Global;
 
@@ -26,6 +27,7 @@ impl BuiltIn {
     ghost use Rattle.std.specs.Prelude.{◌≡◌, IfOk};
     ghost use Rattle.larch_term.specs.BuiltIn.{bool_sort};
     ghost use Rattle.larch_term.specs.BuiltIn.{built_in, built_in_name, built_in_domain, built_in_range};
+    ghost use Rattle.larch_term.specs.Tree.{app, none};
 
     /// Its canonical name.
     pub fn name(self) -> &'static [u8]
@@ -55,6 +57,15 @@ impl BuiltIn {
         let name = Name::new(alloc, self.name())?;
         let operator = Operator::new(alloc, name, domain, range)?;
         Ok(operator)
+    }
+
+    /// The operator at `Bool` as a term without arguments: of `True` and of `False` the truth value.
+    pub fn constant(self, alloc: Global) -> Result<Term, Memory>
+        ensures { IfOk result (λ term. term ≡ app (built_in self bool_sort) none) }
+    {
+        let sort = bool_sort(alloc)?;
+        let operator = self.operator(alloc, &sort)?;
+        Ok(Term::app(operator, Terms::from_vec(Vec::new(alloc))))
     }
 
     fn domain(self, alloc: Global, truth: &Sort, sort: &Sort) -> Result<Sorts, Memory>

@@ -5,6 +5,7 @@
 //! drop of a term are loops, so terms of any depth are dropped.
 #![tactic(auto)]
 
+mod arguments;
 mod built_in;
 mod copying;
 mod counting;
@@ -20,6 +21,7 @@ mod term;
 mod truth;
 mod variable;
 
+pub use arguments::{TwoArguments, two_arguments};
 pub use built_in::{BuiltIn, bool_sort, built_in_of, is_built_in};
 pub use copying::{copy, copy_operators, copy_statement, copy_statements, copy_theory};
 pub use counting::size;

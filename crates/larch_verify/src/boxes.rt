@@ -9,7 +9,7 @@ ghost use Rattle.larch_past.specs.Past.{IsPast, IsEquated, equated_in, history_o
 use larch_base::{Memory, Sequence};
 use larch_certificate::{BoxPart, BoxParts, CodedEquation};
 use larch_decoding::decode_equation;
-use larch_past::{EquatedList, Past};
+use larch_past::{Context, EquatedList, Past};
 use larch_pool::Pool;
 use larch_term::Theory;
 use std::alloc::Global;
@@ -33,7 +33,8 @@ pub(crate) fn open_box(
 {
     let parts = copy_parts(alloc, parts)?;
     past.begin_box(alloc, parts)?;
-    let supposed = decode_equations(alloc, pool, theory, past, hypotheses)?;
+    let context = Context { theory, past };
+    let supposed = decode_equations(alloc, pool, &context, hypotheses)?;
     let Some(supposed) = supposed else {
         return Ok(false);
     };
@@ -60,19 +61,19 @@ fn copy_parts(alloc: Global, parts: &[BoxPart]) -> Result<BoxParts, Memory>
 fn decode_equations(
     alloc: Global,
     pool: &mut Pool,
-    theory: &Theory,
-    past: &Past,
+    context: &Context<'_>,
     equations: &[CodedEquation],
 ) -> Result<Option<EquatedList>, Memory>
-    requires { IsPast theory.now pool.old past.now }
+    requires { IsPast context.now.theory.now pool.old context.now.past.now }
     ensures within { IfOk result (λ o. IfSome o (All (IsEquated pool.new))) }
     ensures says { IfOk result (λ o. option_map (map (equated_in pool.new)) o
-        ≡ each (decode_equation (find_symbol theory.now (history_of pool.old past.now))) equations.now) }
+        ≡ each (decode_equation (find_symbol context.now.theory.now
+        (history_of pool.old context.now.past.now))) equations.now) }
     ensures grows { OnOk result (Grows pool.old pool.new) }
 {
     let mut decoded = Vec::with_capacity(alloc, equations.len())?;
     for equation in equations {
-        let sides = decode_equation(alloc, pool, theory, past, equation)?;
+        let sides = decode_equation(alloc, pool, context, equation)?;
         let Some(sides) = sides else {
             return Ok(None);
         };

@@ -11,9 +11,8 @@ use larch_base::Memory;
 use larch_box_rules::{Induction, cases_line, fresh_line, induct_line};
 use larch_certificate::Line;
 use larch_clause_rules::{generated_line, observe_line, partitioned_line};
-use larch_past::{Equated, Past, Stated};
+use larch_past::{Context, Equated, Past, Stated};
 use larch_pool::Pool;
-use larch_rule_parts::Context;
 use larch_rules::{
     axiom_line, equal_line, hyp_line, inst_line, refl_line, repl_line, row_line, sym_line,
 };

@@ -77,10 +77,10 @@ fn asked(alloc: Global, matches: &ArgMatches<'_>) -> Result<Call, Memory>
     let command = command_in(matches);
     match matches.get_strs("WORD") {
         Some(words) => {
-            let call = called(alloc, command, words)?;
+            let call = call_with_words(alloc, command, words)?;
             Ok(call)
         }
-        None => Ok(called_alone(command)),
+        None => Ok(call_without_words(command)),
     }
 }
 
@@ -106,7 +106,7 @@ fn command_in<'a>(matches: &ArgMatches<'a>) -> &'a str
 }
 
 // What a command without words asks for.
-fn called_alone(command: &str) -> Call
+fn call_without_words(command: &str) -> Call
     ensures { result ≡ called command.now [] }
 {
     if command == "session" {
@@ -117,7 +117,7 @@ fn called_alone(command: &str) -> Call
 }
 
 // What a command with these words asks for.
-fn called(alloc: Global, command: &str, words: &[&str]) -> Result<Call, Memory>
+fn call_with_words(alloc: Global, command: &str, words: &[&str]) -> Result<Call, Memory>
     ensures { IfOk result (λ call. call ≡ called command.now (map (λ word. word.now) words.now)) }
 {
     match command {
@@ -128,24 +128,15 @@ fn called(alloc: Global, command: &str, words: &[&str]) -> Result<Call, Memory>
                 Ok(Call::Nothing)
             }
         }
-        "check" => {
-            let call = check(alloc, words)?;
-            Ok(call)
-        }
-        "obligations" => {
-            let call = obligations(alloc, words)?;
-            Ok(call)
-        }
-        "verify" => {
-            let call = verify(alloc, words)?;
-            Ok(call)
-        }
+        "check" => check_call(alloc, words),
+        "obligations" => obligations_call(alloc, words),
+        "verify" => verify_call(alloc, words),
         _ => Ok(Call::Nothing),
     }
 }
 
 // What a check of these words asks for.
-fn check(alloc: Global, words: &[&str]) -> Result<Call, Memory>
+fn check_call(alloc: Global, words: &[&str]) -> Result<Call, Memory>
     ensures { IfOk result (λ call. call ≡ of_files call_check (map (λ word. word.now) words.now)) }
 {
     match files(alloc, words)? {
@@ -154,8 +145,8 @@ fn check(alloc: Global, words: &[&str]) -> Result<Call, Memory>
     }
 }
 
-// What is asked for where the obligations of these words are.
-fn obligations(alloc: Global, words: &[&str]) -> Result<Call, Memory>
+// What is asked for where the obligations of the files that these words name are.
+fn obligations_call(alloc: Global, words: &[&str]) -> Result<Call, Memory>
     ensures { IfOk result (λ call. call ≡ of_files call_obligations (map (λ word. word.now) words.now)) }
 {
     match files(alloc, words)? {
@@ -164,28 +155,28 @@ fn obligations(alloc: Global, words: &[&str]) -> Result<Call, Memory>
     }
 }
 
-// What is asked for where these words say what is to be verified.
-fn verify(alloc: Global, words: &[&str]) -> Result<Call, Memory>
+// What these words ask for, where they say what is to be verified.
+fn verify_call(alloc: Global, words: &[&str]) -> Result<Call, Memory>
     ensures { IfOk result (λ call. call ≡ verified (map (λ word. word.now) words.now)) }
 {
     match words {
         [] => Ok(Call::Nothing),
-        [stem, words @ ..] => verify_trait(alloc, stem, words),
+        [stem, words @ ..] => trait_call(alloc, stem, words),
     }
 }
 
-// The same behind the trait.
-fn verify_trait(alloc: Global, stem: &str, words: &[&str]) -> Result<Call, Memory>
+// What words after the trait ask for.
+fn trait_call(alloc: Global, stem: &str, words: &[&str]) -> Result<Call, Memory>
     ensures { IfOk result (λ call. call ≡ verified_trait stem.now (map (λ word. word.now) words.now)) }
 {
     match words {
         [] => Ok(Call::Nothing),
-        [label, words @ ..] => verify_duty(alloc, stem, label_of(label.as_bytes()), words),
+        [label, words @ ..] => duty_call(alloc, stem, label_of(label.as_bytes()), words),
     }
 }
 
-// The same behind the trait and the label.
-fn verify_duty(
+// What words after the trait and the label ask for.
+fn duty_call(
     alloc: Global,
     stem: &str,
     label: Option<Label>,
@@ -195,12 +186,12 @@ fn verify_duty(
 {
     match words {
         [] => Ok(Call::Nothing),
-        [certificate, files @ ..] => verify_by(alloc, stem, label, certificate, files),
+        [certificate, files @ ..] => certificate_call(alloc, stem, label, certificate, files),
     }
 }
 
 // The certificate of a trait's duty is to be verified, over these files.
-fn verify_by(
+fn certificate_call(
     alloc: Global,
     stem: &str,
     label: Option<Label>,

@@ -1,5 +1,5 @@
 use Rattle.std.proofs.Common.{take}
-use Rattle.larch_applying.specs.Codes.{AreCodes, AreOfStore}
+use Rattle.larch_applying.specs.Encodings.{AreEncodings, AreOfStore}
 use Rattle.larch_derive_lines.specs.Rules.{AreWritten}
 use Rattle.larch_redexes.specs.Bound.{entries_of}
 use Rattle.larch_applying.proofs.writing.write_bound.Given as goal
@@ -7,7 +7,7 @@ use Rattle.larch_applying.proofs.writing.write_bound.Given as goal
 -- the replacements so far are written
 abbrev pub invariant-loop-binding : goal.invariant-loop-binding
 invariant-loop-binding l = record {
-  belong : AreOfStore l.store l.codes;
-  codes : AreCodes l.builder l.fn.codes → AreCodes l.builder l.codes;
-  written : AreCodes l.builder l.fn.codes → AreWritten l.builder (entries_of (take l.binding-index l.bound)) l.bindings;
+  belong : AreOfStore l.store l.encodings;
+  encodings : AreEncodings l.builder l.fn.encodings → AreEncodings l.builder l.encodings;
+  written : AreEncodings l.builder l.fn.encodings → AreWritten l.builder (entries_of (take l.binding-index l.bound)) l.bindings;
 }

@@ -1,6 +1,6 @@
 use Rattle.std.proofs.Common.{◌≡◌, All, take, Some}
+use Rattle.larch_base.specs.ByNumber.{numbered}
 use Rattle.larch_lines.specs.Decoding.{each}
-use Rattle.larch_tables.specs.Row.{numbered}
 use Rattle.larch_clause_rules.specs.Operators.{IsKnown, operators_in}
 use Rattle.larch_clause_rules.proofs.known.own_operators.Given as goal
 

@@ -9,7 +9,7 @@ use Rattle.larch_decoding.proofs.decoding.decode_application.Goals as goal
 
 pub returns-then-not-takes-clause-value : goal.returns-then-not-takes-clause-value
 returns-then-not-takes-clause-value c =
-    application_not (find_symbol c.args.theory.now (history_of c.args.pool.now c.args.past.now)) c.args.symbol
+    application_not (find_symbol c.args.context.now.theory.now (history_of c.args.pool.now c.args.context.now.past.now)) c.args.symbol
     c.find_operator.new.pool.operators c.args.pool.now.trees c.find_operator.new.pool.trees
     c.as_slice.result.now c.as_slice-2.result.now c.args.arguments c.in_ok-found.found c.in-Some.operator c.takes.result
     c.as_slice.ensures c.as_slice-2.ensures c.in_ok-found.ensures.trees c.in-Some.is c.in_ok-found.ensures.within
@@ -23,7 +23,7 @@ returns-clause-within c =
 
 pub returns-clause-value : goal.returns-clause-value
 returns-clause-value c =
-    application_yes (find_symbol c.args.theory.now (history_of c.args.pool.now c.args.past.now)) c.args.symbol
+    application_yes (find_symbol c.args.context.now.theory.now (history_of c.args.pool.now c.args.context.now.past.now)) c.args.symbol
     c.find_operator.new.pool.operators c.args.pool.now.trees c.find_operator.new.pool.trees c.apply.new.self.trees
     c.as_slice.result.now c.as_slice-2.result.now c.args.arguments c.in_ok-found.found c.in-Some.operator c.in_ok-number.number c.takes.result
     c.as_slice.ensures c.as_slice-2.ensures c.in_ok-found.ensures.trees c.in-Some.is c.in_ok-found.ensures.within

@@ -13,10 +13,10 @@ use Rattle.larch_decoding.proofs.decoding.decode_next.Goals as goal
 
 pub returns-in_default-clause-values : goal.returns-in_default-clause-values
 returns-in_default-clause-values c cs =
-    next_application (find_symbol c.args.theory.now (history_of c.args.pool.now c.args.past.now)) c.in-App.symbol c.in-App.arguments c.args.term.now cs
+    next_application (find_symbol c.args.context.now.theory.now (history_of c.args.pool.now c.args.context.now.past.now)) c.in-App.symbol c.in-App.arguments c.args.term.now cs
     c.args.pool.now.trees c.args.values.now.items (length c.as_slice.result.now) c.in_ok-arguments-in-App.arguments c.take_last.new.numbers.items
     (ap view_coded (sym c.in-App.is) ∙ c.node.ensures) (ap length c.as_slice.ensures) c.in_ok-arguments-in-App.ensures.last c.in_ok-arguments-in-App.ensures.rest
-    ∙ ap (option_and_then (λ v. values_after (find_symbol c.args.theory.now (history_of c.args.pool.now c.args.past.now)) cs (map (tree_in c.args.pool.now.trees) c.take_last.new.numbers.items ++ v ∷ [])))
+    ∙ ap (option_and_then (λ v. values_after (find_symbol c.args.context.now.theory.now (history_of c.args.pool.now c.args.context.now.past.now)) cs (map (tree_in c.args.pool.now.trees) c.take_last.new.numbers.items ++ v ∷ [])))
     (sym (ap (option_map (tree_in c.decode_application.new.pool.trees)) (sym c.in_default.is) ∙ c.in_ok-value-in-App.ensures.value))
 
 pub returns-in_ok-push-in-Var-clause-within : goal.returns-in_ok-push-in-Var-clause-within
@@ -27,7 +27,7 @@ returns-in_ok-push-in-Var-clause-within c =
 
 pub returns-in_ok-push-in-Var-clause-values : goal.returns-in_ok-push-in-Var-clause-values
 returns-in_ok-push-in-Var-clause-values c cs =
-    next_variable (find_symbol c.args.theory.now (history_of c.args.pool.now c.args.past.now)) c.in-Var.name c.in-Var.sort c.args.term.now cs
+    next_variable (find_symbol c.args.context.now.theory.now (history_of c.args.pool.now c.args.context.now.past.now)) c.in-Var.name c.in-Var.sort c.args.term.now cs
     c.args.pool.now.trees c.decode_variable.new.pool.trees c.args.values.now.items c.push.new.self.items c.in_ok-number-in-Var.number
     (ap view_coded (sym c.in-Var.is) ∙ c.node.ensures) c.in_ok-number-in-Var.ensures.grows.1 c.requires.values c.in_ok-push-in-Var.ensures.items
     c.in_ok-number-in-Var.ensures.tree
@@ -46,15 +46,15 @@ returns-in_ok-push-in-App-clause-within c =
 
 pub returns-in_ok-push-in-App-clause-values : goal.returns-in_ok-push-in-App-clause-values
 returns-in_ok-push-in-App-clause-values c cs =
-    value_here (find_symbol c.args.theory.now (history_of c.args.pool.now c.args.past.now)) cs c.args.pool.now.trees c.decode_application.new.pool.trees
+    value_here (find_symbol c.args.context.now.theory.now (history_of c.args.pool.now c.args.context.now.past.now)) cs c.args.pool.now.trees c.decode_application.new.pool.trees
     c.take_last.new.numbers.items c.push-in-App.new.self.items c.in-Some.number
-    (value_of (find_symbol c.args.theory.now (history_of c.args.pool.now c.args.past.now)) c.in-App.symbol (map (tree_in c.args.pool.now.trees) c.in_ok-arguments-in-App.arguments))
-    (values_after (find_symbol c.args.theory.now (history_of c.args.pool.now c.args.past.now)) (c.args.term.now ∷ cs) (map (tree_in c.args.pool.now.trees) c.args.values.now.items))
+    (value_of (find_symbol c.args.context.now.theory.now (history_of c.args.pool.now c.args.context.now.past.now)) c.in-App.symbol (map (tree_in c.args.pool.now.trees) c.in_ok-arguments-in-App.arguments))
+    (values_after (find_symbol c.args.context.now.theory.now (history_of c.args.pool.now c.args.context.now.past.now)) (c.args.term.now ∷ cs) (map (tree_in c.args.pool.now.trees) c.args.values.now.items))
     c.in_ok-value-in-App.ensures.grows.1
     (part_within c.args.pool.now.trees c.args.values.now.items c.take_last.new.numbers.items (length c.args.values.now.items - length c.as_slice.result.now)
     c.in_ok-arguments-in-App.ensures.rest c.requires.values)
     c.in_ok-push-in-App.ensures.items (value_within c)
     (ap (option_map (tree_in c.decode_application.new.pool.trees)) (sym c.in-Some.is) ∙ c.in_ok-value-in-App.ensures.value)
-    (next_application (find_symbol c.args.theory.now (history_of c.args.pool.now c.args.past.now)) c.in-App.symbol c.in-App.arguments c.args.term.now cs
+    (next_application (find_symbol c.args.context.now.theory.now (history_of c.args.pool.now c.args.context.now.past.now)) c.in-App.symbol c.in-App.arguments c.args.term.now cs
     c.args.pool.now.trees c.args.values.now.items (length c.as_slice.result.now) c.in_ok-arguments-in-App.arguments c.take_last.new.numbers.items
     (ap view_coded (sym c.in-App.is) ∙ c.node.ensures) (ap length c.as_slice.ensures) c.in_ok-arguments-in-App.ensures.last c.in_ok-arguments-in-App.ensures.rest)

@@ -1,7 +1,7 @@
 use Rattle.std.proofs.Common.{◌≡◌, ◌<◌, length, Some, None, sym, ◌∙◌, ap}
 use Rattle.std.proofs.lemmas.Option.{slice_get_within}
+use Rattle.larch_base.specs.ByNumber.{numbered}
 use Rattle.larch_certificate.specs.declared.line.BoxPart.{BoxPart}
-use Rattle.larch_tables.specs.Row.{numbered}
 use Rattle.larch_lines.specs.Context.{find_open}
 use Rattle.larch_lines.specs.Events.{part_operator}
 use Rattle.larch_pool.specs.Pooled.{operator_of}
@@ -11,19 +11,19 @@ use Rattle.larch_decoding.proofs.symbols.box_operator.Goals as goal
 
 pub returns-in_default-clause-operator : goal.returns-in_default-clause-operator
 returns-in_default-clause-operator c =
-    of_none (find_open (history_of c.args.pool.now c.args.past.now) c.args.of_box) c.args.number (c.in_default.ensures.known c.args.pool.now)
+    of_none (find_open (history_of c.args.pool.now c.args.context.now.past.now) c.args.of_box) c.args.number (c.in_default.ensures.known c.args.pool.now)
 
-pub returns-in_default-part_at-clause-operator : goal.returns-in_default-part_at-clause-operator
-returns-in_default-part_at-clause-operator c =
-    of_box (find_open (history_of c.args.pool.now c.args.past.now) c.args.of_box) (box_in c.args.pool.now c.in-Some.known.now) c.args.number None
-    (c.in-Some.ensures.known c.args.pool.now) (c.in_default-part_at.ensures ∙ ap (λ ps. numbered ps c.args.number) c.as_slice.ensures)
+pub returns-in_default-numbered-clause-operator : goal.returns-in_default-numbered-clause-operator
+returns-in_default-numbered-clause-operator c =
+    of_box (find_open (history_of c.args.pool.now c.args.context.now.past.now) c.args.of_box) (box_in c.args.pool.now c.in-Some.known.now) c.args.number None
+    (c.in-Some.ensures.known c.args.pool.now) (c.in_default-numbered.ensures ∙ ap (λ ps. numbered ps c.args.number) c.as_slice.ensures)
 
 pub returns-clause-operator : goal.returns-clause-operator
 returns-clause-operator c =
     c.in_ok-operator.ensures.number ∙ ap Some c.in_ok-symbol.ensures
-    ∙ of_box (find_open (history_of c.args.pool.now c.args.past.now) c.args.of_box) (box_in c.args.pool.now c.in-Some.known.now) c.args.number
-    (Some c.in-Some-part_at.part.now)
-    (c.in-Some.ensures.known c.args.pool.now) (c.in-Some-part_at.ensures ∙ ap (λ ps. numbered ps c.args.number) c.as_slice.ensures)
+    ∙ of_box (find_open (history_of c.args.pool.now c.args.context.now.past.now) c.args.of_box) (box_in c.args.pool.now c.in-Some.known.now) c.args.number
+    (Some c.in-Some-numbered.part.now)
+    (c.in-Some.ensures.known c.args.pool.now) (c.in-Some-numbered.ensures ∙ ap (λ ps. numbered ps c.args.number) c.as_slice.ensures)
 
 pub returns-clause-within : goal.returns-clause-within
 returns-clause-within c =

@@ -1,18 +1,19 @@
-use Rattle.std.proofs.Common.{◌≡◌, ℕ, ◌-◌, slice_get, sym, ◌∙◌, ap, arith}
+use Rattle.std.proofs.Common.{◌≡◌, slice_get, sym, ◌∙◌, ap}
 use Rattle.std.specs.Option.{option_and_then}
-use Rattle.std.proofs.lemmas.Grind.{common_steps}
-use Rattle.larch_decoding.proofs.Owned.{numbered_from, own_at, own_within}
+use Rattle.larch_base.specs.ByNumber.{numbered}
+use Rattle.larch_decoding.proofs.Owned.{own_number_within, own_numbered}
 use Rattle.larch_decoding.proofs.symbols.own_operator.Goals as goal
 
 pub returns-clause-operator : goal.returns-clause-operator
 returns-clause-operator c =
-    let e : c.number_at.result ≡ slice_get c.args.past.now.own.items (c.args.number - 1) = grind (arith, common_steps) in
+    let e : c.copied.result ≡ numbered c.args.context.now.past.now.own.items c.args.number =
+    c.copied.ensures ∙ c.numbered.ensures ∙ ap (λ ks. numbered ks c.args.number) c.deref.ensures.value in
     ap (option_and_then (slice_get c.args.pool.now.operators)) e
-    ∙ own_at c.args.pool.now.operators c.args.past.now.own.items c.args.theory.now.operators (c.args.number - 1) c.requires.own
-    ∙ sym (numbered_from c.args.theory.now.operators c.args.number (λ z. absurd (grind (arith, z))))
+    ∙ own_numbered c.args.pool.now.operators c.args.context.now.past.now.own.items
+    c.args.context.now.theory.now.operators c.args.number c.requires.own
 
 pub returns-clause-within : goal.returns-clause-within
 returns-clause-within c =
-    let e : c.number_at.result ≡ slice_get c.args.past.now.own.items (c.args.number - 1) = grind (arith, common_steps) in
-    own_within c.args.pool.now.operators c.args.past.now.own.items c.args.theory.now.operators (c.args.number - 1)
-    c.number_at.result c.requires.own (sym e)
+    own_number_within c.args.pool.now.operators c.args.context.now.past.now.own.items
+    c.args.context.now.theory.now.operators c.args.number c.copied.result c.requires.own
+    (sym (c.copied.ensures ∙ c.numbered.ensures ∙ ap (λ ks. numbered ks c.args.number) c.deref.ensures.value))

@@ -1,5 +1,5 @@
 use Rattle.std.proofs.Common.{◌≡◌, drop}
-use Rattle.larch_sorts.specs.Read.{read_equation}
+use Rattle.larch_sorts_meaning.specs.Read.{read_equation}
 use Rattle.larch_items.specs.Steps.{all_taken, each, one_behind}
 use Rattle.larch_items.proofs.items.read_equations.Given as goal
 

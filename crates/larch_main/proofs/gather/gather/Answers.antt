@@ -1,19 +1,19 @@
 -- Where the loop leaves off.
-use Rattle.std.proofs.Common.{◌∙◌, ◌≤◌, length, arith}
-use Rattle.larch_main.proofs.Gathers.{ends_at, is_absent, is_too_large, went_on}
+use Rattle.std.proofs.Common.{◌∙◌, ◌≤◌, length, arith, subst}
+use Rattle.larch_main.specs.Look.{GatherFaults}
+use Rattle.larch_main.proofs.Gathers.{ends_at, refused_at, went_on}
 use Rattle.larch_main.proofs.gather.gather.Goals as goal
 
-pub returns-in-Err-NotThere-clause-found : goal.returns-in-Err-NotThere-clause-found
-returns-in-Err-NotThere-clause-found g c =
-    is_absent _ _ c.loop-name.invariant.same c.args.names.now c.loop-name.files c.look.new.files c.loop-name.name-index c.name-item.result
-    c.loop-name-test.true c.name-item.is c.loop-name.invariant.gathers c.absent.result
-    (rw c.in-Err-NotThere.field-0-is at c.in-Err-NotThere.ensures.looks) (rw c.bytes.ensures at c.absent.ensures.ok)
+pub returns-in-Err-clause-found : goal.returns-in-Err-clause-found
+returns-in-Err-clause-found g c =
+    refused_at _ _ c.loop-name.invariant.same c.args.names.now c.loop-name.files c.look.new.files c.loop-name.name-index
+    c.name-item.result c.loop-name-test.true c.name-item.is c.loop-name.invariant.gathers c.in-Err.refusal
+    c.refusal_for.result c.in-Err.ensures.looks (rw c.bytes.ensures at c.refusal_for.ensures.refusal)
 
-pub returns-in-Err-TooLong-clause-found : goal.returns-in-Err-TooLong-clause-found
-returns-in-Err-TooLong-clause-found g c =
-    is_too_large _ _ c.loop-name.invariant.same c.args.names.now c.loop-name.files c.look.new.files c.loop-name.name-index c.name-item.result
-    c.loop-name-test.true c.name-item.is c.loop-name.invariant.gathers
-    (rw c.in-Err-TooLong.field-0-is at c.in-Err-TooLong.ensures.looks)
+pub returns-in-Err-clause-faults : goal.returns-in-Err-clause-faults
+returns-in-Err-clause-faults g c =
+    subst (λ n. GatherFaults c.refusal_for.result n (g.F.Folder.faults c.look.new.folder)) c.loop-name.invariant.fine
+    (c.refusal_for.ensures.faults _ _ c.in-Err.ensures.faults)
 
 pub loop-name-preserved : goal.loop-name-preserved
 loop-name-preserved g c = record {

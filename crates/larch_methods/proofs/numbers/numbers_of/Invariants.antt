@@ -1,6 +1,6 @@
 use Rattle.std.proofs.Common.{◌≡◌, map, take}
 use Rattle.std.specs.Prelude.{Some}
-use Rattle.larch_tables.specs.Row.{numbered}
+use Rattle.larch_base.specs.ByNumber.{numbered}
 use Rattle.larch_methods.proofs.numbers.numbers_of.Given as goal
 
 -- the numbers so far are those of the operators so far

@@ -1,6 +1,6 @@
--- The part between the places is rotated.
+-- The part between the heights is rotated.
 use Rattle.std.proofs.Common.{refl, ◌+◌, ◌-◌}
-use Rattle.larch_order.proofs.Places.{moved_up}
+use Rattle.larch_order.proofs.Heights.{moved_up}
 use Rattle.larch_order.proofs.precedence.move_up.Goals as goal
 
 pub returns : goal.returns

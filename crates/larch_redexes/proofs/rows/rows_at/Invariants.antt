@@ -2,5 +2,5 @@ use Rattle.larch_redexes.proofs.RowSteps.{AreRows}
 use Rattle.larch_redexes.proofs.rows.rows_at.Given as goal
 
 -- the rows so far are rules
-abbrev pub invariant-loop-place : goal.invariant-loop-place
-invariant-loop-place l = AreRows l.sort l.place l.rows
+abbrev pub invariant-loop-index : goal.invariant-loop-index
+invariant-loop-index l = AreRows l.sort l.index l.rows

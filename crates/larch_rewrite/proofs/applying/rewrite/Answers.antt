@@ -10,7 +10,7 @@ use Rattle.larch_redexes.specs.Search.{IsBy, IsRedex}
 use Rattle.larch_store.specs.Numbered.{term_of}
 use Rattle.larch_store.specs.Stored.{Belongs}
 use Rattle.larch_store.proofs.Growth.{belongs_stays}
-use Rattle.larch_ways.proofs.Ways.{leads_known}
+use Rattle.larch_derive_lines.proofs.Ways.{leads_known}
 use Rattle.larch_rewrite.proofs.Roots.{found_holds}
 use Rattle.larch_rewrite.proofs.applying.rewrite.Goals as goal
 

@@ -1,6 +1,6 @@
 use Rattle.std.proofs.Common.{subst}
 use Rattle.larch_derive.proofs.Growth.{extends_trans, stays_said}
-use Rattle.larch_ways.specs.Way.{Leads}
+use Rattle.larch_derive_lines.specs.Way.{Leads}
 use Rattle.larch_rewrite.proofs.finishing.argument_way.Goals as goal
 
 pub returns-in_err-changed-clause-extends : goal.returns-in_err-changed-clause-extends

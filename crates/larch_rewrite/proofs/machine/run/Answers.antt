@@ -2,7 +2,7 @@ use Rattle.std.specs.Prelude.{All, refl}
 use Rattle.std.proofs.Common.{ap, sym, subst, ◌∙◌}
 use Rattle.std.proofs.lemmas.List.Elements.{All-nil}
 use Rattle.std.proofs.lemmas.Result.{err_from_is_err_and}
-use Rattle.larch_applying.proofs.Written.{codes_stay}
+use Rattle.larch_applying.proofs.Written.{encodings_stay}
 use Rattle.larch_derive.proofs.Growth.{extends_same, extends_trans}
 use Rattle.larch_store.specs.Stored.{Belongs}
 use Rattle.larch_store.proofs.Growth.{grows_refl, grows_trans}
@@ -32,8 +32,8 @@ loop-init c =
       extends = λ m. extends_same _ _ refl;
       says = λ m. says_first _ _ _ _ _ c.in_ok-first.first c.new.ensures.items
           (ap (λ (l : Level). l.start) e, ap (λ (l : Level). l.way) e, ap (λ (l : Level). l.term) e) m;
-      belong = none_of_store c.args.store.now _ c.new-codes.ensures;
-      codes = λ m. none_written c.args.builder.now _ c.new-codes.ensures;
+      belong = none_of_store c.args.store.now _ c.new-encodings.ensures;
+      encodings = λ m. none_written c.args.builder.now _ c.new-encodings.ensures;
     }
 
 pub loop-preserved : goal.loop-preserved
@@ -44,12 +44,12 @@ loop-preserved c = record {
   works = c.in_ok-turn.ensures.works _ _ c.loop.invariant.works;
   extends = λ m.
       extends_trans _ _ _ (c.loop.invariant.extends m)
-      (c.in_ok-turn.ensures.extends (c.loop.invariant.says m) (c.loop.invariant.codes m));
-  says = λ m. c.in_ok-turn.ensures.says (c.loop.invariant.says m) (c.loop.invariant.codes m);
+      (c.in_ok-turn.ensures.extends (c.loop.invariant.says m) (c.loop.invariant.encodings m));
+  says = λ m. c.in_ok-turn.ensures.says (c.loop.invariant.says m) (c.loop.invariant.encodings m);
   belong = c.in_ok-turn.ensures.belong;
-  codes = λ m.
-      codes_stay _ _ _ (c.in_ok-turn.ensures.extends (c.loop.invariant.says m) (c.loop.invariant.codes m))
-      (c.in_ok-turn.ensures.codes (c.loop.invariant.codes m));
+  encodings = λ m.
+      encodings_stay _ _ _ (c.in_ok-turn.ensures.extends (c.loop.invariant.says m) (c.loop.invariant.encodings m))
+      (c.in_ok-turn.ensures.encodings (c.loop.invariant.encodings m));
 }
 
 pub returns-then-is_last-clause-belongs : goal.returns-then-is_last-clause-belongs
@@ -96,4 +96,4 @@ returns-in_err-turn-clause-front c = front_further _ _ _ c.loop.invariant.front 
 pub returns-in_err-turn-clause-extends : goal.returns-in_err-turn-clause-extends
 returns-in_err-turn-clause-extends c m =
     extends_trans _ _ _ (c.loop.invariant.extends m)
-    (c.in_err-turn.ensures.extends (c.loop.invariant.says m) (c.loop.invariant.codes m))
+    (c.in_err-turn.ensures.extends (c.loop.invariant.says m) (c.loop.invariant.encodings m))

@@ -1,4 +1,4 @@
-use Rattle.larch_applying.specs.Codes.{AreCodes, AreOfStore}
+use Rattle.larch_applying.specs.Encodings.{AreEncodings, AreOfStore}
 use Rattle.larch_derive.specs.Predicates.{Extends}
 use Rattle.larch_redexes.specs.Rule.{all_sides}
 use Rattle.larch_store.specs.Numbered.{term_of}
@@ -17,6 +17,6 @@ invariant-loop l = record {
   extends : MayBegin l.fn.builder l.rules l.fn.kept (term_of l.term) → Extends l.fn.builder l.builder;
   says : MayBegin l.fn.builder l.rules l.fn.kept (term_of l.term)
       → Says l.builder l.rules l.kept l.pending.frames.items l.turn;
-  belong : AreOfStore l.store l.pending.means.codes;
-  codes : MayBegin l.fn.builder l.rules l.fn.kept (term_of l.term) → AreCodes l.builder l.pending.means.codes;
+  belong : AreOfStore l.store l.pending.means.encodings;
+  encodings : MayBegin l.fn.builder l.rules l.fn.kept (term_of l.term) → AreEncodings l.builder l.pending.means.encodings;
 }

@@ -73,10 +73,10 @@ returns-in_err-turn-in-Arguments-clause-refused c =
 pub returns-in_ok-turn-in-Arguments-clause-belong : goal.returns-in_ok-turn-in-Arguments-clause-belong
 returns-in_ok-turn-in-Arguments-clause-belong c =
     means_stay _ _ _ c.in_ok-turn-in-Arguments.ensures.means
-    (of_store_stay _ _ _ c.in_ok-turn-in-Arguments.ensures.grows c.requires.codes)
+    (of_store_stay _ _ _ c.in_ok-turn-in-Arguments.ensures.grows c.requires.encodings)
 
-pub returns-in_ok-turn-in-Arguments-clause-codes : goal.returns-in_ok-turn-in-Arguments-clause-codes
-returns-in_ok-turn-in-Arguments-clause-codes c d =
+pub returns-in_ok-turn-in-Arguments-clause-encodings : goal.returns-in_ok-turn-in-Arguments-clause-encodings
+returns-in_ok-turn-in-Arguments-clause-encodings c d =
     means_written c.args.builder.now _ _ c.in_ok-turn-in-Arguments.ensures.means d
 
 -- ---- a root
@@ -143,8 +143,8 @@ returns-in_err-turn-in-Finish-clause-extends c h d =
 
 pub returns-in_ok-turn-in-Finish-clause-belong : goal.returns-in_ok-turn-in-Finish-clause-belong
 returns-in_ok-turn-in-Finish-clause-belong c =
-    means_stay _ _ _ c.in_ok-turn-in-Finish.ensures.means c.requires.codes
+    means_stay _ _ _ c.in_ok-turn-in-Finish.ensures.means c.requires.encodings
 
-pub returns-in_ok-turn-in-Finish-clause-codes : goal.returns-in_ok-turn-in-Finish-clause-codes
-returns-in_ok-turn-in-Finish-clause-codes c d =
+pub returns-in_ok-turn-in-Finish-clause-encodings : goal.returns-in_ok-turn-in-Finish-clause-encodings
+returns-in_ok-turn-in-Finish-clause-encodings c d =
     means_written c.args.builder.now _ _ c.in_ok-turn-in-Finish.ensures.means d

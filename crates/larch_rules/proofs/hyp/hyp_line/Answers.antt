@@ -1,6 +1,6 @@
-use Rattle.std.proofs.Common.{sym, ◌∙◌, ap, map}
+use Rattle.std.proofs.Common.{◌≡◌, sym, ◌∙◌, ap, map}
 use Rattle.std.specs.Option.{option_map, option_and_then}
-use Rattle.larch_tables.specs.Row.{numbered}
+use Rattle.larch_base.specs.ByNumber.{numbered}
 use Rattle.larch_lines.specs.Context.{find_open}
 use Rattle.larch_past.specs.Past.{IsEquated, box_in, equated_in, history_of}
 use Rattle.larch_rules.proofs.Hypotheses.{numbered_map, numbered_all, hypothesis}
@@ -11,12 +11,13 @@ returns-in_default-clause-says c p = ap (option_and_then (λ box. numbered box.h
 
 pub returns-clause-says : goal.returns-clause-says
 returns-clause-says c p =
-    hypothesis (find_open (history_of p c.args.past.now) c.args.of_box) (box_in p c.in-Some.known.now) c.args.number (option_map (equated_in p) c.sides_at.result)
-    (c.in-Some.ensures.known p)
-    (ap (option_map (equated_in p)) (c.sides_at.ensures ∙ ap (λ es. numbered es c.args.number) c.as_slice.ensures)
-    ∙ sym (numbered_map (equated_in p) c.in-Some.known.now.hypotheses c.args.number))
+    let e : c.copied.result ≡ numbered c.in-Some.known.now.hypotheses c.args.number =
+    c.copied.ensures ∙ c.numbered.ensures ∙ ap (λ es. numbered es c.args.number) c.as_slice.ensures in
+    hypothesis (find_open (history_of p c.args.past.now) c.args.of_box) (box_in p c.in-Some.known.now) c.args.number
+    (option_map (equated_in p) c.copied.result) (c.in-Some.ensures.known p)
+    (ap (option_map (equated_in p)) e ∙ sym (numbered_map (equated_in p) c.in-Some.known.now.hypotheses c.args.number))
 
 pub returns-clause-within : goal.returns-clause-within
 returns-clause-within c p h =
-    numbered_all (IsEquated p) c.in-Some.known.now.hypotheses c.args.number c.sides_at.result (c.in-Some.ensures.within p h)
-    (c.sides_at.ensures ∙ ap (λ es. numbered es c.args.number) c.as_slice.ensures)
+    numbered_all (IsEquated p) c.in-Some.known.now.hypotheses c.args.number c.copied.result (c.in-Some.ensures.within p h)
+    (c.copied.ensures ∙ c.numbered.ensures ∙ ap (λ es. numbered es c.args.number) c.as_slice.ensures)

@@ -1,5 +1,5 @@
 use Rattle.std.proofs.Common.{sym, ◌∙◌, ap}
-use Rattle.larch_tables.specs.Row.{numbered}
+use Rattle.larch_base.specs.ByNumber.{numbered}
 use Rattle.larch_tables.specs.Tables.{built_in_rows}
 use Rattle.larch_rules.specs.Rows.{row_at}
 use Rattle.larch_rules.proofs.Rows.{unmarked, marked, no_further}

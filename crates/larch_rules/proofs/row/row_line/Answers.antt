@@ -1,5 +1,5 @@
 use Rattle.std.proofs.Common.{false, sym, ◌∙◌, ap}
-use Rattle.larch_tables.specs.Row.{numbered}
+use Rattle.larch_base.specs.ByNumber.{numbered}
 use Rattle.larch_tables.specs.Tables.{built_in_rows}
 use Rattle.larch_lines.specs.Rules.{row_says}
 use Rattle.larch_rules.specs.Rows.{row_at}

@@ -1,9 +1,9 @@
 use Rattle.std.proofs.Common.{◌∙◌, IfSome, Some, ap, subst}
-use Rattle.larch_sorts.specs.Counted.{counts_in}
-use Rattle.larch_sorts.specs.Counts.{AreCounts}
+use Rattle.larch_sorts_counts.specs.Counted.{counts_in}
+use Rattle.larch_sorts_counts.specs.Counts.{AreCounts}
 use Rattle.larch_sorts.specs.Sides.{ReadBoth}
-use Rattle.larch_sorts.specs.declared.count.Count.TheVariants.{Never, Often, Once}
-use Rattle.larch_sorts.proofs.Counting.{count_once}
+use Rattle.larch_sorts_counts.specs.declared.count.Count.TheVariants.{Never, Often, Once}
+use Rattle.larch_sorts_counts.proofs.Counting.{count_once}
 use Rattle.larch_sorts.proofs.ToldByCounts.{met_told}
 use Rattle.larch_sorts.proofs.counted.counted_both.Goals as goal
 

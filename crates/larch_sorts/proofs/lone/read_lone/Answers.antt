@@ -1,5 +1,5 @@
 use Rattle.std.specs.Option.{option_copied}
-use Rattle.larch_sorts.proofs.ReadAnswers.{lone_known, lone_only, lone_stands, lone_over, lone_in_scope}
+use Rattle.larch_sorts_meaning.proofs.ReadAnswers.{lone_known, lone_only, lone_stands, lone_over, lone_in_scope}
 use Rattle.larch_sorts.proofs.lone.read_lone.Goals as goal
 
 pub returns-clause-known : goal.returns-clause-known

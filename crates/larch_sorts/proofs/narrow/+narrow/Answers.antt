@@ -3,10 +3,9 @@ use Rattle.std.specs.Option.{option_copied}
 use Rattle.std.proofs.lemmas.Slice.Eq.{bytes_eq-Decides}
 use Rattle.larch_raw.specs.RawTree.{apply, qualified, raw_forest}
 use Rattle.larch_raw.specs.RawView.{view_node}
-use Rattle.larch_sorts.specs.Makers.{maker_among, making}
-use Rattle.larch_sorts.specs.Narrow.{ReadAt, ReadsAt}
-use Rattle.larch_sorts.specs.Readings.{IsOnly}
-use Rattle.larch_sorts.specs.Signature.{named, taking_part}
+use Rattle.larch_sorts_signature.specs.Makers.{maker_among, making}
+use Rattle.larch_sorts_meaning.specs.Readings.{ReadAt, ReadsAt, IsOnly}
+use Rattle.larch_sorts_meaning.specs.Signature.{named, taking_part}
 use Rattle.larch_sorts.proofs.OnlyReadings.{OnlyAll, maker_only, not_false, only_next, only_taken, qualified_only, variable_only}
 use Rattle.larch_sorts.proofs.narrow.+narrow.Goals as goal
 

@@ -4,8 +4,8 @@ use Rattle.std.proofs.lemmas.Slice.Eq.{bytes_eq-Decides}
 use Rattle.larch_raw.specs.RawTree.{apply, raw_forest}
 use Rattle.larch_raw.specs.RawView.{view_node}
 use Rattle.larch_term.specs.Tree.{app, forest_of}
-use Rattle.larch_sorts.specs.Narrow.{ReadAt, ReadsAt}
-use Rattle.larch_sorts.specs.Signature.{named, taking_part}
+use Rattle.larch_sorts_meaning.specs.Readings.{ReadAt, ReadsAt}
+use Rattle.larch_sorts_meaning.specs.Signature.{named, taking_part}
 use Rattle.larch_sorts.proofs.OnlyReadings.{not_false}
 use Rattle.larch_sorts.proofs.Picked.{operator_picked, picked_next, picked_taken, qualified_picked, variable_picked}
 use Rattle.larch_sorts.proofs.pick.+pick.Goals as goal

@@ -1,5 +1,5 @@
 use Rattle.std.proofs.Common.{◌∙◌, Some, ap, length, sym}
-use Rattle.larch_sorts.specs.Signature.{named, taking_part}
+use Rattle.larch_sorts_meaning.specs.Signature.{named, taking_part}
 use Rattle.larch_sorts.proofs.Picked.{maker_picked}
 use Rattle.larch_sorts.proofs.pick.operator_at.Goals as goal
 

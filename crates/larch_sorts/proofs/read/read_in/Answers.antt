@@ -1,4 +1,4 @@
-use Rattle.larch_sorts.proofs.ReadAnswers.{result_known, result_only, result_stands, result_over, result_in_scope}
+use Rattle.larch_sorts_meaning.proofs.ReadAnswers.{result_known, result_only, result_stands, result_over, result_in_scope}
 use Rattle.larch_sorts.proofs.read.read_in.Goals as goal
 
 pub returns-clause-known : goal.returns-clause-known

@@ -1,4 +1,5 @@
-use Rattle.larch_sorts.specs.Sides.{sides_found, sorts_in}
+use Rattle.larch_sorts.specs.Sides.{sides_found}
+use Rattle.larch_sorts_signature.specs.Table.{sorts_in}
 use Rattle.larch_sorts.proofs.SidesTold.{first_enough}
 use Rattle.larch_sorts.proofs.sides.sides_among.Goals as goal
 

@@ -1,7 +1,8 @@
 use Rattle.std.proofs.Common.{◌≡◌}
 use Rattle.std.specs.List.{fold}
-use Rattle.larch_sorts.specs.Table.{reading_at}
-use Rattle.larch_sorts.specs.Sides.{sorts_in, with_found, paired, same_sides, sides_found}
+use Rattle.larch_sorts_signature.specs.Table.{reading_at, sorts_in}
+use Rattle.larch_sorts_meaning.specs.Found.{with_found}
+use Rattle.larch_sorts.specs.Sides.{paired, same_sides, sides_found}
 use Rattle.larch_sorts.proofs.sides.sides_among.Given as goal
 
 -- what was found so far, with the sorts that are left, is all

@@ -3,17 +3,16 @@ use Rattle.std.specs.Option.{option_copied}
 use Rattle.std.proofs.lemmas.Result.{err_from_is_err_and}
 use Rattle.larch_raw.specs.RawTree.{apply, raw_forest, qualified}
 use Rattle.larch_raw.specs.RawView.{view_node}
-use Rattle.larch_sorts.specs.Read.{unread_in}
-use Rattle.larch_sorts.specs.Parts.{parts_of}
-use Rattle.larch_sorts.specs.Readings.{Reads}
+use Rattle.larch_sorts_meaning.specs.Read.{unread_in}
+use Rattle.larch_sorts_meaning.specs.Parts.{parts_of, inner_parts}
+use Rattle.larch_sorts_meaning.specs.Readings.{Reads}
 use Rattle.larch_sorts.specs.Tabulate.{TableTells}
-use Rattle.larch_sorts.specs.Parts.{inner_parts}
-use Rattle.larch_sorts.specs.Overloads.{IsMade}
-use Rattle.larch_sorts.specs.Signature.{named, taking_part}
+use Rattle.larch_sorts_signature.specs.Overloads.{IsMade}
+use Rattle.larch_sorts_meaning.specs.Signature.{named, taking_part}
 use Rattle.larch_base.specs.declared.code.Code.TheVariants.{NoReading}
-use Rattle.larch_sorts.specs.Faults.{fault, fault_at}
-use Rattle.larch_sorts.proofs.Tables.{application_tells, variable_tells, narrowed_tells}
-use Rattle.larch_sorts.proofs.Unread.{variable_read, unread_here, read_here, argument_read, arguments_unread, all_tell_next, nothing_unread}
+use Rattle.larch_sorts_meaning.specs.Faults.{fault, fault_at}
+use Rattle.larch_sorts.proofs.Tables.{application_tells, variable_tells, narrowed_tells, unread_here, read_here, all_tell_next}
+use Rattle.larch_sorts_meaning.proofs.Unread.{variable_read, argument_read, arguments_unread, nothing_unread}
 use Rattle.larch_sorts.proofs.tabulate.+tabulate.Goals as goal
 
 pub table_from_parts-returns-in-Some-clause-tells : goal.table_from_parts-returns-in-Some-clause-tells

@@ -13,15 +13,15 @@ use Rattle.larch_verify.proofs.boxes.decode_equations.Goals as goal
 
 pub decode_equation-requires : goal.decode_equation-requires
 decode_equation-requires c =
-    past_stays c.args.theory.now c.args.pool.now c.loop-equation.pool c.args.past.now c.requires c.loop-equation.invariant.grows
+    past_stays c.args.context.now.theory.now c.args.pool.now c.loop-equation.pool c.args.context.now.past.now c.requires c.loop-equation.invariant.grows
 
 pub returns-in_default-clause-says : goal.returns-in_default-clause-says
 returns-in_default-clause-says c =
-    equations_stop (decode_equation (find_symbol c.args.theory.now (history_of c.args.pool.now c.args.past.now)))
+    equations_stop (decode_equation (find_symbol c.args.context.now.theory.now (history_of c.args.pool.now c.args.context.now.past.now)))
     c.args.equations.now c.loop-equation.equation-index c.equation-item.result c.loop-equation-test.true c.equation-item.is
     (ap (option_map (equated_in c.decode_equation.new.pool)) (sym c.in_default.is) ∙ c.in_ok-sides.ensures.says
-    ∙ ap (λ h. decode_equation (find_symbol c.args.theory.now h) c.equation-item.result)
-    (history_same c.args.theory.now c.args.pool.now c.loop-equation.pool c.args.past.now c.requires
+    ∙ ap (λ h. decode_equation (find_symbol c.args.context.now.theory.now h) c.equation-item.result)
+    (history_same c.args.context.now.theory.now c.args.pool.now c.loop-equation.pool c.args.context.now.past.now c.requires
     c.loop-equation.invariant.grows))
 
 pub loop-equation-preserved : goal.loop-equation-preserved
@@ -38,15 +38,15 @@ loop-equation-preserved c =
           (equations_within c.loop-equation.pool c.decode_equation.new.pool c.loop-equation.decoded.items c.in-Some.sides
           c.in_ok-sides.ensures.grows c.loop-equation.invariant.within
           (subst (λ o. IfSome o (IsEquated c.decode_equation.new.pool)) c.in-Some.is c.in_ok-sides.ensures.within));
-      says = ap (each (decode_equation (find_symbol c.args.theory.now (history_of c.args.pool.now c.args.past.now)))) m
+      says = ap (each (decode_equation (find_symbol c.args.context.now.theory.now (history_of c.args.pool.now c.args.context.now.past.now)))) m
           ∙ equations_more c.loop-equation.pool c.decode_equation.new.pool
-          (decode_equation (find_symbol c.args.theory.now (history_of c.args.pool.now c.args.past.now)))
+          (decode_equation (find_symbol c.args.context.now.theory.now (history_of c.args.pool.now c.args.context.now.past.now)))
           (take c.loop-equation.equation-index c.args.equations.now) c.equation-item.result
           c.loop-equation.decoded.items c.in-Some.sides
           c.in_ok-sides.ensures.grows c.loop-equation.invariant.within c.loop-equation.invariant.says
           (ap (option_map (equated_in c.decode_equation.new.pool)) (sym c.in-Some.is) ∙ c.in_ok-sides.ensures.says
-          ∙ ap (λ h. decode_equation (find_symbol c.args.theory.now h) c.equation-item.result)
-          (history_same c.args.theory.now c.args.pool.now c.loop-equation.pool c.args.past.now c.requires
+          ∙ ap (λ h. decode_equation (find_symbol c.args.context.now.theory.now h) c.equation-item.result)
+          (history_same c.args.context.now.theory.now c.args.pool.now c.loop-equation.pool c.args.context.now.past.now c.requires
           c.loop-equation.invariant.grows))
           ∙ ap (λ es. Some (map (equated_in c.decode_equation.new.pool) es)) (sym p);
     }

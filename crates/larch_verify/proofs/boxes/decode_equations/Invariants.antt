@@ -9,6 +9,6 @@ abbrev pub invariant-loop-equation : goal.invariant-loop-equation
 invariant-loop-equation l = record {
   grows : Grows l.fn.pool l.pool;
   within : All (IsEquated l.pool) l.decoded.items;
-  says : each (decode_equation (find_symbol l.theory (history_of l.fn.pool l.past))) (take l.equation-index l.equations)
+  says : each (decode_equation (find_symbol l.context.theory.now (history_of l.fn.pool l.context.past.now))) (take l.equation-index l.equations)
       ≡ Some (map (equated_in l.pool) l.decoded.items);
 }

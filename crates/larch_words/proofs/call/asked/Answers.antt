@@ -18,6 +18,6 @@ pub returns-in-None : goal.returns-in-None
 returns-in-None c =
     let request : Request = request_in (rows_of (found_of c.args.matches.now)) in
     let none : has_option request ≡ false = search rules in
-    asks_for request c.command_in-command.result.now [] c.called_alone.result none c.command_in-command.ensures
+    asks_for request c.command_in-command.result.now [] c.call_without_words.result none c.command_in-command.ensures
     (none_taken (λ s. map (λ word. word.now) s.now) (found_of c.args.matches.now) (codes "WORD") c.get_strs.result
-    c.in-None.is c.get_strs.ensures) c.called_alone.ensures
+    c.in-None.is c.get_strs.ensures) c.call_without_words.ensures

@@ -1,7 +1,7 @@
 use Rattle.std.proofs.Common.{◌≡◌, ◌≤◌, ◌<◌, Some, None, sym, ◌∙◌, ap, arith}
 use Rattle.std.specs.Prelude.{reverse}
 use Rattle.std.proofs.lemmas.Grind.{common_steps}
-use Rattle.larch_tables.specs.Row.{numbered}
+use Rattle.larch_base.specs.ByNumber.{numbered}
 use Rattle.larch_past.specs.Past.{event_of, IsHappened}
 use Rattle.larch_past.specs.Levels.{level}
 use Rattle.larch_past.specs.declared.event.Happened.TheVariants.{Says, Opens, Closes}

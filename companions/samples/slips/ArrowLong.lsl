@@ -1,0 +1,4 @@
+ArrowLong: trait
+  introduces
+    new: --> Stack
+    pop: Stack --> Stack

@@ -1,0 +1,4 @@
+AssumesWithDot: trait
+  assumes Number.
+  introduces
+    a: -> Num

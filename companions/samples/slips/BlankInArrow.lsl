@@ -1,0 +1,4 @@
+BlankInArrow: trait
+  introduces
+    new: -> Stack
+    pop: Stack - > Stack

@@ -1,0 +1,6 @@
+BooleanForBool: trait
+  introduces
+    new: -> Stack
+    isNew: Stack -> Boolean
+  asserts
+    isNew(new) == true

@@ -1,0 +1,4 @@
+CommaBehindLastConstant: trait
+  Light enumeration of red, amber, green,
+  introduces
+    next: Light -> Light

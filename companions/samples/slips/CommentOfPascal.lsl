@@ -1,0 +1,4 @@
+CommentOfPascal: trait
+  (* stacks of items *)
+  introduces
+    new: -> Stack

@@ -1,0 +1,4 @@
+CommentOpenHash# a queue
+: trait
+  introduces
+    a: -> A

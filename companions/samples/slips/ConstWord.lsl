@@ -1,0 +1,4 @@
+ConstWord: trait
+  introduces
+    const zero: -> Count
+    up: Count -> Count

@@ -1,0 +1,3 @@
+DuplicateTraitWord: trait trait
+  introduces
+    a: -> A

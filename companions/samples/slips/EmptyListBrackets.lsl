@@ -1,0 +1,7 @@
+EmptyListBrackets: trait
+  introduces
+    cons: Item, List -> List
+    append: List, List -> List
+  asserts
+    \forall l: List
+      append([], l) == l

@@ -1,0 +1,4 @@
+EnumerationNumbers: trait
+  Dice enumeration of 1..6
+  introduces
+    a: -> Dice

@@ -1,0 +1,4 @@
+FileNameIncluded: trait
+  includes Number.lsl
+  introduces
+    low: -> Num

@@ -1,0 +1,4 @@
+FormalsInAngles<Item>: trait
+  introduces
+    new: -> Stack
+    push: Stack, Item -> Stack

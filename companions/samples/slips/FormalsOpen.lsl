@@ -1,0 +1,4 @@
+FormalsOpen(Item: trait
+  introduces
+    new: -> Stack
+    push: Stack, Item -> Stack

@@ -1,0 +1,5 @@
+introduces
+  new: -> Stack
+  pop: Stack -> Stack
+asserts
+  pop(new) == new

@@ -1,0 +1,4 @@
+IncludesItself: trait
+  includes IncludesItself
+  introduces
+    low: -> Level

@@ -1,0 +1,6 @@
+PartitionBy: trait
+  introduces
+    name: Person -> Text
+    age: Person -> Count
+  asserts
+    Person partition by name, age

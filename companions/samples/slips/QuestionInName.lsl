@@ -1,0 +1,6 @@
+QuestionInName: trait
+  introduces
+    new: -> Stack
+    empty?: Stack -> Bool
+  asserts
+    empty?(new)

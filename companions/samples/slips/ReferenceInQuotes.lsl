@@ -1,0 +1,4 @@
+ReferenceInQuotes: trait
+  includes "Number"
+  introduces
+    low: -> Num

@@ -1,0 +1,2 @@
+ReferenceTwoParens: trait
+  includes Pairing(Num)(Two)

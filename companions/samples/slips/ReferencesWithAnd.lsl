@@ -1,0 +1,4 @@
+ReferencesWithAnd: trait
+  includes Number and Pairing
+  introduces
+    low: -> Num

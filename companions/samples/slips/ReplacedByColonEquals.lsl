@@ -1,0 +1,2 @@
+ReplacedByColonEquals: trait
+  includes Number(Num := Nat)

@@ -1,0 +1,4 @@
+ResultMissing: trait
+  introduces
+    new: ->
+    push: Stack, Item -> Stack

@@ -1,0 +1,4 @@
+ShorthandWithEquals: trait
+  Light = enumeration of red, amber, green
+  introduces
+    next: Light -> Light

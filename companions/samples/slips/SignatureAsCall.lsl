@@ -1,0 +1,5 @@
+SignatureAsCall: trait
+  introduces
+    new: -> Stack
+    height(Stack): Count
+    zero: -> Count

@@ -1,0 +1,4 @@
+SortInAngles: trait
+  introduces
+    nil: -> List<Item>
+    cons: Item, List<Item> -> List<Item>

@@ -1,0 +1,2 @@
+TooManyActuals: trait
+  includes Pairing(Num, Num, Num, Num, Num)

@@ -1,0 +1,3 @@
+TraitWithSemicolon: trait;
+  introduces
+    low: -> Level

@@ -1,0 +1,4 @@
+TraitWordMissing:
+  introduces
+    new: -> Stack
+    pop: Stack -> Stack

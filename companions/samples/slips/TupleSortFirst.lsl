@@ -1,0 +1,4 @@
+TupleSortFirst: trait
+  Point tuple of Coord x, Coord y
+  introduces
+    a: -> Point

@@ -1,0 +1,4 @@
+TupleWithColon: trait
+  Point: tuple of x: Coord, y: Coord
+  introduces
+    origin: -> Point

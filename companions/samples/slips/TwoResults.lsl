@@ -1,0 +1,4 @@
+TwoResults: trait
+  introduces
+    split: List -> List, List
+    nil: -> List

@@ -1,0 +1,5 @@
+UnionAsOperator: trait
+  introduces
+    empty: -> Set
+    add: Item, Set -> Set
+    union: Set, Set -> Set

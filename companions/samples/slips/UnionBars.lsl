@@ -1,0 +1,4 @@
+UnionBars: trait
+  Shape union of circle | square
+  introduces
+    a: -> Shape

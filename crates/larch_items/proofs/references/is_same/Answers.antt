@@ -1,5 +1,0 @@
-use Rattle.larch_term.proofs.Decided.{operators_told}
-use Rattle.larch_items.proofs.references.is_same.Goals as goal
-
-pub returns : goal.returns
-returns c = operators_told c.args.left.now c.args.right.now c.same_operator.result c.same_operator.ensures

@@ -1,0 +1,57 @@
+-- What the words ask for, and what that call does.
+use Rattle.std.proofs.Common.{◌∙◌, refl, sym}
+use Rattle.larch_words.specs.declared.call.Call.TheVariants as call_
+use Rattle.larch_main.proofs.Whole.{completes_as, folder_kept, memory_input, nothing_written, source_kept, unlooked, unread, usage_sink, usage_writes, writes_as}
+use Rattle.larch_main.proofs.running.run.Goals as goal
+
+pub returns-in-Session-clause-output : goal.returns-in-Session-clause-output
+returns-in-Session-clause-output g c =
+    writes_as call_.Session _ _ _ _ _ _ c.session.result (sym c.in-Session.is ∙ c.in-Ok.ensures) (c.session.ensures.output _)
+
+pub returns-in-Session-clause-complete : goal.returns-in-Session-clause-complete
+returns-in-Session-clause-complete g c =
+    completes_as call_.Session _ _ _ _ _ _ c.session.result _ _ _ _ _ _ (sym c.in-Session.is ∙ c.in-Ok.ensures)
+    (c.session.ensures.output (g.F.Folder.files c.args.folder.now)) c.session.ensures.source_faults
+    (unlooked call_.Session refl c.session.result (g.F.Folder.faults c.args.folder.now)) c.session.ensures.sink_faults
+
+pub returns-in-Nothing-clause-output : goal.returns-in-Nothing-clause-output
+returns-in-Nothing-clause-output g c =
+    writes_as call_.Nothing _ _ _ _ _ _ c.say.result (sym c.in-Nothing.is ∙ c.in-Ok.ensures) (usage_writes _ _ _ _ _ _ c.say.result c.say.ensures)
+
+pub returns-in-Nothing-clause-complete : goal.returns-in-Nothing-clause-complete
+returns-in-Nothing-clause-complete g c =
+    completes_as call_.Nothing _ _ _ _ _ _ c.say.result _ _ _ _ _ _ (sym c.in-Nothing.is ∙ c.in-Ok.ensures)
+    (usage_writes (g.F.Folder.files c.args.folder.now) (g.S.Source.left c.args.source.now) _ _ _ _ c.say.result c.say.ensures)
+    (unread call_.Nothing refl c.say.result (g.S.Source.faults c.args.source.now))
+    (unlooked call_.Nothing refl c.say.result (g.F.Folder.faults c.args.folder.now))
+    (usage_sink _ _ _ _ c.say.result c.say.ensures)
+
+pub returns-clause-output : goal.returns-clause-output
+returns-clause-output g c =
+    writes_as _ _ _ _ _ _ _ c.run_on_files.result c.in-Ok.ensures
+    (c.run_on_files.ensures.output (g.S.Source.left c.args.source.now))
+
+pub returns-clause-complete : goal.returns-clause-complete
+returns-clause-complete g c =
+    completes_as _ _ _ _ _ _ _ c.run_on_files.result _ _ _ _ _ _ c.in-Ok.ensures
+    (c.run_on_files.ensures.output (g.S.Source.left c.args.source.now))
+    (c.run_on_files.ensures.source_faults (g.S.Source.faults c.args.source.now))
+    c.run_on_files.ensures.folder_faults c.run_on_files.ensures.sink_faults
+
+pub returns-in-Err-clause-output : goal.returns-in-Err-clause-output
+returns-in-Err-clause-output g c = nothing_written _ _ _ _
+
+pub returns-in-Err-clause-input : goal.returns-in-Err-clause-input
+returns-in-Err-clause-input g c = memory_input _ _ _ _ _
+
+pub returns-in-Err-clause-source_faults : goal.returns-in-Err-clause-source_faults
+returns-in-Err-clause-source_faults g c = refl
+
+pub returns-in-Err-clause-folder_faults : goal.returns-in-Err-clause-folder_faults
+returns-in-Err-clause-folder_faults g c = refl
+
+pub returns-in-Err-clause-folder : goal.returns-in-Err-clause-folder
+returns-in-Err-clause-folder g c = folder_kept _ _
+
+pub returns-in-Err-clause-untouched : goal.returns-in-Err-clause-untouched
+returns-in-Err-clause-untouched g c = source_kept _ _

@@ -1,0 +1,140 @@
+ghost use Rattle.std.specs.Prelude.{◌≡◌, ◌≢◌, ℕ, List, Option, IfErr, IfOk, IfSome, OnOk, map, string_bytes, true};
+ghost use Rattle.std.specs.List.{list_all};
+ghost use Rattle.larch_base.specs.FileNames.{is_file_name};
+ghost use Rattle.larch_io.specs.Faults.{Rose};
+ghost use Rattle.larch_words.specs.Call.{call_of, files_named, is_certificate};
+ghost use Rattle.larch_words.specs.declared.call.Call.TheVariants.{Verify as call_verify};
+ghost use Rattle.larch_words.specs.declared.call.Verification.{Verification};
+ghost use Rattle.larch_main.specs.Running.{Answered, Answers, Writes, CallTakes, KeepsFolder, KeepsSource};
+ghost use Rattle.larch_main.specs.Running.{Counts, folder_failed, reads_folder, sink_failed, source_failed};
+ghost use Rattle.larch_main.specs.Answer.{answer_of};
+ghost use Rattle.larch_main.specs.Look.{GatherFaults};
+ghost use Rattle.larch_main.specs.Progress.{HaltFaults};
+
+use crate::answer::{Answer, answer_to, tell};
+use crate::check::check;
+use crate::gather::GatherRefusal;
+use crate::obligations::obligations;
+use crate::progress::Halt;
+use crate::say::say;
+use crate::session::session;
+use crate::status::Status;
+use crate::verify::verify;
+use larch_base::Steps;
+use larch_io::{Folder, Sink, Source};
+use larch_words::{Call, calls_name_files, certificates_are_named, read_words};
+use std::alloc::Global;
+use std::sync::ledger::Ledger;
+
+/// What is written where the words mean no command.
+const USAGE: &[u8] = b"usage: larch COMMAND [WORD..] [--limit N] [--seed N] [--size N]\n";
+
+/// Carries out the command that the words ask for, and answers how it ended. All output goes to the sink.
+pub fn run<F: Folder, S: Source, K: Sink, L: Ledger>(
+    alloc: Global,
+    words: &[String],
+    folder: &mut F,
+    source: &mut S,
+    sink: &mut K,
+    steps: &mut Steps<L>,
+) -> Status
+    // What is written is defined by the words, the folder and the input, whole where nothing failed.
+    ensures output { Writes (call_of (map string_bytes words.now)) (F.files folder.old)
+        (S.left source.old) (S.left source.new) (K.held sink.old) (K.held sink.new) result }
+    // A session that ends by itself has taken its input to the end or through `quit`.
+    ensures input { CallTakes (call_of (map string_bytes words.now))
+        (S.left source.old) (S.left source.new) (K.held sink.old) (K.held sink.new) result }
+    ensures steps { steps.new ≡ steps.old }
+
+    // A fault is answered exactly where its count rose.
+    ensures source_faults { Counts (source_failed (call_of (map string_bytes words.now)) result)
+        (S.faults source.old) (S.faults source.new) }
+    ensures folder_faults { Counts (folder_failed (call_of (map string_bytes words.now)) result)
+        (F.faults folder.old) (F.faults folder.new) }
+    ensures sink_faults { Counts (sink_failed result) (K.faults sink.old) (K.faults sink.new) }
+
+    // The files stay. A call that names none doesn't look at the folder, and one that is no session leaves the source.
+    ensures files { F.files folder.new ≡ F.files folder.old }
+    ensures folder { KeepsFolder (call_of (map string_bytes words.now)) folder.old folder.new }
+    ensures untouched { KeepsSource (call_of (map string_bytes words.now)) source.old source.new }
+
+    // Where no count rose and memory didn't run out, the defined output was written, whole, and the status is its own.
+    ensures complete { (Rose (S.faults source.old) (S.faults source.new) → ⊥)
+        → (Rose (F.faults folder.old) (F.faults folder.new) → ⊥)
+        → (Rose (K.faults sink.old) (K.faults sink.new) → ⊥)
+        → result ≢ Status.Memory
+        → Answers (call_of (map string_bytes words.now)) (F.files folder.old)
+        (S.left source.old) (S.left source.new) (K.held sink.old) (K.held sink.new) result }
+{
+    calls_name_files();
+    certificates_are_named();
+    let call = match read_words(alloc, words) {
+        Ok(call) => call,
+        Err(_) => return Status::Memory,
+    };
+    match &call {
+        Call::Session => session(alloc, source, sink),
+        Call::Nothing => say(sink, USAGE, Status::Words),
+        Call::Check(_) | Call::Obligations(_) | Call::Verify(_) => {
+            run_on_files(alloc, &call, folder, sink)
+        }
+    }
+}
+
+// Carries out a call that names files.
+fn run_on_files<F: Folder, K: Sink>(alloc: Global, call: &Call, folder: &mut F, sink: &mut K) -> Status
+    requires reads { reads_folder call.now ≡ true }
+    requires names { list_all is_file_name (files_named call.now) ≡ true }
+    requires certificate { (asked : Verification) → call.now ≡ call_verify asked
+        → is_certificate asked.certificate ≡ true }
+    // The source, of which nothing is taken, may have left anything.
+    ensures output { (left : Option (List ℕ)) → Writes call.now (F.files folder.old)
+        left left (K.held sink.old) (K.held sink.new) result }
+    ensures same { F.files folder.new ≡ F.files folder.old }
+    ensures source_faults { (count : ℕ) → Counts (source_failed call.now result) count count }
+    ensures folder_faults { Counts (folder_failed call.now result) (F.faults folder.old) (F.faults folder.new) }
+    ensures sink_faults { Counts (sink_failed result) (K.faults sink.old) (K.faults sink.new) }
+{
+    let answered = answer(alloc, call, folder);
+    tell(sink, answered)
+}
+
+// What is answered to a call that names files.
+fn answer<F: Folder>(alloc: Global, call: &Call, folder: &mut F) -> Result<Answer, Halt>
+    requires reads { reads_folder call.now ≡ true }
+    requires names { list_all is_file_name (files_named call.now) ≡ true }
+    requires certificate { (asked : Verification) → call.now ≡ call_verify asked
+        → is_certificate asked.certificate ≡ true }
+    ensures answer { IfOk result (λ answer. Answered call.now (F.files folder.old) answer) }
+    ensures same { F.files folder.new ≡ F.files folder.old }
+    ensures fine { OnOk result (F.faults folder.new ≡ F.faults folder.old) }
+    ensures faults { IfErr result (λ halt. HaltFaults halt (F.faults folder.old) (F.faults folder.new)) }
+{
+    match answer_of(alloc, call, folder) {
+        Ok(answer) => Ok(answer),
+        Err(refusal) => answer_to(alloc, refusal),
+    }
+}
+
+// What comes of a call that names files.
+fn answer_of<F: Folder>(
+    alloc: Global,
+    call: &Call,
+    folder: &mut F,
+) -> Result<Answer, GatherRefusal>
+    requires reads { reads_folder call.now ≡ true }
+    requires names { list_all is_file_name (files_named call.now) ≡ true }
+    requires certificate { (asked : Verification) → call.now ≡ call_verify asked
+        → is_certificate asked.certificate ≡ true }
+    ensures answer { IfSome (answer_of result) (λ answer. Answered call.now (F.files folder.old) answer) }
+    ensures same { F.files folder.new ≡ F.files folder.old }
+    ensures fine { OnOk result (F.faults folder.new ≡ F.faults folder.old) }
+    ensures faults { IfErr result (λ refusal. GatherFaults refusal (F.faults folder.old) (F.faults folder.new)) }
+{
+    match call {
+        Call::Session | Call::Nothing => unreachable!(),
+        Call::Check(names) => check(alloc, names.as_slice(), folder),
+        Call::Obligations(names) => obligations(alloc, names.as_slice(), folder),
+        Call::Verify(asked) => verify(alloc, asked, folder),
+    }
+}

@@ -1,5 +1,0 @@
-use Rattle.larch_sorts.proofs.Existing.{exists_Decides}
-use Rattle.larch_sorts.proofs.laws.existing_is_told.Goals as goal
-
-pub returns : goal.returns
-returns c = exists_Decides

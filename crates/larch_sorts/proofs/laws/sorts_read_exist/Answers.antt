@@ -1,5 +1,0 @@
-use Rattle.larch_sorts.proofs.SortsRead.{statement_sorts_exist}
-use Rattle.larch_sorts.proofs.laws.sorts_read_exist.Goals as goal
-
-pub returns : goal.returns
-returns c = statement_sorts_exist

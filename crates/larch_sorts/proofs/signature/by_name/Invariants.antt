@@ -1,8 +1,0 @@
-use Rattle.std.proofs.Common.{◌≡◌, ◌++◌, ℕ, List, drop}
-use Rattle.larch_sorts.specs.Signature.{kept_under}
-use Rattle.larch_sorts.specs.Signature.{named}
-use Rattle.larch_sorts.proofs.signature.by_name.Given as goal
-
--- the operators of each name that are kept, with those that are left, are all
-abbrev pub invariant-loop-operator : goal.invariant-loop-operator
-invariant-loop-operator l = (n : List ℕ) → kept_under l.index.entries n ++ named n (drop l.operator-index l.operators) ≡ named n l.operators

@@ -1,0 +1,4 @@
+pub mod Counting
+pub mod CountsTold
+pub mod Numbering
+pub mod Products

@@ -1,0 +1,4 @@
+pub mod Count
+pub mod Counted
+pub mod Counts
+pub mod Numbers

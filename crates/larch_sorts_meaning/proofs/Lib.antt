@@ -1,0 +1,14 @@
+pub mod Answers
+pub mod Applications
+pub mod Converse
+pub mod Existing
+pub mod Kept
+pub mod Listed
+pub mod Parts
+pub mod ReadAnswers
+pub mod Refusals
+pub mod Scopes
+pub mod Sorted
+pub mod SortsRead
+pub mod Telling
+pub mod Unread

@@ -1,0 +1,12 @@
+pub mod Faults
+pub mod Found
+pub mod Laws
+pub mod Parts
+pub mod Read
+pub mod ReadingLists
+pub mod Readings
+pub mod Refusals
+pub mod Scope
+pub mod Signature
+pub mod Stands
+pub mod Unknown

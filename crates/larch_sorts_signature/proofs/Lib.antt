@@ -1,0 +1,4 @@
+pub mod Arguments
+pub mod ByDomain
+pub mod Enough
+pub mod MakersTold

@@ -1,0 +1,9 @@
+pub mod Application
+pub mod Domains
+pub mod Makers
+pub mod Operators
+pub mod Overloads
+pub mod Places
+pub mod ReadingFalls
+pub mod ReadingView
+pub mod Table

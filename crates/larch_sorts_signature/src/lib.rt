@@ -1,0 +1,22 @@
+//! What is known of the operators that terms are read over, by their names: which there are, which make a sort, and
+//! what those of a name make of arguments.
+#![tactic(auto)]
+
+pub mod application;
+mod domain;
+mod domains;
+mod makers;
+mod operators;
+mod overloads;
+mod place;
+mod places;
+mod reading;
+mod signature;
+pub mod table;
+
+pub use domains::Domains;
+pub use overloads::Overloads;
+pub use places::Places;
+pub use reading::{Reading, term_of};
+pub use signature::{Signature, maker_of};
+pub use table::Table;
