@@ -24,7 +24,7 @@ OPEN, CLOSED = "([{<", ")]}>"
 # Files that are longer, for the reasons in docs/DECISIONS.md.
 LONG = {"larch_certificate_text/proofs/LineLaws.antt", "larch_grammar/specs/Machine.antt",
         "larch_grammar/proofs/Words.antt",
-        "larch_replay/specs/Worked.antt", "larch_replay/src/examples.rt"}
+        "larch_prove_meaning/specs/Worked.antt", "larch_prove_meaning/src/examples.rt"}
 # What ends as a participle does and is none, and participles that are names of their own.
 NO_PARTICIPLES = {"between", "even", "feed", "flatten", "heighten", "len", "need", "open", "read", "seed", "speed",
                   "token", "weaken"}
@@ -33,11 +33,11 @@ DEFINITION = re.compile(r"^ *(?:abbrev |unfoldable |pattern )*pub (?:abbrev )?([
 AGAIN = re.compile(r"\bOk\((\w+)\) => Ok\(\1\)|\bErr\((\w+)\) => return Err\(\2\)")
 HANDED_ON = re.compile(r"let (\w+) = [^;]*\?;\s*Ok\(\1\)\s*\}")
 # Names that stay, as crate:name: mostly of functions whose answer a caller keeps under the same name.
-LEFT = {"larch_critical_pairs:marked", "larch_critical_pairs:named", "larch_critical_pairs:numbered",
-        "larch_derive_tests:printed", "larch_duties:implied", "larch_duties:renamed", "larch_gathered:listed",
+LEFT = {"larch_pairs_critical:marked", "larch_pairs_critical:named", "larch_pairs_critical:numbered",
+        "larch_derive_tests:printed", "larch_duties:implied", "larch_duties:renamed", "larch_flat_gathering:listed",
         "larch_grammar:named", "larch_grammar:qualified", "larch_io:taken", "larch_method_table:planned",
-        "larch_method_table:told", "larch_methods:supposed", "larch_pairs:replaced", "larch_plans:joined",
-        "larch_pool:copied", "larch_pool:numbered", "larch_redexes:turned", "larch_replacing:renamed",
+        "larch_method_table:told", "larch_methods:supposed", "larch_pairs:replaced", "larch_prove_plans:joined",
+        "larch_verify_pool:copied", "larch_verify_pool:numbered", "larch_rewrite_match:turned", "larch_flat_replacing:renamed",
         "larch_rewrite:lined", "larch_rewrite_table:told", "larch_shorthand:generated", "larch_shorthand:injected",
         "larch_shorthand:partitioned", "larch_sorts:copied", "larch_sorts:named", "larch_syntax:counted",
         "larch_syntax:refused", "larch_tables:numbered", "larch_term_table:prepared", "larch_term_tests:exchanged",

@@ -2,9 +2,9 @@
 """Writes examples of replays for the definitions of the prover, with the outcomes that another reading of the language
 computes.
 
-    tools/make/replay_examples.py rows EVALUATOR        the kept examples: specs and contracts of crates/larch_replay
+    tools/make/replay_examples.py rows EVALUATOR        the kept examples: specs and contracts of crates/larch_prove_meaning
     tools/make/replay_examples.py random EVALUATOR SEED COUNT [--small | --wide]
-                                                   random blocks as lemmas, crates/larch_replay/proofs/Random.antt;
+                                                   random blocks as lemmas, crates/larch_prove_meaning/proofs/Random.antt;
                                                    with --small under rewriting limits from 1 to 8, so that many
                                                    are refused with LIMIT, with --wide over traits whose terms grow,
                                                    so that many are refused with SIZE
@@ -23,7 +23,7 @@ import re
 import sys
 
 ROOT = os.path.dirname(os.path.dirname(os.path.dirname(os.path.abspath(__file__))))
-CRATE = os.path.join(ROOT, "crates", "larch_replay")
+CRATE = os.path.join(ROOT, "crates", "larch_prove_meaning")
 WIDTH = 118
 
 
@@ -447,7 +447,7 @@ use Rattle.larch_term.specs.declared.built_in.BuiltIn.TheVariants.{False, Not, O
 use Rattle.larch_term.specs.declared.statement.Statement.TheVariants.{Equation, Generated, Partitioned}
 use Rattle.larch_term.specs.declared.statement.Theory.{Theory}
 use Rattle.larch_calculus.specs.Formula.{constant, applied, joined}
-use Rattle.larch_replay.specs.Replays.{Duty}
+use Rattle.larch_prove_meaning.specs.Replays.{Duty}
 
 """
 
@@ -460,12 +460,12 @@ ghost use Rattle.larch_term.specs.Tree.{var, app, forest_of};
 ghost use Rattle.larch_term.specs.BuiltIn.{built_in, bool_sort};
 ghost use Rattle.larch_term.specs.declared.built_in.BuiltIn.TheVariants.{And, Or, Not, Equal, Iff, Implies, If, False};
 ghost use Rattle.larch_calculus.specs.Formula.{constant, applied, joined};
-ghost use Rattle.larch_replay.specs.Commands.{said, no_spelling, spelling, SetLimit, BoxChecking, Prove, ByCases, \
+ghost use Rattle.larch_prove_meaning.specs.Commands.{said, no_spelling, spelling, SetLimit, BoxChecking, Prove, ByCases, \
 ByImplication, ByContradiction, ByInduction, ByPartition, Instantiate, CriticalPairs, Normalize, Qed, Mark};
 ghost use Rattle.larch_base.specs.declared.fact_name.FactLetter.TheVariants.{Axiom, Derived, Hypothesis};
-ghost use Rattle.larch_replay.specs.Facts.{whole_name};
-ghost use Rattle.larch_replay.specs.Replays.{replay, Proved, Suspended, Refused, AtOpening, AtCommand};
-ghost use Rattle.larch_replay.specs.Worked as worked;
+ghost use Rattle.larch_prove_meaning.specs.Facts.{whole_name};
+ghost use Rattle.larch_prove_meaning.specs.Replays.{replay, Proved, Suspended, Refused, AtOpening, AtCommand};
+ghost use Rattle.larch_prove_meaning.specs.Worked as worked;
 """
 
 
@@ -543,8 +543,8 @@ def answers(name):
     folder = os.path.join(CRATE, "proofs", "examples", name)
     os.makedirs(folder, exist_ok=True)
     write(os.path.join(folder, "Answers.antt"), f"""use Rattle.std.specs.Prelude.{{refl}}
-use Rattle.larch_replay.specs.Computing.{{replaying}}
-use Rattle.larch_replay.proofs.examples.{name}.Goals as goal
+use Rattle.larch_prove_meaning.specs.Computing.{{replaying}}
+use Rattle.larch_prove_meaning.proofs.examples.{name}.Goals as goal
 
 pub returns : goal.returns
 unfolding replaying
@@ -888,13 +888,13 @@ RANDOM_HEAD = re.sub(r"(BuiltIn\.TheVariants\.)\{.*\}", lambda m: m.group(1) + A
     "-- Random blocks.") + """use Rattle.std.specs.Prelude.{◌≡◌, refl, true, false, None, Some}
 use Rattle.larch_base.specs.declared.code.Code.TheVariants as refusal
 use Rattle.larch_base.specs.declared.way.Way.TheVariants.{LeftToRight, RightToLeft, Multiset}
-use Rattle.larch_replay.specs.Commands.{said, said_of, no_spelling, spelling, Declare, SetLimit, BoxChecking, Height}
-use Rattle.larch_replay.specs.Commands.{SetStatus, Prove, ByCases, ByImplication, ByConjunction, ByContradiction}
-use Rattle.larch_replay.specs.Commands.{ByInduction, ByPartition, Instantiate, CriticalPairs, Normalize, Qed, Mark, Bad}
-use Rattle.larch_replay.specs.Computing.{replaying}
+use Rattle.larch_prove_meaning.specs.Commands.{said, said_of, no_spelling, spelling, Declare, SetLimit, BoxChecking, Height}
+use Rattle.larch_prove_meaning.specs.Commands.{SetStatus, Prove, ByCases, ByImplication, ByConjunction, ByContradiction}
+use Rattle.larch_prove_meaning.specs.Commands.{ByInduction, ByPartition, Instantiate, CriticalPairs, Normalize, Qed, Mark, Bad}
+use Rattle.larch_prove_meaning.specs.Computing.{replaying}
 use Rattle.larch_base.specs.declared.fact_name.FactLetter.TheVariants.{Axiom, Derived, Hypothesis, Lemma}
-use Rattle.larch_replay.specs.Facts.{whole_name}
-use Rattle.larch_replay.specs.Replays.{replay, Proved, Suspended, Refused, InPreamble, AtOpening, AtCommand}
+use Rattle.larch_prove_meaning.specs.Facts.{whole_name}
+use Rattle.larch_prove_meaning.specs.Replays.{replay, Proved, Suspended, Refused, InPreamble, AtOpening, AtCommand}
 
 """
 

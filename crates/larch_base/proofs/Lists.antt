@@ -1,5 +1,6 @@
 -- Lists: what stands under a map, and tests of each element.
-use Rattle.std.proofs.Common.{◌≡◌, ℕ, zero, suc, ◌<◌, List, [], ◌∷◌, map, length, get_or, All, Contains, refl, sym, ap, subst, arith}
+use Rattle.std.proofs.Common.{◌≡◌, ℕ, zero, suc, ◌<◌, List, [], ◌∷◌, map, length, get_or, All, Contains, refl, sym, ap}
+use Rattle.std.proofs.Common.{subst, arith}
 use Rattle.std.specs.List.{AllPairs}
 use Rattle.std.proofs.lemmas.List.{get_or-map, length-map}
 use Rattle.larch_base.proofs.Members.{contains_here, contains_later}
@@ -38,7 +39,8 @@ pairs_map R S f (x ∷ xs) h p i j d lt within =
     let b = get_or-map f (x ∷ xs) j x d far in
     subst (λ u. R u (get_or (map f (x ∷ xs)) j d)) (sym a)
     (subst (R (f (get_or (x ∷ xs) i x))) (sym b)
-    (h (get_or (x ∷ xs) i x) (get_or (x ∷ xs) j x) (element (x ∷ xs) i x near) (element (x ∷ xs) j x far) (p i j x lt far)))
+    (h (get_or (x ∷ xs) i x) (get_or (x ∷ xs) j x) (element (x ∷ xs) i x near) (element (x ∷ xs) j x far)
+    (p i j x lt far)))
   where
     element : {X : Type 0} (xs : List X) (k : ℕ) (d : X) → k < length xs → Contains xs (get_or xs k d)
     element [] k d lt = absurd (omega arith)

@@ -1,5 +1,6 @@
 -- What lists contain.
-use Rattle.std.proofs.Common.{◌≡◌, ℕ, zero, suc, ◌⊎◌, inl, inr, Bool, true, false, cond, List, [], ◌∷◌, ◌++◌, map, Contains, Some, refl, sym, ap, subst, arith}
+use Rattle.std.proofs.Common.{◌≡◌, ℕ, zero, suc, ◌⊎◌, inl, inr, Bool, true, false, cond, List, [], ◌∷◌, ◌++◌, map}
+use Rattle.std.proofs.Common.{Contains, Some, refl, sym, ap, subst, arith}
 use Rattle.std.specs.List.{filter, flat_map, slice_get}
 
 pub contains_here : {X : Type 0} (x : X) (xs : List X) → Contains (x ∷ xs) x
@@ -46,7 +47,8 @@ contains_map f (z ∷ xs) x c =
       | inr d ↦ contains_later (f z) (f x) (map f xs) (contains_map f xs x d)
     ]
 
-pub contained_in_map : {X Y : Type 0} (f : X → Y) (xs : List X) (y : Y) → Contains (map f xs) y → (x : X) × Contains xs x × (f x ≡ y)
+pub contained_in_map : {X Y : Type 0} (f : X → Y) (xs : List X) (y : Y) → Contains (map f xs) y
+    → (x : X) × Contains xs x × (f x ≡ y)
 contained_in_map f [] y c = absurd (contains_none y c)
 contained_in_map f (x ∷ xs) y c =
     elim (contains_cases (f x) y (map f xs) c) [
@@ -54,7 +56,8 @@ contained_in_map f (x ∷ xs) y c =
       | inr d ↦ let r = contained_in_map f xs y d in (r.0, contains_later x r.0 xs r.1, r.2)
     ]
 
-pub contains_flat_map : {X Y : Type 0} (f : X → List Y) (xs : List X) (x : X) (y : Y) → Contains xs x → Contains (f x) y → Contains (flat_map f xs) y
+pub contains_flat_map : {X Y : Type 0} (f : X → List Y) (xs : List X) (x : X) (y : Y) → Contains xs x → Contains (f x) y
+    → Contains (flat_map f xs) y
 contains_flat_map f [] x y c d = absurd (contains_none x c)
 contains_flat_map f (z ∷ xs) x y c d =
     elim (contains_cases z x xs c) [
@@ -62,7 +65,8 @@ contains_flat_map f (z ∷ xs) x y c d =
       | inr b ↦ contains_right (f z) (flat_map f xs) y (contains_flat_map f xs x y b d)
     ]
 
-pub contained_in_flat_map : {X Y : Type 0} (f : X → List Y) (xs : List X) (y : Y) → Contains (flat_map f xs) y → (x : X) × Contains xs x × Contains (f x) y
+pub contained_in_flat_map : {X Y : Type 0} (f : X → List Y) (xs : List X) (y : Y) → Contains (flat_map f xs) y
+    → (x : X) × Contains xs x × Contains (f x) y
 contained_in_flat_map f [] y c = absurd (contains_none y c)
 contained_in_flat_map f (x ∷ xs) y c =
     elim (contains_either (f x) (flat_map f xs) y c) [
@@ -70,21 +74,31 @@ contained_in_flat_map f (x ∷ xs) y c =
       | inr b ↦ let r = contained_in_flat_map f xs y b in (r.0, contains_later x r.0 xs r.1, r.2)
     ]
 
-passes : {X : Type 0} (p : X → Bool) (z x : X) (xs : List X) (b : Bool) → p z ≡ b → p x ≡ true → (z ≡ x) ⊎ Contains (filter p xs) x → Contains (cond b (z ∷ filter p xs) (filter p xs)) x
-passes p z x xs true e h c = elim c [ inl a ↦ subst (Contains (z ∷ filter p xs)) a (contains_here z (filter p xs)) | inr b ↦ contains_later z x (filter p xs) b ]
-passes p z x xs false e h c = elim c [ inl a ↦ absurd (let w : p x ≡ false = subst (λ y. p y ≡ false) a e in cc) | inr b ↦ b ]
+passes : {X : Type 0} (p : X → Bool) (z x : X) (xs : List X) (b : Bool) → p z ≡ b → p x ≡ true
+    → (z ≡ x) ⊎ Contains (filter p xs) x → Contains (cond b (z ∷ filter p xs) (filter p xs)) x
+passes p z x xs true e h c =
+    elim c [
+      | inl a ↦ subst (Contains (z ∷ filter p xs)) a (contains_here z (filter p xs))
+      | inr b ↦ contains_later z x (filter p xs) b
+    ]
+passes p z x xs false e h c =
+    elim c [ inl a ↦ absurd (let w : p x ≡ false = subst (λ y. p y ≡ false) a e in cc) | inr b ↦ b ]
 
-pub contains_filter : {X : Type 0} (p : X → Bool) (xs : List X) (x : X) → Contains xs x → p x ≡ true → Contains (filter p xs) x
+pub contains_filter : {X : Type 0} (p : X → Bool) (xs : List X) (x : X) → Contains xs x → p x ≡ true
+    → Contains (filter p xs) x
 contains_filter p [] x c h = absurd (contains_none x c)
 contains_filter p (z ∷ xs) x c h =
-    passes p z x xs (p z) refl h (elim (contains_cases z x xs c) [ inl a ↦ inl a | inr b ↦ inr (contains_filter p xs x b h) ])
+    passes p z x xs (p z) refl h (elim (contains_cases z x xs c)
+    [ inl a ↦ inl a | inr b ↦ inr (contains_filter p xs x b h) ])
 
-passed : {X : Type 0} (p : X → Bool) (z x : X) (xs : List X) (b : Bool) → p z ≡ b → Contains (cond b (z ∷ filter p xs) (filter p xs)) x
+passed : {X : Type 0} (p : X → Bool) (z x : X) (xs : List X) (b : Bool) → p z ≡ b
+    → Contains (cond b (z ∷ filter p xs) (filter p xs)) x
     → ((z ≡ x) × (p z ≡ true)) ⊎ Contains (filter p xs) x
 passed p z x xs true e c = elim (contains_cases z x (filter p xs) c) [ inl a ↦ inl (a, e) | inr b ↦ inr b ]
 passed p z x xs false e c = inr c
 
-pub contained_in_filter : {X : Type 0} (p : X → Bool) (xs : List X) (x : X) → Contains (filter p xs) x → Contains xs x × (p x ≡ true)
+pub contained_in_filter : {X : Type 0} (p : X → Bool) (xs : List X) (x : X) → Contains (filter p xs) x
+    → Contains xs x × (p x ≡ true)
 contained_in_filter p [] x c = absurd (contains_none x c)
 contained_in_filter p (z ∷ xs) x c =
     elim (passed p z x xs (p z) refl c) [
@@ -105,7 +119,8 @@ contains_got (y ∷ xs) x c =
       | inr d ↦ let r = contains_got xs x d in (suc r.0, r.1)
     ]
 
-pub got_in_map : {X Y : Type 0} (f : X → Y) (xs : List X) (i : ℕ) (y : Y) → slice_get (map f xs) i ≡ Some y → (x : X) × (slice_get xs i ≡ Some x) × (f x ≡ y)
+pub got_in_map : {X Y : Type 0} (f : X → Y) (xs : List X) (i : ℕ) (y : Y) → slice_get (map f xs) i ≡ Some y
+    → (x : X) × (slice_get xs i ≡ Some x) × (f x ≡ y)
 got_in_map f [] i y e = cc
 got_in_map f (x ∷ xs) zero y e = (x, refl, cc)
 got_in_map f (x ∷ xs) (suc i) y e = got_in_map f xs i y e

@@ -5,7 +5,8 @@ use Rattle.std.specs.Option.{option_map, option_or}
 pub some_inj : {X : Type 0} {x y : X} → Some x ≡ Some y → x ≡ y
 some_inj e = cc
 
-pub map_or : {X Y : Type 0} (f : X → Y) (a b : Option X) → option_map f (option_or a b) ≡ option_or (option_map f a) (option_map f b)
+pub map_or : {X Y : Type 0} (f : X → Y) (a b : Option X)
+    → option_map f (option_or a b) ≡ option_or (option_map f a) (option_map f b)
 map_or f None b = refl
 map_or f (Some x) b = refl
 

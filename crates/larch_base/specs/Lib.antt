@@ -1,7 +1,7 @@
 pub mod Answering
 pub mod ByNumber
 pub mod CodeText
-pub mod FileNames
-pub mod Labels
+pub mod FileName
+pub mod Label
 pub mod Position
 pub mod Word

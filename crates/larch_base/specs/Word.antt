@@ -10,7 +10,8 @@ begins_alphanumeric (byte ∷ bytes) = is_ascii_alphanumeric byte
 -- what may follow inside a word: letters, digits, ', and _ before a letter or digit
 abbrev pub goes_on : List ℕ → Bool
 goes_on [] = true
-goes_on (byte ∷ bytes) = (is_ascii_alphanumeric byte || (byte == 39) || ((byte == 95) && begins_alphanumeric bytes)) && goes_on bytes
+goes_on (byte ∷ bytes) =
+    (is_ascii_alphanumeric byte || (byte == 39) || ((byte == 95) && begins_alphanumeric bytes)) && goes_on bytes
 
 -- a letter or digit, and what may follow it
 abbrev pub is_word : List ℕ → Bool

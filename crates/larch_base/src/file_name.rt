@@ -5,8 +5,8 @@ ghost use Rattle.std.specs.Cmp.Lexicographic.{pointwise, slice_cmp};
 ghost use Rattle.std.specs.Cmp.Rules.{comparing};
 ghost use Rattle.std.specs.List.{list_all, position_or_len};
 ghost use Rattle.std.specs.Ordering.{nat_cmp, as_partial_cmp};
-ghost use Rattle.larch_base.specs.FileNames.{is_file_name, is_trait_file, is_dot, is_stem, is_stem_byte, stem_of};
-ghost use Rattle.larch_base.specs.FileNames.{ending_of};
+ghost use Rattle.larch_base.specs.FileName.{is_file_name, is_trait_file, is_dot, is_stem, is_stem_byte, stem_of};
+ghost use Rattle.larch_base.specs.FileName.{ending_of};
 ghost use Rattle.larch_base.specs.declared.file_name.NameRefusal.TheVariants.{Memory as out_of_memory};
 
 use crate::limits::MAX_STEM_BYTES;
@@ -45,7 +45,7 @@ impl From<Memory> for NameRefusal {
 
 impl Model for FileName {
     ghost use Rattle.std.specs.Prelude.{List, ℕ, IsTrue};
-    ghost use Rattle.larch_base.specs.FileNames.{is_file_name};
+    ghost use Rattle.larch_base.specs.FileName.{is_file_name};
 
     ghost Value = { List ℕ };
 

@@ -13,7 +13,7 @@ pub enum Label {
 
 impl fmt::Display for Label {
     ghost use Rattle.std.specs.Prelude.{Some};
-    ghost use Rattle.larch_base.specs.Labels.{label_text};
+    ghost use Rattle.larch_base.specs.Label.{label_text};
 
     ghost output = { λ label. Some (label_text label) };
 

@@ -1,5 +1,6 @@
 -- Constants of a box whose number is above those that a theory has are new.
-use Rattle.std.proofs.Common.{◌≡◌, ◌≢◌, ℕ, suc, ◌≤◌, ◌<◌, inl, inr, List, [], ◌∷◌, ◌++◌, map, All, AllPairs, Contains, refl, sym, ◌∙◌, ap, subst, arith, Option, option_map, option_and_then, unwrap_or}
+use Rattle.std.proofs.Common.{◌≡◌, ◌≢◌, ℕ, suc, ◌≤◌, ◌<◌, inl, inr, List, [], ◌∷◌, ◌++◌, map, All, AllPairs, Contains}
+use Rattle.std.proofs.Common.{refl, sym, ◌∙◌, ap, subst, arith, Option, option_map, option_and_then, unwrap_or}
 use Rattle.std.proofs.lemmas.List.Elements.{All-nil, All-cons, All-append, All-weaker, All-contains}
 use Rattle.std.proofs.lemmas.List.Kept.{AllPairs-cons}
 use Rattle.larch_base.proofs.Lists.{all_from}
@@ -14,11 +15,12 @@ use Rattle.larch_term.specs.Statement.{IsStatementOver}
 use Rattle.larch_term.specs.declared.variable.Variable.{Variable}
 use Rattle.larch_term.specs.declared.statement.Statement.TheVariants.{Equation, Generated, Partitioned}
 use Rattle.larch_calculus.proofs.Names.{not_placed}
-use Rattle.larch_calculus.specs.Freed.{freed, freed_all}
-use Rattle.larch_calculus.specs.Boxes.{constants_from, IsOlderName, IsOlder, IsOlderTerm, AreOlderTerms, IsOlderStatement}
+use Rattle.larch_calculus.specs.Freed.{free_constants, freed_all}
+use Rattle.larch_calculus.specs.Boxes.{constants_from, IsOlderName, IsOlder, IsOlderTerm, AreOlderTerms}
+use Rattle.larch_calculus.specs.Boxes.{IsOlderStatement}
 use Rattle.larch_calculus.specs.Derivable.{AreArguments}
 use Rattle.larch_calculus.specs.Renaming.{IsPlainName, HasPlainNames}
-use Rattle.larch_calculus.specs.Theories.{IsNewName, AreNew, AreConstants, extended}
+use Rattle.larch_calculus.specs.Theories.{IsNewName, AreNew, AreConstants, extend}
 
 plain_is_older : (b : ℕ) (n : OperatorName) → IsPlainName n → IsOlderName b n
 plain_is_older b (plain n) h = tt
@@ -41,16 +43,17 @@ older_later b c t h le =
 constants_older : (b k : ℕ) (ss : List (List ℕ)) → All (λ f. IsOlderName b f.name) (constants_from b k ss)
 constants_older b k [] = All-nil (λ f. IsOlderName b f.name)
 constants_older b k (s ∷ ss) =
-    All-cons (λ f. IsOlderName b f.name) (record { name = boxed b k; domain = []; range = s }) (constants_from b (suc k) ss) (omega arith) (constants_older b (suc k) ss)
+    All-cons (λ f. IsOlderName b f.name) (record { name = boxed b k; domain = []; range = s })
+    (constants_from b (suc k) ss) (omega arith) (constants_older b (suc k) ss)
 
 -- with the constants of a box, the box's number is the highest
 pub older_opened : (b c k : ℕ) (ss : List (List ℕ)) (hs : List Statement) (t : Theory) → IsOlder b t → b ≤ c
-    → IsOlder c (extended t (constants_from c k ss) hs)
+    → IsOlder c (extend t (constants_from c k ss) hs)
 older_opened b c k ss hs t h le =
     All-append (λ f. IsOlderName c f.name) t.operators (constants_from c k ss) (older_later b c t h le)
     (constants_older c k ss)
 
-pub older_less : (b : ℕ) (cs : List PlainOperator) (hs : List Statement) (t : Theory) → IsOlder b (extended t cs hs)
+pub older_less : (b : ℕ) (cs : List PlainOperator) (hs : List Statement) (t : Theory) → IsOlder b (extend t cs hs)
     → IsOlder b t
 older_less b cs hs t h =
     all_from (λ f. IsOlderName b f.name) t.operators
@@ -72,12 +75,14 @@ new_from : (b c k : ℕ) (ss : List (List ℕ)) (t : Theory) → b < c → IsOld
     → All (λ f. IsNewName t f.name) (constants_from c k ss)
 new_from b c k [] t lt h = All-nil (λ f. IsNewName t f.name)
 new_from b c k (s ∷ ss) t lt h =
-    All-cons (λ f. IsNewName t f.name) (record { name = boxed c k; domain = []; range = s }) (constants_from c (suc k) ss) (new_name b c k t lt h) (new_from b c (suc k) ss t lt h)
+    All-cons (λ f. IsNewName t f.name) (record { name = boxed c k; domain = []; range = s })
+    (constants_from c (suc k) ss) (new_name b c k t lt h) (new_from b c (suc k) ss t lt h)
 
 other_names : (b j k : ℕ) (ss : List (List ℕ)) → j < k → All (λ g. boxed b j ≢ g.name) (constants_from b k ss)
 other_names b j k [] lt = All-nil (λ g. boxed b j ≢ g.name)
 other_names b j k (s ∷ ss) lt =
-    All-cons (λ g. boxed b j ≢ g.name) (record { name = boxed b k; domain = []; range = s }) (constants_from b (suc k) ss) (other_number b j k lt)
+    All-cons (λ g. boxed b j ≢ g.name) (record { name = boxed b k; domain = []; range = s })
+    (constants_from b (suc k) ss) (other_number b j k lt)
     (other_names b j (suc k) ss (omega arith))
   where
     same_number : (b j k : ℕ) → boxed b j ≡ boxed b k → j ≡ k
@@ -89,7 +94,8 @@ other_names b j k (s ∷ ss) lt =
 different_from : (b k : ℕ) (ss : List (List ℕ)) → AllPairs (λ f g. f.name ≢ g.name) (constants_from b k ss)
 different_from b k [] = λ i j d lt within. absurd (omega arith)
 different_from b k (s ∷ ss) =
-    AllPairs-cons (λ f g. f.name ≢ g.name) (record { name = boxed b k; domain = []; range = s }) (constants_from b (suc k) ss)
+    AllPairs-cons (λ f g. f.name ≢ g.name) (record { name = boxed b k; domain = []; range = s })
+    (constants_from b (suc k) ss)
     (other_names b k (suc k) ss (omega arith)) (different_from b (suc k) ss)
 
 -- constants of a box with a number above those of the theory are new
@@ -100,7 +106,8 @@ constants_new b c k ss t h lt = record { names = new_from b c k ss t lt h; diffe
 pub constants_without_arguments : (b k : ℕ) (ss : List (List ℕ)) → AreConstants (constants_from b k ss)
 constants_without_arguments b k [] = All-nil (λ f. f.domain ≡ [])
 constants_without_arguments b k (s ∷ ss) =
-    All-cons (λ f. f.domain ≡ []) (record { name = boxed b k; domain = []; range = s }) (constants_from b (suc k) ss) refl (constants_without_arguments b (suc k) ss)
+    All-cons (λ f. f.domain ≡ []) (record { name = boxed b k; domain = []; range = s })
+    (constants_from b (suc k) ss) refl (constants_without_arguments b (suc k) ss)
 
 pub constants_sorts : (b k : ℕ) (ss : List (List ℕ)) → map (λ c. c.range) (constants_from b k ss) ≡ ss
 constants_sorts b k [] = refl
@@ -161,7 +168,7 @@ kept vs o f ts = unwrap_or (option_map (λ v. var v.name v.sort) (option_and_the
 -- a term without constants of the box, or of later ones, stays where the box's constants are freed
 mutual
   pub older_stays : (b c k : ℕ) (ss : List (List ℕ)) (vs : List Variable) → b < c → (a : Tree) → IsOlderTerm b a
-      → freed (constants_from c k ss) vs a ≡ a
+      → free_constants (constants_from c k ss) vs a ≡ a
   older_stays b c k ss vs lt (var n s) h = refl
   older_stays b c k ss vs lt (app f ts) h =
       ap (λ p. kept vs p f (freed_all (constants_from c k ss) vs ts))

@@ -1,5 +1,6 @@
 -- Rules that follow.
-use Rattle.std.proofs.Common.{◌≡◌, ℕ, Bool, true, false, not, ◌&&◌, ◌||◌, cond, List, [], ◌∷◌, ◌++◌, codes, Some, All, Contains, refl, sym, ap, subst, inl, inr}
+use Rattle.std.proofs.Common.{◌≡◌, ℕ, Bool, true, false, not, ◌&&◌, ◌||◌, cond, List, [], ◌∷◌, ◌++◌, codes, Some, All}
+use Rattle.std.proofs.Common.{Contains, refl, sym, ap, subst, inl, inr}
 use Rattle.std.proofs.lemmas.List.Elements.{All-nil, All-cons, All-weaker, All-contains}
 use Rattle.std.proofs.lemmas.Slice.Eq.{bytes_eq-Decides}
 use Rattle.larch_base.proofs.Members.{contains_here, contains_later, contains_left, contains_right, contains_either}
@@ -10,21 +11,23 @@ use Rattle.larch_term.specs.Sorts.{sort_of, WellSorted, IsOver, IsTermOver}
 use Rattle.larch_term.specs.Place.{at, put}
 use Rattle.larch_term.specs.Variable.{occurrences}
 use Rattle.larch_term.specs.Statement.{IsStatementOver, statement_zero, IsWellSortedTheory}
-use Rattle.larch_term.specs.Substitution.{image, substituted, Fits}
+use Rattle.larch_term.specs.Substitution.{image, instance_of, Fits}
 use Rattle.larch_term.specs.declared.built_in.BuiltIn.TheVariants.{Implies}
 use Rattle.larch_term.specs.declared.substitution.Entry.{Entry}
 use Rattle.larch_term.specs.declared.statement.Statement.{Statement}
 use Rattle.larch_term.specs.declared.statement.Statement.TheVariants.{Equation}
 use Rattle.larch_term.specs.declared.statement.Theory.{Theory}
-use Rattle.larch_renaming.specs.Renaming.{unchanged}
+use Rattle.larch_renaming.specs.Renaming.{no_renaming}
 use Rattle.larch_calculus.specs.Formula.{falsity, conjunction, implication, choice}
 use Rattle.larch_term.specs.Truth.{truth}
 use Rattle.larch_calculus.specs.Identity.{IsIdentity, always, both, implied, propositional, chosen_first, chosen_second}
 use Rattle.larch_calculus.specs.Theories.{IsTermOf, IsIncluded, IsPrefix, with_statements}
 use Rattle.larch_calculus.specs.Letters.{two, x_letter, y_letter}
-use Rattle.larch_calculus.specs.Derivable.{Derivable, axiom_, identity, reflexive, symmetric, replace, instance, weaken, cases}
+use Rattle.larch_calculus.specs.Derivable.{Derivable, axiom_, identity, reflexive, symmetric, replace, instance, weaken}
+use Rattle.larch_calculus.specs.Derivable.{cases}
 use Rattle.larch_renaming.proofs.RenamedStatements.{by_name_fits, statement_unchanged}
-use Rattle.larch_calculus.proofs.Sorted.{truth_over, falsity_over, sides_over, included_with, with_statements_well_sorted}
+use Rattle.larch_calculus.proofs.Sorted.{truth_over, falsity_over, sides_over, included_with}
+use Rattle.larch_calculus.proofs.Sorted.{with_statements_well_sorted}
 use Rattle.larch_calculus.proofs.Translation.{translated}
 use Rattle.larch_calculus.proofs.WellSorted.{well_sorted}
 
@@ -53,20 +56,22 @@ image_y s a b = ap (λ c. cond c b (var (codes "y") s)) ((bytes_eq-Decides s s).
 pub two_fit : (s : List ℕ) (a b : Tree) → WellSorted a → sort_of a ≡ s → WellSorted b → sort_of b ≡ s → Fits (two s a b)
 two_fit s a b wa ea wb eb =
     let P : Entry → Type 0 = λ e. WellSorted e.term × (sort_of e.term ≡ e.sort) in
-    All-cons P (record { name = codes "x"; sort = s; term = a }) (record { name = codes "y"; sort = s; term = b } ∷ []) (wa, ea)
+    All-cons P (record { name = codes "x"; sort = s; term = a })
+    (record { name = codes "y"; sort = s; term = b } ∷ []) (wa, ea)
     (All-cons P (record { name = codes "y"; sort = s; term = b }) [] (wb, eb) (All-nil P))
 
 pub two_over : (fs : List PlainOperator) (s : List ℕ) (a b : Tree) → IsOver fs a → IsOver fs b
     → All (λ e. IsOver fs e.term) (two s a b)
 two_over fs s a b oa ob =
     let P : Entry → Type 0 = λ e. IsOver fs e.term in
-    All-cons P (record { name = codes "x"; sort = s; term = a }) (record { name = codes "y"; sort = s; term = b } ∷ []) oa
+    All-cons P (record { name = codes "x"; sort = s; term = a })
+    (record { name = codes "y"; sort = s; term = b } ∷ []) oa
     (All-cons P (record { name = codes "y"; sort = s; term = b }) [] ob (All-nil P))
 
 -- an identity with terms for x and y
 pub identity_instance : {t : Theory} (s : List ℕ) (a b : Tree) {c d : Tree} → IsTermOf t.operators s a
     → IsTermOf t.operators s b → IsIdentity c d
-    → Derivable t (Equation (substituted (two s a b) c) (substituted (two s a b) d))
+    → Derivable t (Equation (instance_of (two s a b) c) (instance_of (two s a b) d))
 identity_instance {t} s a b p q i =
     instance (two s a b) (two_fit s a b p.0.0 p.1 q.0.0 q.1) (two_over t.operators s a b p.0.1 q.0.1)
     (identity i) refl refl
@@ -142,7 +147,8 @@ stated t s w c =
 -- what is supposed is derivable
 pub supposed : (t : Theory) (h : Statement) → IsStatementOver t.operators h → Derivable (with_statements t (h ∷ [])) h
 supposed t h w =
-    axiom_ (contains_later statement_zero h (t.statements ++ h ∷ []) (contains_right t.statements (h ∷ []) h (contains_here h []))) w
+    axiom_ (contains_later statement_zero h (t.statements ++ h ∷ [])
+    (contains_right t.statements (h ∷ []) h (contains_here h []))) w
 
 supposing_first : (t : Theory) (h k : Statement)
     → IsIncluded (with_statements t (k ∷ [])) (with_statements (with_statements t (h ∷ [])) (k ∷ []))
@@ -178,7 +184,8 @@ equal_by_suppositions {t} {a} {b} w wa sa oa wb sb ob d e =
     cases a wa sa oa
     (transitive (supposed t (Equation a truth) a_true) (symmetric d))
     (cases b wb sb ob
-    (transitive (weaken (supposing_well_sorted t (Equation b truth) w b_true) (supposing_first t (Equation a falsity) (Equation b truth)) e)
+    (transitive (weaken (supposing_well_sorted t (Equation b truth) w b_true)
+    (supposing_first t (Equation a falsity) (Equation b truth)) e)
     (symmetric (supposed t_false (Equation b truth) b_true)))
     (transitive (weaken wt (included_with t_false (Equation b falsity ∷ [])) (supposed t (Equation a falsity) a_false))
     (symmetric (supposed t_false (Equation b falsity) b_false))))
@@ -196,7 +203,7 @@ pub cut_theory : {t u : Theory} {s : Statement} → IsWellSortedTheory t → IsW
     → ((r : Statement) → Contains t.statements r → Derivable u r) → Derivable t s → Derivable u s
 cut_theory {t} {u} {s} wt wu fs rs d =
     subst (Derivable u) (statement_unchanged s)
-    (translated d unchanged u (record {
+    (translated d no_renaming u (record {
       source = wt;
       target = wu;
       faithful = record {
@@ -212,7 +219,8 @@ pub cut_statements : {t : Theory} (ss : List Statement) {s : Statement} → IsWe
     → Derivable (with_statements t ss) s → Derivable t s
 cut_statements {t} ss w h d =
     cut_theory
-    (with_statements_well_sorted t ss w (All-weaker (Derivable t) (IsStatementOver t.operators) (λ r e. well_sorted e) ss h)) w (λ f c. c)
+    (with_statements_well_sorted t ss w
+    (All-weaker (Derivable t) (IsStatementOver t.operators) (λ r e. well_sorted e) ss h)) w (λ f c. c)
     (λ r c. elim (contains_either t.statements ss r c) [
       | inl a ↦ stated t r w a
       | inr b ↦ All-contains (Derivable t) ss r h b

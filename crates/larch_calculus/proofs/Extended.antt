@@ -11,7 +11,7 @@ use Rattle.larch_term.specs.Sorts.{IsKnown}
 use Rattle.larch_term.specs.Statement.{IsStatementOver, IsTheory, statement_zero}
 use Rattle.larch_term.specs.declared.statement.Statement.{Statement}
 use Rattle.larch_term.specs.declared.statement.Theory.{Theory}
-use Rattle.larch_calculus.specs.Theories.{IsNewName, AreNew, extended}
+use Rattle.larch_calculus.specs.Theories.{IsNewName, AreNew, extend}
 use Rattle.larch_calculus.specs.Derivable.{Derivable, axiom_}
 use Rattle.larch_calculus.proofs.Sorted.{extended_well_sorted}
 
@@ -27,7 +27,8 @@ different_more : (t : Theory) (cs : List PlainOperator) → AreNew t cs → (fs 
 different_more t cs n [] k d = λ i j e lt within p. n.different i j e lt within (ap (λ g. g.name) p)
 different_more t cs n (f ∷ fs) k d =
     AllPairs-cons (λ f g. f ≢ g) f (fs ++ cs)
-    (All-append (λ g. f ≢ g) fs cs (pairs_head (λ f g. f ≢ g) f fs d) (apart_from_new t cs n f (k f (contains_here f fs))))
+    (All-append (λ g. f ≢ g) fs cs (pairs_head (λ f g. f ≢ g) f fs d)
+    (apart_from_new t cs n f (k f (contains_here f fs))))
     (different_more t cs n fs (λ g c. k g (contains_later f g fs c)) (pairs_tail (λ f g. f ≢ g) f fs d))
 
 not_built_in : (t : Theory) (cs : List PlainOperator) → AreNew t cs → All (λ f. IsBuiltIn f → ⊥) cs
@@ -35,7 +36,7 @@ not_built_in t cs n = All-weaker (λ c. IsNewName t c.name) (λ f. IsBuiltIn f �
 
 -- a theory with new operators, and hypotheses that are well sorted over all of them, is one
 pub extended_theory : (t : Theory) (cs : List PlainOperator) (hs : List Statement) → IsTheory t → AreNew t cs
-    → All (IsStatementOver (t.operators ++ cs)) hs → IsTheory (extended t cs hs)
+    → All (IsStatementOver (t.operators ++ cs)) hs → IsTheory (extend t cs hs)
 extended_theory t cs hs w n h =
     record {
       different = different_more t cs n t.operators (λ f c. inl c) w.different;
@@ -45,15 +46,15 @@ extended_theory t cs hs w n h =
 
 -- what extends an extension extends the theory
 pub extended_twice : (t : Theory) (cs ds : List PlainOperator) (hs ks : List Statement)
-    → extended (extended t cs hs) ds ks ≡ extended t (cs ++ ds) (hs ++ ks)
+    → extend (extend t cs hs) ds ks ≡ extend t (cs ++ ds) (hs ++ ks)
 extended_twice t cs ds hs ks =
     λ i. record { operators = append_assoc t.operators cs ds i; statements = append_assoc t.statements hs ks i }
 
 -- the hypotheses are derivable in the extension
 pub supposed_all : (t : Theory) (cs : List PlainOperator) (hs : List Statement)
     → All (IsStatementOver (t.operators ++ cs)) hs
-    → All (Derivable (extended t cs hs)) hs
+    → All (Derivable (extend t cs hs)) hs
 supposed_all t cs hs w =
-    all_from (Derivable (extended t cs hs)) hs
+    all_from (Derivable (extend t cs hs)) hs
     (λ h c. axiom_ (contains_later statement_zero h (t.statements ++ hs) (contains_right t.statements hs h c))
     (All-contains (IsStatementOver (t.operators ++ cs)) hs h w c))

@@ -1,5 +1,7 @@
 -- Constants in the places of variables, and variables in theirs again.
-use Rattle.std.proofs.Common.{◌≡◌, ◌≢◌, ℕ, suc, ◌⊎◌, inl, inr, true, bytes_eq, cond, List, [], ◌∷◌, ◌++◌, map, Some, option_map, option_and_then, unwrap_or, All, Contains, refl, sym, ◌∙◌, ap, Option, None, subst}
+use Rattle.std.proofs.Common.{◌≡◌, ◌≢◌, ℕ, suc, ◌⊎◌, inl, inr, true, bytes_eq, cond, List, [], ◌∷◌, ◌++◌, map, Some}
+use Rattle.std.proofs.Common.{option_map, option_and_then, unwrap_or, All, Contains, refl, sym, ◌∙◌, ap, Option, None}
+use Rattle.std.proofs.Common.{subst}
 use Rattle.std.specs.List.{slice_get}
 use Rattle.std.proofs.lemmas.List.Elements.{All-nil, All-cons, All-head, All-tail, All-weaker}
 use Rattle.std.proofs.lemmas.Slice.Eq.{bytes_eq-Decides}
@@ -10,16 +12,17 @@ use Rattle.larch_term.specs.Tree.{Tree, Forest, var, app, none, more}
 use Rattle.larch_term.specs.Sorts.{sort_of, WellSorted, IsOver, AllOver, IsKnown, sorts_of, AllWellSorted}
 use Rattle.larch_term.specs.Variable.{occurrences}
 use Rattle.larch_term.specs.Statement.{IsStatementOver, IsWellSortedTheory}
-use Rattle.larch_term.specs.Substitution.{is_entry_of, image, substituted, substituted_all, Fits}
+use Rattle.larch_term.specs.Substitution.{is_entry_of, image, instance_of, substituted_all, Fits}
 use Rattle.larch_term.specs.declared.substitution.Entry.{Entry}
 use Rattle.larch_term.specs.declared.variable.Variable.{Variable}
 use Rattle.larch_term.specs.declared.statement.Statement.TheVariants.{Equation}
 use Rattle.larch_term.specs.declared.statement.Theory.{Theory}
-use Rattle.larch_term_laws.proofs.Substitutions.{substituted_sort, substituted_well_sorted, substituted_over, substituted_nil}
-use Rattle.larch_term_laws.proofs.Agreement.{closed_by_images}
+use Rattle.larch_term_law.proofs.Substitutions.{substituted_sort, substituted_well_sorted, substituted_over}
+use Rattle.larch_term_law.proofs.Substitutions.{substituted_nil}
+use Rattle.larch_term_law.proofs.Agreement.{closed_by_images}
 use Rattle.larch_calculus.specs.Formula.{constant}
-use Rattle.larch_calculus.specs.Freed.{freed, freed_all, constants_for, place_of}
-use Rattle.larch_calculus.specs.Theories.{IsTermOf, IsNewName, AreNew, AreConstants, extended}
+use Rattle.larch_calculus.specs.Freed.{free_constants, freed_all, constants_for, place_of}
+use Rattle.larch_calculus.specs.Theories.{IsTermOf, IsNewName, AreNew, AreConstants, extend}
 use Rattle.larch_calculus.specs.Derivable.{Derivable, instance, weaken, fresh}
 use Rattle.larch_calculus.proofs.Names.{not_placed, placed_at, has_variable}
 use Rattle.larch_calculus.proofs.Sorted.{knows_more, known_cases, over_more, included_more}
@@ -45,11 +48,13 @@ known_not_placed t cs n f k = not_placed cs f.name (known_apart t cs n f k)
 -- what is freed keeps its sort, and is over the operators without the constants
 pub freed_sort : (t : Theory) (cs : List PlainOperator) (vs : List Variable) → AreNew t cs
     → map (λ c. c.range) cs ≡ map (λ v. v.sort) vs → (a : Tree)
-    → IsOver (t.operators ++ cs) a → sort_of (freed cs vs a) ≡ sort_of a
+    → IsOver (t.operators ++ cs) a → sort_of (free_constants cs vs a) ≡ sort_of a
 freed_sort t cs vs n e (var m s) o = refl
 freed_sort t cs vs n e (app f ts) o =
     elim (known_cases t.operators cs f o.0) [
-      | inl k ↦ ap (λ q. sort_of (unwrap_or (option_map (λ v. var v.name v.sort) q) (app f (freed_all cs vs ts)))) (ap (option_and_then (slice_get vs)) (known_not_placed t cs n f k))
+      | inl k ↦
+          ap (λ q. sort_of (unwrap_or (option_map (λ v. var v.name v.sort) q) (app f (freed_all cs vs ts))))
+          (ap (option_and_then (slice_get vs)) (known_not_placed t cs n f k))
       | inr h ↦
           let v = has_variable cs vs f n.different e h in
           ap (λ q. sort_of (unwrap_or (option_map (λ v. var v.name v.sort) q) (app f (freed_all cs vs ts)))) v.1 ∙ v.2
@@ -64,7 +69,8 @@ freed_sorts t cs vs n e (more a ls) o = λ i. freed_sort t cs vs n e a o.0 i ∷
 mutual
   pub freed_well_sorted : (t : Theory) (cs : List PlainOperator) (vs : List Variable) → AreNew t cs
       → map (λ c. c.range) cs ≡ map (λ v. v.sort) vs → (a : Tree)
-      → IsOver (t.operators ++ cs) a → WellSorted a → WellSorted (freed cs vs a) × IsOver t.operators (freed cs vs a)
+      → IsOver (t.operators ++ cs) a → WellSorted a
+      → WellSorted (free_constants cs vs a) × IsOver t.operators (free_constants cs vs a)
   freed_well_sorted t cs vs n e (var m s) o w = (tt, tt)
   freed_well_sorted t cs vs n e (app f ts) o w =
       let Good : Option Variable → Type 0 = λ q.
@@ -99,7 +105,13 @@ image_is (v ∷ vs) (c ∷ cs) n s =
     elim (true_or_false (is_entry_of n s e)) [
       | inl h ↦
           let p = is_named n s e h in
-          inr (0, c, ap (λ b. cond b (constant c) (image (constants_for vs cs) n s)) h, refl, (λ i. Some (record { name = p.0 i; sort = p.1 i })))
+          inr (
+            0,
+            c,
+            ap (λ b. cond b (constant c) (image (constants_for vs cs) n s)) h,
+            refl,
+            (λ i. Some (record { name = p.0 i; sort = p.1 i })),
+          )
       | inr h ↦
           let skip : image (constants_for (v ∷ vs) (c ∷ cs)) n s ≡ image (constants_for vs cs) n s =
           ap (λ b. cond b (constant c) (image (constants_for vs cs) n s)) h in
@@ -136,16 +148,17 @@ image_is_constant (w ∷ vs) (c ∷ cs) v e h =
 -- freeing takes a substitution back where it does so at each variable
 mutual
   pub freed_back : (t : Theory) (cs : List PlainOperator) (vs : List Variable) (es : List Entry) → AreNew t cs
-      → ((n s : List ℕ) → freed cs vs (image es n s) ≡ var n s) → (a : Tree) → IsOver t.operators a
-      → freed cs vs (substituted es a) ≡ a
+      → ((n s : List ℕ) → free_constants cs vs (image es n s) ≡ var n s) → (a : Tree) → IsOver t.operators a
+      → free_constants cs vs (instance_of es a) ≡ a
   freed_back t cs vs es n h (var m s) o = h m s
   freed_back t cs vs es n h (app f ts) o =
-      ap (λ p. unwrap_or (option_map (λ v. var v.name v.sort) (option_and_then (slice_get vs) p)) (app f (freed_all cs vs (substituted_all es ts))))
+      ap (λ p. unwrap_or (option_map (λ v. var v.name v.sort) (option_and_then (slice_get vs) p))
+      (app f (freed_all cs vs (substituted_all es ts))))
       (known_not_placed t cs n f o.0)
       ∙ ap (app f) (freed_all_back t cs vs es n h ts o.1)
 
   pub freed_all_back : (t : Theory) (cs : List PlainOperator) (vs : List Variable) (es : List Entry) → AreNew t cs
-      → ((n s : List ℕ) → freed cs vs (image es n s) ≡ var n s) → (ts : Forest) → AllOver t.operators ts
+      → ((n s : List ℕ) → free_constants cs vs (image es n s) ≡ var n s) → (ts : Forest) → AllOver t.operators ts
       → freed_all cs vs (substituted_all es ts) ≡ ts
   freed_all_back t cs vs es n h none o = refl
   freed_all_back t cs vs es n h (more a ts) o =
@@ -153,27 +166,29 @@ mutual
 
 -- what has none of the constants stays
 pub freed_itself : (t : Theory) (cs : List PlainOperator) (vs : List Variable) (a : Tree) → AreNew t cs
-    → IsOver t.operators a → freed cs vs a ≡ a
-freed_itself t cs vs a n o = ap (freed cs vs) (sym (substituted_nil a)) ∙ freed_back t cs vs [] n (λ m s. refl) a o
+    → IsOver t.operators a → free_constants cs vs a ≡ a
+freed_itself t cs vs a n o =
+    ap (free_constants cs vs) (sym (substituted_nil a)) ∙ freed_back t cs vs [] n (λ m s. refl) a o
 
 -- freeing takes back the substitution of constants for variables
 pub freed_constants : (t : Theory) (cs : List PlainOperator) (vs : List Variable) (a : Tree) → AreNew t cs
     → IsOver t.operators a
-    → freed cs vs (substituted (constants_for vs cs) a) ≡ a
+    → free_constants cs vs (instance_of (constants_for vs cs) a) ≡ a
 freed_constants t cs vs a n o =
     freed_back t cs vs (constants_for vs cs) n
     (λ m s. elim (image_is vs cs m s) [
-      | inl e ↦ ap (freed cs vs) e
+      | inl e ↦ ap (free_constants cs vs) e
       | inr r ↦
-          ap (freed cs vs) r.2
-          ∙ ap (λ p. unwrap_or (option_map (λ v. var v.name v.sort) (option_and_then (slice_get vs) p)) (constant r.1)) (placed_at cs r.0 r.1 n.different r.3)
+          ap (free_constants cs vs) r.2
+          ∙ ap (λ p. unwrap_or (option_map (λ v. var v.name v.sort) (option_and_then (slice_get vs) p)) (constant r.1))
+          (placed_at cs r.0 r.1 n.different r.3)
           ∙ ap (λ p. unwrap_or (option_map (λ v. var v.name v.sort) p) (constant r.1)) r.4
     ]) a o
 
 -- a term whose variables all became constants is closed
 pub constants_close : (cs : List PlainOperator) (vs : List Variable) (a : Tree)
     → map (λ c. c.range) cs ≡ map (λ v. v.sort) vs
-    → All (Contains vs) (occurrences a) → occurrences (substituted (constants_for vs cs) a) ≡ []
+    → All (Contains vs) (occurrences a) → occurrences (instance_of (constants_for vs cs) a) ≡ []
 constants_close cs vs a e h =
     closed_by_images (constants_for vs cs) a
     (All-weaker (Contains vs) (λ v. occurrences (image (constants_for vs cs) v.name v.sort) ≡ [])
@@ -187,7 +202,8 @@ constants_fit [] cs k e = All-nil (λ e. WellSorted e.term × (sort_of e.term �
 constants_fit (v ∷ vs) [] k e = All-nil (λ e. WellSorted e.term × (sort_of e.term ≡ e.sort))
 constants_fit (v ∷ vs) (c ∷ cs) k e =
     let p : map (λ c. c.range) cs ≡ map (λ v. v.sort) vs = cc in
-    All-cons (λ e. WellSorted e.term × (sort_of e.term ≡ e.sort)) (record { name = v.name; sort = v.sort; term = constant c }) (constants_for vs cs)
+    All-cons (λ e. WellSorted e.term × (sort_of e.term ≡ e.sort))
+    (record { name = v.name; sort = v.sort; term = constant c }) (constants_for vs cs)
     ((sym (All-head (λ f. f.domain ≡ []) c cs k), tt), cc)
     (constants_fit vs cs (All-tail (λ f. f.domain ≡ []) c cs k) p)
 
@@ -204,7 +220,7 @@ constants_over fs (v ∷ vs) (c ∷ cs) h =
 pub with_constants : (t : Theory) (cs : List PlainOperator) (vs : List Variable) (s : List ℕ) (a : Tree)
     → AreConstants cs
     → map (λ c. c.range) cs ≡ map (λ v. v.sort) vs → IsTermOf t.operators s a
-    → IsTermOf (extended t cs []).operators s (substituted (constants_for vs cs) a)
+    → IsTermOf (extend t cs []).operators s (instance_of (constants_for vs cs) a)
 with_constants t cs vs s a k e w =
     let es = constants_for vs cs in
     let gs = t.operators ++ cs in
@@ -219,8 +235,8 @@ with_constants t cs vs s a k e w =
 
 pub without_constants : (t : Theory) (cs : List PlainOperator) (vs : List Variable) (s : List ℕ) (a : Tree)
     → AreNew t cs
-    → map (λ c. c.range) cs ≡ map (λ v. v.sort) vs → IsTermOf (extended t cs []).operators s a
-    → IsTermOf t.operators s (freed cs vs a)
+    → map (λ c. c.range) cs ≡ map (λ v. v.sort) vs → IsTermOf (extend t cs []).operators s a
+    → IsTermOf t.operators s (free_constants cs vs a)
 without_constants t cs vs s a n e w =
     (freed_well_sorted t cs vs n e a w.0.1 w.0.0, freed_sort t cs vs n e a w.0.1 ∙ w.1)
 
@@ -228,8 +244,8 @@ without_constants t cs vs s a n e w =
 pub generalised : (t : Theory) (cs : List PlainOperator) (vs : List Variable) (a b : Tree) → AreNew t cs
     → AreConstants cs
     → map (λ c. c.range) cs ≡ map (λ v. v.sort) vs → IsStatementOver t.operators (Equation a b)
-    → Derivable (extended t cs [])
-    (Equation (substituted (constants_for vs cs) a) (substituted (constants_for vs cs) b))
+    → Derivable (extend t cs [])
+    (Equation (instance_of (constants_for vs cs) a) (instance_of (constants_for vs cs) b))
     → Derivable t (Equation a b)
 generalised t cs vs a b n k e w d =
     fresh cs vs n k e d (sym (freed_constants t cs vs a n w.0.1)) (sym (freed_constants t cs vs b n w.1.1))
@@ -238,8 +254,8 @@ generalised t cs vs a b n k e w d =
 pub specialised : (t : Theory) (cs : List PlainOperator) (vs : List Variable) (a b : Tree) → IsWellSortedTheory t
     → AreConstants cs
     → map (λ c. c.range) cs ≡ map (λ v. v.sort) vs → Derivable t (Equation a b)
-    → Derivable (extended t cs [])
-    (Equation (substituted (constants_for vs cs) a) (substituted (constants_for vs cs) b))
+    → Derivable (extend t cs [])
+    (Equation (instance_of (constants_for vs cs) a) (instance_of (constants_for vs cs) b))
 specialised t cs vs a b g k e d =
     instance (constants_for vs cs) (constants_fit vs cs k e)
     (constants_over (t.operators ++ cs) vs cs (contains_right t.operators cs))

@@ -6,11 +6,14 @@ use Rattle.larch_term.specs.Tree.{Tree, Forest, var, app, none, more}
 use Rattle.larch_term.specs.Sorts.{sort_of, sorts_of, AllWellSorted, AllOver, IsTermOver}
 use Rattle.larch_term.specs.Statement.{IsStatementOver}
 use Rattle.larch_term.specs.declared.built_in.BuiltIn.{BuiltIn}
-use Rattle.larch_term.specs.declared.built_in.BuiltIn.TheVariants.{True, False, Not, And, Or, Implies, Iff, Equal, Unequal, If}
+use Rattle.larch_term.specs.declared.built_in.BuiltIn.TheVariants.{True, False, Not, And, Or, Implies, Iff, Equal}
+use Rattle.larch_term.specs.declared.built_in.BuiltIn.TheVariants.{Unequal, If}
 use Rattle.larch_term.specs.declared.statement.Statement.TheVariants.{Equation}
 use Rattle.larch_calculus.specs.Formula.{falsity, negation, equality, inequality, choice}
 use Rattle.larch_term.specs.Truth.{truth}
-use Rattle.larch_calculus.specs.Identity.{Proposition, letter, always, never, denied, both, either, implied, equivalent, equal, unequal, chosen, term_of, IsIdentity, propositional, equal_itself, equal_exchanged, unequal_denied, chosen_first, chosen_second, chosen_same}
+use Rattle.larch_calculus.specs.Identity.{Proposition, letter, always, never, denied, both, either, implied, equivalent}
+use Rattle.larch_calculus.specs.Identity.{equal, unequal, chosen, term_of, IsIdentity, propositional, equal_itself}
+use Rattle.larch_calculus.specs.Identity.{equal_exchanged, unequal_denied, chosen_first, chosen_second, chosen_same}
 use Rattle.larch_calculus.specs.Theories.{IsTermOf}
 
 -- a built-in operator over arguments of its domain's sorts
@@ -37,7 +40,8 @@ pub built_of_two : (fs : List PlainOperator) (b : BuiltIn) (s r q : List ℕ) (t
     → IsTermOf fs (built_in_range b s) (app (built_in b s) (more t (more u none)))
 built_of_two fs b s r q t u e p o = (
   built fs b s (more t (more u none))
-      (subst (λ x. x ∷ sort_of u ∷ [] ≡ built_in_domain b s) (sym p.1) (subst (λ x. r ∷ x ∷ [] ≡ built_in_domain b s) (sym o.1) e))
+      (subst (λ x. x ∷ sort_of u ∷ [] ≡ built_in_domain b s) (sym p.1)
+      (subst (λ x. r ∷ x ∷ [] ≡ built_in_domain b s) (sym o.1) e))
       (p.0.0, (o.0.0, tt)) (p.0.1, (o.0.1, tt)),
   refl,
 )
@@ -118,4 +122,5 @@ identity_over fs {a} {b} (chosen_second s x y l r) =
     (variable_of fs y s)
 identity_over fs {a} {b} (chosen_same s c x l r) =
     sides fs s a b (choice s (var c bool_sort) (var x s) (var x s)) (var x s) l r
-    (choice_of fs s (var c bool_sort) (var x s) (var x s) (variable_of fs c bool_sort) (variable_of fs x s) (variable_of fs x s)) (variable_of fs x s)
+    (choice_of fs s (var c bool_sort) (var x s) (var x s) (variable_of fs c bool_sort) (variable_of fs x s)
+    (variable_of fs x s)) (variable_of fs x s)

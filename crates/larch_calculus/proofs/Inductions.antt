@@ -6,7 +6,7 @@ use Rattle.larch_term.specs.Statement.{IsStatementOver}
 use Rattle.larch_term.specs.Tree.{Tree, app}
 use Rattle.larch_term.specs.declared.statement.Statement.TheVariants.{Equation, Generated}
 use Rattle.larch_term.specs.declared.statement.Theory.{Theory}
-use Rattle.larch_calculus.specs.Theories.{extended}
+use Rattle.larch_calculus.specs.Theories.{extend}
 use Rattle.larch_calculus.specs.Generation.{constant_terms, equation_at, induction_hypotheses}
 use Rattle.larch_calculus.specs.Derivable.{Derivable, AreArguments, induct}
 
@@ -27,7 +27,7 @@ pub inducted : (t : Theory) (a b : Tree) (x s : List ℕ) (fs : List PlainOperat
     ((i : ℕ) (f : PlainOperator) (cs : List PlainOperator) → slice_get fs i ≡ Some f → slice_get css i ≡ Some cs
     → AreArguments t f cs)
     → ((i : ℕ) (f : PlainOperator) (cs : List PlainOperator) → slice_get fs i ≡ Some f → slice_get css i ≡ Some cs
-    → Derivable (extended t cs (induction_hypotheses x s a b cs)) (equation_at x s a b (app f (constant_terms cs))))
+    → Derivable (extend t cs (induction_hypotheses x s a b cs)) (equation_at x s a b (app f (constant_terms cs))))
     → Derivable t (Equation a b)
 inducted t a b x s fs css e d w k h =
     induct x s fs (λ i. unwrap_or (slice_get css i) []) d w

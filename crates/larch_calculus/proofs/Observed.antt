@@ -1,9 +1,11 @@
 -- Observations are well sorted.
-use Rattle.std.proofs.Common.{◌≡◌, ℕ, suc, ◌<◌, ◌≤◌, ◌==◌, ◌⊎◌, inl, inr, Bool, true, false, cond, List, [], ◌∷◌, ◌++◌, map, All, Contains, bytes_eq, refl, sym, ◌∙◌, subst, arith}
+use Rattle.std.proofs.Common.{◌≡◌, ℕ, suc, ◌<◌, ◌≤◌, ◌==◌, ◌⊎◌, inl, inr, Bool, true, false, cond, List, [], ◌∷◌, ◌++◌}
+use Rattle.std.proofs.Common.{map, All, Contains, bytes_eq, refl, sym, ◌∙◌, subst, arith}
 use Rattle.std.proofs.lemmas.List.Elements.{All-map, All-contains}
 use Rattle.std.proofs.lemmas.Slice.Eq.{bytes_eq-Decides}
 use Rattle.larch_base.proofs.Bools.{true_or_false}
-use Rattle.larch_base.proofs.Members.{contains_cases, contains_here, contains_later, contains_right, contains_either, contained_in_map}
+use Rattle.larch_base.proofs.Members.{contains_cases, contains_here, contains_later, contains_right, contains_either}
+use Rattle.larch_base.proofs.Members.{contained_in_map}
 use Rattle.larch_base.proofs.Lists.{all_from}
 use Rattle.larch_term.specs.Operator.{PlainOperator}
 use Rattle.larch_term.specs.Tree.{Tree, var}
@@ -13,7 +15,8 @@ use Rattle.larch_term.specs.declared.statement.Statement.TheVariants.{Equation, 
 use Rattle.larch_term.specs.declared.statement.Theory.{Theory}
 use Rattle.larch_calculus.specs.Formula.{constant}
 use Rattle.larch_calculus.specs.Theories.{IsTermOf, AreConstants}
-use Rattle.larch_calculus.specs.Observation.{Observation, arguments_with, observed, observations_of, observations, places_of_sort}
+use Rattle.larch_calculus.specs.Observation.{Observation, arguments_with, observer_term, observations_of, observations}
+use Rattle.larch_calculus.specs.Observation.{places_of_sort}
 use Rattle.larch_calculus.proofs.Sorted.{knows_more, statement_over_more}
 
 number_is : (k p : ℕ) → (k == p) ≡ true → k ≡ p
@@ -29,17 +32,24 @@ places_of : (s : List ℕ) (k : ℕ) (r : List ℕ) (rs : List (List ℕ)) (p : 
     → ((k ≡ p) × (r ≡ s)) ⊎ Contains (places_of_sort s (suc k) rs) p
 places_of s k r rs p c =
     elim (true_or_false (bytes_eq r s)) [
-      | inl e ↦ elim (contains_cases k p (places_of_sort s (suc k) rs) (subst (λ b. Contains (cond b (k ∷ places_of_sort s (suc k) rs) (places_of_sort s (suc k) rs)) p) e c)) [
-        | inl i ↦ inl (i, (bytes_eq-Decides r s).0 e)
-        | inr d ↦ inr d
-      ]
-      | inr e ↦ inr (subst (λ b. Contains (cond b (k ∷ places_of_sort s (suc k) rs) (places_of_sort s (suc k) rs)) p) e c)
+      | inl e ↦
+          elim (contains_cases k p (places_of_sort s (suc k) rs)
+          (subst (λ b. Contains (cond b (k ∷ places_of_sort s (suc k) rs) (places_of_sort s (suc k) rs)) p) e c)) [
+            | inl i ↦ inl (i, (bytes_eq-Decides r s).0 e)
+            | inr d ↦ inr d
+          ]
+      | inr e ↦
+          inr (subst (λ b. Contains (cond b (k ∷ places_of_sort s (suc k) rs) (places_of_sort s (suc k) rs)) p) e c)
     ]
 
 place_at_least : (s : List ℕ) (k : ℕ) (ss : List (List ℕ)) (p : ℕ) → Contains (places_of_sort s k ss) p → k ≤ p
 place_at_least s k [] p c = let lt = c.1 in absurd (omega arith)
 place_at_least s k (r ∷ rs) p c =
-    elim (places_of s k r rs p c) [ inl e ↦ let i = e.0 in omega arith | inr d ↦ let le = place_at_least s (suc k) rs p d in omega arith ]
+    elim (places_of s k r rs p c) [
+      | inl e ↦ let i = e.0 in
+          omega arith
+      | inr d ↦ let le = place_at_least s (suc k) rs p d in omega arith
+    ]
 
 sorts_past : (names : ℕ → List ℕ) (place : ℕ) (t : Tree) (k : ℕ) (ss : List (List ℕ)) → place < k
     → sorts_of (arguments_with names place t k ss) ≡ ss
@@ -56,7 +66,8 @@ sorts_with names place t s k [] e c = refl
 sorts_with names place t s k (r ∷ rs) e c =
     elim (places_of s k r rs place c) [
       | inl h ↦
-          let head : sort_of (cond (k == place) t (var (names k) r)) ≡ r = sort_of_choice (k == place) t (var (names k) r) r (λ _. e ∙ sym h.1) refl in
+          let head : sort_of (cond (k == place) t (var (names k) r)) ≡ r =
+          sort_of_choice (k == place) t (var (names k) r) r (λ _. e ∙ sym h.1) refl in
           let k_is = h.0 in
           let tail = sorts_past names place t (suc k) rs (omega arith) in
           λ i. head i ∷ tail i
@@ -90,7 +101,8 @@ pub observation_is : (s : List ℕ) (os : List PlainOperator) (w : Observation) 
     → Contains os w.observer × Contains (places_of_sort s 1 w.observer.domain) w.place
 observation_is s [] w c = let lt = c.1 in absurd (omega arith)
 observation_is s (o ∷ os) w c =
-    elim (contains_either (map (λ k. record { observer = o; place = k }) (places_of_sort s 1 o.domain)) (observations_of s os) w c) [
+    elim (contains_either (map (λ k. record { observer = o; place = k }) (places_of_sort s 1 o.domain))
+    (observations_of s os) w c) [
       | inl a ↦
           let r = contained_in_map (λ k. record { observer = o; place = k }) (places_of_sort s 1 o.domain) w a in
           subst (λ x. Contains (o ∷ os) x.observer × Contains (places_of_sort s 1 x.observer.domain) x.place) r.2
@@ -101,7 +113,7 @@ observation_is s (o ∷ os) w c =
 pub observed_over : (fs : List PlainOperator) (names : ℕ → List ℕ) (s : List ℕ) (w : Observation) (t : Tree)
     → IsKnown fs w.observer
     → Contains (places_of_sort s 1 w.observer.domain) w.place → IsTermOver fs t → sort_of t ≡ s
-    → IsTermOver fs (observed names w t)
+    → IsTermOver fs (observer_term names w t)
 observed_over fs names s w t k c o e = (
   (sorts_with names w.place t s 1 w.observer.domain e c, arguments_well_sorted names w.place t 1 w.observer.domain o.0),
   (k, arguments_over fs names w.place t 1 w.observer.domain o.1),
@@ -114,11 +126,16 @@ pub observations_over : (fs : List PlainOperator) (names : ℕ → List ℕ) (s 
     → sort_of u ≡ s
     → All (IsStatementOver fs) (observations names s os t u)
 observations_over fs names s os t u k wt et wu eu =
-    All-map (IsStatementOver fs) (λ w. Equation (observed names w t) (observed names w u)) (observations_of s os)
-    (all_from (λ w. IsStatementOver fs (Equation (observed names w t) (observed names w u))) (observations_of s os)
+    All-map (IsStatementOver fs) (λ w. Equation (observer_term names w t) (observer_term names w u))
+    (observations_of s os)
+    (all_from (λ w. IsStatementOver fs (Equation (observer_term names w t) (observer_term names w u)))
+    (observations_of s os)
     (λ w c.
-    let r = observation_is s os w c in
-    (observed_over fs names s w t (k w.observer r.0) r.1 wt et, observed_over fs names s w u (k w.observer r.0) r.1 wu eu, refl)))
+    let r = observation_is s os w c in (
+      observed_over fs names s w t (k w.observer r.0) r.1 wt et,
+      observed_over fs names s w u (k w.observer r.0) r.1 wu eu,
+      refl,
+    )))
 
 pub observations_of_terms : (fs : List PlainOperator) (names : ℕ → List ℕ) (s : List ℕ) (os : List PlainOperator)
     (t u : Tree)

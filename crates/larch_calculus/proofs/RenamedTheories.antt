@@ -9,11 +9,14 @@ use Rattle.larch_term.specs.Sorts.{IsKnown}
 use Rattle.larch_term.specs.Statement.{IsStatementOver, IsWellSortedTheory, statement_zero}
 use Rattle.larch_term.specs.declared.statement.Statement.{Statement}
 use Rattle.larch_term.specs.declared.statement.Theory.{Theory}
-use Rattle.larch_renaming.specs.Renaming.{Renaming, unchanged, by_name, renamed_statement, renamed_theory, AreAlikeOver}
-use Rattle.larch_calculus.specs.Theories.{extended}
+use Rattle.larch_renaming.specs.Renaming.{Renaming, no_renaming, by_name, renamed_statement, renamed_theory}
+use Rattle.larch_renaming.specs.Renaming.{AreAlikeOver}
+use Rattle.larch_calculus.specs.Theories.{extend}
 use Rattle.larch_calculus.specs.Derivable.{Derivable, axiom_}
-use Rattle.larch_calculus.specs.Renaming.{IsFaithful, TakesBack, KeepsBuiltIn, RenamesBoxes, IsPlainName, HasPlainNames, IsTranslation}
-use Rattle.larch_renaming.proofs.RenamedStatements.{renamed_theory_well_sorted, theory_carries, theory_alike_over, theory_unchanged, by_name_fits, by_name_keeps}
+use Rattle.larch_calculus.specs.Renaming.{IsFaithful, TakesBack, KeepsBuiltIn, RenamesBoxes, IsPlainName, HasPlainNames}
+use Rattle.larch_calculus.specs.Renaming.{IsTranslation}
+use Rattle.larch_renaming.proofs.RenamedStatements.{renamed_theory_well_sorted, theory_carries, theory_alike_over}
+use Rattle.larch_renaming.proofs.RenamedStatements.{theory_unchanged, by_name_fits, by_name_keeps}
 use Rattle.larch_calculus.proofs.Renamed.{statement_back, theory_back}
 use Rattle.larch_calculus.proofs.Sorted.{extended_well_sorted}
 use Rattle.larch_calculus.proofs.Translation.{translated}
@@ -43,7 +46,8 @@ pub renamed_taken_back : (r q : Renaming) (t : Theory) (s : Statement) → IsFai
     → IsWellSortedTheory t
     → Derivable (renamed_theory r t) (renamed_statement r s) → Derivable t s
 renamed_taken_back r q t s h k b w d =
-    let e = theory_renamed q (renamed_theory r t) (renamed_statement r s) k (renamed_theory_well_sorted r h.signatures h.built_in t w) d in
+    let e = theory_renamed q (renamed_theory r t) (renamed_statement r s) k
+    (renamed_theory_well_sorted r h.signatures h.built_in t w) d in
     subst (λ z. Derivable z s) (theory_back q r b t)
     (subst (Derivable (renamed_theory q (renamed_theory r t))) (statement_back q r b s) e)
 
@@ -69,7 +73,7 @@ plain_kept new r (plain n) p = r n
 plain_kept new r (boxed b k) p = absurd p
 
 plain_alike : (new : OperatorName → OperatorName) (t : Theory) → RenamesBoxes new → HasPlainNames t
-    → AreAlikeOver (by_name new) unchanged t.operators
+    → AreAlikeOver (by_name new) no_renaming t.operators
 plain_alike new t r p =
     record { sorts = λ s. refl; operators = λ f k i. record { name = kept f k i; domain = f.domain; range = f.range } }
   where
@@ -81,11 +85,12 @@ plain_alike new t r p =
 extension_renamed : (new : OperatorName → OperatorName) (t : Theory) (cs : List PlainOperator) (hs : List Statement)
     → RenamesBoxes new → HasPlainNames t
     → IsWellSortedTheory t
-    → renamed_theory (by_name new) (extended t cs hs)
-    ≡ extended t (map (by_name new).operator cs) (map (renamed_statement (by_name new)) hs)
+    → renamed_theory (by_name new) (extend t cs hs)
+    ≡ extend t (map (by_name new).operator cs) (map (renamed_statement (by_name new)) hs)
 extension_renamed new t cs hs r p w =
     let q = by_name new in
-    let same : renamed_theory q t ≡ t = theory_alike_over q unchanged t (plain_alike new t r p) w ∙ theory_unchanged t in
+    let same : renamed_theory q t ≡ t =
+    theory_alike_over q no_renaming t (plain_alike new t r p) w ∙ theory_unchanged t in
     let fs : map q.operator (t.operators ++ cs) ≡ t.operators ++ map q.operator cs =
     map-append q.operator t.operators cs ∙ ap (λ u. u.operators ++ map q.operator cs) same in
     let ss : map (renamed_statement q) (t.statements ++ hs) ≡ t.statements ++ map (renamed_statement q) hs =
@@ -95,22 +100,23 @@ extension_renamed new t cs hs r p w =
 -- constants of boxes by other names, above a theory with plain names
 pub boxes_renamed : (new : OperatorName → OperatorName) (t : Theory) (cs : List PlainOperator) (hs : List Statement)
     (s : Statement) → RenamesBoxes new
-    → HasPlainNames t → IsWellSortedTheory t → All (IsStatementOver (extended t cs hs).operators) hs
-    → Derivable (extended t cs hs) s
-    → Derivable (extended t (map (by_name new).operator cs) (map (renamed_statement (by_name new)) hs))
+    → HasPlainNames t → IsWellSortedTheory t → All (IsStatementOver (extend t cs hs).operators) hs
+    → Derivable (extend t cs hs) s
+    → Derivable (extend t (map (by_name new).operator cs) (map (renamed_statement (by_name new)) hs))
     (renamed_statement (by_name new) s)
 boxes_renamed new t cs hs s r p w v d =
     subst (λ z. Derivable z (renamed_statement (by_name new) s)) (extension_renamed new t cs hs r p w)
-    (theory_renamed (by_name new) (extended t cs hs) s (names_faithful new (boxes_keep new r)) (extended_well_sorted t cs hs w v) d)
+    (theory_renamed (by_name new) (extend t cs hs) s (names_faithful new (boxes_keep new r))
+    (extended_well_sorted t cs hs w v) d)
 
 pub boxes_taken_back : (new old : OperatorName → OperatorName) (t : Theory) (cs : List PlainOperator)
     (hs : List Statement) (s : Statement) → RenamesBoxes new
     → RenamesBoxes old → ((n : OperatorName) → old (new n) ≡ n) → HasPlainNames t → IsWellSortedTheory t
-    → All (IsStatementOver (extended t cs hs).operators) hs
-    → Derivable (extended t (map (by_name new).operator cs) (map (renamed_statement (by_name new)) hs))
+    → All (IsStatementOver (extend t cs hs).operators) hs
+    → Derivable (extend t (map (by_name new).operator cs) (map (renamed_statement (by_name new)) hs))
     (renamed_statement (by_name new) s)
-    → Derivable (extended t cs hs) s
+    → Derivable (extend t cs hs) s
 boxes_taken_back new old t cs hs s r q h p w v d =
-    renamed_taken_back (by_name new) (by_name old) (extended t cs hs) s (names_faithful new (boxes_keep new r))
+    renamed_taken_back (by_name new) (by_name old) (extend t cs hs) s (names_faithful new (boxes_keep new r))
     (names_faithful old (boxes_keep old q)) (names_taken_back new old h) (extended_well_sorted t cs hs w v)
     (subst (λ z. Derivable z (renamed_statement (by_name new) s)) (sym (extension_renamed new t cs hs r p w)) d)

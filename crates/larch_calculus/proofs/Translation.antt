@@ -3,7 +3,8 @@ use Rattle.std.proofs.Common.{◌≡◌, ◌≢◌, ℕ, inl, inr, List, [], ◌
 use Rattle.std.specs.List.{slice_get}
 use Rattle.std.proofs.lemmas.List.Elements.{All-nil, All-cons, All-map, All-weaker, All-contains}
 use Rattle.larch_base.proofs.Lists.{map_map, map_by, pairs_map}
-use Rattle.larch_base.proofs.Members.{contains_here, contains_later, contains_right, contains_either, contains_cases, contains_map, contained_in_map, got_in_map, got_contains}
+use Rattle.larch_base.proofs.Members.{contains_here, contains_later, contains_right, contains_either, contains_cases}
+use Rattle.larch_base.proofs.Members.{contains_map, contained_in_map, got_in_map, got_contains}
 use Rattle.larch_term.specs.BuiltIn.{bool_sort}
 use Rattle.larch_term.specs.Operator.{PlainOperator}
 use Rattle.larch_term.specs.Tree.{Tree, var, app}
@@ -15,23 +16,33 @@ use Rattle.larch_term.specs.declared.variable.Variable.{Variable}
 use Rattle.larch_term.specs.declared.statement.Statement.{Statement}
 use Rattle.larch_term.specs.declared.statement.Statement.TheVariants.{Equation, Generated, Partitioned}
 use Rattle.larch_term.specs.declared.statement.Theory.{Theory}
-use Rattle.larch_renaming.specs.Renaming.{Renaming, renamed, renamed_variable, renamed_entry, renamed_statement, FitsSignatures, Carries}
-use Rattle.larch_calculus.specs.Formula.{constant, applied, falsity}
-use Rattle.larch_calculus.specs.Theories.{IsIncluded, AreNew, AreConstants, extended, with_statements}
-use Rattle.larch_calculus.specs.Observation.{Observation, observed, observations_of, observations, other_variables}
-use Rattle.larch_calculus.specs.Generation.{place_name, generation_hypotheses, constant_terms, equation_at, induction_hypotheses}
+use Rattle.larch_renaming.specs.Renaming.{Renaming, rename_tree, renamed_variable, renamed_entry, renamed_statement}
+use Rattle.larch_renaming.specs.Renaming.{FitsSignatures, Carries}
+use Rattle.larch_calculus.specs.Formula.{constant, apply_one, falsity}
+use Rattle.larch_calculus.specs.Theories.{IsIncluded, AreNew, AreConstants, extend, with_statements}
+use Rattle.larch_calculus.specs.Observation.{Observation, observer_term, observations_of, observations, other_variables}
+use Rattle.larch_calculus.specs.Generation.{place_name, generation_hypotheses, constant_terms, equation_at}
+use Rattle.larch_calculus.specs.Generation.{induction_hypotheses}
 use Rattle.larch_calculus.specs.Induction.{Derived, IsClosed, by_rules}
-use Rattle.larch_calculus.specs.Derivable.{Derivable, AreArguments, AreApart, axiom_, reflexive, symmetric, replace, instance, equal, weaken, fresh, cases, induct, observe, generated, partitioned}
+use Rattle.larch_calculus.specs.Derivable.{Derivable, AreArguments, AreApart, axiom_, reflexive, symmetric, replace}
+use Rattle.larch_calculus.specs.Derivable.{instance, equal, weaken, fresh, cases, induct, observe, generated}
+use Rattle.larch_calculus.specs.Derivable.{partitioned}
 use Rattle.larch_calculus.specs.Derivable as rule
 use Rattle.larch_calculus.specs.Renaming.{KeepsSortsApart, IsFaithful, IsTranslation}
-use Rattle.larch_calculus.specs.Freed.{freed}
+use Rattle.larch_calculus.specs.Freed.{free_constants}
 use Rattle.larch_calculus.proofs.Names.{next_box}
-use Rattle.larch_renaming.proofs.Renamed.{renamed_sort, renamed_term_over, renamed_put, renamed_occurrences, renamed_alike_over}
+use Rattle.larch_renaming.proofs.Renamed.{renamed_sort, renamed_term_over, renamed_put, renamed_occurrences}
+use Rattle.larch_renaming.proofs.Renamed.{renamed_alike_over}
 use Rattle.larch_renaming.proofs.RenamedStatements.{renamed_statement_over, zero_renamed, statement_alike_over}
 use Rattle.larch_renaming.proofs.RenamedSubstitutions.{renamed_fits, renamed_entries_over}
 use Rattle.larch_calculus.proofs.Renamed.{renamed_at, renamed_substituted, variable_back, operators_alike}
-use Rattle.larch_calculus.proofs.RenamedHypotheses.{truth_renamed, falsity_renamed, equality_renamed, identity_renamed, renamed_observation, observed_renamed, others_renamed, observations_of_renamed, observations_renamed, generation_renamed, constants_renamed, equation_renamed, induction_renamed}
-use Rattle.larch_calculus.proofs.Sorted.{knows_more, knows_last, knows_included, known_cases, extended_well_sorted, with_statements_well_sorted, included_more, included_with, zero_over, truth_over, falsity_over, generation_over, suppositions_over}
+use Rattle.larch_calculus.proofs.RenamedHypotheses.{truth_renamed, falsity_renamed, equality_renamed, identity_renamed}
+use Rattle.larch_calculus.proofs.RenamedHypotheses.{renamed_observation, observed_renamed, others_renamed}
+use Rattle.larch_calculus.proofs.RenamedHypotheses.{observations_of_renamed, observations_renamed, generation_renamed}
+use Rattle.larch_calculus.proofs.RenamedHypotheses.{constants_renamed, equation_renamed, induction_renamed}
+use Rattle.larch_calculus.proofs.Sorted.{knows_more, knows_last, knows_included, known_cases, extended_well_sorted}
+use Rattle.larch_calculus.proofs.Sorted.{with_statements_well_sorted, included_more, included_with, zero_over}
+use Rattle.larch_calculus.proofs.Sorted.{truth_over, falsity_over, generation_over, suppositions_over}
 use Rattle.larch_calculus.proofs.Observed.{partition_over}
 use Rattle.larch_calculus.proofs.Extension.{with_box, Extends, box_extends, freed_renamed}
 use Rattle.larch_calculus.proofs.WellSorted.{well_sorted}
@@ -45,8 +56,8 @@ own u hs s c w = axiom_ (contains_later statement_zero s (u.statements ++ hs) (c
 pub further_translation : (r further : Renaming) (t u : Theory) (cs : List PlainOperator) (hs : List Statement)
     → IsTranslation r t u
     → Extends r further t u cs → All (IsStatementOver (t.operators ++ cs)) hs
-    → IsTranslation further (extended t cs hs)
-    (extended u (map further.operator cs) (map (renamed_statement further) hs))
+    → IsTranslation further (extend t cs hs)
+    (extend u (map further.operator cs) (map (renamed_statement further) hs))
 further_translation r further t u cs hs x e w =
     let ds = map further.operator cs in
     let ks = map (renamed_statement further) hs in
@@ -58,7 +69,8 @@ further_translation r further t u cs hs x e w =
     ] in
     let over : All (IsStatementOver (u.operators ++ ds)) ks =
     All-map (IsStatementOver (u.operators ++ ds)) (renamed_statement further) hs
-    (All-weaker (IsStatementOver (t.operators ++ cs)) (λ s. IsStatementOver (u.operators ++ ds) (renamed_statement further s))
+    (All-weaker (IsStatementOver (t.operators ++ cs))
+    (λ s. IsStatementOver (u.operators ++ ds) (renamed_statement further s))
     (renamed_statement_over further (t.operators ++ cs) (u.operators ++ ds) e.faithful.signatures known) hs w) in
     record {
       source = extended_well_sorted t cs hs x.source w;
@@ -66,8 +78,9 @@ further_translation r further t u cs hs x e w =
       faithful = e.faithful;
       operators = known;
       statements = λ s c. elim (contains_either t.statements hs s c) [
-        | inl a ↦ subst (Derivable (extended u ds ks))
-            (sym (statement_alike_over further r t.operators e.alike s (All-contains (IsStatementOver t.operators) t.statements s x.source a)))
+        | inl a ↦ subst (Derivable (extend u ds ks))
+            (sym (statement_alike_over further r t.operators e.alike s
+            (All-contains (IsStatementOver t.operators) t.statements s x.source a)))
             (weaken x.target (included_more u ds ks) (x.statements s a))
         | inr b ↦
             let c = contains_map (renamed_statement further) hs s b in
@@ -140,7 +153,7 @@ renamed_case : (r further : Renaming) (t u : Theory) (x s : List ℕ) (a b : Tre
     (cs : List PlainOperator)
     → Extends r further t u cs → IsStatementOver t.operators (Equation a b) → further.operator f ≡ g
     → renamed_statement further (equation_at x s a b (app f (constant_terms cs)))
-    ≡ equation_at x (r.sort s) (renamed r a) (renamed r b) (app g (constant_terms (map further.operator cs)))
+    ≡ equation_at x (r.sort s) (rename_tree r a) (rename_tree r b) (app g (constant_terms (map further.operator cs)))
 renamed_case r further t u x s a b f g cs e w i =
     equation_renamed further e.faithful.apart x s a b (app f (constant_terms cs))
     ∙ (λ j. equation_at x (e.alike.sorts s j) (renamed_alike_over further r t.operators e.alike a w.0.1 j)
@@ -149,7 +162,7 @@ renamed_case r further t u x s a b f g cs e w i =
 renamed_suppositions : (r further : Renaming) (t u : Theory) (x s : List ℕ) (a b : Tree) (cs : List PlainOperator)
     → Extends r further t u cs → IsStatementOver t.operators (Equation a b)
     → map (renamed_statement further) (induction_hypotheses x s a b cs)
-    ≡ induction_hypotheses x (r.sort s) (renamed r a) (renamed r b) (map further.operator cs)
+    ≡ induction_hypotheses x (r.sort s) (rename_tree r a) (rename_tree r b) (map further.operator cs)
 renamed_suppositions r further t u x s a b cs e w =
     induction_renamed further e.faithful x s a b cs
     ∙ (λ j. induction_hypotheses x (e.alike.sorts s j) (renamed_alike_over further r t.operators e.alike a w.0.1 j)
@@ -158,20 +171,23 @@ renamed_suppositions r further t u x s a b cs e w =
 -- a variable that doesn't occur becomes one that doesn't
 renamed_absent : (r : Renaming) → KeepsSortsApart r → (vs : List Variable) (a : Tree)
     → All (λ v. Contains (occurrences a) v → ⊥) vs
-    → All (λ v. Contains (occurrences (renamed r a)) v → ⊥) (map (renamed_variable r) vs)
+    → All (λ v. Contains (occurrences (rename_tree r a)) v → ⊥) (map (renamed_variable r) vs)
 renamed_absent r k vs a h =
-    All-map (λ v. Contains (occurrences (renamed r a)) v → ⊥) (renamed_variable r) vs
-    (All-weaker (λ v. Contains (occurrences a) v → ⊥) (λ v. Contains (occurrences (renamed r a)) (renamed_variable r v) → ⊥)
+    All-map (λ v. Contains (occurrences (rename_tree r a)) v → ⊥) (renamed_variable r) vs
+    (All-weaker (λ v. Contains (occurrences a) v → ⊥)
+    (λ v. Contains (occurrences (rename_tree r a)) (renamed_variable r v) → ⊥)
     (λ v absent c.
     let p = contained_in_map (renamed_variable r) (occurrences a) (renamed_variable r v)
     (subst (λ us. Contains us (renamed_variable r v)) (renamed_occurrences r a) c) in
     absent (subst (Contains (occurrences a)) (variable_back r k p.0 v p.2) p.1)) vs h)
 
 renamed_apart : (r : Renaming) → KeepsSortsApart r → (vs : List Variable) (a b : Tree) → AreApart vs a b
-    → AreApart (map (renamed_variable r) vs) (renamed r a) (renamed r b)
+    → AreApart (map (renamed_variable r) vs) (rename_tree r a) (rename_tree r b)
 renamed_apart r k vs a b h =
     record {
-      different = pairs_map (λ v w. v ≢ w) (λ v w. v ≢ w) (renamed_variable r) vs (λ v w _ _ n e. n (variable_back r k v w e)) h.different;
+      different =
+          pairs_map (λ v w. v ≢ w) (λ v w. v ≢ w) (renamed_variable r) vs
+          (λ v w _ _ n e. n (variable_back r k v w e)) h.different;
       left = renamed_absent r k vs a h.left;
       right = renamed_absent r k vs b h.right;
     }
@@ -197,8 +213,8 @@ stated_carried t s c r u x =
 
 fresh_carried : (t : Theory) (a b c d : Tree) (cs : List PlainOperator) (vs : List Variable) → AreNew t cs
     → AreConstants cs
-    → map (λ f. f.range) cs ≡ map (λ v. v.sort) vs → Derived IsCarried (extended t cs []) (Equation a b)
-    → c ≡ freed cs vs a → d ≡ freed cs vs b → IsCarried t (Equation c d)
+    → map (λ f. f.range) cs ≡ map (λ v. v.sort) vs → Derived IsCarried (extend t cs []) (Equation a b)
+    → c ≡ free_constants cs vs a → d ≡ free_constants cs vs b → IsCarried t (Equation c d)
 fresh_carried t a b c d cs vs n k e y p q r u x =
     let further = with_box r cs (next_box u.operators) in
     let z = box_extends r t u cs x.faithful x.operators n in
@@ -208,18 +224,19 @@ fresh_carried t a b c d cs vs n k e y p q r u x =
     renamed_ranges further z.faithful.signatures cs ∙ ap (map r.sort) e ∙ map_map r.sort (λ v. v.sort) vs
     ∙ sym (map_map (λ v. v.sort) (renamed_variable r) vs) in
     fresh (map further.operator cs) us z.names (renamed_constants further z.faithful.signatures cs k) sorts
-    (y.1 further (extended u (map further.operator cs) [])
+    (y.1 further (extend u (map further.operator cs) [])
     (further_translation r further t u cs [] x z (All-nil (IsStatementOver (t.operators ++ cs)))))
-    (ap (renamed r) p ∙ freed_renamed r further t u cs vs z n e a w.0.1)
-    (ap (renamed r) q ∙ freed_renamed r further t u cs vs z n e b w.1.1)
+    (ap (rename_tree r) p ∙ freed_renamed r further t u cs vs z n e a w.0.1)
+    (ap (rename_tree r) q ∙ freed_renamed r further t u cs vs z n e b w.1.1)
 
 cases_carried : (t : Theory) (a b f : Tree) → IsTermOver t.operators f → sort_of f ≡ bool_sort → occurrences f ≡ []
     → Derived IsCarried (with_statements t (Equation f truth ∷ [])) (Equation a b)
     → Derived IsCarried (with_statements t (Equation f falsity ∷ [])) (Equation a b) → IsCarried t (Equation a b)
 cases_carried t a b f w s o d e r u x =
     let h = x.faithful in
-    let g = renamed r f in
-    let goal : Tree → Type 0 = λ z. Derivable (with_statements u (Equation g z ∷ [])) (Equation (renamed r a) (renamed r b)) in
+    let g = rename_tree r f in
+    let goal : Tree → Type 0 =
+    λ z. Derivable (with_statements u (Equation g z ∷ [])) (Equation (rename_tree r a) (rename_tree r b)) in
     cases g (renamed_term_over r t.operators u.operators h.signatures x.operators f w)
     (renamed_sort r h.signatures f ∙ ap r.sort s ∙ h.built_in.truth_values)
     (renamed_occurrences r f ∙ ap (map (renamed_variable r)) o)
@@ -234,7 +251,7 @@ induction_carried : (t : Theory) (a b : Tree) (x s : List ℕ) (fs : List PlainO
     → Derived IsCarried t (Generated s fs) → IsStatementOver t.operators (Equation a b)
     → ((i : ℕ) (f : PlainOperator) → slice_get fs i ≡ Some f → AreArguments t f (cs i))
     → ((i : ℕ) (f : PlainOperator) → slice_get fs i ≡ Some f
-    → Derived IsCarried (extended t (cs i) (induction_hypotheses x s a b (cs i)))
+    → Derived IsCarried (extend t (cs i) (induction_hypotheses x s a b (cs i)))
     (equation_at x s a b (app f (constant_terms (cs i)))))
     → IsCarried t (Equation a b)
 induction_carried t a b x s fs cs d w k h r u tr =
@@ -245,7 +262,8 @@ induction_carried t a b x s fs cs d w k h r u tr =
     λ i g e. got_in_map r.operator fs i g e in
     let more : (i : ℕ) (f : PlainOperator) → slice_get fs i ≡ Some f → Extends r (further i) t u (cs i) =
     λ i f e. box_extends r t u (cs i) tr.faithful tr.operators (k i f e).new in
-    let becomes : (i : ℕ) (f g : PlainOperator) → slice_get fs i ≡ Some f → r.operator f ≡ g → (further i).operator f ≡ g =
+    let becomes : (i : ℕ) (f g : PlainOperator) → slice_get fs i ≡ Some f → r.operator f ≡ g
+    → (further i).operator f ≡ g =
     λ i f g e j.
     (more i f e).alike.operators f
     (All-contains (λ g. IsKnown t.operators g × (g.range ≡ s)) fs f (well_sorted d.0) (got_contains fs i f e)).0
@@ -260,11 +278,14 @@ induction_carried t a b x s fs cs d w k h r u tr =
     let y = more i p.0 p.1 in
     let hs = induction_hypotheses x s a b (cs i) in
     let ks = map (renamed_statement (further i)) hs in
-    subst (λ z. Derivable (extended u (ds i) z) (equation_at x (r.sort s) (renamed r a) (renamed r b) (app g (constant_terms (ds i)))))
+    subst (λ z. Derivable (extend u (ds i) z)
+    (equation_at x (r.sort s) (rename_tree r a) (rename_tree r b) (app g (constant_terms (ds i)))))
     (renamed_suppositions r (further i) t u x s a b (cs i) y w)
-    (subst (Derivable (extended u (ds i) ks)) (renamed_case r (further i) t u x s a b p.0 g (cs i) y w (becomes i p.0 g p.1 p.2))
-    ((h i p.0 p.1).1 (further i) (extended u (ds i) ks)
-    (further_translation r (further i) t u (cs i) hs tr y (suppositions_over t x s a b (cs i) w (k i p.0 p.1).constants)))))
+    (subst (Derivable (extend u (ds i) ks))
+    (renamed_case r (further i) t u x s a b p.0 g (cs i) y w (becomes i p.0 g p.1 p.2))
+    ((h i p.0 p.1).1 (further i) (extend u (ds i) ks)
+    (further_translation r (further i) t u (cs i) hs tr y
+    (suppositions_over t x s a b (cs i) w (k i p.0 p.1).constants)))))
 
 observation_carried : (t : Theory) (a b : Tree) (s : List ℕ) (os : List PlainOperator) (names : ℕ → ℕ → List ℕ)
     → Derived IsCarried t (Partitioned s os) → IsStatementOver t.operators (Equation a b) → sort_of a ≡ s
@@ -272,7 +293,7 @@ observation_carried : (t : Theory) (a b : Tree) (s : List ℕ) (os : List PlainO
     ((i : ℕ) (w : Observation) → slice_get (observations_of s os) i ≡ Some w
     → AreApart (other_variables (names i) w) a b)
     → ((i : ℕ) (w : Observation) → slice_get (observations_of s os) i ≡ Some w
-    → Derived IsCarried t (Equation (observed (names i) w a) (observed (names i) w b)))
+    → Derived IsCarried t (Equation (observer_term (names i) w a) (observer_term (names i) w b)))
     → IsCarried t (Equation a b)
 observation_carried t a b s os names d w e k h r u x =
     let f = x.faithful in
@@ -281,19 +302,22 @@ observation_carried t a b s os names d w e k h r u x =
     (renamed_sort r f.signatures a ∙ ap r.sort e)
     (λ i v c.
     let p = got_observation r f s os i v c in
-    subst (λ z. AreApart (other_variables (names i) z) (renamed r a) (renamed r b)) p.2
-    (subst (λ vs. AreApart vs (renamed r a) (renamed r b)) (sym (others_renamed r f.signatures (names i) p.0))
+    subst (λ z. AreApart (other_variables (names i) z) (rename_tree r a) (rename_tree r b)) p.2
+    (subst (λ vs. AreApart vs (rename_tree r a) (rename_tree r b)) (sym (others_renamed r f.signatures (names i) p.0))
     (renamed_apart r f.apart (other_variables (names i) p.0) a b (k i p.0 p.1))))
     (λ i v c.
     let p = got_observation r f s os i v c in
-    subst (λ z. Derivable u (Equation (observed (names i) z (renamed r a)) (observed (names i) z (renamed r b)))) p.2
+    subst
+    (λ z. Derivable u (Equation (observer_term (names i) z (rename_tree r a))
+    (observer_term (names i) z (rename_tree r b)))) p.2
     (subst (Derivable u)
-    (λ j. Equation (observed_renamed r f.signatures (names i) p.0 a j) (observed_renamed r f.signatures (names i) p.0 b j))
+    (λ j. Equation (observed_renamed r f.signatures (names i) p.0 a j)
+    (observed_renamed r f.signatures (names i) p.0 b j))
     ((h i p.0 p.1).1 r u x)))
 
 generation_carried : (t : Theory) (s : List ℕ) (fs : List PlainOperator) (p : PlainOperator) (x : List ℕ)
     → IsStatementOver t.operators (Generated s fs) → AreNew t (p ∷ []) → p.domain ≡ s ∷ [] → p.range ≡ bool_sort
-    → Derived IsCarried (extended t (p ∷ []) (generation_hypotheses p s fs)) (Equation (applied p (var x s)) truth)
+    → Derived IsCarried (extend t (p ∷ []) (generation_hypotheses p s fs)) (Equation (apply_one p (var x s)) truth)
     → IsCarried t (Generated s fs)
 generation_carried t s fs p x w n d e h r u tr =
     let cs = p ∷ [] in
@@ -311,14 +335,16 @@ generation_carried t s fs p x w n d e h r u tr =
     generated q x
     (renamed_statement_over r t.operators u.operators tr.faithful.signatures tr.operators (Generated s fs) w) y.names
     (f.signatures.domain p ∙ ap (map r.sort) d) (f.signatures.range p ∙ ap r.sort e ∙ f.built_in.truth_values)
-    (subst (λ z. Derivable (extended u (q ∷ []) z) (Equation (applied q (var x (r.sort s))) truth)) renaming
-    (subst (λ z. Derivable (extended u (q ∷ []) ks) (Equation (applied q (var x (r.sort s))) z)) (truth_renamed further f.built_in)
-    (h.1 further (extended u (q ∷ []) ks) (further_translation r further t u cs hs tr y (generation_over t p s fs w d e)))))
+    (subst (λ z. Derivable (extend u (q ∷ []) z) (Equation (apply_one q (var x (r.sort s))) truth)) renaming
+    (subst (λ z. Derivable (extend u (q ∷ []) ks) (Equation (apply_one q (var x (r.sort s))) z))
+    (truth_renamed further f.built_in)
+    (h.1 further (extend u (q ∷ []) ks)
+    (further_translation r further t u cs hs tr y (generation_over t p s fs w d e)))))
 
 partition_carried : (t : Theory) (s : List ℕ) (os : List PlainOperator) (c d : PlainOperator)
     → IsStatementOver t.operators (Partitioned s os) → AreNew t (c ∷ d ∷ []) → AreConstants (c ∷ d ∷ [])
     → c.range ≡ s → d.range ≡ s
-    → Derived IsCarried (extended t (c ∷ d ∷ []) (observations place_name s os (constant c) (constant d)))
+    → Derived IsCarried (extend t (c ∷ d ∷ []) (observations place_name s os (constant c) (constant d)))
     (Equation (constant c) (constant d))
     → IsCarried t (Partitioned s os)
 partition_carried t s os c d w n k e f h r u x =
@@ -340,8 +366,8 @@ partition_carried t s os c d w n k e f h r u x =
     (renamed_statement_over r t.operators u.operators x.faithful.signatures x.operators (Partitioned s os) w) y.names
     (renamed_constants further g.signatures cs k) (g.signatures.range c ∙ ap r.sort e)
     (g.signatures.range d ∙ ap r.sort f)
-    (subst (λ z. Derivable (extended u (p ∷ q ∷ []) z) (Equation (constant p) (constant q))) renaming
-    (h.1 further (extended u (p ∷ q ∷ []) ks)
+    (subst (λ z. Derivable (extend u (p ∷ q ∷ []) z) (Equation (constant p) (constant q))) renaming
+    (h.1 further (extend u (p ∷ q ∷ []) ks)
     (further_translation r further t u cs hs x y (partition_over t place_name s os c d w k e f))))
 
 -- each rule is one of what its statements become
@@ -350,18 +376,20 @@ rules_carried =
     record {
       axiom_ = λ t s c w. stated_carried t s c;
       identity = λ t a b i r u x. rule.identity (identity_renamed r x.faithful.built_in i);
-      reflexive = λ t a w r u x. reflexive (renamed_term_over r t.operators u.operators x.faithful.signatures x.operators a w);
+      reflexive =
+          λ t a w r u x. reflexive (renamed_term_over r t.operators u.operators x.faithful.signatures x.operators a w);
       symmetric = λ t a b d r u x. symmetric (d.1 r u x);
       replace = λ t a b c v w p d e h i r u x.
-          replace p (d.1 r u x) (e.1 r u x) (renamed_at r b p v h) (ap (renamed r) i ∙ renamed_put r b p w);
+          replace p (d.1 r u x) (e.1 r u x) (renamed_at r b p v h) (ap (rename_tree r) i ∙ renamed_put r b p w);
       instance = λ t a b c d es f o e p q r u x.
           instance (map (renamed_entry r) es) (renamed_fits r x.faithful.signatures es f)
           (renamed_entries_over r t.operators u.operators x.operators es o) (e.1 r u x)
-          (ap (renamed r) p ∙ renamed_substituted r x.faithful.apart es a)
-          (ap (renamed r) q ∙ renamed_substituted r x.faithful.apart es b);
+          (ap (rename_tree r) p ∙ renamed_substituted r x.faithful.apart es a)
+          (ap (rename_tree r) q ∙ renamed_substituted r x.faithful.apart es b);
       equal = λ t a b s d r u x.
           let k = x.faithful.built_in in
-          equal (r.sort s) (subst (Derivable u) (λ i. Equation (equality_renamed r k s a b i) (truth_renamed r k i)) (d.1 r u x));
+          equal (r.sort s) (subst (Derivable u) (λ i. Equation (equality_renamed r k s a b i) (truth_renamed r k i))
+          (d.1 r u x));
       weaken = λ t v s g i d r u x. d.1 r u (smaller_translation r v t u g i x);
       fresh = fresh_carried;
       cases = cases_carried;

@@ -3,17 +3,17 @@ use Rattle.std.proofs.Common.{List, refl, sym, ◌∙◌, subst}
 use Rattle.larch_term.specs.Operator.{PlainOperator}
 use Rattle.larch_term.specs.Tree.{Tree}
 use Rattle.larch_term.specs.BuiltIn.{built_in}
-use Rattle.larch_term.specs.Substitution.{substituted}
+use Rattle.larch_term.specs.Substitution.{instance_of}
 use Rattle.larch_term.specs.declared.built_in.BuiltIn.TheVariants.{Equal}
 use Rattle.larch_term.specs.Statement.{IsStatementOver}
 use Rattle.larch_term.specs.declared.statement.Statement.{Statement}
 use Rattle.larch_term.specs.declared.statement.Statement.TheVariants.{Equation}
 use Rattle.larch_term.specs.declared.statement.Theory.{Theory}
-use Rattle.larch_term_laws.proofs.Substitutions.{substituted_sort, substituted_well_sorted, substituted_over}
-use Rattle.larch_term_laws.proofs.Places.{put_sort, put_well_sorted, put_over}
+use Rattle.larch_term_law.proofs.Substitutions.{substituted_sort, substituted_well_sorted, substituted_over}
+use Rattle.larch_term_law.proofs.Places.{put_sort, put_well_sorted, put_over}
 use Rattle.larch_calculus.specs.Derivable.{Derivable}
 use Rattle.larch_calculus.specs.Induction.{IsClosed, by_rules}
-use Rattle.larch_calculus.specs.Freed.{freed}
+use Rattle.larch_calculus.specs.Freed.{free_constants}
 use Rattle.larch_calculus.proofs.Identities.{identity_over}
 use Rattle.larch_calculus.proofs.Sorted.{statement_over_more, knows_included, sides_over}
 use Rattle.larch_calculus.proofs.Freeing.{freed_sort, freed_well_sorted}
@@ -40,7 +40,7 @@ rules_well_sorted =
       instance = λ t a b c d es f o x p q.
           let w = x.1 in
           subst (λ z. Equates t.operators z d) (sym p)
-          (subst (λ z. Equates t.operators (substituted es a) z) (sym q) (
+          (subst (λ z. Equates t.operators (instance_of es a) z) (sym q) (
             (substituted_well_sorted es a f w.0.0, substituted_over t.operators es a o w.0.1),
             (substituted_well_sorted es b f w.1.0, substituted_over t.operators es b o w.1.1),
             substituted_sort es a f ∙ w.2 ∙ sym (substituted_sort es b f),
@@ -55,7 +55,7 @@ rules_well_sorted =
           let l = freed_well_sorted t cs vs n e a w.0.1 w.0.0 in
           let r = freed_well_sorted t cs vs n e b w.1.1 w.1.0 in
           subst (λ z. Equates t.operators z d) (sym p)
-          (subst (λ z. Equates t.operators (freed cs vs a) z) (sym q)
+          (subst (λ z. Equates t.operators (free_constants cs vs a) z) (sym q)
           (l, r, freed_sort t cs vs n e a w.0.1 ∙ w.2 ∙ sym (freed_sort t cs vs n e b w.1.1)));
       cases = λ t a b f w s o d e. d.1;
       induct = λ t a b x s fs cs g w k d. w;

@@ -7,22 +7,22 @@ use Rattle.larch_term.specs.BuiltIn.{bool_sort}
 use Rattle.larch_term.specs.Sorts.{sort_of, IsOver, IsTermOver}
 use Rattle.larch_term.specs.Place.{at, put}
 use Rattle.larch_term.specs.Variable.{occurrences}
-use Rattle.larch_term.specs.Substitution.{substituted, Fits}
+use Rattle.larch_term.specs.Substitution.{instance_of, Fits}
 use Rattle.larch_term.specs.Statement.{IsStatementOver, statement_zero, IsWellSortedTheory}
 use Rattle.larch_term.specs.declared.substitution.Entry.{Entry}
 use Rattle.larch_term.specs.declared.variable.Variable.{Variable}
 use Rattle.larch_term.specs.declared.statement.Statement.{Statement}
 use Rattle.larch_term.specs.declared.statement.Statement.TheVariants.{Equation, Generated, Partitioned}
 use Rattle.larch_term.specs.declared.statement.Theory.{Theory}
-use Rattle.larch_calculus.specs.Formula.{falsity, constant, applied, equality}
+use Rattle.larch_calculus.specs.Formula.{falsity, constant, apply_one, equality}
 use Rattle.larch_term.specs.Truth.{truth}
 use Rattle.larch_calculus.specs.Identity.{IsIdentity}
-use Rattle.larch_calculus.specs.Theories.{with_statements, extended, IsIncluded, AreNew, AreConstants}
-use Rattle.larch_calculus.specs.Observation.{Observation, observations_of, observed, other_variables, observations}
+use Rattle.larch_calculus.specs.Theories.{with_statements, extend, IsIncluded, AreNew, AreConstants}
+use Rattle.larch_calculus.specs.Observation.{Observation, observations_of, observer_term, other_variables, observations}
 use Rattle.larch_calculus.specs.Observation.{AreDifferent}
 use Rattle.larch_calculus.specs.Generation.{place_name, generation_hypotheses, constant_terms, equation_at}
 use Rattle.larch_calculus.specs.Generation.{induction_hypotheses}
-use Rattle.larch_calculus.specs.Freed.{freed}
+use Rattle.larch_calculus.specs.Freed.{free_constants}
 
 -- the constants are new, and have the sorts of the generator's arguments
 pub record AreArguments (t : Theory) (f : PlainOperator) (cs : List PlainOperator) : Type 0 where
@@ -49,7 +49,7 @@ pub data Derivable : Theory → Statement → Type 0 where
       → at b p ≡ Some u → c ≡ put b p v → Derivable t (Equation a c)
   -- all variables are replaced at once
   instance : {t : Theory} {a b c d : Tree} (es : List Entry) → Fits es → All (λ e. IsOver t.operators e.term) es
-      → Derivable t (Equation a b) → c ≡ substituted es a → d ≡ substituted es b → Derivable t (Equation c d)
+      → Derivable t (Equation a b) → c ≡ instance_of es a → d ≡ instance_of es b → Derivable t (Equation c d)
   -- terms whose equality is true are equal
   equal : {t : Theory} {a b : Tree} (s : List ℕ) → Derivable t (Equation (equality s a b) truth)
       → Derivable t (Equation a b)
@@ -57,8 +57,8 @@ pub data Derivable : Theory → Statement → Type 0 where
   weaken : {t u : Theory} {s : Statement} → IsWellSortedTheory u → IsIncluded u t → Derivable u s → Derivable t s
   -- what is derivable of new constants holds of all values
   fresh : {t : Theory} {a b c d : Tree} (cs : List PlainOperator) (vs : List Variable) → AreNew t cs → AreConstants cs
-      → map (λ f. f.range) cs ≡ map (λ v. v.sort) vs → Derivable (extended t cs []) (Equation a b)
-      → c ≡ freed cs vs a → d ≡ freed cs vs b → Derivable t (Equation c d)
+      → map (λ f. f.range) cs ≡ map (λ v. v.sort) vs → Derivable (extend t cs []) (Equation a b)
+      → c ≡ free_constants cs vs a → d ≡ free_constants cs vs b → Derivable t (Equation c d)
   -- a formula without variables is true or false
   cases : {t : Theory} {a b : Tree} (f : Tree) → IsTermOver t.operators f → sort_of f ≡ bool_sort → occurrences f ≡ []
       → Derivable (with_statements t (Equation f truth ∷ [])) (Equation a b)
@@ -69,7 +69,7 @@ pub data Derivable : Theory → Statement → Type 0 where
       → Derivable t (Generated s fs) → IsStatementOver t.operators (Equation a b)
       → ((i : ℕ) (f : PlainOperator) → slice_get fs i ≡ Some f → AreArguments t f (cs i))
       → ((i : ℕ) (f : PlainOperator) → slice_get fs i ≡ Some f
-      → Derivable (extended t (cs i) (induction_hypotheses x s a b (cs i)))
+      → Derivable (extend t (cs i) (induction_hypotheses x s a b (cs i)))
       (equation_at x s a b (app f (constant_terms (cs i)))))
       → Derivable t (Equation a b)
   -- two terms of a partitioned sort are equal if all observers show the same of them
@@ -78,17 +78,17 @@ pub data Derivable : Theory → Statement → Type 0 where
       → ((i : ℕ) (w : Observation) → slice_get (observations_of s os) i ≡ Some w
       → AreApart (other_variables (names i) w) a b)
       → ((i : ℕ) (w : Observation) → slice_get (observations_of s os) i ≡ Some w
-      → Derivable t (Equation (observed (names i) w a) (observed (names i) w b)))
+      → Derivable t (Equation (observer_term (names i) w a) (observer_term (names i) w b)))
       → Derivable t (Equation a b)
   -- the operators generate the sort if a new predicate that their values inherit holds of all values
   generated : {t : Theory} {s : List ℕ} {fs : List PlainOperator} (p : PlainOperator) (x : List ℕ)
       → IsStatementOver t.operators (Generated s fs) → AreNew t (p ∷ []) → p.domain ≡ s ∷ [] → p.range ≡ bool_sort
-      → Derivable (extended t (p ∷ []) (generation_hypotheses p s fs)) (Equation (applied p (var x s)) truth)
+      → Derivable (extend t (p ∷ []) (generation_hypotheses p s fs)) (Equation (apply_one p (var x s)) truth)
       → Derivable t (Generated s fs)
   -- the operators partition the sort if new constants are equal once all observers show the same of them
   partitioned : {t : Theory} {s : List ℕ} {os : List PlainOperator} (c d : PlainOperator)
       → IsStatementOver t.operators (Partitioned s os) → AreNew t (c ∷ d ∷ []) → AreConstants (c ∷ d ∷ [])
       → c.range ≡ s → d.range ≡ s
-      → Derivable (extended t (c ∷ d ∷ []) (observations place_name s os (constant c) (constant d)))
+      → Derivable (extend t (c ∷ d ∷ []) (observations place_name s os (constant c) (constant d)))
       (Equation (constant c) (constant d))
       → Derivable t (Partitioned s os)

@@ -5,7 +5,7 @@ use Rattle.larch_term.specs.Tree.{Tree, var}
 use Rattle.larch_term.specs.declared.statement.Statement.{Statement}
 use Rattle.larch_term.specs.declared.statement.Statement.TheVariants.{Equation, Generated}
 use Rattle.larch_term.specs.declared.statement.Theory.{Theory}
-use Rattle.larch_calculus.specs.Formula.{constant, applied, joined}
+use Rattle.larch_calculus.specs.Formula.{constant, apply_one, apply_two}
 
 -- the sort of numbers
 abbrev pub number_sort : List ℕ
@@ -33,12 +33,13 @@ numbers_generated = Generated number_sort (nought ∷ successor ∷ [])
 
 -- x + 0 == x
 abbrev pub sum_with_nought : Statement
-sum_with_nought = Equation (joined plus x_number (constant nought)) x_number
+sum_with_nought = Equation (apply_two plus x_number (constant nought)) x_number
 
 -- x + s(y) == s(x + y)
 abbrev pub sum_with_successor : Statement
 sum_with_successor =
-    Equation (joined plus x_number (applied successor y_number)) (applied successor (joined plus x_number y_number))
+    Equation (apply_two plus x_number (apply_one successor y_number))
+    (apply_one successor (apply_two plus x_number y_number))
 
 abbrev pub numbers : Theory
 numbers = record {
@@ -48,4 +49,4 @@ numbers = record {
 
 -- 0 + x == x
 abbrev pub sum_from_nought : Statement
-sum_from_nought = Equation (joined plus (constant nought) x_number) x_number
+sum_from_nought = Equation (apply_two plus (constant nought) x_number) x_number

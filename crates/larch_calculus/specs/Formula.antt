@@ -13,38 +13,38 @@ abbrev pub constant : PlainOperator → Tree
 constant c = app c none
 
 -- an operator of one argument
-abbrev pub applied : PlainOperator → Tree → Tree
-applied f t = app f (more t none)
+abbrev pub apply_one : PlainOperator → Tree → Tree
+apply_one f t = app f (more t none)
 
 -- an operator of two arguments
-abbrev pub joined : PlainOperator → Tree → Tree → Tree
-joined f t u = app f (more t (more u none))
+abbrev pub apply_two : PlainOperator → Tree → Tree → Tree
+apply_two f t u = app f (more t (more u none))
 
 abbrev pub falsity : Tree
 falsity = constant (built_in False bool_sort)
 
 abbrev pub negation : Tree → Tree
-negation t = applied (built_in Not bool_sort) t
+negation t = apply_one (built_in Not bool_sort) t
 
 abbrev pub conjunction : Tree → Tree → Tree
-conjunction t u = joined (built_in And bool_sort) t u
+conjunction t u = apply_two (built_in And bool_sort) t u
 
 abbrev pub disjunction : Tree → Tree → Tree
-disjunction t u = joined (built_in Or bool_sort) t u
+disjunction t u = apply_two (built_in Or bool_sort) t u
 
 abbrev pub implication : Tree → Tree → Tree
-implication t u = joined (built_in Implies bool_sort) t u
+implication t u = apply_two (built_in Implies bool_sort) t u
 
 abbrev pub equivalence : Tree → Tree → Tree
-equivalence t u = joined (built_in Iff bool_sort) t u
+equivalence t u = apply_two (built_in Iff bool_sort) t u
 
 -- equality at a sort
 abbrev pub equality : List ℕ → Tree → Tree → Tree
-equality s t u = joined (built_in Equal s) t u
+equality s t u = apply_two (built_in Equal s) t u
 
 -- inequality at a sort
 abbrev pub inequality : List ℕ → Tree → Tree → Tree
-inequality s t u = joined (built_in Unequal s) t u
+inequality s t u = apply_two (built_in Unequal s) t u
 
 -- the choice at a sort: if the first then the second else the third
 abbrev pub choice : List ℕ → Tree → Tree → Tree → Tree

@@ -20,14 +20,14 @@ variable_for cs vs n = option_and_then (slice_get vs) (place_of cs n)
 
 abbrev mutual
   -- the term with these variables in the places of these constants, in order
-  pub freed : List PlainOperator → List Variable → Tree → Tree
-  freed cs vs (var n s) = var n s
-  freed cs vs (app f ts) =
+  pub free_constants : List PlainOperator → List Variable → Tree → Tree
+  free_constants cs vs (var n s) = var n s
+  free_constants cs vs (app f ts) =
       unwrap_or (option_map (λ v. var v.name v.sort) (variable_for cs vs f.name)) (app f (freed_all cs vs ts))
 
   pub freed_all : List PlainOperator → List Variable → Forest → Forest
   freed_all cs vs none = none
-  freed_all cs vs (more t ts) = more (freed cs vs t) (freed_all cs vs ts)
+  freed_all cs vs (more t ts) = more (free_constants cs vs t) (freed_all cs vs ts)
 
 -- the substitution of constants for variables, in order
 abbrev pub constants_for : List Variable → List PlainOperator → List Entry

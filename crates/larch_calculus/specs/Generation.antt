@@ -3,12 +3,12 @@ use Rattle.std.specs.Prelude.{ℕ, suc, if◌then◌else◌, List, [], ◌∷◌
 use Rattle.std.specs.Fmt.{decimal}
 use Rattle.larch_term.specs.Operator.{PlainOperator}
 use Rattle.larch_term.specs.Tree.{Tree, Forest, var, app, none, more}
-use Rattle.larch_term.specs.Substitution.{substituted}
+use Rattle.larch_term.specs.Substitution.{instance_of}
 use Rattle.larch_term.specs.declared.substitution.Entry.{Entry}
 use Rattle.larch_term.specs.declared.variable.Variable.{Variable}
 use Rattle.larch_term.specs.declared.statement.Statement.{Statement}
 use Rattle.larch_term.specs.declared.statement.Statement.TheVariants.{Equation}
-use Rattle.larch_calculus.specs.Formula.{constant, applied, conjunction, implication}
+use Rattle.larch_calculus.specs.Formula.{constant, apply_one, conjunction, implication}
 use Rattle.larch_term.specs.Truth.{truth}
 
 -- x1, x2, ..
@@ -29,23 +29,23 @@ variable_terms (v ∷ vs) = more (var v.name v.sort) (variable_terms vs)
 abbrev pub holding : PlainOperator → List ℕ → List Variable → List Tree
 holding p s [] = []
 holding p s (v ∷ vs) =
-    if bytes_eq v.sort s then applied p (var v.name v.sort) ∷ holding p s vs else holding p s vs
+    if bytes_eq v.sort s then apply_one p (var v.name v.sort) ∷ holding p s vs else holding p s vs
 
 -- a term and further ones, joined from the left
-abbrev pub conjoined : Tree → List Tree → Tree
-conjoined t [] = t
-conjoined t (u ∷ us) = conjoined (conjunction t u) us
+abbrev pub conjunction_from : Tree → List Tree → Tree
+conjunction_from t [] = t
+conjunction_from t (u ∷ us) = conjunction_from (conjunction t u) us
 
 -- what follows from the conjunction of terms; alone where there are none
 abbrev pub implied_by : List Tree → Tree → Tree
 implied_by [] t = t
-implied_by (u ∷ us) t = implication (conjoined u us) t
+implied_by (u ∷ us) t = implication (conjunction_from u us) t
 
 -- a predicate on the sort holds of what the generator makes, if it holds of the arguments of the sort
 abbrev pub generation_formula : PlainOperator → List ℕ → PlainOperator → Tree
 generation_formula p s f =
     implied_by (holding p s (variables_from 1 f.domain))
-    (applied p (app f (variable_terms (variables_from 1 f.domain))))
+    (apply_one p (app f (variable_terms (variables_from 1 f.domain))))
 
 -- the hypotheses of a generation clause, one for each generator
 abbrev pub generation_hypotheses : PlainOperator → List ℕ → List PlainOperator → List Statement
@@ -62,7 +62,7 @@ constant_terms (c ∷ cs) = more (constant c) (constant_terms cs)
 
 -- the equation with a term for the variable
 abbrev pub equation_at : List ℕ → List ℕ → Tree → Tree → Tree → Statement
-equation_at x s l r t = Equation (substituted (only x s t) l) (substituted (only x s t) r)
+equation_at x s l r t = Equation (instance_of (only x s t) l) (instance_of (only x s t) r)
 
 -- the hypotheses of an induction: the equation with each constant of the variable's sort for the variable
 abbrev pub induction_hypotheses : List ℕ → List ℕ → Tree → Tree → List PlainOperator → List Statement

@@ -7,21 +7,21 @@ use Rattle.larch_term.specs.BuiltIn.{bool_sort}
 use Rattle.larch_term.specs.Sorts.{sort_of, IsOver, IsTermOver}
 use Rattle.larch_term.specs.Place.{at, put}
 use Rattle.larch_term.specs.Variable.{occurrences}
-use Rattle.larch_term.specs.Substitution.{substituted, Fits}
+use Rattle.larch_term.specs.Substitution.{instance_of, Fits}
 use Rattle.larch_term.specs.Statement.{IsStatementOver, statement_zero, IsWellSortedTheory}
 use Rattle.larch_term.specs.declared.substitution.Entry.{Entry}
 use Rattle.larch_term.specs.declared.variable.Variable.{Variable}
 use Rattle.larch_term.specs.declared.statement.Statement.{Statement}
 use Rattle.larch_term.specs.declared.statement.Statement.TheVariants.{Equation, Generated, Partitioned}
 use Rattle.larch_term.specs.declared.statement.Theory.{Theory}
-use Rattle.larch_calculus.specs.Formula.{falsity, constant, applied, equality}
+use Rattle.larch_calculus.specs.Formula.{falsity, constant, apply_one, equality}
 use Rattle.larch_term.specs.Truth.{truth}
 use Rattle.larch_calculus.specs.Identity.{IsIdentity}
-use Rattle.larch_calculus.specs.Theories.{with_statements, extended, IsIncluded, AreNew, AreConstants}
-use Rattle.larch_calculus.specs.Observation.{Observation, observations_of, observed, other_variables, observations}
+use Rattle.larch_calculus.specs.Theories.{with_statements, extend, IsIncluded, AreNew, AreConstants}
+use Rattle.larch_calculus.specs.Observation.{Observation, observations_of, observer_term, other_variables, observations}
 use Rattle.larch_calculus.specs.Generation.{place_name, generation_hypotheses, constant_terms, equation_at}
 use Rattle.larch_calculus.specs.Generation.{induction_hypotheses}
-use Rattle.larch_calculus.specs.Freed.{freed}
+use Rattle.larch_calculus.specs.Freed.{free_constants}
 use Rattle.larch_calculus.specs.Derivable.{Derivable, AreArguments, AreApart, axiom_, identity, reflexive, symmetric}
 use Rattle.larch_calculus.specs.Derivable.{replace, instance, equal, weaken, fresh, cases, induct, observe, generated}
 use Rattle.larch_calculus.specs.Derivable.{partitioned}
@@ -42,14 +42,14 @@ pub record IsClosed (P : Theory → Statement → Type 0) : Type 0 where
       → at b p ≡ Some u → c ≡ put b p v → P t (Equation a c)
   pub instance : (t : Theory) (a b c d : Tree) (es : List Entry)
       → Fits es → All (λ e. IsOver t.operators e.term) es
-      → Derived P t (Equation a b) → c ≡ substituted es a → d ≡ substituted es b → P t (Equation c d)
+      → Derived P t (Equation a b) → c ≡ instance_of es a → d ≡ instance_of es b → P t (Equation c d)
   pub equal : (t : Theory) (a b : Tree) (s : List ℕ)
       → Derived P t (Equation (equality s a b) truth) → P t (Equation a b)
   pub weaken : (t u : Theory) (s : Statement) → IsWellSortedTheory u → IsIncluded u t → Derived P u s → P t s
   pub fresh : (t : Theory) (a b c d : Tree) (cs : List PlainOperator) (vs : List Variable)
       → AreNew t cs → AreConstants cs → map (λ f. f.range) cs ≡ map (λ v. v.sort) vs
-      → Derived P (extended t cs []) (Equation a b)
-      → c ≡ freed cs vs a → d ≡ freed cs vs b → P t (Equation c d)
+      → Derived P (extend t cs []) (Equation a b)
+      → c ≡ free_constants cs vs a → d ≡ free_constants cs vs b → P t (Equation c d)
   pub cases : (t : Theory) (a b : Tree) (f : Tree)
       → IsTermOver t.operators f → sort_of f ≡ bool_sort → occurrences f ≡ []
       → Derived P (with_statements t (Equation f truth ∷ [])) (Equation a b)
@@ -58,7 +58,7 @@ pub record IsClosed (P : Theory → Statement → Type 0) : Type 0 where
       → Derived P t (Generated s fs) → IsStatementOver t.operators (Equation a b)
       → ((i : ℕ) (f : PlainOperator) → slice_get fs i ≡ Some f → AreArguments t f (cs i))
       → ((i : ℕ) (f : PlainOperator) → slice_get fs i ≡ Some f
-      → Derived P (extended t (cs i) (induction_hypotheses x s a b (cs i)))
+      → Derived P (extend t (cs i) (induction_hypotheses x s a b (cs i)))
       (equation_at x s a b (app f (constant_terms (cs i)))))
       → P t (Equation a b)
   pub observe : (t : Theory) (a b : Tree) (s : List ℕ) (os : List PlainOperator) (names : ℕ → ℕ → List ℕ)
@@ -66,16 +66,16 @@ pub record IsClosed (P : Theory → Statement → Type 0) : Type 0 where
       → ((i : ℕ) (w : Observation) → slice_get (observations_of s os) i ≡ Some w
       → AreApart (other_variables (names i) w) a b)
       → ((i : ℕ) (w : Observation) → slice_get (observations_of s os) i ≡ Some w
-      → Derived P t (Equation (observed (names i) w a) (observed (names i) w b)))
+      → Derived P t (Equation (observer_term (names i) w a) (observer_term (names i) w b)))
       → P t (Equation a b)
   pub generated : (t : Theory) (s : List ℕ) (fs : List PlainOperator) (p : PlainOperator) (x : List ℕ)
       → IsStatementOver t.operators (Generated s fs) → AreNew t (p ∷ []) → p.domain ≡ s ∷ [] → p.range ≡ bool_sort
-      → Derived P (extended t (p ∷ []) (generation_hypotheses p s fs)) (Equation (applied p (var x s)) truth)
+      → Derived P (extend t (p ∷ []) (generation_hypotheses p s fs)) (Equation (apply_one p (var x s)) truth)
       → P t (Generated s fs)
   pub partitioned : (t : Theory) (s : List ℕ) (os : List PlainOperator) (c d : PlainOperator)
       → IsStatementOver t.operators (Partitioned s os) → AreNew t (c ∷ d ∷ []) → AreConstants (c ∷ d ∷ [])
       → c.range ≡ s → d.range ≡ s
-      → Derived P (extended t (c ∷ d ∷ []) (observations place_name s os (constant c) (constant d)))
+      → Derived P (extend t (c ∷ d ∷ []) (observations place_name s os (constant c) (constant d)))
       (Equation (constant c) (constant d))
       → P t (Partitioned s os)
 

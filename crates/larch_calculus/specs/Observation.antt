@@ -37,8 +37,8 @@ variables_beside names place k (r ∷ rs) =
     else record { name = names k; sort = r } ∷ variables_beside names place (suc k) rs
 
 -- the observer with the term at its place and variables by these names at the others
-abbrev pub observed : (ℕ → List ℕ) → Observation → Tree → Tree
-observed names w t = app w.observer (arguments_with names w.place t 1 w.observer.domain)
+abbrev pub observer_term : (ℕ → List ℕ) → Observation → Tree → Tree
+observer_term names w t = app w.observer (arguments_with names w.place t 1 w.observer.domain)
 
 -- the other arguments of an observation
 abbrev pub other_variables : (ℕ → List ℕ) → Observation → List Variable
@@ -46,7 +46,8 @@ other_variables names w = variables_beside names w.place 1 w.observer.domain
 
 -- the equations that the observers of a sort have for two terms
 abbrev pub observations : (ℕ → List ℕ) → List ℕ → List PlainOperator → Tree → Tree → List Statement
-observations names s os t u = map (λ w. Equation (observed names w t) (observed names w u)) (observations_of s os)
+observations names s os t u =
+    map (λ w. Equation (observer_term names w t) (observer_term names w u)) (observations_of s os)
 
 -- no variable stands twice
 abbrev pub AreDifferent : List Variable → Type 0

@@ -5,7 +5,7 @@ use Rattle.larch_term.specs.Operator.{OperatorName, PlainOperator, plain, boxed}
 use Rattle.larch_term.specs.Statement.{IsWellSortedTheory}
 use Rattle.larch_term.specs.declared.statement.Statement.{Statement}
 use Rattle.larch_term.specs.declared.statement.Theory.{Theory}
-use Rattle.larch_renaming.specs.Renaming.{Renaming, unchanged, after, renamed_statement, FitsSignatures}
+use Rattle.larch_renaming.specs.Renaming.{Renaming, no_renaming, after, renamed_statement, FitsSignatures}
 use Rattle.larch_renaming.specs.Renaming.{KeepsBuiltIns, Carries, AreAlike}
 use Rattle.larch_calculus.specs.Derivable.{Derivable}
 
@@ -21,7 +21,7 @@ pub record IsFaithful (r : Renaming) : Type 0 where
 
 -- the first renaming takes the second one back
 abbrev pub TakesBack : Renaming → Renaming → Type 0
-TakesBack q r = AreAlike (after q r) unchanged
+TakesBack q r = AreAlike (after q r) no_renaming
 
 -- both theories are well sorted; the first one's operators, as they become, are known in the second, and its
 -- statements are derivable there

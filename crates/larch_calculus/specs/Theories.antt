@@ -15,8 +15,8 @@ abbrev pub with_statements : Theory → List Statement → Theory
 with_statements t ss = record { operators = t.operators; statements = t.statements ++ ss }
 
 -- the theory with more operators and statements behind its own
-abbrev pub extended : Theory → List PlainOperator → List Statement → Theory
-extended t fs ss = record { operators = t.operators ++ fs; statements = t.statements ++ ss }
+abbrev pub extend : Theory → List PlainOperator → List Statement → Theory
+extend t fs ss = record { operators = t.operators ++ fs; statements = t.statements ++ ss }
 
 -- one list begins the other
 abbrev pub IsFront : {X : Type 0} → List X → List X → Type 0

@@ -6,7 +6,7 @@ ghost use Rattle.larch_term.specs.Variable.{occurrences};
 ghost use Rattle.larch_term.specs.Place.{at, put};
 ghost use Rattle.larch_term.specs.Sorts.{sort_of, IsOver, IsTermOver};
 ghost use Rattle.larch_term.specs.Statement.{IsStatementOver, IsTheory, statement_zero, IsWellSortedTheory};
-ghost use Rattle.larch_term.specs.Substitution.{substituted};
+ghost use Rattle.larch_term.specs.Substitution.{instance_of};
 ghost use Rattle.larch_term.specs.Tree.{Tree, app};
 ghost use Rattle.larch_term.specs.BuiltIn.{bool_sort};
 ghost use Rattle.larch_term.specs.declared.variable.Variable.{Variable};
@@ -15,9 +15,9 @@ ghost use Rattle.larch_term.specs.declared.statement.Statement.TheVariants.{Equa
 ghost use Rattle.larch_term.specs.declared.statement.Theory.{Theory};
 ghost use Rattle.larch_calculus.specs.Boxes.{constants_from, IsOlder, IsOlderTerm, IsOlderStatement};
 ghost use Rattle.larch_calculus.specs.Derivable.{Derivable, AreArguments};
-ghost use Rattle.larch_calculus.specs.Formula.{constant, applied, joined, falsity, implication, formula};
+ghost use Rattle.larch_calculus.specs.Formula.{constant, apply_one, apply_two, falsity, implication, formula};
 ghost use Rattle.larch_term.specs.Truth.{truth};
-ghost use Rattle.larch_calculus.specs.Freed.{freed, constants_for};
+ghost use Rattle.larch_calculus.specs.Freed.{free_constants, constants_for};
 ghost use Rattle.larch_calculus.specs.Generation.{constant_terms, equation_at, generation_hypotheses};
 ghost use Rattle.larch_calculus.specs.Generation.{induction_hypotheses};
 ghost use Rattle.larch_calculus.specs.Identity.{IsIdentity};
@@ -27,7 +27,7 @@ ghost use Rattle.larch_calculus.specs.Renaming.{IsFaithful, TakesBack, KeepsBuil
 ghost use Rattle.larch_calculus.specs.Renaming.{IsTranslation};
 ghost use Rattle.larch_renaming.specs.Renaming.{Renaming, by_name, renamed_statement, renamed_theory};
 ghost use Rattle.larch_calculus.specs.Theories.{IsTermOf, IsIncluded, IsPrefix, AreNew, AreConstants};
-ghost use Rattle.larch_calculus.specs.Theories.{with_statements, extended};
+ghost use Rattle.larch_calculus.specs.Theories.{with_statements, extend};
 
 /// An identity is well sorted, whatever the operators are.
 pub fn identity_is_well_sorted()
@@ -37,7 +37,7 @@ pub fn identity_is_well_sorted()
 /// An identity is derivable with any two terms of a sort for the variables x and y of that sort.
 pub fn identity_with_terms()
     ensures { (t : Theory) (s : List ℕ) (a b c d : Tree) → IsTermOf t.operators s a → IsTermOf t.operators s b
-        → IsIdentity c d → Derivable t (Equation (substituted (two s a b) c) (substituted (two s a b) d)) }
+        → IsIdentity c d → Derivable t (Equation (instance_of (two s a b) c) (instance_of (two s a b) d)) }
 {}
 
 /// What is derivable from a theory is well sorted over its operators.
@@ -80,15 +80,15 @@ pub fn renaming()
         → TakesBack (by_name old) (by_name new) }
     ensures boxes { (new : OperatorName → OperatorName) (t : Theory) (cs : List PlainOperator) (hs : List Statement)
         (s : Statement) → RenamesBoxes new → HasPlainNames t → IsWellSortedTheory t
-        → All (IsStatementOver (extended t cs hs).operators) hs → Derivable (extended t cs hs) s
-        → Derivable (extended t (map (by_name new).operator cs) (map (renamed_statement (by_name new)) hs))
+        → All (IsStatementOver (extend t cs hs).operators) hs → Derivable (extend t cs hs) s
+        → Derivable (extend t (map (by_name new).operator cs) (map (renamed_statement (by_name new)) hs))
         (renamed_statement (by_name new) s) }
     ensures boxes_both_ways { (new old : OperatorName → OperatorName) (t : Theory) (cs : List PlainOperator)
         (hs : List Statement) (s : Statement) → RenamesBoxes new → RenamesBoxes old
         → ((n : OperatorName) → old (new n) ≡ n) → HasPlainNames t → IsWellSortedTheory t
-        → All (IsStatementOver (extended t cs hs).operators) hs
-        → (Derivable (extended t cs hs) s
-        ↔ Derivable (extended t (map (by_name new).operator cs) (map (renamed_statement (by_name new)) hs))
+        → All (IsStatementOver (extend t cs hs).operators) hs
+        → (Derivable (extend t cs hs) s
+        ↔ Derivable (extend t (map (by_name new).operator cs) (map (renamed_statement (by_name new)) hs))
         (renamed_statement (by_name new) s)) }
 {}
 
@@ -134,17 +134,17 @@ pub fn contradiction()
 /// extension extends the theory. A theory with new operators, and with hypotheses that are well sorted over all of
 /// them, is one again. It includes the theory, and the hypotheses are derivable from it.
 pub fn extensions()
-    ensures statements { (t : Theory) (ss : List Statement) → extended t [] ss ≡ with_statements t ss }
-    ensures nothing { (t : Theory) → extended t [] [] ≡ t }
+    ensures statements { (t : Theory) (ss : List Statement) → extend t [] ss ≡ with_statements t ss }
+    ensures nothing { (t : Theory) → extend t [] [] ≡ t }
     ensures further { (t : Theory) (cs ds : List PlainOperator) (hs ks : List Statement)
-        → extended (extended t cs hs) ds ks ≡ extended t (cs ++ ds) (hs ++ ks) }
+        → extend (extend t cs hs) ds ks ≡ extend t (cs ++ ds) (hs ++ ks) }
     ensures well_sorted { (t : Theory) (cs : List PlainOperator) (hs : List Statement) → IsWellSortedTheory t
-        → All (IsStatementOver (extended t cs hs).operators) hs → IsWellSortedTheory (extended t cs hs) }
+        → All (IsStatementOver (extend t cs hs).operators) hs → IsWellSortedTheory (extend t cs hs) }
     ensures theory { (t : Theory) (cs : List PlainOperator) (hs : List Statement) → IsTheory t → AreNew t cs
-        → All (IsStatementOver (extended t cs hs).operators) hs → IsTheory (extended t cs hs) }
-    ensures included { (t : Theory) (cs : List PlainOperator) (hs : List Statement) → IsIncluded t (extended t cs hs) }
+        → All (IsStatementOver (extend t cs hs).operators) hs → IsTheory (extend t cs hs) }
+    ensures included { (t : Theory) (cs : List PlainOperator) (hs : List Statement) → IsIncluded t (extend t cs hs) }
     ensures hypotheses { (t : Theory) (cs : List PlainOperator) (hs : List Statement)
-        → All (IsStatementOver (extended t cs hs).operators) hs → All (Derivable (extended t cs hs)) hs }
+        → All (IsStatementOver (extend t cs hs).operators) hs → All (Derivable (extend t cs hs)) hs }
 {}
 
 /// What is supposed where a generation clause is shown, in an induction, and where a partition clause is shown, is well
@@ -152,13 +152,13 @@ pub fn extensions()
 pub fn suppositions()
     ensures generation { (t : Theory) (p : PlainOperator) (s : List ℕ) (fs : List PlainOperator) → p.domain ≡ s ∷ []
         → p.range ≡ bool_sort → IsStatementOver t.operators (Generated s fs)
-        → All (IsStatementOver (extended t (p ∷ []) []).operators) (generation_hypotheses p s fs) }
+        → All (IsStatementOver (extend t (p ∷ []) []).operators) (generation_hypotheses p s fs) }
     ensures induction { (t : Theory) (x s : List ℕ) (a b : Tree) (cs : List PlainOperator) → AreConstants cs
         → IsStatementOver t.operators (Equation a b)
-        → All (IsStatementOver (extended t cs []).operators) (induction_hypotheses x s a b cs) }
+        → All (IsStatementOver (extend t cs []).operators) (induction_hypotheses x s a b cs) }
     ensures partition { (t : Theory) (names : ℕ → List ℕ) (s : List ℕ) (os : List PlainOperator) (c d : PlainOperator)
         → AreConstants (c ∷ d ∷ []) → c.range ≡ s → d.range ≡ s → IsStatementOver t.operators (Partitioned s os)
-        → All (IsStatementOver (extended t (c ∷ d ∷ []) []).operators) (observations names s os
+        → All (IsStatementOver (extend t (c ∷ d ∷ []) []).operators) (observations names s os
         (constant c) (constant d)) }
     ensures observation { (fs : List PlainOperator) (names : ℕ → List ℕ) (s : List ℕ) (os : List PlainOperator)
         (a b : Tree) → IsStatementOver fs (Partitioned s os) → IsTermOf fs s a → IsTermOf fs s b
@@ -179,12 +179,12 @@ pub fn boxes()
     ensures plain { (b : ℕ) (t : Theory) → HasPlainNames t → IsOlder b t }
     ensures later { (b c : ℕ) (t : Theory) → IsOlder b t → b ≤ c → IsOlder c t }
     ensures opened { (b c k : ℕ) (ss : List (List ℕ)) (hs : List Statement) (t : Theory) → IsOlder b t → b ≤ c
-        → IsOlder c (extended t (constants_from c k ss) hs) }
+        → IsOlder c (extend t (constants_from c k ss) hs) }
     ensures statement { (b : ℕ) (t : Theory) (s : Statement) → IsOlder b t → IsStatementOver t.operators s
         → IsOlderStatement b s }
     ensures unchanged { (b c k : ℕ) (ss : List (List ℕ)) (vs : List Variable) → b < c → (a : Tree) → IsOlderTerm b a
-        → freed (constants_from c k ss) vs a ≡ a }
-    ensures left { (b : ℕ) (cs : List PlainOperator) (hs : List Statement) (t : Theory) → IsOlder b (extended t cs hs)
+        → free_constants (constants_from c k ss) vs a ≡ a }
+    ensures left { (b : ℕ) (cs : List PlainOperator) (hs : List Statement) (t : Theory) → IsOlder b (extend t cs hs)
         → IsOlder b t }
 {}
 
@@ -193,28 +193,28 @@ pub fn boxes()
 /// holds of all values, and the other way round.
 pub fn freeing()
     ensures undone { (t : Theory) (cs : List PlainOperator) (vs : List Variable) (a : Tree) → AreNew t cs
-        → IsOver t.operators a → freed cs vs (substituted (constants_for vs cs) a) ≡ a }
+        → IsOver t.operators a → free_constants cs vs (instance_of (constants_for vs cs) a) ≡ a }
     ensures unchanged { (t : Theory) (cs : List PlainOperator) (vs : List Variable) (a : Tree) → AreNew t cs
-        → IsOver t.operators a → freed cs vs a ≡ a }
+        → IsOver t.operators a → free_constants cs vs a ≡ a }
     ensures closed { (cs : List PlainOperator) (vs : List Variable) (a : Tree)
         → map (λ c. c.range) cs ≡ map (λ v. v.sort) vs → All (Contains vs) (occurrences a)
-        → occurrences (substituted (constants_for vs cs) a) ≡ [] }
+        → occurrences (instance_of (constants_for vs cs) a) ≡ [] }
     ensures over { (t : Theory) (cs : List PlainOperator) (vs : List Variable) (s : List ℕ) (a : Tree)
         → AreConstants cs → map (λ c. c.range) cs ≡ map (λ v. v.sort) vs → IsTermOf t.operators s a
-        → IsTermOf (extended t cs []).operators s (substituted (constants_for vs cs) a) }
+        → IsTermOf (extend t cs []).operators s (instance_of (constants_for vs cs) a) }
     ensures back { (t : Theory) (cs : List PlainOperator) (vs : List Variable) (s : List ℕ) (a : Tree) → AreNew t cs
-        → map (λ c. c.range) cs ≡ map (λ v. v.sort) vs → IsTermOf (extended t cs []).operators s a
-        → IsTermOf t.operators s (freed cs vs a) }
+        → map (λ c. c.range) cs ≡ map (λ v. v.sort) vs → IsTermOf (extend t cs []).operators s a
+        → IsTermOf t.operators s (free_constants cs vs a) }
     ensures generalised { (t : Theory) (cs : List PlainOperator) (vs : List Variable) (a b : Tree) → AreNew t cs
         → AreConstants cs → map (λ c. c.range) cs ≡ map (λ v. v.sort) vs → IsStatementOver t.operators (Equation a b)
-        → Derivable (extended t cs [])
-        (Equation (substituted (constants_for vs cs) a) (substituted (constants_for vs cs) b))
+        → Derivable (extend t cs [])
+        (Equation (instance_of (constants_for vs cs) a) (instance_of (constants_for vs cs) b))
         → Derivable t (Equation a b) }
     ensures specialised { (t : Theory) (cs : List PlainOperator) (vs : List Variable) (a b : Tree)
         → IsWellSortedTheory t → AreConstants cs → map (λ c. c.range) cs ≡ map (λ v. v.sort) vs
         → Derivable t (Equation a b)
-        → Derivable (extended t cs [])
-        (Equation (substituted (constants_for vs cs) a) (substituted (constants_for vs cs) b)) }
+        → Derivable (extend t cs [])
+        (Equation (instance_of (constants_for vs cs) a) (instance_of (constants_for vs cs) b)) }
 {}
 
 /// An induction may have the constants of its cases as a list, in the order of the generators.
@@ -224,7 +224,7 @@ pub fn induction()
         → ((i : ℕ) (f : PlainOperator) (cs : List PlainOperator) → slice_get fs i ≡ Some f → slice_get css i ≡ Some cs
         → AreArguments t f cs)
         → ((i : ℕ) (f : PlainOperator) (cs : List PlainOperator) → slice_get fs i ≡ Some f → slice_get css i ≡ Some cs
-        → Derivable (extended t cs (induction_hypotheses x s a b cs))
+        → Derivable (extend t cs (induction_hypotheses x s a b cs))
         (equation_at x s a b (app f (constant_terms cs))))
         → Derivable t (Equation a b) }
 {}
@@ -238,7 +238,7 @@ pub fn stating()
 /// Arguments of a well sorted term have the sorts of its operator's domain.
 pub fn arguments()
     ensures one { (fs : List PlainOperator) (f : PlainOperator) (r : List ℕ) (a : Tree) → f.domain ≡ r ∷ []
-        → IsTermOver fs (applied f a) → IsTermOf fs r a }
+        → IsTermOver fs (apply_one f a) → IsTermOf fs r a }
     ensures two { (fs : List PlainOperator) (f : PlainOperator) (r s : List ℕ) (a b : Tree) → f.domain ≡ r ∷ s ∷ []
-        → IsTermOver fs (joined f a b) → IsTermOf fs r a × IsTermOf fs s b }
+        → IsTermOver fs (apply_two f a b) → IsTermOf fs r a × IsTermOf fs s b }
 {}

@@ -5,7 +5,7 @@ ghost use Rattle.larch_certificate.specs.declared.line.Line.TheVariants.{Equal, 
 ghost use Rattle.larch_certificate.specs.declared.line.Line.TheVariants.{Generated, Partitioned};
 ghost use Rattle.larch_certificate_text.specs.LineText.{goal_text, line_text, named_ref, operators_text, rule_fields};
 ghost use Rattle.larch_certificate_text.specs.LineText.{variable_text};
-ghost use Rattle.larch_certificate_text.specs.ListText.{named};
+ghost use Rattle.larch_certificate_text.specs.ListText.{part_with_label};
 
 use crate::number::{NumberKind, write_number};
 use crate::part::{
@@ -250,7 +250,7 @@ fn write_induct(
 // The variable and the goal of an induction.
 fn write_aim(alloc: Global, text: &mut Text, here: Here, aim: &Aim) -> Result<(), Memory>
     ensures { OnOk result (text.new ≡ text.old
-        ++ (named here (codes "var") (variable_text aim.now.variable.now) ++ (32 ∷ goal_text here aim.now.goal.now))) }
+        ++ (part_with_label here (codes "var") (variable_text aim.now.variable.now) ++ (32 ∷ goal_text here aim.now.goal.now))) }
 {
     write_variable_part(text, here, b"var", aim.variable)?;
     text.push(b' ')?;
@@ -329,7 +329,7 @@ fn write_clause(
 ) -> Result<(), Memory>
     ensures { OnOk result (text.new ≡ text.old
         ++ (word.now ++ (32 ∷ join_with_byte 32 (named_ref here (codes "box") clause.now.closed
-        ∷ named here (codes "sort") clause.now.sort.now ∷ operators_text here clause.now.operators.now ∷ [])))) }
+        ∷ part_with_label here (codes "sort") clause.now.sort.now ∷ operators_text here clause.now.operators.now ∷ [])))) }
 {
     write_opening(alloc, text, here, word, b"box", clause.closed)?;
     write_sort_part(text, here, b"sort", clause.sort)?;

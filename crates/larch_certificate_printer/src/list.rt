@@ -2,7 +2,7 @@ ghost use Rattle.std.specs.Prelude.{◌≡◌, ◌++◌, ℕ, List, OnOk, map};
 ghost use Rattle.larch_certificate_printer.specs.Number.{number_spelled};
 ghost use Rattle.larch_certificate_text.specs.EquationText.{equation_text};
 ghost use Rattle.larch_certificate_text.specs.LineText.{binding_text, box_part_text, variable_text};
-ghost use Rattle.larch_certificate_text.specs.ListText.{listed};
+ghost use Rattle.larch_certificate_text.specs.ListText.{list_text};
 ghost use Rattle.larch_certificate_text.specs.declared.here.Here.{Here};
 
 use crate::number::{NumberKind, write_kind};
@@ -29,7 +29,7 @@ pub fn write_list<T: Item>(
     separator: u8,
     items: &[T],
 ) -> Result<(), Memory>
-    ensures { OnOk result (text.new ≡ text.old ++ listed separator (map (T.spells here) items.now)) }
+    ensures { OnOk result (text.new ≡ text.old ++ list_text separator (map (T.spells here) items.now)) }
 {
     let [first, others @ ..] = items else {
         text.push(b'-')?;
@@ -52,7 +52,7 @@ pub fn write_numbers(
     separator: u8,
     numbers: &[u64],
 ) -> Result<(), Memory>
-    ensures { OnOk result (text.new ≡ text.old ++ listed separator (map (number_spelled here kind) numbers.now)) }
+    ensures { OnOk result (text.new ≡ text.old ++ list_text separator (map (number_spelled here kind) numbers.now)) }
 {
     let [first, others @ ..] = numbers else {
         text.push(b'-')?;

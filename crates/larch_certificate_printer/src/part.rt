@@ -2,7 +2,7 @@ ghost use Rattle.std.specs.Prelude.{◌≡◌, ◌++◌, map, OnOk};
 ghost use Rattle.larch_certificate_printer.specs.Number.{number_spelled};
 ghost use Rattle.larch_certificate_text.specs.EquationText.{equation_text};
 ghost use Rattle.larch_certificate_text.specs.LineText.{number_text, named_ref, place_text, variable_text};
-ghost use Rattle.larch_certificate_text.specs.ListText.{label_by, listed, named};
+ghost use Rattle.larch_certificate_text.specs.ListText.{label_by, list_text, part_with_label};
 ghost use Rattle.larch_certificate_text.specs.TermText.{term_text};
 
 use crate::list::{Item, write_equation, write_list, write_numbers, write_variable};
@@ -62,7 +62,7 @@ pub fn write_term_part(
     label: &[u8],
     term: &Coded,
 ) -> Result<(), Memory>
-    ensures { OnOk result (text.new ≡ text.old ++ named here label.now (term_text here term.now)) }
+    ensures { OnOk result (text.new ≡ text.old ++ part_with_label here label.now (term_text here term.now)) }
 {
     write_label(text, here, label)?;
     write_term(alloc, text, here, term)
@@ -71,7 +71,7 @@ pub fn write_term_part(
 /// Puts a sort with its name at the end.
 #[tactic(auto, using(crate::proofs::Labels::named_label))]
 pub fn write_sort_part(text: &mut Text, here: Here, label: &[u8], sort: &Name) -> Result<(), Memory>
-    ensures { OnOk result (text.new ≡ text.old ++ named here label.now sort.now) }
+    ensures { OnOk result (text.new ≡ text.old ++ part_with_label here label.now sort.now) }
 {
     write_label(text, here, label)?;
     text.append(sort.bytes())
@@ -85,7 +85,7 @@ pub fn write_variable_part(
     label: &[u8],
     variable: &CodedVar,
 ) -> Result<(), Memory>
-    ensures { OnOk result (text.new ≡ text.old ++ named here label.now (variable_text variable.now)) }
+    ensures { OnOk result (text.new ≡ text.old ++ part_with_label here label.now (variable_text variable.now)) }
 {
     write_label(text, here, label)?;
     write_variable(text, variable)
@@ -100,7 +100,7 @@ pub fn write_equation_part(
     label: &[u8],
     equation: &CodedEquation,
 ) -> Result<(), Memory>
-    ensures { OnOk result (text.new ≡ text.old ++ named here label.now (equation_text here equation.now)) }
+    ensures { OnOk result (text.new ≡ text.old ++ part_with_label here label.now (equation_text here equation.now)) }
 {
     write_label(text, here, label)?;
     write_equation(alloc, text, here, equation)
@@ -117,7 +117,7 @@ pub fn write_list_part<T: Item>(
     items: &[T],
 ) -> Result<(), Memory>
     ensures { OnOk result (text.new ≡ text.old
-        ++ named here label.now (listed separator (map (T.spells here) items.now))) }
+        ++ part_with_label here label.now (list_text separator (map (T.spells here) items.now))) }
 {
     write_label(text, here, label)?;
     write_list(alloc, text, here, separator, items)
@@ -148,7 +148,7 @@ pub fn write_numbers_part(
     numbers: &[u64],
 ) -> Result<(), Memory>
     ensures { OnOk result (text.new ≡ text.old
-        ++ named here label.now (listed 44 (map (number_spelled here kind) numbers.now))) }
+        ++ part_with_label here label.now (list_text 44 (map (number_spelled here kind) numbers.now))) }
 {
     write_label(text, here, label)?;
     write_numbers(alloc, text, here, kind, b',', numbers)

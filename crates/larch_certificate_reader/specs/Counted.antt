@@ -7,7 +7,7 @@ use Rattle.larch_certificate_text.specs.Parts.{read_ref}
 use Rattle.larch_certificate_text.specs.declared.here.Here.{Here}
 
 -- how a number of a list is read
-abbrev pub counted : Here → Counted → List ℕ → Option ℕ
-counted h kind.Argument = read_argument
-counted h kind.Line = read_ref h
-counted h kind.Operator = read_operator
+abbrev pub read_count : Here → Counted → List ℕ → Option ℕ
+read_count h kind.Argument = read_argument
+read_count h kind.Line = read_ref h
+read_count h kind.Operator = read_operator

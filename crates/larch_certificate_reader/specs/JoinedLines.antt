@@ -4,6 +4,6 @@ use Rattle.larch_certificate.specs.declared.line.Line.{Line}
 use Rattle.larch_certificate_text.specs.CertificateText.{Reading}
 
 -- the lines so far and those to come
-abbrev pub joined : List Line → Reading → Reading
-joined xs (Ok ys) = Ok (xs ++ ys)
-joined xs (Err k) = Err k
+abbrev pub join_lines : List Line → Reading → Reading
+join_lines xs (Ok ys) = Ok (xs ++ ys)
+join_lines xs (Err k) = Err k

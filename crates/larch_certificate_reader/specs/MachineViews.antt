@@ -2,8 +2,8 @@
 use Rattle.std.specs.Prelude.{◌≡◌, ℕ, ◌==◌, List, [], ◌∷◌, ◌++◌, Option, Some, None, if◌then◌else◌}
 use Rattle.std.specs.Borrow.{Bor}
 use Rattle.larch_certificate.specs.Coded.{CodedTree}
-use Rattle.larch_certificate_reader.specs.declared.machine.Mark.{Mark}
-use Rattle.larch_certificate_reader.specs.declared.machine.Mark.TheVariants.{Open, Comma, Close}
+use Rattle.larch_certificate_reader.specs.declared.machine.LeafEnd.{LeafEnd}
+use Rattle.larch_certificate_reader.specs.declared.machine.LeafEnd.TheVariants.{Open, Comma, Close}
 use Rattle.larch_certificate_reader.specs.declared.machine.Reading.{Reading}
 use Rattle.larch_certificate_reader.specs.declared.machine.Step.{Step}
 use Rattle.larch_certificate_reader.specs.declared.machine.Step.TheVariants.{Stuck, Goes, Ends}
@@ -33,11 +33,11 @@ front_view (Some p) = Some (p.0, p.1.now)
 -- ---- parentheses and commas
 
 -- which mark a byte is
-abbrev pub mark_of : ℕ → Option Mark
+abbrev pub mark_of : ℕ → Option LeafEnd
 mark_of b = if b == 40 then Some Open else if b == 44 then Some Comma else if b == 41 then Some Close else None
 
 -- the byte of a mark
-abbrev pub byte_of : Mark → ℕ
+abbrev pub byte_of : LeafEnd → ℕ
 byte_of Open = 40
 byte_of Comma = 44
 byte_of Close = 41
@@ -47,20 +47,20 @@ abbrev pub Unmarked : List ℕ → Type 0
 Unmarked xs = Each (λ b. mark_of b ≡ None) xs
 
 -- the first mark of a text stands between these
-abbrev pub FirstMark : List ℕ → List ℕ → Mark → List ℕ → Type 0
+abbrev pub FirstMark : List ℕ → List ℕ → LeafEnd → List ℕ → Type 0
 FirstMark text xs mark ys = (text ≡ xs ++ (byte_of mark ∷ ys)) × Unmarked xs
 
 -- what a mark leads to, behind a closed term or the bytes of a leaf
-abbrev pub marked : Here → Mark → Option CodedTree → List ℕ → List Frame → Progress
-marked h Open closed atom k = open_by closed (read_symbol h atom) k
-marked h Comma closed atom k = comma_by (value_by h closed atom) k
-marked h Close closed atom k = close_by (value_by h closed atom) k
+abbrev pub after_mark : Here → LeafEnd → Option CodedTree → List ℕ → List Frame → Progress
+after_mark h Open closed atom k = open_by closed (read_symbol h atom) k
+after_mark h Comma closed atom k = comma_by (value_by h closed atom) k
+after_mark h Close closed atom k = close_by (value_by h closed atom) k
 
 -- the same, where no bytes may stand behind a closed term
-abbrev pub marked_behind : Here → Mark → Option CodedTree → List ℕ → List Frame → Progress
+abbrev pub marked_behind : Here → LeafEnd → Option CodedTree → List ℕ → List Frame → Progress
 marked_behind h mark (Some t) (x ∷ xs) k = stuck
-marked_behind h mark (Some t) [] k = marked h mark (Some t) [] k
-marked_behind h mark None xs k = marked h mark None xs k
+marked_behind h mark (Some t) [] k = after_mark h mark (Some t) [] k
+marked_behind h mark None xs k = after_mark h mark None xs k
 
 -- what the end of the text leads to, where no bytes may stand behind a closed term
 abbrev pub ended_behind : Here → Option CodedTree → List ℕ → List Frame → Front

@@ -1,6 +1,6 @@
 ghost use Rattle.std.specs.Prelude.{◌≡◌, Ok, Err, List, Bool, true, false, IfOk, IfErr, OnOk};
 ghost use Rattle.larch_certificate.specs.declared.line.Line.{Line};
-ghost use Rattle.larch_certificate_reader.specs.JoinedLines.{joined};
+ghost use Rattle.larch_certificate_reader.specs.JoinedLines.{join_lines};
 ghost use Rattle.larch_certificate_reader.specs.Refusals.{IfForm};
 ghost use Rattle.larch_certificate_reader.specs.declared.certificate.FormRefusal.TheVariants.{Memory as wants_memory};
 ghost use Rattle.larch_certificate_text.specs.CertificateText.{IsFirstOutside, IsTextOf, read_certificate, read_lines};
@@ -119,9 +119,9 @@ fn read_onto(
     text: &[u8],
     lines: &mut Certificate,
 ) -> Result<(), FormRefusal>
-    ensures ok { OnOk result (joined lines.old (read_lines relative 1 (split_at 10 text.now)) ≡ Ok lines.new) }
+    ensures ok { OnOk result (join_lines lines.old (read_lines relative 1 (split_at 10 text.now)) ≡ Ok lines.new) }
     ensures err { IfErr result (λ refusal. IfForm refusal (λ n.
-        joined lines.old (read_lines relative 1 (split_at 10 text.now)) ≡ Err n)) }
+        join_lines lines.old (read_lines relative 1 (split_at 10 text.now)) ≡ Err n)) }
 {
     let mut number: u64 = 1;
     let mut rest = text;

@@ -1,7 +1,7 @@
 ghost use Rattle.std.specs.Prelude.{◌≡◌, option_map, option_and_then};
 ghost use Rattle.std.specs.Option.{option_copied};
 ghost use Rattle.larch_certificate_reader.specs.Views.{pair_view, parts_of, quadruple_view, triple_view};
-ghost use Rattle.larch_certificate_text.specs.LineText.{barred, barred_by, behind, box_by, four_of, one_of};
+ghost use Rattle.larch_certificate_text.specs.LineText.{split_at_bar, barred_by, behind, box_by, four_of, one_of};
 ghost use Rattle.larch_certificate_text.specs.LineText.{three_of, two_of};
 
 use crate::parts::cut_at;
@@ -83,8 +83,8 @@ fn before_three<'a>(
 
 /// Two parts with a bar between them.
 #[tactic(auto, using(crate::proofs::Fields::barred_cut, crate::proofs::Fields::barred_uncut))]
-pub fn barred(parts: Option<&[u8]>) -> Option<(&[u8], &[u8])>
-    ensures { pair_view result ≡ barred (parts_of parts.entry) }
+pub fn split_at_bar(parts: Option<&[u8]>) -> Option<(&[u8], &[u8])>
+    ensures { pair_view result ≡ split_at_bar (parts_of parts.entry) }
 {
     let parts = parts?;
     match cut_at(b' ', parts) {
@@ -111,5 +111,9 @@ fn behind_bar<'a>(
 pub fn box_by(relative: bool, parts: Option<&[u8]>) -> Option<(&[u8], &[u8])>
     ensures { pair_view result ≡ box_by relative (parts_of parts.entry) }
 {
-    if relative { two(parts) } else { barred(parts) }
+    if relative {
+        two(parts)
+    } else {
+        split_at_bar(parts)
+    }
 }

@@ -1,6 +1,6 @@
 ghost use Rattle.std.specs.Prelude.{◌≡◌, [], IfOk, option_and_then};
 ghost use Rattle.std.specs.Option.{option_copied};
-ghost use Rattle.larch_certificate_text.specs.EquationText.{adjusted, bare_cut, behind_equals, behind_left, begins_term, first_cut, lends, read_equation, read_term, rest_of, with_right};
+ghost use Rattle.larch_certificate_text.specs.EquationText.{adjust_sides, bare_cut, behind_equals, behind_left, begins_term, first_cut, lends, read_equation, read_term, rest_of, with_right};
 ghost use Rattle.larch_certificate_reader.specs.MachineViews.{front_view};
 ghost use Rattle.larch_certificate_text.specs.SymbolText.{read_leaf};
 ghost use Rattle.larch_certificate_text.specs.TermText.{run, fresh};
@@ -80,8 +80,8 @@ fn rest_of(text: &[u8]) -> &[u8]
     }
 }
 
-fn adjusted<'a>(left: &'a [u8], right: &'a [u8]) -> (&'a [u8], &'a [u8])
-    ensures { (result.0.now, result.1.now) ≡ adjusted (left.now, right.now) }
+fn adjust_sides<'a>(left: &'a [u8], right: &'a [u8]) -> (&'a [u8], &'a [u8])
+    ensures { (result.0.now, result.1.now) ≡ adjust_sides (left.now, right.now) }
 {
     if left == b"~".as_slice() && lends(right) {
         (b"~=", rest_of(right))
@@ -94,7 +94,7 @@ fn bare_cut(text: &[u8]) -> Option<(&[u8], &[u8])>
     ensures { pair_view result ≡ bare_cut text.now }
 {
     let (left, right) = first_cut(text)?;
-    Some(adjusted(left, right))
+    Some(adjust_sides(left, right))
 }
 
 fn with_right(

@@ -1,5 +1,5 @@
 ghost use Rattle.std.specs.Prelude.{◌≡◌, ℕ, List, Option, IfOk};
-ghost use Rattle.larch_certificate_reader.specs.Counted.{counted};
+ghost use Rattle.larch_certificate_reader.specs.Counted.{read_count};
 ghost use Rattle.larch_certificate_text.specs.EquationText.{read_equation};
 ghost use Rattle.larch_certificate_text.specs.LineText.{binding_of, positive, predicate_of, read_argument};
 ghost use Rattle.larch_certificate_text.specs.LineText.{read_binding, read_box_part, read_operator, read_variable};
@@ -81,7 +81,7 @@ pub fn read_numbers(
     separator: u8,
     text: &[u8],
 ) -> Result<Option<Numbers>, Memory>
-    ensures { IfOk result (λ items. items ≡ read_listed (counted here kind) separator text.now) }
+    ensures { IfOk result (λ items. items ≡ read_listed (read_count here kind) separator text.now) }
 {
     if text == b"-".as_slice() {
         return Ok(Some(Sequence::new(names.alloc)));
@@ -96,7 +96,7 @@ fn read_counts(
     separator: u8,
     text: &[u8],
 ) -> Result<Option<Numbers>, Memory>
-    ensures { IfOk result (λ items. items ≡ read_each (counted here kind) (split_at separator text.now)) }
+    ensures { IfOk result (λ items. items ≡ read_each (read_count here kind) (split_at separator text.now)) }
 {
     let mut items = Sequence::new(names.alloc);
     let mut rest = text;
@@ -115,7 +115,7 @@ fn read_counts(
 }
 
 fn read_counted(here: Here, kind: Counted, text: &[u8]) -> Option<u64>
-    ensures { result ≡ counted here kind text.now }
+    ensures { result ≡ read_count here kind text.now }
 {
     match kind {
         Counted::Argument => read_argument(text),

@@ -1,7 +1,7 @@
 ghost use Rattle.std.specs.Prelude.{◌≡◌, ◌++◌, ◌∷◌, [], IfOk, IfSome, IfNone, Some, None, option_map};
 ghost use Rattle.larch_certificate.specs.Coded.{coded_app, coded_forest_of};
 ghost use Rattle.larch_certificate_reader.specs.MachineViews.{ended_behind, FirstMark, front_view, machine_of};
-ghost use Rattle.larch_certificate_reader.specs.MachineViews.{mark_of, marked, marked_behind, progress, Unmarked};
+ghost use Rattle.larch_certificate_reader.specs.MachineViews.{mark_of, after_mark, marked_behind, progress, Unmarked};
 ghost use Rattle.larch_certificate_text.specs.SymbolText.{read_symbol};
 ghost use Rattle.larch_certificate_text.specs.TermText.{close_by, comma_by, fresh, open_by, run, settle, value_by};
 
@@ -13,7 +13,7 @@ use larch_certificate_text::{Frame, Here, Stack};
 
 /// What ends the bytes of a leaf.
 #[derive(Clone, Copy)]
-pub enum Mark {
+pub enum LeafEnd {
     /// The parenthesis in front of the arguments.
     Open,
     /// The comma between two arguments.
@@ -40,20 +40,20 @@ pub enum Step {
     Ends(Coded),
 }
 
-fn mark_of(byte: u8) -> Option<Mark>
+fn mark_of(byte: u8) -> Option<LeafEnd>
     ensures { result ≡ mark_of byte }
 {
     match byte {
-        b'(' => Some(Mark::Open),
-        b',' => Some(Mark::Comma),
-        b')' => Some(Mark::Close),
+        b'(' => Some(LeafEnd::Open),
+        b',' => Some(LeafEnd::Comma),
+        b')' => Some(LeafEnd::Close),
         _ => None,
     }
 }
 
 // The bytes before the first mark, the mark, and what stands behind it.
 #[tactic(auto, using(crate::proofs::Feeding::mark_found, crate::proofs::Feeding::mark_missing))]
-fn cut_at_mark(text: &[u8]) -> Option<(&[u8], Mark, &[u8])>
+fn cut_at_mark(text: &[u8]) -> Option<(&[u8], LeafEnd, &[u8])>
     ensures some { IfSome result (λ cut. FirstMark text.now cut.0.now cut.1 cut.2.now) }
     ensures none { IfNone result (Unmarked text.now) }
 {
@@ -151,7 +151,7 @@ fn take_mark(
     here: Here,
     reading: &mut Reading,
     atom: &[u8],
-    mark: Mark,
+    mark: LeafEnd,
 ) -> Result<Step, Memory>
     ensures { IfOk result (λ s. progress s reading.new
         ≡ marked_behind here mark reading.old.closed atom.now reading.old.stack) }
@@ -167,15 +167,15 @@ fn take_first(
     here: Here,
     reading: &mut Reading,
     atom: &[u8],
-    mark: Mark,
+    mark: LeafEnd,
 ) -> Result<Step, Memory>
     ensures { IfOk result (λ s. progress s reading.new
-        ≡ marked here mark reading.old.closed atom.now reading.old.stack) }
+        ≡ after_mark here mark reading.old.closed atom.now reading.old.stack) }
 {
     match mark {
-        Mark::Open => open(names, here, reading, atom),
-        Mark::Comma => comma(names, here, reading, atom),
-        Mark::Close => close(names, here, reading, atom),
+        LeafEnd::Open => open(names, here, reading, atom),
+        LeafEnd::Comma => comma(names, here, reading, atom),
+        LeafEnd::Close => close(names, here, reading, atom),
     }
 }
 

@@ -21,5 +21,6 @@ one_outside v n (x ∷ y ∷ ys) k m (inl a) (inr b) = absurd (a.0 b.0)
 one_outside v n (x ∷ y ∷ ys) k m (inr a) (inl b) = absurd (b.0 a.0)
 one_outside v n (x ∷ y ∷ ys) k m (inr a) (inr b) = one_outside v (n + 1) (y ∷ ys) k m a.1 b.1
 
-pub one_refusal : (v : Bool) (n : ℕ) (xs : List (List ℕ)) (k m : ℕ) → FirstOutside v n xs k → FirstOutside v n xs m → k ≡ m
+pub one_refusal : (v : Bool) (n : ℕ) (xs : List (List ℕ)) (k m : ℕ) → FirstOutside v n xs k
+    → FirstOutside v n xs m → k ≡ m
 one_refusal v n xs k m a b = one_outside v n xs k m (recursion v n xs k a) (recursion v n xs m b)

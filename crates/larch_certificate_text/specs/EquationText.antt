@@ -50,13 +50,13 @@ rest_of [] = []
 rest_of (b ∷ bs) = bs
 
 -- where the left side seems to be ~ and the right side lends it an equality sign, the left side is ~=
-abbrev pub adjusted : List ℕ × List ℕ → List ℕ × List ℕ
-adjusted p = if bytes_eq p.0 (126 ∷ []) && lends p.1 then (126 ∷ 61 ∷ [], rest_of p.1) else p
+abbrev pub adjust_sides : List ℕ × List ℕ → List ℕ × List ℕ
+adjust_sides p = if bytes_eq p.0 (126 ∷ []) && lends p.1 then (126 ∷ 61 ∷ [], rest_of p.1) else p
 
 -- a left side without arguments, and the right side
 abbrev pub bare_cut : List ℕ → Option (List ℕ × List ℕ)
 bare_cut [] = None
-bare_cut (b ∷ bs) = option_map adjusted (option_map (onto b) (cut_equals bs))
+bare_cut (b ∷ bs) = option_map adjust_sides (option_map (onto b) (cut_equals bs))
 
 -- the same before it is adjusted
 abbrev pub first_cut : List ℕ → Option (List ℕ × List ℕ)

@@ -12,7 +12,7 @@ use Rattle.larch_certificate.specs.declared.line.CodedVar.{CodedVar}
 use Rattle.larch_certificate.specs.declared.line.Line.{Line}
 use Rattle.larch_certificate.specs.declared.line.Line.TheVariants as rule
 use Rattle.larch_certificate_text.specs.EquationText.{equation_text, FitEquation, read_term, read_equation}
-use Rattle.larch_certificate_text.specs.ListText.{split_at, listed, read_listed, named, part}
+use Rattle.larch_certificate_text.specs.ListText.{split_at, list_text, read_listed, part_with_label, part}
 use Rattle.larch_certificate_text.specs.Parts.{IsSmall, Each, read_number, ref_text, read_ref, cut_at}
 use Rattle.larch_certificate_text.specs.TermText.{term_text, FitTerm}
 use Rattle.larch_certificate_text.specs.declared.here.Here.{Here}
@@ -190,34 +190,34 @@ hyps_part h text = part h (codes "hyps") (read_listed (read_equation h) 59) text
 -- the texts of some parts
 
 abbrev pub number_text : Here → List ℕ → ℕ → List ℕ
-number_text h label k = named h label (decimal k)
+number_text h label k = part_with_label h label (decimal k)
 
 abbrev pub named_ref : Here → List ℕ → ℕ → List ℕ
-named_ref h label m = named h label (ref_text h m)
+named_ref h label m = part_with_label h label (ref_text h m)
 
 abbrev pub refs_text : Here → List ℕ → List ℕ → List ℕ
-refs_text h label ms = named h label (listed 44 (map (ref_text h) ms))
+refs_text h label ms = part_with_label h label (list_text 44 (map (ref_text h) ms))
 
 abbrev pub place_text : Here → List ℕ → List ℕ
-place_text h p = named h (codes "at") (listed 46 (map decimal p))
+place_text h p = part_with_label h (codes "at") (list_text 46 (map decimal p))
 
 abbrev pub goal_text : Here → CodedEquation → List ℕ
-goal_text h e = named h (codes "goal") (equation_text h e)
+goal_text h e = part_with_label h (codes "goal") (equation_text h e)
 
 abbrev pub sorts_text : Here → List BoxPart → List ℕ
-sorts_text h ss = named h (codes "sorts") (listed 44 (map box_part_text ss))
+sorts_text h ss = part_with_label h (codes "sorts") (list_text 44 (map box_part_text ss))
 
 abbrev pub hyps_text : Here → List CodedEquation → List ℕ
-hyps_text h es = named h (codes "hyps") (listed 59 (map (equation_text h) es))
+hyps_text h es = part_with_label h (codes "hyps") (list_text 59 (map (equation_text h) es))
 
 abbrev pub by_text : Here → List Binding → List ℕ
-by_text h bs = named h (codes "by") (listed 59 (map (binding_text h) bs))
+by_text h bs = part_with_label h (codes "by") (list_text 59 (map (binding_text h) bs))
 
 abbrev pub variables_text : Here → List CodedVar → List ℕ
-variables_text h vs = named h (codes "by") (listed 59 (map variable_text vs))
+variables_text h vs = part_with_label h (codes "by") (list_text 59 (map variable_text vs))
 
 abbrev pub operators_text : Here → List ℕ → List ℕ
-operators_text h ks = named h (codes "ops") (listed 44 (map operator_text ks))
+operators_text h ks = part_with_label h (codes "ops") (list_text 44 (map operator_text ks))
 
 -- a bar stands between the lists of a box, where parts have no names
 abbrev pub box_parts : Bool → List ℕ → List ℕ → List (List ℕ)
@@ -232,8 +232,8 @@ rule_fields h (rule.Axiom k) = codes "axiom" ∷ number_text h (codes "statement
 rule_fields h (rule.Hyp b k) = codes "hyp" ∷ named_ref h (codes "box") b ∷ number_text h (codes "number") k ∷ []
 rule_fields h (rule.Row k None) = codes "row" ∷ number_text h (codes "number") k ∷ []
 rule_fields h (rule.Row k (Some s)) =
-    codes "row" ∷ number_text h (codes "number") k ∷ named h (codes "sort") s ∷ []
-rule_fields h (rule.Refl t) = codes "refl" ∷ named h (codes "term") (term_text h t) ∷ []
+    codes "row" ∷ number_text h (codes "number") k ∷ part_with_label h (codes "sort") s ∷ []
+rule_fields h (rule.Refl t) = codes "refl" ∷ part_with_label h (codes "term") (term_text h t) ∷ []
 rule_fields h (rule.Sym m) = codes "sym" ∷ named_ref h (codes "line") m ∷ []
 rule_fields h (rule.Inst m bs) = codes "inst" ∷ named_ref h (codes "line") m ∷ by_text h bs ∷ []
 rule_fields h (rule.Repl m p l) =
@@ -244,14 +244,14 @@ rule_fields h rule.Done = codes "done" ∷ []
 rule_fields h (rule.Fresh b vs) = codes "fresh" ∷ named_ref h (codes "box") b ∷ variables_text h vs ∷ []
 rule_fields h (rule.Cases b c) = codes "cases" ∷ named_ref h (codes "true") b ∷ named_ref h (codes "false") c ∷ []
 rule_fields h (rule.Induct m x e bs) =
-    codes "induct" ∷ named_ref h (codes "line") m ∷ named h (codes "var") (variable_text x) ∷ goal_text h e
+    codes "induct" ∷ named_ref h (codes "line") m ∷ part_with_label h (codes "var") (variable_text x) ∷ goal_text h e
     ∷ refs_text h (codes "boxes") bs ∷ []
 rule_fields h (rule.Observe m e ls) =
     codes "observe" ∷ named_ref h (codes "line") m ∷ goal_text h e ∷ refs_text h (codes "lines") ls ∷ []
 rule_fields h (rule.Generated b s fs) =
-    codes "generated" ∷ named_ref h (codes "box") b ∷ named h (codes "sort") s ∷ operators_text h fs ∷ []
+    codes "generated" ∷ named_ref h (codes "box") b ∷ part_with_label h (codes "sort") s ∷ operators_text h fs ∷ []
 rule_fields h (rule.Partitioned b s fs) =
-    codes "partitioned" ∷ named_ref h (codes "box") b ∷ named h (codes "sort") s ∷ operators_text h fs ∷ []
+    codes "partitioned" ∷ named_ref h (codes "box") b ∷ part_with_label h (codes "sort") s ∷ operators_text h fs ∷ []
 
 -- lines that have a text: words where there should be, and numbers below 2 ^ 64
 abbrev pub FitLine : Line → Type 0
@@ -302,13 +302,13 @@ abbrev pub barred_by : List ℕ → List ℕ × List ℕ → Option (List ℕ ×
 barred_by x p = if bytes_eq p.0 (codes "|") then Some (x, p.1) else None
 
 -- two parts with a bar between them
-abbrev pub barred : List (List ℕ) → Option (List ℕ × List ℕ)
-barred [] = None
-barred (p ∷ ps) = option_and_then (barred_by p) (two_of ps)
+abbrev pub split_at_bar : List (List ℕ) → Option (List ℕ × List ℕ)
+split_at_bar [] = None
+split_at_bar (p ∷ ps) = option_and_then (barred_by p) (two_of ps)
 
 -- the lists of a box, with the bar or without
 abbrev pub box_by : Bool → List (List ℕ) → Option (List ℕ × List ℕ)
-box_by false ps = barred ps
+box_by false ps = split_at_bar ps
 box_by true ps = two_of ps
 
 -- ---- what each rule's parts say

@@ -20,9 +20,9 @@ abbrev pub split_at : ℕ → List ℕ → List (List ℕ)
 split_at c text = slice_split (λ b. b == c) text
 
 -- the items with a separator between them, and - for none
-abbrev pub listed : ℕ → List (List ℕ) → List ℕ
-listed c [] = 45 ∷ []
-listed c (x ∷ xs) = join_with_byte c (x ∷ xs)
+abbrev pub list_text : ℕ → List (List ℕ) → List ℕ
+list_text c [] = 45 ∷ []
+list_text c (x ∷ xs) = join_with_byte c (x ∷ xs)
 
 -- an item in front of further ones, where all are there
 abbrev pub both : {A : Type 0} → Option A → Option (List A) → Option (List A)
@@ -45,8 +45,8 @@ named_by false label text = text
 named_by true label text = label ++ (61 ∷ text)
 
 -- a part with its name in front, as parts are written here
-abbrev pub named : Here → List ℕ → List ℕ → List ℕ
-named h label text = named_by h.relative label text
+abbrev pub part_with_label : Here → List ℕ → List ℕ → List ℕ
+part_with_label h label text = named_by h.relative label text
 
 -- what stands behind the right name
 abbrev pub with_label : List ℕ → List ℕ × List ℕ → Option (List ℕ)
@@ -58,12 +58,12 @@ unnamed_by false label text = Some text
 unnamed_by true label text = option_and_then (with_label label) (cut_at 61 text)
 
 -- a part without its name, as parts are written here
-abbrev pub unnamed : Here → List ℕ → List ℕ → Option (List ℕ)
-unnamed h label text = unnamed_by h.relative label text
+abbrev pub without_label : Here → List ℕ → List ℕ → Option (List ℕ)
+without_label h label text = unnamed_by h.relative label text
 
 -- what a named part says
 abbrev pub part : {A : Type 0} → Here → List ℕ → (List ℕ → Option A) → List ℕ → Option A
-part h label f text = option_and_then f (unnamed h label text)
+part h label f text = option_and_then f (without_label h label text)
 
 -- the name of a part with its sign, where parts have names
 abbrev pub label_by : Bool → List ℕ → List ℕ

@@ -55,8 +55,8 @@ abbrev pub with_closed : CodedTree → List Frame → Machine
 with_closed t k = record { stack = k; atom = []; closed = Some t }
 
 -- a symbol whose first argument is awaited
-abbrev pub opened : Symbol → Frame
-opened f = record { symbol = f; done = [] }
+abbrev pub open_frame : Symbol → Frame
+open_frame f = record { symbol = f; done = [] }
 
 -- a frame with one argument more
 abbrev pub with_done : Frame → CodedTree → Frame
@@ -75,7 +75,7 @@ value_of h m = value_by h m.closed m.atom
 abbrev pub open_by : Option CodedTree → Option Symbol → List Frame → Progress
 open_by (Some t) f k = stuck
 open_by None None k = stuck
-open_by None (Some f) k = goes (fresh (opened f ∷ k))
+open_by None (Some f) k = goes (fresh (open_frame f ∷ k))
 
 -- a comma stands behind an argument
 abbrev pub comma_by : Option CodedTree → List Frame → Progress

@@ -1,5 +1,6 @@
 -- What the last line says where no box is open is what the certificate is accepted for.
-use Rattle.std.proofs.Common.{◌≡◌, ◌≤◌, ◌<◌, ◌-◌, ◌==◌, ℕ, suc, cond, List, [], ◌∷◌, ◌++◌, map, length, All, Contains, Option, Some, None, refl, sym, ◌∙◌, ap, subst, arith}
+use Rattle.std.proofs.Common.{◌≡◌, ◌≤◌, ◌<◌, ◌-◌, ◌==◌, ℕ, suc, cond, List, [], ◌∷◌, ◌++◌, map, length, All, Contains}
+use Rattle.std.proofs.Common.{Option, Some, None, refl, sym, ◌∙◌, ap, subst, arith}
 use Rattle.std.specs.Option.{option_map}
 use Rattle.std.proofs.lemmas.Option.{option_and_then_some}
 use Rattle.std.proofs.lemmas.List.Elements.{All-head, All-tail}
@@ -16,15 +17,18 @@ use Rattle.larch_calculus.specs.Renaming.{HasPlainNames}
 use Rattle.larch_certificate.specs.declared.line.BoxPart.{BoxPart}
 use Rattle.larch_certificate.specs.declared.line.CodedEquation.{CodedEquation}
 use Rattle.larch_certificate.specs.declared.line.Line.{Line}
-use Rattle.larch_certificate.specs.declared.line.Line.TheVariants.{Axiom, Hyp, Row, Refl, Sym, Inst, Repl, Equal, BoxLine, Done, Fresh, Cases, Induct, Observe, Generated as GeneratedLine, Partitioned as PartitionedLine}
-use Rattle.larch_lines.specs.Acceptance.{Accepts, last_statement}
-use Rattle.larch_lines.specs.Context.{theory_of, find_line, find_symbol, innermost}
-use Rattle.larch_lines.specs.Decoding.{each, decode_equation}
-use Rattle.larch_lines.specs.Events.{PlainBox, Event, Said, Opened, Closed, State, start}
-use Rattle.larch_lines.specs.Run.{judge, happens, done_closes, box_opens, run, step}
+use Rattle.larch_certificate.specs.declared.line.Line.TheVariants.{Axiom, Hyp, Row, Refl, Sym, Inst, Repl, Equal}
+use Rattle.larch_certificate.specs.declared.line.Line.TheVariants.{BoxLine, Done, Fresh, Cases, Induct, Observe}
+use Rattle.larch_certificate.specs.declared.line.Line.TheVariants.{Generated as GeneratedLine}
+use Rattle.larch_certificate.specs.declared.line.Line.TheVariants.{Partitioned as PartitionedLine}
+use Rattle.larch_verify_meaning.specs.Acceptance.{Accepts, last_statement}
+use Rattle.larch_verify_meaning.specs.Context.{theory_of, find_line, find_symbol, innermost}
+use Rattle.larch_verify_meaning.specs.Decoding.{each, decode_equation}
+use Rattle.larch_verify_meaning.specs.Events.{PlainBox, Event, Said, Opened, Closed, State, start}
+use Rattle.larch_verify_meaning.specs.Run.{judge, happens, done_closes, box_opens, run, step}
 use Rattle.larch_derive.specs.declared.builder.Builder.{Builder}
 use Rattle.larch_derive.specs.OpenBox.{in_lines, naming}
-use Rattle.larch_derive.specs.Predicates.{shapes_of, written, written_statement, SaysIn, HasStatement}
+use Rattle.larch_derive.specs.Predicates.{shapes_of, written_term, written_statement, SaysIn, HasStatement}
 use Rattle.larch_derive.proofs.Decoding.{known_plain, stays_in_lines}
 use Rattle.larch_derive.proofs.Runs.{mapped_some, run_count}
 
@@ -98,7 +102,8 @@ ends_opened : (t : Theory) (c : ℕ) (h u : List Event) (ps : List BoxPart) (es 
     → box_opens t h (suc c) ps es ≡ Some u → SaidUpTo c h → Ends (suc c) u
 ends_opened t c h u ps es e g =
     mapped_some (λ hs. Opened (record { number = suc c; parts = ps; hypotheses = hs }) ∷ h)
-    (each (decode_equation (find_symbol t (Opened (record { number = suc c; parts = ps; hypotheses = [] }) ∷ h))) es) u e
+    (each (decode_equation (find_symbol t (Opened (record { number = suc c; parts = ps; hypotheses = [] }) ∷ h))) es) u
+    e
     (λ hs p q. subst (Ends (suc c)) q (omega arith, up_later c (suc c - 1) (omega arith) h g))
 
 ends_happens : (t : Theory) (c : ℕ) (h u : List Event) (line : Line) → happens t h (suc c) line ≡ Some u
@@ -168,7 +173,8 @@ plain_in_lines : (t : Theory) → HasPlainNames t → (f : PlainOperator) → Is
 plain_in_lines t p f w = let n = known_plain t p [] 0 [] f tt refl w in stays_in_lines [] f n.0 refl n.1
 
 mutual
-  plain_written : (t : Theory) → HasPlainNames t → (a : Tree) → IsOver t.operators (written [] a) → written [] a ≡ a
+  plain_written : (t : Theory) → HasPlainNames t → (a : Tree) → IsOver t.operators (written_term [] a)
+      → written_term [] a ≡ a
   plain_written t p (var n s) w = refl
   plain_written t p (app f ts) w =
       λ i. app (plain_in_lines t p f w.0 i) (all_plain_written t p ts w.1 i)
@@ -178,14 +184,17 @@ mutual
   all_plain_written t p none w = refl
   all_plain_written t p (more a ts) w = λ i. more (plain_written t p a w.0 i) (all_plain_written t p ts w.1 i)
 
-plain_operators : (t : Theory) → HasPlainNames t → (P : PlainOperator → Type 0) → ((f : PlainOperator) → P f → IsKnown t.operators f)
+plain_operators : (t : Theory) → HasPlainNames t → (P : PlainOperator → Type 0)
+    → ((f : PlainOperator) → P f → IsKnown t.operators f)
     → (fs : List PlainOperator) → All P (map (in_lines []) fs) → map (in_lines []) fs ≡ fs
 plain_operators t p P k [] w = refl
 plain_operators t p P k (f ∷ fs) w =
     let here = k (in_lines [] f) (All-head P (in_lines [] f) (map (in_lines []) fs) w) in
-    λ i. plain_in_lines t p f here i ∷ plain_operators t p P k fs (All-tail P (in_lines [] f) (map (in_lines []) fs) w) i
+    λ i. plain_in_lines t p f here i
+    ∷ plain_operators t p P k fs (All-tail P (in_lines [] f) (map (in_lines []) fs) w) i
 
-plain_statement : (t : Theory) → HasPlainNames t → (s : Statement) → IsStatementOver t.operators (written_statement [] s)
+plain_statement : (t : Theory) → HasPlainNames t → (s : Statement)
+    → IsStatementOver t.operators (written_statement [] s)
     → written_statement [] s ≡ s
 plain_statement t p (Equation l r) w = λ i. Equation (plain_written t p l w.0.1 i) (plain_written t p r w.1.1 i)
 plain_statement t p (Generated s fs) w =

@@ -1,5 +1,7 @@
 -- What is written of one term more.
-use Rattle.std.proofs.Common.{◌≡◌, ◌≤◌, ◌<◌, ◌+◌, ◌-◌, ◌==◌, ◌⊎◌, inl, inr, ℕ, zero, suc, Bool, true, false, cond, List, [], ◌∷◌, ◌++◌, length, take, get_or, Contains, Option, Some, None, refl, sym, ◌∙◌, ap, subst, arith}
+use Rattle.std.proofs.Common.{◌≡◌, ◌≤◌, ◌<◌, ◌+◌, ◌-◌, ◌==◌, ◌⊎◌, inl, inr, ℕ, zero, suc, Bool, true, false, cond, List}
+use Rattle.std.proofs.Common.{[], ◌∷◌, ◌++◌, length, take, get_or, Contains, Option, Some, None, refl, sym, ◌∙◌, ap}
+use Rattle.std.proofs.Common.{subst, arith}
 use Rattle.std.specs.List.{slice_get}
 use Rattle.std.proofs.lemmas.List.{take_more}
 use Rattle.std.proofs.lemmas.Bool.{cond-false}
@@ -73,7 +75,8 @@ codes_step bs fs ts i cs t c lt e h d =
     subst (λ us. AreCodesOf bs fs (forest_of us) (coded_forest_of (cs ++ c ∷ []))) (sym (further ts i t lt e))
     (codes_push bs fs (take i ts) cs t c h d)
 
-pub equation_step : (bs : List OpenBox) (fs : List PlainOperator) (ss : List Statement) (i : ℕ) (es : List CodedEquation)
+pub equation_step : (bs : List OpenBox) (fs : List PlainOperator) (ss : List Statement) (i : ℕ)
+    (es : List CodedEquation)
     (s : Statement) (e : CodedEquation) (l r : Tree) → i < length ss → s ≡ get_or ss i s → s ≡ Equation l r
     → AreCodesOfEquations bs fs (take i ss) es → IsCodeOf bs fs l e.left → IsCodeOf bs fs r e.right
     → AreCodesOfEquations bs fs (take (i + 1) ss) (es ++ e ∷ [])
@@ -109,12 +112,18 @@ place_got k [] f j h = cc
 place_got k (g ∷ gs) f j h =
     elim (same_here g f k j (place_from (suc k) gs f) (same_operator g f) refl h) [
       | inl p ↦
-          let q = p.1 in
-          (omega (arith, q), subst (λ i. slice_get (g ∷ gs) i ≡ Some f) (let z : 0 ≡ j - k = omega (arith, q) in z) (ap Some p.0))
+          let q = p.1 in (
+            omega (arith, q),
+            subst (λ i. slice_get (g ∷ gs) i ≡ Some f) (let z : 0 ≡ j - k = omega (arith, q) in z)
+                (ap Some p.0),
+          )
       | inr later ↦
           let r = place_got (suc k) gs f j later in
-          let le = r.0 in
-          (omega (arith, le), subst (λ i. slice_get (g ∷ gs) i ≡ Some f) (let z : suc (j - suc k) ≡ j - k = omega (arith, le) in z) r.1)
+          let le = r.0 in (
+            omega (arith, le),
+            subst (λ i. slice_get (g ∷ gs) i ≡ Some f)
+                (let z : suc (j - suc k) ≡ j - k = omega (arith, le) in z) r.1,
+          )
     ]
 
 not_here : (g f : PlainOperator) (k : ℕ) (o : Option ℕ) (b : Bool) → same_operator g f ≡ b

@@ -1,5 +1,6 @@
 -- What is written of a term means the term.
-use Rattle.std.proofs.Common.{◌≡◌, ◌≤◌, ◌<◌, ◌-◌, ◌==◌, inl, inr, ℕ, suc, Bool, true, false, cond, List, [], ◌∷◌, Contains, Option, Some, None, bytes_eq, refl, sym, ◌∙◌, ap, ap₂, subst, arith}
+use Rattle.std.proofs.Common.{◌≡◌, ◌≤◌, ◌<◌, ◌-◌, ◌==◌, inl, inr, ℕ, suc, Bool, true, false, cond, List, [], ◌∷◌}
+use Rattle.std.proofs.Common.{Contains, Option, Some, None, bytes_eq, refl, sym, ◌∙◌, ap, ap₂, subst, arith}
 use Rattle.std.specs.Option.{option_map, option_and_then}
 use Rattle.std.specs.Cmp.Lexicographic.{pointwise}
 use Rattle.std.specs.List.{slice_get}
@@ -14,15 +15,16 @@ use Rattle.larch_term.specs.Sorts.{sorts_of, AllWellSorted, IsKnown, AllOver, Is
 use Rattle.larch_term.specs.Tree.{Tree, Forest, var, app, none, more}
 use Rattle.larch_term.specs.declared.statement.Theory.{Theory}
 use Rattle.larch_term.proofs.BuiltIns.{is_built_in_at_last}
-use Rattle.larch_renaming.specs.Renaming.{renamed, renamed_all}
+use Rattle.larch_renaming.specs.Renaming.{rename_tree, renamed_all}
 use Rattle.larch_calculus.specs.Renaming.{HasPlainNames, IsPlainName}
 use Rattle.larch_certificate.specs.Coded.{CodedTree, CodedForest, coded_var, coded_app, no_terms, term_then}
 use Rattle.larch_certificate.specs.declared.line.BoxPart.{BoxPart}
 use Rattle.larch_certificate.specs.declared.symbol.Symbol.{Symbol}
 use Rattle.larch_certificate.specs.declared.symbol.Symbol.TheVariants.{Own, Constant, BuiltIn}
-use Rattle.larch_lines.specs.Context.{theory_of, find_open, find_symbol}
-use Rattle.larch_lines.specs.Decoding.{decode, decode_all, applied_to}
-use Rattle.larch_lines.specs.Events.{PlainBox, Event, Said, Opened, Closed, operators_of, operators_from, part_operator}
+use Rattle.larch_verify_meaning.specs.Context.{theory_of, find_open, find_symbol}
+use Rattle.larch_verify_meaning.specs.Decoding.{decode, decode_all, applied_to}
+use Rattle.larch_verify_meaning.specs.Events.{PlainBox, Event, Said, Opened, Closed, operators_of, operators_from}
+use Rattle.larch_verify_meaning.specs.Events.{part_operator}
 use Rattle.larch_derive.specs.Coding.{IsSymbolOf, IsCodeOf, AreCodesOf}
 use Rattle.larch_derive.specs.OpenBox.{constant_of, in_lines, name_in_lines, naming}
 use Rattle.larch_derive.specs.declared.open_box.OpenBox.{OpenBox}
@@ -39,7 +41,8 @@ IsOfBox c (boxed b k) = b ≡ c
 part_name : (b k : ℕ) (p : BoxPart) → (part_operator b k p).name ≡ boxed b k
 part_name b k p = by_kind p.predicate
   where
-    by_kind : (q : Bool) → (cond {A = PlainOperator} q (record { name = boxed b k; domain = p.sort ∷ []; range = bool_sort })
+    by_kind : (q : Bool)
+        → (cond {A = PlainOperator} q (record { name = boxed b k; domain = p.sort ∷ []; range = bool_sort })
         (record { name = boxed b k; domain = []; range = p.sort })).name ≡ boxed b k
     by_kind true = refl
     by_kind false = refl
@@ -204,13 +207,14 @@ sorts_in_lines bs (more (app f us) ts) = ap (λ ss. f.range ∷ ss) (sorts_in_li
 
 applied_at : (ts : Forest) (f : PlainOperator) → sorts_of ts ≡ f.domain → applied_to ts f ≡ Some (app f ts)
 applied_at ts f e =
-    cond-true (pointwise bytes_eq (sorts_of ts) f.domain) (Some (app f ts)) None ((sorts_Decides (sorts_of ts) f.domain).1 e)
+    cond-true (pointwise bytes_eq (sorts_of ts) f.domain) (Some (app f ts)) None
+    ((sorts_Decides (sorts_of ts) f.domain).1 e)
 
 mutual
   pub written_means : (t : Theory) → HasPlainNames t → (h : List Event) (c : ℕ) (bs : List OpenBox) → GoDown c h
       → (a : Tree) (d : CodedTree) → IsCodeOf bs t.operators a d
-      → IsTermOver (theory_of t h).operators (renamed (naming bs) a)
-      → decode (find_symbol t h) d ≡ Some (renamed (naming bs) a)
+      → IsTermOver (theory_of t h).operators (rename_tree (naming bs) a)
+      → decode (find_symbol t h) d ≡ Some (rename_tree (naming bs) a)
   written_means t p h c bs g (var n s) (coded_var m r) (e, q) w = ap Some (ap₂ var e q)
   written_means t p h c bs g (var n s) (coded_app x ds) e w = absurd e
   written_means t p h c bs g (app f ts) (coded_var m r) e w = absurd e
@@ -234,5 +238,5 @@ mutual
   all_written_mean t p h c bs g (more a ts) (term_then d ds) e w =
       ap (option_and_then (λ u. option_map (λ us. more u us) (decode_all (find_symbol t h) ds)))
       (written_means t p h c bs g a d e.0 (w.0.0, w.1.0))
-      ∙ ap (option_map (λ us. more (renamed (naming bs) a) us))
+      ∙ ap (option_map (λ us. more (rename_tree (naming bs) a) us))
       (all_written_mean t p h c bs g ts ds e.1 (w.0.1, w.1.1))

@@ -1,5 +1,6 @@
 -- Growth: what was said stays said, and what grows twice grows.
-use Rattle.std.proofs.Common.{◌≡◌, ◌≤◌, ◌<◌, ◌==◌, ℕ, cond, List, [], ◌∷◌, ◌++◌, map, All, Option, Some, None, refl, sym, ◌∙◌, ap, subst, arith}
+use Rattle.std.proofs.Common.{◌≡◌, ◌≤◌, ◌<◌, ◌==◌, ℕ, cond, List, [], ◌∷◌, ◌++◌, map, All, Option, Some, None, refl}
+use Rattle.std.proofs.Common.{sym, ◌∙◌, ap, subst, arith}
 use Rattle.std.specs.Option.{option_and_then}
 use Rattle.std.proofs.lemmas.List.{append_assoc, append-nil}
 use Rattle.std.proofs.lemmas.List.Elements.{All-nil, All-append, All-head, All-tail, All-weaker}
@@ -11,14 +12,16 @@ use Rattle.larch_term.specs.declared.statement.Statement.TheVariants.{Equation}
 use Rattle.larch_term.specs.declared.statement.Theory.{Theory}
 use Rattle.larch_certificate.specs.Coded.{CodedTree}
 use Rattle.larch_certificate.specs.declared.line.Line.{Line}
-use Rattle.larch_lines.specs.Context.{theory_of, find_line}
-use Rattle.larch_lines.specs.Events.{Event, Said, Opened, Closed, State, start}
-use Rattle.larch_lines.specs.Run.{run, step}
+use Rattle.larch_verify_meaning.specs.Context.{theory_of, find_line}
+use Rattle.larch_verify_meaning.specs.Events.{Event, Said, Opened, Closed, State, start}
+use Rattle.larch_verify_meaning.specs.Run.{run, step}
 use Rattle.larch_derive.specs.declared.builder.Builder.{Builder}
 use Rattle.larch_derive.specs.declared.open_box.OpenBox.{OpenBox}
 use Rattle.larch_derive.specs.Builder.{shape_of, IsCodeIn}
 use Rattle.larch_derive.specs.Coding.{IsCodeOf}
-use Rattle.larch_derive.specs.Predicates.{shapes_of, written, written_statement, StandIn, KnownIn, SaysIn, HasNoBadLine, Known, HasStatement, IsSaidBehind, IsBehind, LeadsOn, GrowsBy, AreAlike, Extends, Grows}
+use Rattle.larch_derive.specs.Predicates.{shapes_of, written_term, written_statement, StandIn, KnownIn, SaysIn}
+use Rattle.larch_derive.specs.Predicates.{HasNoBadLine, Known, HasStatement, IsSaidBehind, IsBehind, LeadsOn, GrowsBy}
+use Rattle.larch_derive.specs.Predicates.{AreAlike, Extends, Grows}
 
 -- ---- events behind
 
@@ -50,7 +53,8 @@ line_behind (Said m s ∷ es) h c n b le =
 line_behind (Opened x ∷ es) h c n b le = absurd (All-head (IsBehind c) (Opened x) es b)
 line_behind (Closed x s ∷ es) h c n b le = line_behind es h c n (All-tail (IsBehind c) (Closed x s) es b) le
 
-pub theory_behind : (t : Theory) (es h : List Event) (c : ℕ) → All (IsBehind c) es → theory_of t (es ++ h) ≡ theory_of t h
+pub theory_behind : (t : Theory) (es h : List Event) (c : ℕ) → All (IsBehind c) es
+    → theory_of t (es ++ h) ≡ theory_of t h
 theory_behind t [] h c b = refl
 theory_behind t (Said m s ∷ es) h c b = theory_behind t es h c (All-tail (IsBehind c) (Said m s) es b)
 theory_behind t (Opened x ∷ es) h c b = absurd (All-head (IsBehind c) (Opened x) es b)
@@ -66,7 +70,8 @@ shapes_behind (Closed x s ∷ es) h c b = shapes_behind es h c (All-tail (IsBehi
 
 then_run : (t : Theory) (o : Option State) (xs ys : List Line)
     → ((u : State) → run t u (xs ++ ys) ≡ option_and_then (λ v. run t v ys) (run t u xs))
-    → option_and_then (λ u. run t u (xs ++ ys)) o ≡ option_and_then (λ v. run t v ys) (option_and_then (λ u. run t u xs) o)
+    → option_and_then (λ u. run t u (xs ++ ys)) o
+    ≡ option_and_then (λ v. run t v ys) (option_and_then (λ u. run t u xs) o)
 then_run t None xs ys h = refl
 then_run t (Some u) xs ys h = h u
 
@@ -137,15 +142,18 @@ grows_as P Q h t ls ks x =
 -- ---- what stays
 
 -- the state behind
-abbrev pub later_state : (t : Theory) (ls ks : List Line) (st : State) → run t start ls ≡ Some st → GrowsBy IsBehind t ls ks → State
+abbrev pub later_state : (t : Theory) (ls ks : List Line) (st : State) → run t start ls ≡ Some st
+    → GrowsBy IsBehind t ls ks → State
 later_state t ls ks st r x = (x.leads st r).state
 
-pub later_runs : (t : Theory) (ls ks : List Line) (st : State) (r : run t start ls ≡ Some st) (x : GrowsBy IsBehind t ls ks)
+pub later_runs : (t : Theory) (ls ks : List Line) (st : State) (r : run t start ls ≡ Some st)
+    (x : GrowsBy IsBehind t ls ks)
     → run t start ks ≡ Some (later_state t ls ks st r x)
 later_runs t ls ks st r x =
     let m = x.leads st r in ap (run t start) x.lines ∙ run_further t start st m.state ls x.more r m.runs
 
-pub later_theory : (t : Theory) (ls ks : List Line) (st : State) (r : run t start ls ≡ Some st) (x : GrowsBy IsBehind t ls ks)
+pub later_theory : (t : Theory) (ls ks : List Line) (st : State) (r : run t start ls ≡ Some st)
+    (x : GrowsBy IsBehind t ls ks)
     → theory_of t (later_state t ls ks st r x).history ≡ theory_of t st.history
 later_theory t ls ks st r x =
     let m = x.leads st r in ap (theory_of t) m.history ∙ theory_behind t m.events st.history st.count m.behind
@@ -193,7 +201,7 @@ known_in_later t bs ls ks a (st, h) x = (
   later_state t ls ks st h.stand.runs x,
   record {
     stand = later_stand t bs ls ks st h.stand x;
-    over = subst (λ u. IsTermOver u.operators (written bs a))
+    over = subst (λ u. IsTermOver u.operators (written_term bs a))
         (sym (later_theory t ls ks st h.stand.runs x)) h.over;
   },
 )

@@ -1,5 +1,6 @@
 -- Lines that say something: what they say, and that they extend a builder.
-use Rattle.std.proofs.Common.{◌≡◌, ◌==◌, ℕ, suc, false, cond, List, [], ◌∷◌, Option, Some, None, refl, sym, ◌∙◌, ap, subst, arith}
+use Rattle.std.proofs.Common.{◌≡◌, ◌==◌, ℕ, suc, false, cond, List, [], ◌∷◌, Option, Some, None, refl, sym, ◌∙◌, ap}
+use Rattle.std.proofs.Common.{subst, arith}
 use Rattle.std.specs.Option.{option_map, option_map_or, option_and_then}
 use Rattle.std.proofs.lemmas.Bool.{cond-true}
 use Rattle.larch_base.proofs.Options.{some_inj}
@@ -11,22 +12,23 @@ use Rattle.larch_term.specs.Tree.{Tree}
 use Rattle.larch_term.specs.declared.statement.Statement.{Statement}
 use Rattle.larch_term.specs.declared.statement.Statement.TheVariants.{Equation}
 use Rattle.larch_term.specs.declared.statement.Theory.{Theory}
-use Rattle.larch_term_laws.proofs.Places.{put_sort, put_well_sorted, put_over}
-use Rattle.larch_renaming.specs.Renaming.{renamed}
+use Rattle.larch_term_law.proofs.Places.{put_sort, put_well_sorted, put_over}
+use Rattle.larch_renaming.specs.Renaming.{rename_tree}
 use Rattle.larch_renaming.proofs.Renamed.{at_renamed, renamed_put}
 use Rattle.larch_certificate.specs.Coded.{CodedTree}
 use Rattle.larch_certificate.specs.declared.line.Line.{Line}
 use Rattle.larch_certificate.specs.declared.line.Line.TheVariants.{Refl, Sym, Repl}
-use Rattle.larch_lines.specs.Context.{find_line, find_symbol}
-use Rattle.larch_lines.specs.Decoding.{decode}
-use Rattle.larch_lines.specs.Events.{State, start}
-use Rattle.larch_lines.specs.Rules.{exchanged, replaced, stands_at}
-use Rattle.larch_lines.specs.Run.{judge, run}
+use Rattle.larch_verify_meaning.specs.Context.{find_line, find_symbol}
+use Rattle.larch_verify_meaning.specs.Decoding.{decode}
+use Rattle.larch_verify_meaning.specs.Events.{State, start}
+use Rattle.larch_verify_meaning.specs.Rules.{exchange_sides, replace_right, stands_at}
+use Rattle.larch_verify_meaning.specs.Run.{judge, run}
 use Rattle.larch_derive.specs.declared.builder.Builder.{Builder}
 use Rattle.larch_derive.specs.declared.open_box.OpenBox.{OpenBox}
 use Rattle.larch_derive.specs.Builder.{IsPushed, IsCodeIn}
 use Rattle.larch_derive.specs.OpenBox.{naming}
-use Rattle.larch_derive.specs.Predicates.{operators_at, written, written_statement, StandIn, KnownIn, SaysIn, Known, HasStatement, IsSaidBehind, LeadsOn, AreAlike, Extends}
+use Rattle.larch_derive.specs.Predicates.{operators_at, written_term, written_statement, StandIn, KnownIn, SaysIn}
+use Rattle.larch_derive.specs.Predicates.{Known, HasStatement, IsSaidBehind, LeadsOn, AreAlike, Extends}
 use Rattle.larch_derive.proofs.Growth.{carried, run_further}
 use Rattle.larch_derive.proofs.Runs.{after_saying, run_said, run_count, leads_said, still_open_said, down_run}
 use Rattle.larch_derive.proofs.Decoding.{written_means}
@@ -94,7 +96,7 @@ own_says a b line n st s p h j w =
 -- ---- refl
 
 pub means_at : (a : Builder) (st : State) (t : Tree) (c : CodedTree) → KnownIn a.theory a.boxes a.lines st t
-    → IsCodeIn a t c → decode (find_symbol a.theory st.history) c ≡ Some (written a.boxes t)
+    → IsCodeIn a t c → decode (find_symbol a.theory st.history) c ≡ Some (written_term a.boxes t)
 means_at a st t c k d =
     written_means a.theory k.stand.plain st.history st.count a.boxes
     (down_run a.theory a.lines start st k.stand.runs tt) t c d k.over
@@ -113,14 +115,15 @@ pub refl_extends : (a b : Builder) (t : Tree) (c : CodedTree) (n : ℕ) → IsCo
     → Known a t → Extends a b
 unfolding Known
 refl_extends a b t c n d p (st, k) =
-    pushed_extends a b (Refl c) n st (written_statement a.boxes (Equation t t)) p k.stand.runs (refl_judged a st t c k d)
+    pushed_extends a b (Refl c) n st (written_statement a.boxes (Equation t t)) p k.stand.runs
+    (refl_judged a st t c k d)
 
 -- ---- sym
 
 sym_judged : (a : Builder) (st : State) (m : ℕ) (l r : Tree)
     → SaysIn a.theory a.boxes a.lines st m (Equation l r)
     → judge a.theory st.history (Sym m) ≡ Some (written_statement a.boxes (Equation r l))
-sym_judged a st m l r h = ap (option_and_then exchanged) h.says
+sym_judged a st m l r h = ap (option_and_then exchange_sides) h.says
 
 pub sym_says : (a b : Builder) (m n : ℕ) (l r : Tree) → IsPushed a b (Sym m) n → HasStatement a m (Equation l r)
     → HasStatement b n (Equation r l)
@@ -138,16 +141,17 @@ sym_extends a b m n l r p (st, h) =
 -- ---- repl
 
 -- both lines are read in one state
-pub one_state : (t : Theory) (ls : List Line) (st u : State) → run t start ls ≡ Some st → run t start ls ≡ Some u → u ≡ st
+pub one_state : (t : Theory) (ls : List Line) (st u : State) → run t start ls ≡ Some st
+    → run t start ls ≡ Some u → u ≡ st
 one_state t ls st u p q = some_inj (sym q ∙ p)
 
 -- where the term stands, it stands as it is written
 written_at : (bs : List OpenBox) (t : Tree) (q : List ℕ) (u : Tree) → at t q ≡ Some u
-    → at (written bs t) q ≡ Some (written bs u)
-written_at bs t q u e = at_renamed (naming bs) t q ∙ ap (option_map (renamed (naming bs))) e
+    → at (written_term bs t) q ≡ Some (written_term bs u)
+written_at bs t q u e = at_renamed (naming bs) t q ∙ ap (option_map (rename_tree (naming bs))) e
 
 replaced_at : (q : List ℕ) (s t u v : Tree) → at t q ≡ Some u
-    → replaced q (Equation s t) (Equation u v) ≡ Some (Equation s (put t q v))
+    → replace_right q (Equation s t) (Equation u v) ≡ Some (Equation s (put t q v))
 replaced_at q s t u v e =
     cond-true (stands_at t q u) (Some (Equation s (put t q v))) None
     (ap (λ o. option_map_or (λ w. same_tree w u) o false) e ∙ (tree_Decides u u).1 refl)
@@ -157,11 +161,11 @@ repl_judged : (a : Builder) (st : State) (m k : ℕ) (q : List ℕ) (l r u v : T
     → at r q ≡ Some u
     → judge a.theory st.history (Repl m q k) ≡ Some (written_statement a.boxes (Equation l (put r q v)))
 repl_judged a st m k q l r u v h i e =
-    ap (option_and_then (λ x. option_and_then (replaced q x) (find_line st.history k))) h.says
-    ∙ ap (option_and_then (replaced q (Equation (written a.boxes l) (written a.boxes r)))) i.says
-    ∙ replaced_at q (written a.boxes l) (written a.boxes r) (written a.boxes u) (written a.boxes v)
+    ap (option_and_then (λ x. option_and_then (replace_right q x) (find_line st.history k))) h.says
+    ∙ ap (option_and_then (replace_right q (Equation (written_term a.boxes l) (written_term a.boxes r)))) i.says
+    ∙ replaced_at q (written_term a.boxes l) (written_term a.boxes r) (written_term a.boxes u) (written_term a.boxes v)
     (written_at a.boxes r q u e)
-    ∙ ap (λ w. Some (Equation (written a.boxes l) w)) (sym (renamed_put (naming a.boxes) r q v))
+    ∙ ap (λ w. Some (Equation (written_term a.boxes l) w)) (sym (renamed_put (naming a.boxes) r q v))
 
 repl_over : (a : Builder) (st : State) (m k : ℕ) (q : List ℕ) (l r u v : Tree)
     → SaysIn a.theory a.boxes a.lines st m (Equation l r) → SaysIn a.theory a.boxes a.lines st k (Equation u v)
@@ -171,14 +175,15 @@ repl_over a st m k q l r u v h i e =
     let w = h.over in
     let x = i.over in
     let here = written_at a.boxes r q u e in
-    subst (λ z. IsStatementOver (operators_at a.theory st) (Equation (written a.boxes l) z))
+    subst (λ z. IsStatementOver (operators_at a.theory st) (Equation (written_term a.boxes l) z))
     (sym (renamed_put (naming a.boxes) r q v)) (
       w.0,
       (
-        put_well_sorted (written a.boxes r) q (written a.boxes u) (written a.boxes v) here (sym x.2) w.1.0 x.1.0,
-        put_over (operators_at a.theory st) (written a.boxes r) q (written a.boxes v) w.1.1 x.1.1,
+        put_well_sorted (written_term a.boxes r) q (written_term a.boxes u) (written_term a.boxes v) here
+            (sym x.2) w.1.0 x.1.0,
+        put_over (operators_at a.theory st) (written_term a.boxes r) q (written_term a.boxes v) w.1.1 x.1.1,
       ),
-      w.2 ∙ sym (put_sort (written a.boxes r) q (written a.boxes u) (written a.boxes v) here (sym x.2)),
+      w.2 ∙ sym (put_sort (written_term a.boxes r) q (written_term a.boxes u) (written_term a.boxes v) here (sym x.2)),
     )
 
 pub repl_says : (a b : Builder) (m k n : ℕ) (q : List ℕ) (l r u v : Tree) → IsPushed a b (Repl m q k) n

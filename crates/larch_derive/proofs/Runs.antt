@@ -1,5 +1,6 @@
 -- Runs: a line that says something, how many lines there were, and the numbers of open boxes.
-use Rattle.std.proofs.Common.{◌≡◌, ◌≤◌, ◌<◌, ◌+◌, ◌-◌, ℕ, suc, List, [], ◌∷◌, length, Option, Some, None, refl, sym, ◌∙◌, ap, subst, arith}
+use Rattle.std.proofs.Common.{◌≡◌, ◌≤◌, ◌<◌, ◌+◌, ◌-◌, ℕ, suc, List, [], ◌∷◌, length, Option, Some, None, refl, sym}
+use Rattle.std.proofs.Common.{◌∙◌, ap, subst, arith}
 use Rattle.std.specs.Option.{option_map, option_and_then}
 use Rattle.std.proofs.lemmas.Option.{option_and_then_some}
 use Rattle.std.proofs.lemmas.List.Elements.{All-nil, All-cons}
@@ -9,11 +10,13 @@ use Rattle.larch_term.specs.declared.statement.Theory.{Theory}
 use Rattle.larch_certificate.specs.declared.line.BoxPart.{BoxPart}
 use Rattle.larch_certificate.specs.declared.line.CodedEquation.{CodedEquation}
 use Rattle.larch_certificate.specs.declared.line.Line.{Line}
-use Rattle.larch_certificate.specs.declared.line.Line.TheVariants.{Axiom, Hyp, Row, Refl, Sym, Inst, Repl, Equal, BoxLine, Done, Fresh, Cases, Induct, Observe, Generated, Partitioned}
-use Rattle.larch_lines.specs.Context.{find_symbol, innermost}
-use Rattle.larch_lines.specs.Decoding.{each, decode_equation}
-use Rattle.larch_lines.specs.Events.{PlainBox, Event, Said, Opened, Closed, State}
-use Rattle.larch_lines.specs.Run.{judge, happens, done_closes, box_opens, run, step}
+use Rattle.larch_certificate.specs.declared.line.Line.TheVariants.{Axiom, Hyp, Row, Refl, Sym, Inst, Repl, Equal}
+use Rattle.larch_certificate.specs.declared.line.Line.TheVariants.{BoxLine, Done, Fresh, Cases, Induct, Observe}
+use Rattle.larch_certificate.specs.declared.line.Line.TheVariants.{Generated, Partitioned}
+use Rattle.larch_verify_meaning.specs.Context.{find_symbol, innermost}
+use Rattle.larch_verify_meaning.specs.Decoding.{each, decode_equation}
+use Rattle.larch_verify_meaning.specs.Events.{PlainBox, Event, Said, Opened, Closed, State}
+use Rattle.larch_verify_meaning.specs.Run.{judge, happens, done_closes, box_opens, run, step}
 use Rattle.larch_derive.specs.Builder.{still_open}
 use Rattle.larch_derive.specs.Predicates.{IsSaidBehind, LeadsOn}
 use Rattle.larch_derive.specs.declared.open_box.OpenBox.{OpenBox}
@@ -148,7 +151,8 @@ down_opened : (t : Theory) (c : ℕ) (h u : List Event) (ps : List BoxPart) (es 
     → box_opens t h (suc c) ps es ≡ Some u → GoDown c h → GoDown (suc c) u
 down_opened t c h u ps es e g =
     mapped_some (λ hs. Opened (record { number = suc c; parts = ps; hypotheses = hs }) ∷ h)
-    (each (decode_equation (find_symbol t (Opened (record { number = suc c; parts = ps; hypotheses = [] }) ∷ h))) es) u e
+    (each (decode_equation (find_symbol t (Opened (record { number = suc c; parts = ps; hypotheses = [] }) ∷ h))) es) u
+    e
     (λ hs p q. subst (GoDown (suc c)) q (omega arith, omega arith, down_later c (suc c - 1) (omega arith) h g))
 
 down_happens : (t : Theory) (c : ℕ) (h u : List Event) (line : Line) → happens t h (suc c) line ≡ Some u → GoDown c h

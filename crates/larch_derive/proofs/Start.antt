@@ -1,21 +1,22 @@
 -- The beginning: a builder without lines stands, and what is over the theory is known.
-use Rattle.std.proofs.Common.{◌≡◌, ◌<◌, ◌+◌, ℕ, List, [], ◌∷◌, ◌++◌, map, length, take, get_or, All, refl, sym, ◌∙◌, ap, subst}
+use Rattle.std.proofs.Common.{◌≡◌, ◌<◌, ◌+◌, ℕ, List, [], ◌∷◌, ◌++◌, map, length, take, get_or, All, refl, sym, ◌∙◌, ap}
+use Rattle.std.proofs.Common.{subst}
 use Rattle.std.proofs.lemmas.List.{take_more}
 use Rattle.std.proofs.lemmas.List.Elements.{All-nil, All-push}
 use Rattle.larch_term.specs.Operator.{OperatorName, PlainOperator, plain, boxed}
 use Rattle.larch_term.specs.Sorts.{IsTermOver}
 use Rattle.larch_term.specs.Tree.{Tree}
 use Rattle.larch_term.specs.declared.statement.Theory.{Theory}
-use Rattle.larch_renaming.specs.Renaming.{unchanged}
+use Rattle.larch_renaming.specs.Renaming.{no_renaming}
 use Rattle.larch_renaming.proofs.Renamed.{renamed_alike_over, renamed_unchanged}
 use Rattle.larch_calculus.specs.Renaming.{HasPlainNames, IsPlainName}
 use Rattle.larch_calculus.proofs.Sorted.{term_over_more}
-use Rattle.larch_lines.specs.Events.{start}
-use Rattle.larch_lines.specs.Run.{run}
+use Rattle.larch_verify_meaning.specs.Events.{start}
+use Rattle.larch_verify_meaning.specs.Run.{run}
 use Rattle.larch_derive.specs.declared.builder.Builder.{Builder}
 use Rattle.larch_derive.specs.Builder.{IsEmpty, shape_of}
 use Rattle.larch_derive.specs.OpenBox.{naming}
-use Rattle.larch_derive.specs.Predicates.{AreOthers, operators_at, written, HasNoBadLine, Known}
+use Rattle.larch_derive.specs.Predicates.{AreOthers, operators_at, written_term, HasNoBadLine, Known}
 use Rattle.larch_derive.proofs.Unchanged.{own_in_lines, known_in_boxes}
 
 named_plain : (n : List ℕ) (m : OperatorName) → plain n ≡ m → IsPlainName m
@@ -35,7 +36,8 @@ empty_stands t b e p = (
   record {
     runs = ap (run b.theory start) e.1;
     plain = subst HasPlainNames (sym e.0) p;
-    others = subst (All (λ x. AreOthers b.theory x.constants)) (sym e.2) (All-nil (λ x. AreOthers b.theory x.constants));
+    others =
+        subst (All (λ x. AreOthers b.theory x.constants)) (sym e.2) (All-nil (λ x. AreOthers b.theory x.constants));
     opened = ap (map shape_of) (sym e.2);
   },
 )
@@ -43,8 +45,8 @@ empty_stands t b e p = (
 pub known_own : (b : Builder) (a : Tree) → HasNoBadLine b → IsTermOver b.theory.operators a → Known b a
 unfolding HasNoBadLine Known
 known_own b a (st, h) w =
-    let same : written b.boxes a ≡ a =
-    renamed_alike_over (naming b.boxes) unchanged b.theory.operators
+    let same : written_term b.boxes a ≡ a =
+    renamed_alike_over (naming b.boxes) no_renaming b.theory.operators
     (record { sorts = λ s. refl; operators = λ f k. own_in_lines b.theory b.boxes f h.plain h.others k }) a w.1
     ∙ renamed_unchanged a in (
       st,

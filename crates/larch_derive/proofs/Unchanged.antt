@@ -1,5 +1,6 @@
 -- What a theory states is written in lines as it stands.
-use Rattle.std.proofs.Common.{◌≡◌, inl, inr, ℕ, suc, Bool, true, false, List, [], ◌∷◌, map, All, Contains, Some, None, refl, sym, ◌∙◌, ap, subst}
+use Rattle.std.proofs.Common.{◌≡◌, inl, inr, ℕ, suc, Bool, true, false, List, [], ◌∷◌, map, All, Contains, Some, None}
+use Rattle.std.proofs.Common.{refl, sym, ◌∙◌, ap, subst}
 use Rattle.std.specs.Option.{option_map, option_or}
 use Rattle.std.proofs.lemmas.Bool.{cond-false}
 use Rattle.std.proofs.lemmas.List.Elements.{All-head, All-tail, All-contains}
@@ -11,12 +12,12 @@ use Rattle.larch_term.specs.Sorts.{IsKnown}
 use Rattle.larch_term.specs.Statement.{IsStatementOver}
 use Rattle.larch_term.specs.declared.statement.Statement.{Statement}
 use Rattle.larch_term.specs.declared.statement.Theory.{Theory}
-use Rattle.larch_renaming.specs.Renaming.{unchanged}
+use Rattle.larch_renaming.specs.Renaming.{no_renaming}
 use Rattle.larch_renaming.proofs.RenamedStatements.{statement_unchanged, statement_alike_over}
 use Rattle.larch_calculus.specs.Renaming.{IsFaithful, HasPlainNames, IsPlainName}
 use Rattle.larch_calculus.proofs.Sorted.{statement_over_more}
-use Rattle.larch_lines.specs.Context.{theory_of}
-use Rattle.larch_lines.specs.Events.{Event, Said, Opened, Closed, operators_of}
+use Rattle.larch_verify_meaning.specs.Context.{theory_of}
+use Rattle.larch_verify_meaning.specs.Events.{Event, Said, Opened, Closed, operators_of}
 use Rattle.larch_derive.specs.declared.open_box.OpenBox.{OpenBox}
 use Rattle.larch_derive.specs.OpenBox.{place_from, constant_of, in_lines, naming}
 use Rattle.larch_derive.specs.Predicates.{AreOthers, written_statement}
@@ -26,7 +27,8 @@ not_same : (g f : PlainOperator) → (g ≡ f → ⊥) → (b : Bool) → same_o
 not_same g f h true e = absurd (h ((operator_Decides g f).0 e))
 not_same g f h false e = refl
 
-pub place_absent : (k : ℕ) (fs : List PlainOperator) (f : PlainOperator) → (Contains fs f → ⊥) → place_from k fs f ≡ None
+pub place_absent : (k : ℕ) (fs : List PlainOperator) (f : PlainOperator) → (Contains fs f → ⊥)
+    → place_from k fs f ≡ None
 place_absent k [] f h = refl
 place_absent k (g ∷ gs) f h =
     cond-false (same_operator g f) (Some k) (place_from (suc k) gs f)
@@ -60,7 +62,7 @@ own_in_lines t bs f p h k =
 pub own_written : (t : Theory) (bs : List OpenBox) (s : Statement) → HasPlainNames t
     → All (λ x. AreOthers t x.constants) bs → IsStatementOver t.operators s → written_statement bs s ≡ s
 own_written t bs s p h w =
-    statement_alike_over (naming bs) unchanged t.operators
+    statement_alike_over (naming bs) no_renaming t.operators
     (record { sorts = λ z. refl; operators = λ f k. own_in_lines t bs f p h k }) s w
     ∙ statement_unchanged s
 

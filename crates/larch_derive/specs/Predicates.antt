@@ -8,13 +8,13 @@ use Rattle.larch_term.specs.Tree.{Tree}
 use Rattle.larch_term.specs.declared.statement.Statement.{Statement}
 use Rattle.larch_term.specs.declared.statement.Statement.TheVariants.{Equation}
 use Rattle.larch_term.specs.declared.statement.Theory.{Theory}
-use Rattle.larch_renaming.specs.Renaming.{renamed, renamed_statement}
+use Rattle.larch_renaming.specs.Renaming.{rename_tree, renamed_statement}
 use Rattle.larch_calculus.specs.Renaming.{HasPlainNames}
 use Rattle.larch_certificate.specs.declared.line.BoxPart.{BoxPart}
 use Rattle.larch_certificate.specs.declared.line.Line.{Line}
-use Rattle.larch_lines.specs.Context.{theory_of, find_line}
-use Rattle.larch_lines.specs.Events.{Event, Said, Opened, Closed, State, start}
-use Rattle.larch_lines.specs.Run.{run}
+use Rattle.larch_verify_meaning.specs.Context.{theory_of, find_line}
+use Rattle.larch_verify_meaning.specs.Events.{Event, Said, Opened, Closed, State, start}
+use Rattle.larch_verify_meaning.specs.Run.{run}
 use Rattle.larch_derive.specs.declared.builder.Builder.{Builder}
 use Rattle.larch_derive.specs.declared.open_box.OpenBox.{OpenBox}
 use Rattle.larch_derive.specs.Builder.{shape_of}
@@ -25,8 +25,8 @@ abbrev pub operators_at : Theory → State → List PlainOperator
 operators_at t st = (theory_of t st.history).operators
 
 -- a term and a statement as lines write them where boxes are open
-abbrev pub written : List OpenBox → Tree → Tree
-written bs t = renamed (naming bs) t
+abbrev pub written_term : List OpenBox → Tree → Tree
+written_term bs t = rename_tree (naming bs) t
 
 abbrev pub written_statement : List OpenBox → Statement → Statement
 written_statement bs s = renamed_statement (naming bs) s
@@ -53,7 +53,7 @@ pub record StandIn (t : Theory) (bs : List OpenBox) (ls : List Line) (st : State
 -- and the term is well sorted there
 pub record KnownIn (t : Theory) (bs : List OpenBox) (ls : List Line) (st : State) (a : Tree) : Type 0 where
   pub stand : StandIn t bs ls st
-  pub over : IsTermOver (operators_at t st) (written bs a)
+  pub over : IsTermOver (operators_at t st) (written_term bs a)
 
 -- and the line with a number, which stands in an open box or in none, says the statement
 pub record SaysIn (t : Theory) (bs : List OpenBox) (ls : List Line) (st : State) (n : ℕ) (s : Statement) : Type 0 where

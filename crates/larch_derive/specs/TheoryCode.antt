@@ -32,7 +32,8 @@ coded_clause = coded× (coded_list coded_ℕ) (coded_list coded_operator)
 
 abbrev coded_statement : Coded Statement
 coded_statement =
-    code_by ((Tree × Tree) ⊎ (Clause ⊎ Clause)) (coded⊎ (coded× coded_tree coded_tree) (coded⊎ coded_clause coded_clause))
+    code_by ((Tree × Tree) ⊎ (Clause ⊎ Clause))
+    (coded⊎ (coded× coded_tree coded_tree) (coded⊎ coded_clause coded_clause))
     statement_parts statement_of statement_of_parts
 
 abbrev pub coded_theory : Coded Theory

@@ -8,7 +8,7 @@ ghost use Rattle.larch_derive.specs.Builder.{opens_box, still_open, part_for, bo
 use crate::coding::{code, code_equations, symbol_of};
 use crate::copying::copy_line;
 use crate::open_box::{OpenBox, OpenBoxes, copy_boxes};
-use crate::shared_list::SharedList;
+use crate::shared_list::ChunkedList;
 use crate::shared_theory::SharedTheory;
 use larch_base::{Memory, Sequence, let_go};
 use larch_certificate::{BoxPart, BoxParts, Certificate, Coded, Line, Symbol};
@@ -21,7 +21,7 @@ use std::alloc::Global;
 pub struct Builder {
     alloc: Global,
     theory: SharedTheory,
-    lines: SharedList<Line>,
+    lines: ChunkedList<Line>,
     boxes: OpenBoxes,
 }
 
@@ -37,7 +37,7 @@ impl Builder {
         Ok(Builder {
             alloc,
             theory,
-            lines: SharedList::new(alloc),
+            lines: ChunkedList::new(alloc),
             boxes: Sequence::new(alloc),
         })
     }

@@ -5,7 +5,7 @@ ghost use Rattle.larch_certificate.specs.declared.line.Line.TheVariants.{Refl, S
 ghost use Rattle.larch_term.specs.Place.{at, put};
 ghost use Rattle.larch_derive.specs.Builder.{IsEmpty, IsPushed, IsCodeIn, theory_in, lines_in, boxes_in};
 ghost use Rattle.larch_calculus.specs.Renaming.{HasPlainNames};
-ghost use Rattle.larch_lines.specs.Acceptance.{Accepts};
+ghost use Rattle.larch_verify_meaning.specs.Acceptance.{Accepts};
 ghost use Rattle.larch_term.specs.Sorts.{IsTermOver};
 ghost use Rattle.larch_term.specs.declared.statement.Theory.{Theory};
 ghost use Rattle.larch_term.specs.Tree.{Tree};

@@ -11,4 +11,4 @@ mod shared_theory;
 
 pub use builder::Builder;
 pub use open_box::{OpenBox, OpenBoxes};
-pub use shared_list::SharedList;
+pub use shared_list::ChunkedList;

@@ -10,13 +10,13 @@ const CHUNK: usize = 64;
 
 /// A list that grows at its end and lies in chunks, which its copies share. Contracts see it as a list.
 #[derive(Drop)]
-pub struct SharedList<T> {
+pub struct ChunkedList<T> {
     chunks: Vec<Rc<Vec<Rc<T>>>>,
     last: Vec<Rc<T>>,
     count: u64,
 }
 
-impl<T> Model for SharedList<T> {
+impl<T> Model for ChunkedList<T> {
     ghost use Rattle.std.specs.Prelude.{◌≡◌, List, ◌++◌, map, length};
     ghost use Rattle.std.specs.List.{flat_map};
 
@@ -30,12 +30,12 @@ impl<T> Model for SharedList<T> {
         ++ map (λ item. item.value) list.last.items) };
 }
 
-impl<T: Drop> SharedList<T> {
+impl<T: Drop> ChunkedList<T> {
     /// Nothing yet. It takes no memory.
-    pub fn new(alloc: Global) -> SharedList<T>
+    pub fn new(alloc: Global) -> ChunkedList<T>
         ensures { result ≡ [] }
     {
-        SharedList {
+        ChunkedList {
             chunks: Vec::new(alloc),
             last: Vec::new(alloc),
             count: 0,
@@ -50,13 +50,13 @@ impl<T: Drop> SharedList<T> {
     }
 
     /// The same list once more. It shares the things, and what is later put at the end of one isn't in the other.
-    pub fn copy(&self) -> Result<SharedList<T>, Memory>
+    pub fn copy(&self) -> Result<ChunkedList<T>, Memory>
         ensures { IfOk result (λ list. list ≡ self.now) }
     {
         let chunks = shares(self.chunks.as_slice(), *self.chunks.allocator())?;
         let last = shares(self.last.as_slice(), *self.last.allocator())?;
         let count = self.count;
-        Ok(SharedList {
+        Ok(ChunkedList {
             chunks,
             last,
             count,

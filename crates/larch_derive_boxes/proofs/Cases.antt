@@ -24,16 +24,16 @@ use Rattle.larch_renaming.proofs.RenamedStatements.{statement_alike}
 use Rattle.larch_calculus.specs.Formula.{falsity}
 use Rattle.larch_certificate.specs.declared.line.Line.{Line}
 use Rattle.larch_certificate.specs.declared.line.Line.TheVariants.{Cases}
-use Rattle.larch_lines.specs.BoxRules.{cases_of, supposes}
-use Rattle.larch_lines.specs.Context.{theory_of, find_closed}
-use Rattle.larch_lines.specs.Events.{PlainBox, State, operators_from}
-use Rattle.larch_lines.specs.Matching.{is_empty, same_statements}
-use Rattle.larch_lines.specs.Run.{judge}
+use Rattle.larch_verify_meaning.specs.BoxRules.{cases_of, supposes}
+use Rattle.larch_verify_meaning.specs.Context.{theory_of, find_closed}
+use Rattle.larch_verify_meaning.specs.Events.{PlainBox, State, operators_from}
+use Rattle.larch_verify_meaning.specs.Matching.{is_empty, same_statements}
+use Rattle.larch_verify_meaning.specs.Run.{judge}
 use Rattle.larch_derive.specs.declared.builder.Builder.{Builder}
 use Rattle.larch_derive.specs.declared.open_box.OpenBox.{OpenBox}
 use Rattle.larch_derive.specs.Builder.{IsPushed, part_for}
 use Rattle.larch_derive.specs.OpenBox.{place_from, constant_of, naming}
-use Rattle.larch_derive.specs.Predicates.{operators_at, written, written_statement, StandIn, HasStatement, Extends}
+use Rattle.larch_derive.specs.Predicates.{operators_at, written_term, written_statement, StandIn, HasStatement, Extends}
 use Rattle.larch_derive.proofs.Pushing.{pushed_says, pushed_extends, one_state}
 use Rattle.larch_derive.proofs.Unchanged.{own_in_lines}
 use Rattle.larch_derive_boxes.specs.Boxes.{box_of, operators_inside, ResultIn, HasResult}
@@ -69,13 +69,13 @@ abbrev Supposing : ℕ → Tree → Tree → PlainBox
 Supposing n f v = record { number = n; parts = []; hypotheses = Equation f v ∷ [] }
 
 result_is : (t : Theory) (bs : List OpenBox) (st : State) (x : OpenBox) (f v : Tree) (s : Statement) → x.constants ≡ []
-    → written bs v ≡ v
+    → written_term bs v ≡ v
     → find_closed st.history x.number
     ≡ Some (box_of x (map (written_statement (bs ++ x ∷ [])) (Equation f v ∷ [])), written_statement (bs ++ x ∷ []) s)
-    → find_closed st.history x.number ≡ Some (Supposing x.number (written bs f) v, written_statement bs s)
+    → find_closed st.history x.number ≡ Some (Supposing x.number (written_term bs f) v, written_statement bs s)
 result_is t bs st x f v s e d r =
-    let h : written_statement (bs ++ x ∷ []) (Equation f v) ≡ Equation (written bs f) v =
-    same_written bs x (Equation f v) e ∙ ap (Equation (written bs f)) d in
+    let h : written_statement (bs ++ x ∷ []) (Equation f v) ≡ Equation (written_term bs f) v =
+    same_written bs x (Equation f v) e ∙ ap (Equation (written_term bs f)) d in
     let w = same_written bs x s e in
     r ∙ (λ i. Some (record { number = x.number; parts = map part_for (e i); hypotheses = h i ∷ [] }, w i))
 
@@ -98,13 +98,16 @@ cases_at n k f l r e =
     (and_both (is_empty (occurrences f)) (same_statement (Equation l r) (Equation l r)) (empty_is (occurrences f) e)
     ((statement_Decides (Equation l r) (Equation l r)).1 refl))))
 
-truth_written : (t : Theory) (bs : List OpenBox) (ls : List Line) (st : State) → StandIn t bs ls st → written bs truth ≡ truth
+truth_written : (t : Theory) (bs : List OpenBox) (ls : List Line) (st : State) → StandIn t bs ls st
+    → written_term bs truth ≡ truth
 truth_written t bs ls st h =
     ap (λ f. app f none) (own_in_lines t bs (built_in True bool_sort) h.plain h.others (inr (True, (bool_sort, refl))))
 
-falsity_written : (t : Theory) (bs : List OpenBox) (ls : List Line) (st : State) → StandIn t bs ls st → written bs falsity ≡ falsity
+falsity_written : (t : Theory) (bs : List OpenBox) (ls : List Line) (st : State) → StandIn t bs ls st
+    → written_term bs falsity ≡ falsity
 falsity_written t bs ls st h =
-    ap (λ f. app f none) (own_in_lines t bs (built_in False bool_sort) h.plain h.others (inr (False, (bool_sort, refl))))
+    ap (λ f. app f none) (own_in_lines t bs (built_in False bool_sort) h.plain h.others
+    (inr (False, (bool_sort, refl))))
 
 cases_judged : (a : Builder) (st : State) (x y : OpenBox) (f l r : Tree)
     → ResultIn a.theory a.boxes a.lines st x (Equation f truth ∷ []) (Equation l r)
@@ -113,11 +116,15 @@ cases_judged : (a : Builder) (st : State) (x y : OpenBox) (f l r : Tree)
     → judge a.theory st.history (Cases x.number y.number) ≡ Some (written_statement a.boxes (Equation l r))
 cases_judged a st x y f l r g h d e v =
     let bs = a.boxes in
-    let first = result_is a.theory bs st x f truth (Equation l r) d (truth_written a.theory bs a.lines st g.stand) g.result in
-    let second = result_is a.theory bs st y f falsity (Equation l r) e (falsity_written a.theory bs a.lines st g.stand) h.result in
+    let first =
+    result_is a.theory bs st x f truth (Equation l r) d (truth_written a.theory bs a.lines st g.stand) g.result in
+    let second = result_is a.theory bs st y f falsity (Equation l r) e
+    (falsity_written a.theory bs a.lines st g.stand) h.result in
     ap (option_and_then (λ c. option_and_then (cases_of c) (find_closed st.history y.number))) first
-    ∙ ap (option_and_then (cases_of (Supposing x.number (written bs f) truth, written_statement bs (Equation l r)))) second
-    ∙ cases_at x.number y.number (written bs f) (written bs l) (written bs r)
+    ∙ ap
+    (option_and_then (cases_of (Supposing x.number (written_term bs f) truth, written_statement bs (Equation l r))))
+    second
+    ∙ cases_at x.number y.number (written_term bs f) (written_term bs l) (written_term bs r)
     (renamed_occurrences (naming bs) f ∙ ap (map (renamed_variable (naming bs))) v)
 
 pub cases_says : (a b : Builder) (x y : OpenBox) (n : ℕ) (f l r : Tree) → IsPushed a b (Cases x.number y.number) n

@@ -1,5 +1,6 @@
 -- Closing a box: its result stays, and the builder has grown.
-use Rattle.std.proofs.Common.{◌≡◌, ◌≤◌, ◌<◌, ◌+◌, ◌-◌, ◌==◌, ℕ, suc, cond, List, [], ◌∷◌, ◌++◌, map, length, take, All, Option, Some, refl, sym, ◌∙◌, ap, ap₂, subst, arith}
+use Rattle.std.proofs.Common.{◌≡◌, ◌≤◌, ◌<◌, ◌+◌, ◌-◌, ◌==◌, ℕ, suc, cond, List, [], ◌∷◌, ◌++◌, map, length, take, All}
+use Rattle.std.proofs.Common.{Option, Some, refl, sym, ◌∙◌, ap, ap₂, subst, arith}
 use Rattle.std.specs.Option.{option_map, option_and_then}
 use Rattle.std.proofs.lemmas.List.{append_assoc, length-append}
 use Rattle.std.proofs.Math.Seq.{take-append_seam}
@@ -9,18 +10,19 @@ use Rattle.larch_term.specs.Tree.{Tree}
 use Rattle.larch_term.specs.declared.statement.Statement.{Statement}
 use Rattle.larch_term.specs.declared.statement.Statement.TheVariants.{Equation}
 use Rattle.larch_term.specs.declared.statement.Theory.{Theory}
-use Rattle.larch_term_laws.proofs.Substitutions.{substituted_nil}
+use Rattle.larch_term_law.proofs.Substitutions.{substituted_nil}
 use Rattle.larch_calculus.specs.Theories.{AreNew}
 use Rattle.larch_certificate.specs.declared.line.Line.{Line}
 use Rattle.larch_certificate.specs.declared.line.Line.TheVariants.{Inst, Done}
-use Rattle.larch_lines.specs.Context.{theory_of, find_closed, innermost}
-use Rattle.larch_lines.specs.Events.{PlainBox, Event, Said, Opened, Closed, State, start, operators_of}
-use Rattle.larch_lines.specs.Rules.{instance_by}
-use Rattle.larch_lines.specs.Run.{run, judge}
+use Rattle.larch_verify_meaning.specs.Context.{theory_of, find_closed, innermost}
+use Rattle.larch_verify_meaning.specs.Events.{PlainBox, Event, Said, Opened, Closed, State, start, operators_of}
+use Rattle.larch_verify_meaning.specs.Rules.{instance_by}
+use Rattle.larch_verify_meaning.specs.Run.{run, judge}
 use Rattle.larch_derive.specs.declared.builder.Builder.{Builder}
 use Rattle.larch_derive.specs.declared.open_box.OpenBox.{OpenBox}
 use Rattle.larch_derive.specs.Builder.{IsPushed}
-use Rattle.larch_derive.specs.Predicates.{written, written_statement, StandIn, SaysIn, IsBehind, GrowsBy, AreAlike, Grows, HasStatement}
+use Rattle.larch_derive.specs.Predicates.{written_term, written_statement, StandIn, SaysIn, IsBehind, GrowsBy, AreAlike}
+use Rattle.larch_derive.specs.Predicates.{Grows, HasStatement}
 use Rattle.larch_derive.proofs.Growth.{carried, run_append, run_further, theory_behind, later_stand}
 use Rattle.larch_derive.proofs.Pushing.{one_state}
 use Rattle.larch_derive.proofs.Runs.{after_saying, run_said, run_count, down_run}
@@ -39,7 +41,7 @@ said_again : (t : Theory) (bs : List OpenBox) (ls : List Line) (st : State) (m :
     → judge t st.history (Inst m []) ≡ Some (written_statement bs (Equation l r))
 said_again t bs ls st m l r h =
     ap (option_and_then (instance_by [])) h.says
-    ∙ ap₂ (λ x y. Some (Equation x y)) (substituted_nil (written bs l)) (substituted_nil (written bs r))
+    ∙ ap₂ (λ x y. Some (Equation x y)) (substituted_nil (written_term bs l)) (substituted_nil (written_term bs r))
 
 -- and with it the innermost box is closed
 done_runs : (t : Theory) (st : State) (s : Statement) (p : PlainBox × List Event) → innermost st.history ≡ Some p
@@ -50,12 +52,15 @@ done_runs t st s p e =
     (option_map (λ q. Closed q.0 s ∷ q.1) o))) e
 
 -- where a box was opened and the builder has grown inside, an equation is said once more, and the box is closed
-pub closing_runs : (t : Theory) (bs : List OpenBox) (als bls cls : List Line) (x : OpenBox) (hs : List Statement) (m : ℕ)
+pub closing_runs : (t : Theory) (bs : List OpenBox) (als bls cls : List Line) (x : OpenBox)
+    (hs : List Statement) (m : ℕ)
     (l r : Tree) (st su : State) → run t start als ≡ Some st → OpensIn t bs als bls x hs → GrowsBy IsBehind t bls cls
     → SaysIn t (bs ++ x ∷ []) cls su m (Equation l r)
     → run t start ((cls ++ Inst m [] ∷ []) ++ Done ∷ []) ≡ Some (record {
       count = suc (suc su.count);
-      history = Closed (box_of x (map (written_statement (bs ++ x ∷ [])) hs)) (written_statement (bs ++ x ∷ []) (Equation l r)) ∷ st.history;
+      history =
+          Closed (box_of x (map (written_statement (bs ++ x ∷ [])) hs))
+          (written_statement (bs ++ x ∷ []) (Equation l r)) ∷ st.history;
     })
 closing_runs t bs als bls cls x hs m l r st su r0 o g h =
     let xs = bs ++ x ∷ [] in
@@ -78,7 +83,8 @@ closing_runs t bs als bls cls x hs m l r st su r0 o g h =
     (done_runs t su s (box, st.history) inner)
 
 -- the sides are over what is there inside
-inside_over_said : (t : Theory) (bs : List OpenBox) (als bls cls : List Line) (x : OpenBox) (hs : List Statement) (m : ℕ)
+inside_over_said : (t : Theory) (bs : List OpenBox) (als bls cls : List Line) (x : OpenBox)
+    (hs : List Statement) (m : ℕ)
     (s : Statement) (st su : State) → run t start als ≡ Some st → OpensIn t bs als bls x hs → GrowsBy IsBehind t bls cls
     → SaysIn t (bs ++ x ∷ []) cls su m s
     → IsStatementOver (operators_inside t st.history x) (written_statement (bs ++ x ∷ []) s)
@@ -150,7 +156,8 @@ closes_grows_in a d x hs l r c =
     let lines : d.lines ≡ a.lines ++ more =
     c.lines
     ∙ ap (λ ls. (ls ++ Inst c.line [] ∷ []) ++ Done ∷ [])
-    (c.grows.lines ∙ ap (λ ls. ls ++ c.grows.more) c.opens.lines ∙ append_assoc a.lines (c.opens.line ∷ []) c.grows.more)
+    (c.grows.lines ∙ ap (λ ls. ls ++ c.grows.more) c.opens.lines
+    ∙ append_assoc a.lines (c.opens.line ∷ []) c.grows.more)
     ∙ ap (λ ls. ls ++ Done ∷ []) (append_assoc a.lines (c.opens.line ∷ [] ++ c.grows.more) (Inst c.line [] ∷ []))
     ∙ append_assoc a.lines ((c.opens.line ∷ [] ++ c.grows.more) ++ Inst c.line [] ∷ []) (Done ∷ []) in
     record {
@@ -175,7 +182,9 @@ closes_grows_in a d x hs l r c =
             later = omega (arith, count, long, sum);
             events = Closed box s ∷ [];
             history = refl;
-            behind = All-cons (IsBehind st.count) (Closed box s) [] (omega (arith, count, number)) (All-nil (IsBehind st.count));
+            behind =
+                All-cons (IsBehind st.count) (Closed box s) [] (omega (arith, count, number))
+                (All-nil (IsBehind st.count));
           };
     }
 
@@ -183,7 +192,8 @@ pub closes_grows : (a d : Builder) (x : OpenBox) (hs : List Statement) (l r : Tr
 unfolding Grows
 closes_grows a d x hs l r c = let i = closes_in a d x hs l r c in (i.alike, closes_grows_in a d x hs l r i)
 
-box_found : (m n : ℕ) (p : PlainBox × Statement) (o : Option (PlainBox × Statement)) → m ≡ n → cond (m == n) (Some p) o ≡ Some p
+box_found : (m n : ℕ) (p : PlainBox × Statement) (o : Option (PlainBox × Statement)) → m ≡ n
+    → cond (m == n) (Some p) o ≡ Some p
 box_found m n p o e = grind (arith, e)
 
 pub closes_result : (a d : Builder) (x : OpenBox) (hs : List Statement) (l r : Tree) → Closes a d x hs l r
@@ -201,7 +211,8 @@ closes_result a d x hs l r c =
     let number = i.opens.number in
     let count = run_count t i.cls start i.state i.says.stand.runs in
     let before = run_count t a.lines start st h.runs in
-    let opened : length i.bls ≡ length a.lines + 1 = ap length i.opens.lines ∙ length-append a.lines (i.opens.line ∷ []) in
+    let opened : length i.bls ≡ length a.lines + 1 =
+    ap length i.opens.lines ∙ length-append a.lines (i.opens.line ∷ []) in
     let grown : length i.cls ≡ length i.bls + length i.grows.more =
     ap length i.grows.lines ∙ length-append i.bls i.grows.more in
     carried (λ u ys ls. (v : State) × ResultIn u ys ls v x hs (Equation l r)) a d i.alike (
@@ -219,7 +230,9 @@ closes_result a d x hs l r c =
         new = constants_new t h.plain st.history st.count (box_of x []) (down_run t a.lines start st h.runs tt)
             (omega (arith, number, before));
         others = i.opens.others;
-        over = inside_over_said t bs a.lines i.bls i.cls x hs i.line (Equation l r) st i.state h.runs i.opens i.grows i.says;
+        over =
+            inside_over_said t bs a.lines i.bls i.cls x hs i.line
+            (Equation l r) st i.state h.runs i.opens i.grows i.says;
         supposed = i.opens.over st h.runs;
       },
     )
@@ -272,7 +285,8 @@ closed_behind (Closed y s ∷ es) h c n b le =
     not_this y.number n (y, s) (find_closed (es ++ h) n) further
     ∙ closed_behind es h c n (All-tail (IsBehind c) (Closed y s) es b) le
   where
-    not_this : (m n : ℕ) (p : PlainBox × Statement) (o : Option (PlainBox × Statement)) → n < m → cond (m == n) (Some p) o ≡ o
+    not_this : (m n : ℕ) (p : PlainBox × Statement) (o : Option (PlainBox × Statement)) → n < m
+        → cond (m == n) (Some p) o ≡ o
     not_this m n p o lt = grind arith
 
 pub grown_result : (a b : Builder) (x : OpenBox) (hs : List Statement) (s : Statement) → Grows a b → HasResult a x hs s
@@ -294,8 +308,12 @@ grown_result a b x hs s g (st, h) =
         within = omega (arith, le, within);
         new = subst (λ u. AreNew u (operators_of (box_of x []))) (sym theory) h.new;
         others = h.others;
-        over = subst (λ u. IsStatementOver (u.operators ++ operators_of (box_of x [])) (written_statement bs s)) (sym theory) h.over;
-        supposed = subst (λ u. All (λ q. IsStatementOver (u.operators ++ operators_of (box_of x [])) (written_statement bs q)) hs)
+        over =
+            subst (λ u. IsStatementOver (u.operators ++ operators_of (box_of x [])) (written_statement bs s))
+            (sym theory) h.over;
+        supposed =
+            subst (λ u. All (λ q. IsStatementOver (u.operators ++ operators_of (box_of x [])) (written_statement bs q))
+            hs)
             (sym theory) h.supposed;
       },
     )

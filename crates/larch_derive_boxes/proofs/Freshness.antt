@@ -1,5 +1,6 @@
 -- Variables in the places of a box's constants.
-use Rattle.std.proofs.Common.{◌≡◌, ◌≢◌, ◌+◌, ℕ, zero, suc, Bool, true, false, cond, List, [], ◌∷◌, ◌++◌, map, All, Option, Some, None, not, bytes_eq, refl, sym, ◌∙◌, ap, ap₂, subst, arith}
+use Rattle.std.proofs.Common.{◌≡◌, ◌≢◌, ◌+◌, ℕ, zero, suc, Bool, true, false, cond, List, [], ◌∷◌, ◌++◌, map, All}
+use Rattle.std.proofs.Common.{Option, Some, None, not, bytes_eq, refl, sym, ◌∙◌, ap, ap₂, subst, arith}
 use Rattle.std.specs.Option.{option_map, option_or, option_and_then}
 use Rattle.std.specs.List.{slice_get, list_all, AllPairs}
 use Rattle.std.specs.Cmp.Lexicographic.{pointwise}
@@ -12,7 +13,7 @@ use Rattle.larch_base.proofs.Options.{some_inj}
 use Rattle.larch_term.specs.Operator.{PlainOperator}
 use Rattle.larch_term.specs.OperatorKey.{same_operator, operator_Decides, sorts_Decides}
 use Rattle.larch_term.specs.Sorts.{sort_of}
-use Rattle.larch_term.specs.Substitution.{substituted}
+use Rattle.larch_term.specs.Substitution.{instance_of}
 use Rattle.larch_term.specs.Tree.{Tree, var, app, none}
 use Rattle.larch_term.specs.declared.statement.Statement.{Statement}
 use Rattle.larch_term.specs.declared.statement.Statement.TheVariants.{Equation}
@@ -20,21 +21,22 @@ use Rattle.larch_term.specs.declared.variable.Variable.{Variable}
 use Rattle.larch_term.specs.Variable.{occurrences}
 use Rattle.larch_renaming.specs.Renaming.{renamed_entry}
 use Rattle.larch_renaming.proofs.RenamedSubstitutions.{renamed_substituted, apart_by_sorts}
-use Rattle.larch_calculus.specs.Freed.{freed, constants_for}
+use Rattle.larch_calculus.specs.Freed.{free_constants, constants_for}
 use Rattle.larch_calculus.specs.Theories.{AreConstants, AreNew}
 use Rattle.larch_calculus.proofs.Freeing.{freed_constants}
 use Rattle.larch_certificate.specs.declared.line.CodedVar.{CodedVar}
 use Rattle.larch_certificate.specs.declared.line.Line.TheVariants.{Fresh}
-use Rattle.larch_lines.specs.BoxRules.{freed_equation, freed_result}
-use Rattle.larch_lines.specs.Context.{theory_of}
-use Rattle.larch_lines.specs.Events.{State, start, operators_of, operators_from, part_operator}
-use Rattle.larch_lines.specs.Matching.{has_constants, variable_of}
-use Rattle.larch_lines.specs.Run.{judge}
+use Rattle.larch_verify_meaning.specs.BoxRules.{freed_equation, freed_result}
+use Rattle.larch_verify_meaning.specs.Context.{theory_of}
+use Rattle.larch_verify_meaning.specs.Events.{State, start, operators_of, operators_from, part_operator}
+use Rattle.larch_verify_meaning.specs.Matching.{has_constants, variable_of}
+use Rattle.larch_verify_meaning.specs.Run.{judge}
 use Rattle.larch_derive.specs.declared.builder.Builder.{Builder}
 use Rattle.larch_derive.specs.declared.open_box.OpenBox.{OpenBox}
 use Rattle.larch_derive.specs.Builder.{IsPushed, part_for, part_sort}
 use Rattle.larch_derive.specs.OpenBox.{place_from, constant_of, in_lines, naming}
-use Rattle.larch_derive.specs.Predicates.{AreOthers, written, written_statement, StandIn, KnownIn, Known, HasStatement, Extends}
+use Rattle.larch_derive.specs.Predicates.{AreOthers, written_term, written_statement, StandIn, KnownIn, Known}
+use Rattle.larch_derive.specs.Predicates.{HasStatement, Extends}
 use Rattle.larch_derive.proofs.Pushing.{pushed_says, pushed_extends, one_state}
 use Rattle.larch_derive.proofs.Runs.{down_run}
 use Rattle.larch_derive_boxes.specs.Boxes.{box_of, ResultIn, HasResult, AreOwnConstants, with_constants}
@@ -48,7 +50,8 @@ other_first : (g f : PlainOperator) (k : ℕ) (o : Option ℕ) → g ≢ f → (
 other_first g f k o d true e = absurd (d ((operator_Decides g f).0 e))
 other_first g f k o d false e = refl
 
-got_differs : (P : PlainOperator → Type 0) (fs : List PlainOperator) (i : ℕ) (f : PlainOperator) → slice_get fs i ≡ Some f
+got_differs : (P : PlainOperator → Type 0) (fs : List PlainOperator) (i : ℕ) (f : PlainOperator)
+    → slice_get fs i ≡ Some f
     → All P fs → P f
 got_differs P fs i f e h = All-contains P fs f h (got_contains fs i f e)
 
@@ -81,7 +84,8 @@ innermost_constant (b ∷ bs) x f k e p =
 -- ---- the constants as they are written
 
 abbrev pub Named : List OpenBox → ℕ → ℕ → List PlainOperator → Type 0
-Named bs n j cs = (i : ℕ) (c : PlainOperator) → slice_get cs i ≡ Some c → part_operator n (j + i) (part_for c) ≡ in_lines bs c
+Named bs n j cs =
+    (i : ℕ) (c : PlainOperator) → slice_get cs i ≡ Some c → part_operator n (j + i) (part_for c) ≡ in_lines bs c
 
 entries_written : (bs : List OpenBox) (n j : ℕ) (vs : List Variable) (cs : List PlainOperator) → Named bs n j cs
     → map (renamed_entry (naming bs)) (constants_for vs cs) ≡ constants_for vs (operators_from n j (map part_for cs))
@@ -91,7 +95,8 @@ entries_written bs n j (v ∷ vs) (c ∷ cs) h =
     let here : part_operator n j (part_for c) ≡ in_lines bs c =
     ap (λ k. part_operator n k (part_for c)) (let z : j ≡ j + 0 = omega arith in z) ∙ h 0 c refl in
     let rest = entries_written bs n (suc j) vs cs
-    (λ i d e. ap (λ k. part_operator n k (part_for d)) (let z : suc j + i ≡ j + suc i = omega arith in z) ∙ h (suc i) d e) in
+    (λ i d e. ap (λ k. part_operator n k (part_for d)) (let z : suc j + i ≡ j + suc i = omega arith in z)
+    ∙ h (suc i) d e) in
     λ i. record { name = v.name; sort = v.sort; term = app (sym here i) none } ∷ rest i
 
 pub own_named : (bs : List OpenBox) (x : OpenBox) → AreOwnConstants bs x → Named (bs ++ x ∷ []) x.number 1 x.constants
@@ -135,8 +140,9 @@ has_sorts x hs ss k e =
 freed_side : (a : Builder) (st : State) (x : OpenBox) (vs : List Variable) (t : Tree)
     → AreNew (theory_of a.theory st.history) (operators_of (box_of x [])) → AreOthers a.theory x.constants
     → KnownIn a.theory a.boxes a.lines st t → AreOwnConstants a.boxes x
-    → freed (operators_of (box_of x [])) vs (written (a.boxes ++ x ∷ []) (substituted (constants_for vs x.constants) t))
-    ≡ written a.boxes t
+    → free_constants (operators_of (box_of x [])) vs
+    (written_term (a.boxes ++ x ∷ []) (instance_of (constants_for vs x.constants) t))
+    ≡ written_term a.boxes t
 freed_side a st x vs t new others k own =
     let u = a.theory in
     let bs = a.boxes in
@@ -144,11 +150,11 @@ freed_side a st x vs t new others k own =
     let es = constants_for vs x.constants in
     let cs = operators_of (box_of x []) in
     let down = down_run u a.lines start st k.stand.runs tt in
-    ap (freed cs vs)
+    ap (free_constants cs vs)
     (renamed_substituted (naming xs) es t (apart_by_sorts (naming xs) es (occurrences t) (λ s z e. e))
-    ∙ ap₂ substituted (entries_written xs x.number 1 vs x.constants (own_named bs x own))
+    ∙ ap₂ instance_of (entries_written xs x.number 1 vs x.constants (own_named bs x own))
     (sym (inside_written u k.stand.plain st.history st.count bs x down others t k.over.1)))
-    ∙ freed_constants (theory_of u st.history) cs vs (written bs t) new k.over.1
+    ∙ freed_constants (theory_of u st.history) cs vs (written_term bs t) new k.over.1
 
 fresh_judged : (a : Builder) (st : State) (x : OpenBox) (ws : List CodedVar) (l r : Tree)
     → ResultIn a.theory a.boxes a.lines st x [] (Equation (with_constants ws x l) (with_constants ws x r))
@@ -166,7 +172,7 @@ fresh_judged a st x ws l r h own sorts kl kr =
     ∙ ap₂ (λ p q. Some (Equation p q)) (freed_side a st x vs l h.new h.others kl own)
     (freed_side a st x vs r h.new h.others kr own)
 
-pub sort_written : (bs : List OpenBox) (t : Tree) → sort_of (written bs t) ≡ sort_of t
+pub sort_written : (bs : List OpenBox) (t : Tree) → sort_of (written_term bs t) ≡ sort_of t
 sort_written bs (var n s) = refl
 sort_written bs (app f ts) = refl
 

@@ -1,7 +1,9 @@
 -- What can be written in a box before it is open: terms with the box's own constants, and what they suppose.
-use Rattle.std.proofs.Common.{◌≡◌, inl, inr, ℕ, suc, cond, List, [], ◌∷◌, ◌++◌, map, All, Contains, bytes_eq, refl, sym, ◌∙◌, ap, subst}
+use Rattle.std.proofs.Common.{◌≡◌, inl, inr, ℕ, suc, cond, List, [], ◌∷◌, ◌++◌, map, All, Contains, bytes_eq, refl, sym}
+use Rattle.std.proofs.Common.{◌∙◌, ap, subst}
 use Rattle.std.proofs.lemmas.List.{map-append}
-use Rattle.std.proofs.lemmas.List.Elements.{All-nil, All-cons, All-head, All-tail, All-map, All-push, All-weaker, All-contains}
+use Rattle.std.proofs.lemmas.List.Elements.{All-nil, All-cons, All-head, All-tail, All-map, All-push, All-weaker}
+use Rattle.std.proofs.lemmas.List.Elements.{All-contains}
 use Rattle.std.proofs.lemmas.Slice.Eq.{bytes_eq-Decides}
 use Rattle.larch_base.proofs.Bools.{true_or_false}
 use Rattle.larch_base.proofs.Lists.{all_from}
@@ -10,35 +12,38 @@ use Rattle.larch_term.specs.BuiltIn.{bool_sort}
 use Rattle.larch_term.specs.Operator.{PlainOperator}
 use Rattle.larch_term.specs.Sorts.{sort_of, WellSorted, IsOver, IsKnown, IsTermOver}
 use Rattle.larch_term.specs.Statement.{IsStatementOver}
-use Rattle.larch_term.specs.Substitution.{substituted, Fits}
+use Rattle.larch_term.specs.Substitution.{instance_of, Fits}
 use Rattle.larch_term.specs.Tree.{Tree}
 use Rattle.larch_term.specs.Truth.{truth}
 use Rattle.larch_term.specs.declared.statement.Statement.{Statement}
 use Rattle.larch_term.specs.declared.statement.Statement.TheVariants.{Equation, Generated, Partitioned}
 use Rattle.larch_term.specs.declared.statement.Theory.{Theory}
 use Rattle.larch_term.specs.declared.substitution.Entry.{Entry}
-use Rattle.larch_term_laws.proofs.Substitutions.{substituted_sort, substituted_well_sorted, substituted_over}
+use Rattle.larch_term_law.proofs.Substitutions.{substituted_sort, substituted_well_sorted, substituted_over}
 use Rattle.larch_renaming.specs.Renaming.{renamed_entry, Carries}
 use Rattle.larch_renaming.proofs.Renamed.{renamed_term_over}
 use Rattle.larch_calculus.specs.Formula.{constant}
-use Rattle.larch_calculus.specs.Generation.{only, equation_at, place_name, induction_hypotheses, generation_formula, generation_hypotheses}
-use Rattle.larch_calculus.specs.Observation.{observed, observations_of, observations}
+use Rattle.larch_calculus.specs.Generation.{only, equation_at, place_name, induction_hypotheses, generation_formula}
+use Rattle.larch_calculus.specs.Generation.{generation_hypotheses}
+use Rattle.larch_calculus.specs.Observation.{observer_term, observations_of, observations}
 use Rattle.larch_calculus.specs.Renaming.{HasPlainNames}
 use Rattle.larch_calculus.specs.Theories.{AreConstants}
 use Rattle.larch_calculus.proofs.Observed.{observations_over}
 use Rattle.larch_calculus.proofs.Renamed.{renamed_substituted}
 use Rattle.larch_calculus.proofs.Sorted.{generation_over, knows_more, only_fits}
-use Rattle.larch_lines.specs.Events.{Event, Opened, State, start}
+use Rattle.larch_verify_meaning.specs.Events.{Event, Opened, State, start}
 use Rattle.larch_derive.specs.declared.builder.Builder.{Builder}
 use Rattle.larch_derive.specs.declared.open_box.OpenBox.{OpenBox}
 use Rattle.larch_derive.specs.Builder.{shape_of}
 use Rattle.larch_derive.specs.OpenBox.{naming}
-use Rattle.larch_derive.specs.Predicates.{AreOthers, shapes_of, written, written_statement, StandIn, KnownIn, HasNoBadLine, Known}
+use Rattle.larch_derive.specs.Predicates.{AreOthers, shapes_of, written_term, written_statement, StandIn, KnownIn}
+use Rattle.larch_derive.specs.Predicates.{HasNoBadLine, Known}
 use Rattle.larch_derive.proofs.Growth.{known_stands}
 use Rattle.larch_derive.proofs.Pushing.{one_state}
 use Rattle.larch_derive.proofs.Runs.{down_run}
 use Rattle.larch_derive.proofs.Unchanged.{own_in_lines, known_in_boxes, naming_faithful}
-use Rattle.larch_derive_boxes.specs.Boxes.{box_of, operators_inside, IsEquation, IsPart, KnownInsideIn, KnownInside, AreKnownInside, MaySuppose, Opens}
+use Rattle.larch_derive_boxes.specs.Boxes.{box_of, operators_inside, IsEquation, IsPart, KnownInsideIn, KnownInside}
+use Rattle.larch_derive_boxes.specs.Boxes.{AreKnownInside, MaySuppose, Opens}
 use Rattle.larch_derive_boxes.proofs.Freshness.{sort_written}
 use Rattle.larch_derive_boxes.proofs.Knowing.{part_there}
 use Rattle.larch_derive_boxes.proofs.Opening.{moved, stand_inside}
@@ -46,7 +51,8 @@ use Rattle.larch_derive_boxes.proofs.Renaming.{inside_over}
 
 -- ---- terms
 
-pub known_outside : (a : Builder) (x : OpenBox) (t : Tree) → AreOthers a.theory x.constants → Known a t → KnownInside a x t
+pub known_outside : (a : Builder) (x : OpenBox) (t : Tree) → AreOthers a.theory x.constants → Known a t
+    → KnownInside a x t
 unfolding Known KnownInside
 known_outside a x t o (st, k) = (
   st,
@@ -90,7 +96,8 @@ known_own a x t (st, h) o parts w =
       st,
       record {
         stand = h;
-        over = renamed_term_over (naming xs) (a.theory.operators ++ x.constants) (operators_inside a.theory st.history x)
+        over =
+            renamed_term_over (naming xs) (a.theory.operators ++ x.constants) (operators_inside a.theory st.history x)
             faithful.signatures
             (inside_carries a.theory a.boxes st.history x h.plain h.others h.opened o parts) t w;
       },
@@ -103,7 +110,7 @@ known_inside_at a x st t h (su, k) =
     subst (λ z. KnownInsideIn a.theory a.boxes a.lines z x t) (one_state a.theory a.lines st su h.runs k.stand.runs) k
 
 pub known_replaced : (a : Builder) (x : OpenBox) (es : List Entry) (t : Tree) → KnownInside a x t
-    → AreKnownInside a x es → KnownInside a x (substituted es t)
+    → AreKnownInside a x es → KnownInside a x (instance_of es t)
 unfolding KnownInside
 known_replaced a x es t (st, k) w =
     let xs = a.boxes ++ x ∷ [] in
@@ -112,17 +119,18 @@ known_replaced a x es t (st, k) w =
     let P : Entry → Type 0 = λ e. KnownInside a x e.term × (sort_of e.term ≡ e.sort) in
     let fit : Fits ds =
     All-map (λ e. WellSorted e.term × (sort_of e.term ≡ e.sort)) (renamed_entry (naming xs)) es
-    (All-weaker P (λ e. WellSorted (written xs e.term) × (sort_of (written xs e.term) ≡ e.sort))
+    (All-weaker P (λ e. WellSorted (written_term xs e.term) × (sort_of (written_term xs e.term) ≡ e.sort))
     (λ e p. ((known_inside_at a x st e.term k.stand p.0).over.0, sort_written xs e.term ∙ p.1)) es w) in
     let over : All (λ e. IsOver fs e.term) ds =
     All-map (λ e. IsOver fs e.term) (renamed_entry (naming xs)) es
-    (All-weaker P (λ e. IsOver fs (written xs e.term)) (λ e p. (known_inside_at a x st e.term k.stand p.0).over.1) es w) in (
+    (All-weaker P (λ e. IsOver fs (written_term xs e.term))
+    (λ e p. (known_inside_at a x st e.term k.stand p.0).over.1) es w) in (
       st,
       record {
         stand = k.stand;
         over = subst (IsTermOver fs) (sym (renamed_substituted (naming xs) (λ s z e. e) es t)) (
-          substituted_well_sorted ds (written xs t) fit k.over.0,
-          substituted_over fs ds (written xs t) over k.over.1,
+          substituted_well_sorted ds (written_term xs t) fit k.over.0,
+          substituted_over fs ds (written_term xs t) over k.over.1,
         );
       },
     )
@@ -173,14 +181,16 @@ case_supposed : (a : Builder) (x : OpenBox) (v s : List ℕ) (l r : Tree) (c : P
 case_supposed a x v s l r c kl kr e k d q =
     let es = only v s (constant c) in
     let P : Entry → Type 0 = λ e. KnownInside a x e.term × (sort_of e.term ≡ e.sort) in
-    let known : AreKnownInside a x es = All-cons P (record { name = v; sort = s; term = constant c }) [] (k, q) (All-nil P) in
+    let known : AreKnownInside a x es =
+    All-cons P (record { name = v; sort = s; term = constant c }) [] (k, q) (All-nil P) in
     let fit = only_fits v s (constant c) (sym d, tt) q in
-    may_suppose_inside a x (substituted es l) (substituted es r) (known_replaced a x es l kl known)
+    may_suppose_inside a x (instance_of es l) (instance_of es r) (known_replaced a x es l kl known)
     (known_replaced a x es r kr known) (substituted_sort es l fit ∙ e ∙ sym (substituted_sort es r fit))
 
 cases_supposed : (a : Builder) (x : OpenBox) (v s : List ℕ) (l r : Tree) → KnownInside a x l → KnownInside a x r
     → sort_of l ≡ sort_of r → (cs : List PlainOperator)
-    → All (λ c. KnownInside a x (constant c) × (c.domain ≡ [])) cs → All (MaySuppose a x) (induction_hypotheses v s l r cs)
+    → All (λ c. KnownInside a x (constant c) × (c.domain ≡ [])) cs
+    → All (MaySuppose a x) (induction_hypotheses v s l r cs)
 cases_supposed a x v s l r kl kr e [] h = All-nil (MaySuppose a x)
 cases_supposed a x v s l r kl kr e (c ∷ cs) h =
     let Q : PlainOperator → Type 0 = λ c. KnownInside a x (constant c) × (c.domain ≡ []) in
@@ -210,7 +220,8 @@ induction_supposed a x v s l r o k kl kr e =
 
 -- ---- hypotheses of clauses
 
-equations_supposed : (a : Builder) (x : OpenBox) → HasNoBadLine a → AreOthers a.theory x.constants → All IsPart x.constants
+equations_supposed : (a : Builder) (x : OpenBox) → HasNoBadLine a → AreOthers a.theory x.constants
+    → All IsPart x.constants
     → (hs : List Statement) → All IsEquation hs → All (IsStatementOver (a.theory.operators ++ x.constants)) hs
     → All (MaySuppose a x) hs
 equations_supposed a x h o parts [] e w = All-nil (MaySuppose a x)
@@ -243,7 +254,8 @@ observations_supposed a x c d s os h o k mc md rc rd w =
     ) in
     equations_supposed a x h o (constants_are_parts x.constants k)
     (observations place_name s os (constant c) (constant d))
-    (All-map IsEquation (λ w. Equation (observed place_name w (constant c)) (observed place_name w (constant d)))
+    (All-map IsEquation (λ w. Equation (observer_term place_name w (constant c))
+    (observer_term place_name w (constant d)))
     (observations_of s os) (λ k d lt. tt))
     (observations_over fs place_name s os (constant c) (constant d)
     (λ q m. knows_more a.theory.operators x.constants q

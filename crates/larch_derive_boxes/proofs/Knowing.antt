@@ -1,7 +1,9 @@
 -- Constants of open boxes are known.
-use Rattle.std.proofs.Common.{◌≡◌, inl, inr, ℕ, suc, Bool, true, false, cond, List, [], ◌∷◌, map, Contains, Option, Some, None, refl, sym, ◌∙◌, ap, subst}
+use Rattle.std.proofs.Common.{◌≡◌, inl, inr, ℕ, suc, Bool, true, false, cond, List, [], ◌∷◌, map, Contains, Option}
+use Rattle.std.proofs.Common.{Some, None, refl, sym, ◌∙◌, ap, subst}
 use Rattle.std.specs.Option.{option_map, option_or}
-use Rattle.larch_base.proofs.Members.{contains_here, contains_later, contains_left, contains_right, contains_either, contains_cases, contains_none, contains_one, contains_map}
+use Rattle.larch_base.proofs.Members.{contains_here, contains_later, contains_left, contains_right, contains_either}
+use Rattle.larch_base.proofs.Members.{contains_cases, contains_none, contains_one, contains_map}
 use Rattle.larch_base.proofs.Options.{some_inj}
 use Rattle.larch_term.specs.BuiltIn.{bool_sort}
 use Rattle.larch_term.specs.Operator.{PlainOperator, boxed}
@@ -9,8 +11,8 @@ use Rattle.larch_term.specs.OperatorKey.{same_operator, operator_Decides}
 use Rattle.larch_term.specs.Tree.{app, none}
 use Rattle.larch_term.specs.declared.statement.Theory.{Theory}
 use Rattle.larch_certificate.specs.declared.line.BoxPart.{BoxPart}
-use Rattle.larch_lines.specs.Context.{theory_of}
-use Rattle.larch_lines.specs.Events.{Event, Said, Opened, Closed, operators_of, operators_from, part_operator}
+use Rattle.larch_verify_meaning.specs.Context.{theory_of}
+use Rattle.larch_verify_meaning.specs.Events.{Event, Said, Opened, Closed, operators_of, operators_from, part_operator}
 use Rattle.larch_derive.specs.declared.builder.Builder.{Builder}
 use Rattle.larch_derive.specs.declared.open_box.OpenBox.{OpenBox}
 use Rattle.larch_derive.specs.Builder.{part_for, part_sort, shape_of}
@@ -27,7 +29,8 @@ at_head k g gs f c next true e = (k, ap (λ b. cond b (Some k) (place_from (suc 
 at_head k g gs f c next false e =
     let behind : Contains gs f =
     elim (contains_cases g f gs c) [
-      | inl q ↦ let y : same_operator g f ≡ true = (operator_Decides g f).1 q in absurd (let z : true ≡ false = sym y ∙ e in cc)
+      | inl q ↦ let y : same_operator g f ≡ true = (operator_Decides g f).1 q in
+          absurd (let z : true ≡ false = sym y ∙ e in cc)
       | inr d ↦ d
     ] in
     let r = next behind in
@@ -66,7 +69,8 @@ at_box b bs f next None e =
       named = ap (λ o. option_or (option_map (λ j. (b.number, j)) o) (constant_of bs f)) e ∙ r.named;
     }
 
-named_by : (bs : List OpenBox) (x : OpenBox) (f : PlainOperator) → Contains bs x → Contains x.constants f → IsNamedBy bs f
+named_by : (bs : List OpenBox) (x : OpenBox) (f : PlainOperator) → Contains bs x → Contains x.constants f
+    → IsNamedBy bs f
 named_by [] x f c d = absurd (contains_none x c)
 named_by (b ∷ bs) x f c d =
     at_box b bs f
@@ -113,7 +117,8 @@ shape_there t (Opened b ∷ h) p o c d =
     ]
 shape_there t (Closed b s ∷ h) p o c d = shape_there t h p o c d
 
-pub constant_in_lines : (bs : List OpenBox) (f : PlainOperator) (n k : ℕ) → f.domain ≡ [] → constant_of bs f ≡ Some (n, k)
+pub constant_in_lines : (bs : List OpenBox) (f : PlainOperator) (n k : ℕ) → f.domain ≡ []
+    → constant_of bs f ≡ Some (n, k)
     → part_operator n k (part_for f) ≡ in_lines bs f
 constant_in_lines bs f n k e q =
     let name : boxed n k ≡ name_in_lines (constant_of bs f) f.name = ap (λ o. name_in_lines o f.name) (sym q) in

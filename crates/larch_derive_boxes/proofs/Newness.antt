@@ -6,9 +6,9 @@ use Rattle.larch_term.specs.declared.statement.Theory.{Theory}
 use Rattle.larch_calculus.specs.Boxes.{IsOlder, IsOlderName}
 use Rattle.larch_calculus.specs.Renaming.{HasPlainNames}
 use Rattle.larch_calculus.specs.Theories.{AreNew}
-use Rattle.larch_lines.specs.Context.{theory_of}
-use Rattle.larch_lines.specs.Events.{PlainBox, Event, operators_of}
-use Rattle.larch_lines_law.proofs.Contexts.{box_new}
+use Rattle.larch_verify_meaning.specs.Context.{theory_of}
+use Rattle.larch_verify_meaning.specs.Events.{PlainBox, Event, operators_of}
+use Rattle.larch_verify_law.proofs.Contexts.{box_new}
 use Rattle.larch_derive.proofs.Decoding.{constant_older}
 use Rattle.larch_derive.proofs.Runs.{GoDown}
 

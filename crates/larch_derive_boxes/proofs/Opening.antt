@@ -1,5 +1,6 @@
 -- Opening a box: the lines lead inside, and what was said and known outside is said and known inside.
-use Rattle.std.proofs.Common.{◌≡◌, ◌-◌, ℕ, suc, List, [], ◌∷◌, ◌++◌, map, All, Some, None, bytes_eq, refl, sym, ◌∙◌, ap, subst, arith}
+use Rattle.std.proofs.Common.{◌≡◌, ◌-◌, ℕ, suc, List, [], ◌∷◌, ◌++◌, map, All, Some, None, bytes_eq, refl, sym, ◌∙◌, ap}
+use Rattle.std.proofs.Common.{subst, arith}
 use Rattle.std.specs.Option.{option_map, option_and_then}
 use Rattle.std.proofs.lemmas.Bool.{cond-true}
 use Rattle.std.proofs.lemmas.List.{map-append}
@@ -16,15 +17,16 @@ use Rattle.larch_calculus.specs.Renaming.{HasPlainNames}
 use Rattle.larch_certificate.specs.declared.line.CodedEquation.{CodedEquation}
 use Rattle.larch_certificate.specs.declared.line.Line.{Line}
 use Rattle.larch_certificate.specs.declared.line.Line.TheVariants.{BoxLine}
-use Rattle.larch_lines.specs.Context.{theory_of, find_symbol}
-use Rattle.larch_lines.specs.Decoding.{each, decode, decode_equation, equation_between}
-use Rattle.larch_lines.specs.Events.{Event, Opened, State, start}
-use Rattle.larch_lines.specs.Run.{run}
+use Rattle.larch_verify_meaning.specs.Context.{theory_of, find_symbol}
+use Rattle.larch_verify_meaning.specs.Decoding.{each, decode, decode_equation, equation_between}
+use Rattle.larch_verify_meaning.specs.Events.{Event, Opened, State, start}
+use Rattle.larch_verify_meaning.specs.Run.{run}
 use Rattle.larch_derive.specs.declared.builder.Builder.{Builder}
 use Rattle.larch_derive.specs.declared.open_box.OpenBox.{OpenBox}
 use Rattle.larch_derive.specs.Builder.{IsOpened, part_for, shape_of}
 use Rattle.larch_derive.specs.Coding.{AreCodesOfEquations}
-use Rattle.larch_derive.specs.Predicates.{AreOthers, written, written_statement, StandIn, KnownIn, SaysIn, HasNoBadLine, Known, HasStatement}
+use Rattle.larch_derive.specs.Predicates.{AreOthers, written_term, written_statement, StandIn, KnownIn, SaysIn}
+use Rattle.larch_derive.specs.Predicates.{HasNoBadLine, Known, HasStatement}
 use Rattle.larch_derive.proofs.Decoding.{written_means}
 use Rattle.larch_derive.proofs.Growth.{run_further}
 use Rattle.larch_derive.proofs.Pushing.{one_state}
@@ -39,7 +41,8 @@ IsSupposed fs bs s = IsEquation s × IsStatementOver fs (written_statement bs s)
 
 pub between : (l r : Tree) → sort_of l ≡ sort_of r → equation_between l r ≡ Some (Equation l r)
 between l r e =
-    cond-true (bytes_eq (sort_of l) (sort_of r)) (Some (Equation l r)) None ((bytes_eq-Decides (sort_of l) (sort_of r)).1 e)
+    cond-true (bytes_eq (sort_of l) (sort_of r)) (Some (Equation l r)) None
+    ((bytes_eq-Decides (sort_of l) (sort_of r)).1 e)
 
 equations_mean : (t : Theory) → HasPlainNames t → (h : List Event) (c : ℕ) (bs : List OpenBox) → GoDown c h
     → (hs : List Statement) (es : List CodedEquation) → AreCodesOfEquations bs t.operators hs es
@@ -55,9 +58,9 @@ equations_mean t p h c bs g (Equation l r ∷ hs) (e ∷ es) d w =
     ap (option_and_then (λ y. option_map (λ ys. y ∷ ys) (each (decode_equation find) es)))
     (ap (option_and_then (λ x. option_and_then (equation_between x) (decode find e.right)))
     (written_means t p h c bs g l e.left d.0 here.0)
-    ∙ ap (option_and_then (equation_between (written bs l))) (written_means t p h c bs g r e.right d.1 here.1)
-    ∙ between (written bs l) (written bs r) here.2)
-    ∙ ap (option_map (λ ys. Equation (written bs l) (written bs r) ∷ ys))
+    ∙ ap (option_and_then (equation_between (written_term bs l))) (written_means t p h c bs g r e.right d.1 here.1)
+    ∙ between (written_term bs l) (written_term bs r) here.2)
+    ∙ ap (option_map (λ ys. Equation (written_term bs l) (written_term bs r) ∷ ys))
     (equations_mean t p h c bs g hs es d.2 (All-tail P (Equation l r) hs w))
 equations_mean t p h c bs g (Generated s fs ∷ hs) es d w =
     absurd ((All-head (IsSupposed (theory_of t h).operators bs) (Generated s fs) hs w).0)
@@ -68,7 +71,8 @@ equations_mean t p h c bs g (Partitioned s fs ∷ hs) es d w =
 
 inside_down : (c : ℕ) (h : List Event) (x : OpenBox) → x.number ≡ suc c → GoDown c h
     → GoDown x.number (Opened (box_of x []) ∷ h)
-inside_down c h x e g = (omega (arith, e), omega arith, subst (λ k. GoDown k h) (let z : c ≡ x.number - 1 = omega (arith, e) in z) g)
+inside_down c h x e g =
+    (omega (arith, e), omega arith, subst (λ k. GoDown k h) (let z : c ≡ x.number - 1 = omega (arith, e) in z) g)
 
 box_runs : (t : Theory) → HasPlainNames t → (st : State) (bs : List OpenBox) (x : OpenBox) (hs : List Statement)
     (es : List CodedEquation) → x.number ≡ suc st.count → GoDown st.count st.history
@@ -79,9 +83,11 @@ box_runs t p st bs x hs es e g d w =
     let h = st.history in
     let ps = map part_for x.constants in
     let means = equations_mean t p (Opened (box_of x []) ∷ h) x.number bs (inside_down st.count h x e g) hs es d w in
-    let at : each (decode_equation (find_symbol t (Opened (record { number = suc st.count; parts = ps; hypotheses = [] }) ∷ h))) es
+    let at : each (decode_equation
+    (find_symbol t (Opened (record { number = suc st.count; parts = ps; hypotheses = [] }) ∷ h))) es
     ≡ Some (map (written_statement bs) hs) =
-    subst (λ k. each (decode_equation (find_symbol t (Opened (record { number = k; parts = ps; hypotheses = [] }) ∷ h))) es
+    subst (λ k. each (decode_equation (find_symbol t (Opened (record { number = k; parts = ps; hypotheses = [] }) ∷ h)))
+    es
     ≡ Some (map (written_statement bs) hs)) e means in
     ap (λ o. option_and_then (λ u. run t u []) (option_map (λ k. record { count = suc st.count; history = k })
     (option_map (λ qs. Opened (record { number = suc st.count; parts = ps; hypotheses = qs }) ∷ h) o))) at
@@ -101,7 +107,8 @@ supposed_in a st x h hs w =
           (one_state a.theory a.lines st q.0 h.runs q.1.stand.runs) q.1.over,
     )) hs w
 
-pub opens : (a b : Builder) (n : ℕ) (cs : List PlainOperator) (hs : List Statement) → IsOpened a b cs hs n → HasNoBadLine a
+pub opens : (a b : Builder) (n : ℕ) (cs : List PlainOperator) (hs : List Statement) → IsOpened a b cs hs n
+    → HasNoBadLine a
     → AreOthers a.theory cs → All (MaySuppose a (record { number = n; constants = cs })) hs
     → Opens a b (record { number = n; constants = cs }) hs
 unfolding HasNoBadLine Opens
@@ -142,7 +149,8 @@ pub may_suppose : (a : Builder) (x : OpenBox) (l r : Tree) → AreOthers a.theor
     → sort_of l ≡ sort_of r → MaySuppose a x (Equation l r)
 unfolding Known MaySuppose
 may_suppose a x l r o (st, k) (su, m) e =
-    let n = subst (λ z. KnownIn a.theory a.boxes a.lines z r) (one_state a.theory a.lines st su k.stand.runs m.stand.runs) m in
+    let n = subst (λ z. KnownIn a.theory a.boxes a.lines z r)
+    (one_state a.theory a.lines st su k.stand.runs m.stand.runs) m in
     let bs = a.boxes in (
       st,
       record {
@@ -154,7 +162,7 @@ may_suppose a x l r o (st, k) (su, m) e =
       },
     )
   where
-    sort_written : (bs : List OpenBox) (t : Tree) → sort_of (written bs t) ≡ sort_of t
+    sort_written : (bs : List OpenBox) (t : Tree) → sort_of (written_term bs t) ≡ sort_of t
     sort_written bs (var n s) = refl
     sort_written bs (app f ts) = refl
 
@@ -219,7 +227,8 @@ pub opened_boxes : (a b : Builder) (x : OpenBox) (hs : List Statement) → Opens
 unfolding Opens
 opened_boxes a b x hs o = (o.theory, o.boxes)
 
-pub opened_known : (a b : Builder) (x : OpenBox) (hs : List Statement) (t : Tree) → Opens a b x hs → Known a t → Known b t
+pub opened_known : (a b : Builder) (x : OpenBox) (hs : List Statement) (t : Tree) → Opens a b x hs
+    → Known a t → Known b t
 unfolding Opens Known
 opened_known a b x hs t o (st, k) =
     let u = a.theory in

@@ -1,5 +1,6 @@
 -- Hypotheses of open boxes.
-use Rattle.std.proofs.Common.{◌≡◌, ◌<◌, ◌-◌, ◌==◌, ℕ, zero, suc, Bool, true, false, cond, List, [], ◌∷◌, ◌++◌, map, All, Option, Some, None, refl, sym, ◌∙◌, ap, subst, arith}
+use Rattle.std.proofs.Common.{◌≡◌, ◌<◌, ◌-◌, ◌==◌, ℕ, zero, suc, Bool, true, false, cond, List, [], ◌∷◌, ◌++◌, map, All}
+use Rattle.std.proofs.Common.{Option, Some, None, refl, sym, ◌∙◌, ap, subst, arith}
 use Rattle.std.specs.Option.{option_map, option_and_then}
 use Rattle.std.specs.List.{slice_get}
 use Rattle.std.proofs.lemmas.List.Elements.{All-head, All-tail, All-contains, All-weaker}
@@ -9,9 +10,9 @@ use Rattle.larch_term.specs.Statement.{IsStatementOver}
 use Rattle.larch_term.specs.declared.statement.Statement.{Statement}
 use Rattle.larch_tables.proofs.Identities.{at_place}
 use Rattle.larch_certificate.specs.declared.line.Line.TheVariants.{Hyp}
-use Rattle.larch_lines.specs.Context.{find_open}
-use Rattle.larch_lines.specs.Events.{PlainBox, Event, Said, Opened, Closed, State, start}
-use Rattle.larch_lines.specs.Run.{judge}
+use Rattle.larch_verify_meaning.specs.Context.{find_open}
+use Rattle.larch_verify_meaning.specs.Events.{PlainBox, Event, Said, Opened, Closed, State, start}
+use Rattle.larch_verify_meaning.specs.Run.{judge}
 use Rattle.larch_derive.specs.declared.builder.Builder.{Builder}
 use Rattle.larch_derive.specs.declared.open_box.OpenBox.{OpenBox}
 use Rattle.larch_derive.specs.Builder.{IsPushed}
@@ -81,7 +82,8 @@ same_hypotheses F f g k (s ∷ hs) w =
     let rest = same_hypotheses F f g k hs (All-tail F s hs w) in
     λ i. here i ∷ rest i
 
-pub opened_open : (a b : Builder) (x y : OpenBox) (hs ks : List Statement) → Opens a b y ks → IsOpen a x hs → IsOpen b x hs
+pub opened_open : (a b : Builder) (x y : OpenBox) (hs ks : List Statement) → Opens a b y ks → IsOpen a x hs
+    → IsOpen b x hs
 unfolding Opens IsOpen
 opened_open a b x y hs ks o (st, h) =
     let t = a.theory in
@@ -129,7 +131,8 @@ hyp_judged : (a : Builder) (st : State) (x : OpenBox) (hs : List Statement) (k :
     → IsOpenIn a.theory a.boxes a.lines st x hs → numbered hs k ≡ Some s
     → judge a.theory st.history (Hyp x.number k) ≡ Some (written_statement a.boxes s)
 hyp_judged a st x hs k s h e =
-    ap (option_and_then (λ box. numbered box.hypotheses k)) h.found ∙ numbered_mapped (written_statement a.boxes) hs k s e
+    ap (option_and_then (λ box. numbered box.hypotheses k)) h.found
+    ∙ numbered_mapped (written_statement a.boxes) hs k s e
 
 pub hyp_says : (a b : Builder) (x : OpenBox) (hs : List Statement) (k n : ℕ) (s : Statement)
     → IsPushed a b (Hyp x.number k) n → IsOpen a x hs → numbered hs k ≡ Some s → HasStatement b n s

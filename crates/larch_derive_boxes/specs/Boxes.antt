@@ -4,7 +4,7 @@ use Rattle.std.specs.Prelude.{◌≡◌, ◌≢◌, ◌≤◌, ◌⊎◌, ℕ, s
 use Rattle.larch_term.specs.BuiltIn.{bool_sort}
 use Rattle.larch_term.specs.Operator.{PlainOperator}
 use Rattle.larch_term.specs.Sorts.{sort_of, IsTermOver}
-use Rattle.larch_term.specs.Substitution.{substituted}
+use Rattle.larch_term.specs.Substitution.{instance_of}
 use Rattle.larch_term.specs.Tree.{Tree}
 use Rattle.larch_term.specs.Statement.{IsStatementOver}
 use Rattle.larch_term.specs.declared.statement.Statement.{Statement}
@@ -16,15 +16,16 @@ use Rattle.larch_calculus.specs.Theories.{AreNew, AreConstants}
 use Rattle.larch_certificate.specs.declared.line.CodedVar.{CodedVar}
 use Rattle.larch_certificate.specs.declared.line.Line.{Line}
 use Rattle.larch_certificate.specs.declared.line.Line.TheVariants.{Inst, Done}
-use Rattle.larch_lines.specs.Context.{theory_of, find_open, find_closed}
-use Rattle.larch_lines.specs.Events.{PlainBox, Event, Opened, State, start, operators_of}
-use Rattle.larch_lines.specs.Matching.{variable_of}
-use Rattle.larch_lines.specs.Run.{run}
+use Rattle.larch_verify_meaning.specs.Context.{theory_of, find_open, find_closed}
+use Rattle.larch_verify_meaning.specs.Events.{PlainBox, Event, Opened, State, start, operators_of}
+use Rattle.larch_verify_meaning.specs.Matching.{variable_of}
+use Rattle.larch_verify_meaning.specs.Run.{run}
 use Rattle.larch_derive.specs.declared.builder.Builder.{Builder}
 use Rattle.larch_derive.specs.declared.open_box.OpenBox.{OpenBox}
 use Rattle.larch_derive.specs.Builder.{IsPushed, part_for}
 use Rattle.larch_derive.specs.OpenBox.{constant_of}
-use Rattle.larch_derive.specs.Predicates.{AreOthers, operators_at, written, written_statement, StandIn, HasStatement}
+use Rattle.larch_derive.specs.Predicates.{AreOthers, operators_at, written_term, written_statement, StandIn}
+use Rattle.larch_derive.specs.Predicates.{HasStatement}
 use Rattle.larch_derive.specs.Predicates.{Grows}
 
 -- the box that lines open for this one
@@ -59,7 +60,7 @@ IsPart f = (f.domain ≡ []) ⊎ ((s : List ℕ) × (f.domain ≡ s ∷ []) × (
 pub record KnownInsideIn (t : Theory) (bs : List OpenBox) (ls : List Line) (st : State)
     (x : OpenBox) (a : Tree) : Type 0 where
   pub stand : StandIn t bs ls st
-  pub over : IsTermOver (operators_inside t st.history x) (written (bs ++ x ∷ []) a)
+  pub over : IsTermOver (operators_inside t st.history x) (written_term (bs ++ x ∷ []) a)
 
 unfoldable pub KnownInside : Builder → OpenBox → Tree → Type 0
 KnownInside b x a = (st : State) × KnownInsideIn b.theory b.boxes b.lines st x a
@@ -126,7 +127,7 @@ pub record AreOwnConstants (bs : List OpenBox) (x : OpenBox) : Type 0 where
 
 -- a term with the constants of a box in the places of variables, in order
 abbrev pub with_constants : List CodedVar → OpenBox → Tree → Tree
-with_constants vs x t = substituted (constants_for (map variable_of vs) x.constants) t
+with_constants vs x t = instance_of (constants_for (map variable_of vs) x.constants) t
 
 -- the steps from before a box is opened to behind its end: opened, grown inside, the result said once more, closed
 pub record Closes (a d : Builder) (x : OpenBox) (hs : List Statement) (l r : Tree) : Type 0 where

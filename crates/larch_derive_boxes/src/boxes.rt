@@ -1,7 +1,7 @@
 ghost use Rattle.std.specs.Prelude.{◌≡◌, [], ◌∷◌, map, Some, IfOk, OnOk, OnErr};
 ghost use Rattle.larch_term.specs.Sorts.{sort_of};
 ghost use Rattle.larch_term.specs.Tree.{Tree};
-ghost use Rattle.larch_lines.specs.Matching.{variable_of};
+ghost use Rattle.larch_verify_meaning.specs.Matching.{variable_of};
 ghost use Rattle.larch_derive.specs.Builder.{boxes_in};
 ghost use Rattle.larch_term.specs.Truth.{truth};
 ghost use Rattle.larch_term.specs.Variable.{occurrences};
@@ -23,7 +23,7 @@ use std::alloc::Global;
 /// A line that says a hypothesis of an open box, by the box's number and the hypothesis's, counted from 1. A refused
 /// line changes nothing.
 #[tactic(auto, using(crate::proofs::Supposing::hyp_line_says, crate::proofs::Supposing::hyp_line_extends))]
-pub fn hyp_line(builder: &mut Builder, number: u64, hypothesis: u64) -> Result<u64, Memory>
+pub fn push_hyp(builder: &mut Builder, number: u64, hypothesis: u64) -> Result<u64, Memory>
     ensures says { IfOk result (λ n. (x : OpenBox) (hs : List Statement) (s : Statement) → x.number ≡ number
         → IsOpen builder.old x hs → numbered hs hypothesis ≡ Some s → HasStatement builder.new n s) }
     ensures extends { OnOk result ((x : OpenBox) (hs : List Statement) (s : Statement) → x.number ≡ number
@@ -51,7 +51,7 @@ pub fn close_box(alloc: Global, builder: &mut Builder, line: u64) -> Result<u64,
 /// A line that says the common result of two boxes without constants, one of which supposes that a formula without
 /// variables is true, and the other that it is false. A refused line changes nothing.
 #[tactic(auto, using(crate::proofs::Cases::cases_line_says, crate::proofs::Cases::cases_line_extends))]
-pub fn cases_line(builder: &mut Builder, first: u64, second: u64) -> Result<u64, Memory>
+pub fn push_cases(builder: &mut Builder, first: u64, second: u64) -> Result<u64, Memory>
     ensures says { IfOk result (λ n. (x y : OpenBox) (f l r : Tree) → x.number ≡ first → y.number ≡ second
         → HasResult builder.old x (equation f truth ∷ []) (equation l r)
         → HasResult builder.old y (equation f falsity ∷ []) (equation l r)
@@ -69,7 +69,7 @@ pub fn cases_line(builder: &mut Builder, first: u64, second: u64) -> Result<u64,
 /// A line that says the result of a box without hypotheses, with variables in the places of its constants. A refused
 /// line changes nothing.
 #[tactic(auto, using(crate::proofs::Freshness::fresh_says, crate::proofs::Freshness::fresh_extends))]
-pub fn fresh_line(builder: &mut Builder, number: u64, variables: CodedVars) -> Result<u64, Memory>
+pub fn push_fresh(builder: &mut Builder, number: u64, variables: CodedVars) -> Result<u64, Memory>
     ensures says { IfOk result (λ n. (x : OpenBox) (l r : Tree) → x.number ≡ number
         → HasResult builder.old x [] (equation (with_constants variables x l) (with_constants variables x r))
         → AreOwnConstants (boxes_in builder.old) x

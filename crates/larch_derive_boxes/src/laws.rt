@@ -4,7 +4,7 @@ ghost use Rattle.larch_term.specs.Operator.{PlainOperator};
 ghost use Rattle.larch_term.specs.BuiltIn.{bool_sort};
 ghost use Rattle.larch_term.specs.Sorts.{sort_of, IsTermOver};
 ghost use Rattle.larch_term.specs.Statement.{IsStatementOver};
-ghost use Rattle.larch_term.specs.Substitution.{substituted};
+ghost use Rattle.larch_term.specs.Substitution.{instance_of};
 ghost use Rattle.larch_term.specs.Tree.{Tree, app, none};
 ghost use Rattle.larch_term.specs.declared.statement.Statement.{Statement};
 ghost use Rattle.larch_term.specs.declared.statement.Statement.TheVariants.{Equation, Generated, Partitioned};
@@ -39,7 +39,7 @@ pub fn known_inside()
     ensures own { (a : Builder) (x : OpenBox) (t : Tree) → HasNoBadLine a → AreOthers (theory_in a) x.constants
         → All IsPart x.constants → IsTermOver ((theory_in a).operators ++ x.constants) t → KnownInside a x t }
     ensures replaced { (a : Builder) (x : OpenBox) (es : List Entry) (t : Tree) → KnownInside a x t
-        → AreKnownInside a x es → KnownInside a x (substituted es t) }
+        → AreKnownInside a x es → KnownInside a x (instance_of es t) }
     ensures opened { (a b : Builder) (x : OpenBox) (hs : List Statement) (t : Tree) → Opens a b x hs
         → KnownInside a x t → Known b t }
 {}

@@ -4,4 +4,4 @@
 mod boxes;
 pub mod laws;
 
-pub use boxes::{cases_line, close_box, fresh_line, hyp_line};
+pub use boxes::{close_box, push_cases, push_fresh, push_hyp};

@@ -1,5 +1,6 @@
 -- Lines that say an equation by induction.
-use Rattle.std.proofs.Common.{◌≡◌, ◌&&◌, ℕ, true, false, List, [], ◌∷◌, ◌++◌, map, All, Some, None, bytes_eq, refl, sym, ◌∙◌, ap}
+use Rattle.std.proofs.Common.{◌≡◌, ◌&&◌, ℕ, true, false, List, [], ◌∷◌, ◌++◌, map, All, Some, None, bytes_eq, refl, sym}
+use Rattle.std.proofs.Common.{◌∙◌, ap}
 use Rattle.std.specs.Option.{option_map_or, option_and_then}
 use Rattle.std.proofs.lemmas.Bool.{cond-true}
 use Rattle.std.proofs.lemmas.List.Elements.{All-head, All-tail}
@@ -15,28 +16,30 @@ use Rattle.larch_calculus.proofs.RenamedHypotheses.{constants_renamed, equation_
 use Rattle.larch_certificate.specs.declared.line.CodedEquation.{CodedEquation}
 use Rattle.larch_certificate.specs.declared.line.CodedVar.{CodedVar}
 use Rattle.larch_certificate.specs.declared.line.Line.TheVariants.{Induct}
-use Rattle.larch_lines.specs.BoxRules.{shows_case, shows_cases, inducted}
-use Rattle.larch_lines.specs.Context.{find_line, find_closed}
-use Rattle.larch_lines.specs.Events.{State, start, operators_from}
-use Rattle.larch_lines.specs.Matching.{same_statements, has_constants}
-use Rattle.larch_lines.specs.Run.{judge}
+use Rattle.larch_verify_meaning.specs.BoxRules.{shows_case, shows_cases, induct_over}
+use Rattle.larch_verify_meaning.specs.Context.{find_line, find_closed}
+use Rattle.larch_verify_meaning.specs.Events.{State, start, operators_from}
+use Rattle.larch_verify_meaning.specs.Matching.{same_statements, has_constants}
+use Rattle.larch_verify_meaning.specs.Run.{judge}
 use Rattle.larch_derive.specs.declared.builder.Builder.{Builder}
 use Rattle.larch_derive.specs.Builder.{IsPushed, IsCodeIn, part_for}
 use Rattle.larch_derive.specs.OpenBox.{in_lines, naming}
-use Rattle.larch_derive.specs.Predicates.{operators_at, written, written_statement, KnownIn, SaysIn, Known, HasStatement, Extends}
+use Rattle.larch_derive.specs.Predicates.{operators_at, written_term, written_statement, KnownIn, SaysIn, Known}
+use Rattle.larch_derive.specs.Predicates.{HasStatement, Extends}
 use Rattle.larch_derive.proofs.Pushing.{pushed_says, pushed_extends}
 use Rattle.larch_derive.proofs.Runs.{down_run}
 use Rattle.larch_derive_boxes.specs.Boxes.{box_of}
 use Rattle.larch_derive_boxes.proofs.Freshness.{own_named, has_sorts, known_at}
 use Rattle.larch_derive_boxes.proofs.Renaming.{inside_in_lines, inside_written}
 use Rattle.larch_derive_clauses.specs.Showing.{ShowsCase, ShowCases}
-use Rattle.larch_derive_clauses.proofs.Written.{equation_means, equation_known, result_at, inside_faithful, found_by, constants_named, statements_same, statement_same}
+use Rattle.larch_derive_clauses.proofs.Written.{equation_means, equation_known, result_at, inside_faithful, found_by}
+use Rattle.larch_derive_clauses.proofs.Written.{constants_named, statements_same, statement_same}
 
 -- the box of one generator passes the test
 case_shown : (a : Builder) (st : State) (v : CodedVar) (l r : Tree) (f : PlainOperator) (n : ℕ)
     → KnownIn a.theory a.boxes a.lines st l → KnownIn a.theory a.boxes a.lines st r
     → IsKnown (operators_at a.theory st) (in_lines a.boxes f) → ShowsCase a v l r f n
-    → option_map_or (shows_case v (written a.boxes l) (written a.boxes r) (in_lines a.boxes f))
+    → option_map_or (shows_case v (written_term a.boxes l) (written_term a.boxes r) (in_lines a.boxes f))
     (find_closed st.history n) false ≡ true
 case_shown a st v l r f n kl kr kf c =
     let t = a.theory in
@@ -55,8 +58,9 @@ case_shown a st v l r f n kl kr kf c =
     let left = sym (inside_written t kl.stand.plain st.history st.count bs x down res.others l kl.over.1) in
     let right = sym (inside_written t kl.stand.plain st.history st.count bs x down res.others r kr.over.1) in
     let same = sym (inside_in_lines t kl.stand.plain st.history st.count bs x down res.others f kf) in
-    let gs = induction_hypotheses v.name v.sort (written bs l) (written bs r) os in
-    let g = equation_at v.name v.sort (written bs l) (written bs r) (app (in_lines bs f) (constant_terms os)) in
+    let gs = induction_hypotheses v.name v.sort (written_term bs l) (written_term bs r) os in
+    let g =
+    equation_at v.name v.sort (written_term bs l) (written_term bs r) (app (in_lines bs f) (constant_terms os)) in
     let ws = map (written_statement xs) hs in
     let supposed : ws ≡ gs =
     induction_renamed (naming xs) faithful v.name v.sort l r cs
@@ -64,9 +68,10 @@ case_shown a st v l r f n kl kr kf c =
     let result : written_statement xs s ≡ g =
     equation_renamed (naming xs) faithful.apart v.name v.sort l r (app f (constant_terms cs))
     ∙ (λ i. equation_at v.name v.sort (left i) (right i) (app (same i) (terms i))) in
-    ap (λ o. option_map_or (shows_case v (written bs l) (written bs r) (in_lines bs f)) o false)
+    ap (λ o. option_map_or (shows_case v (written_term bs l) (written_term bs r) (in_lines bs f)) o false)
     (found_by a st x hs s n res c.number)
-    ∙ and_both (has_constants (box_of x ws) f.domain) (same_statements ws gs && same_statement (written_statement xs s) g)
+    ∙ and_both (has_constants (box_of x ws) f.domain)
+    (same_statements ws gs && same_statement (written_statement xs s) g)
     (has_sorts x ws f.domain c.own.constants c.sorts)
     (and_both (same_statements ws gs) (same_statement (written_statement xs s) g) (statements_same ws gs supposed)
     (statement_same (written_statement xs s) g result))
@@ -76,7 +81,8 @@ cases_shown : (a : Builder) (st : State) (v : CodedVar) (l r : Tree) → KnownIn
     → KnownIn a.theory a.boxes a.lines st r → (fs : List PlainOperator) (ns : List ℕ)
     → All (λ g. IsKnown (operators_at a.theory st) g × (g.range ≡ v.sort)) (map (in_lines a.boxes) fs)
     → ShowCases a v l r fs ns
-    → shows_cases st.history v (Equation (written a.boxes l) (written a.boxes r)) (map (in_lines a.boxes) fs) ns ≡ true
+    → shows_cases st.history v (Equation (written_term a.boxes l) (written_term a.boxes r))
+    (map (in_lines a.boxes) fs) ns ≡ true
 cases_shown a st v l r kl kr [] [] w c = refl
 cases_shown a st v l r kl kr [] (n ∷ ns) w c = absurd c
 cases_shown a st v l r kl kr (f ∷ fs) [] w c = absurd c
@@ -84,8 +90,8 @@ cases_shown a st v l r kl kr (f ∷ fs) (n ∷ ns) w c =
     let P : PlainOperator → Type 0 = λ g. IsKnown (operators_at a.theory st) g × (g.range ≡ v.sort) in
     let g = in_lines a.boxes f in
     let gs = map (in_lines a.boxes) fs in
-    let x = written a.boxes l in
-    let y = written a.boxes r in
+    let x = written_term a.boxes l in
+    let y = written_term a.boxes r in
     and_both (option_map_or (shows_case v x y g) (find_closed st.history n) false)
     (shows_cases st.history v (Equation x y) gs ns)
     (case_shown a st v l r f n kl kr (All-head P g gs w).0 c.0)
@@ -100,9 +106,9 @@ induct_judged a st m v l r e fs ns h kl kr s cl cr c =
     let g = written_statement a.boxes (Equation l r) in
     let gs = map (in_lines a.boxes) fs in
     let shown = shows_cases st.history v g gs ns in
-    ap (option_and_then (λ q. option_and_then (inducted st.history v ns q) (find_line st.history m)))
+    ap (option_and_then (λ q. option_and_then (induct_over st.history v ns q) (find_line st.history m)))
     (equation_means a st l r e kl kr s cl cr)
-    ∙ ap (option_and_then (inducted st.history v ns g)) h.says
+    ∙ ap (option_and_then (induct_over st.history v ns g)) h.says
     ∙ cond-true (bytes_eq v.sort v.sort && shown) (Some g) None
     (and_both (bytes_eq v.sort v.sort) shown ((bytes_eq-Decides v.sort v.sort).1 refl)
     (cases_shown a st v l r kl kr fs ns h.over c))

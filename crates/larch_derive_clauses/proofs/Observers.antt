@@ -1,5 +1,6 @@
 -- Lines that say an equation by what observers show.
-use Rattle.std.proofs.Common.{◌≡◌, ◌<◌, ◌+◌, ◌==◌, ◌&&◌, ℕ, zero, suc, Bool, true, false, not, cond, List, [], ◌∷◌, map, length, Option, Some, None, bytes_eq, refl, sym, ◌∙◌, ap, subst, arith}
+use Rattle.std.proofs.Common.{◌≡◌, ◌<◌, ◌+◌, ◌==◌, ◌&&◌, ℕ, zero, suc, Bool, true, false, not, cond, List, [], ◌∷◌, map}
+use Rattle.std.proofs.Common.{length, Option, Some, None, bytes_eq, refl, sym, ◌∙◌, ap, subst, arith}
 use Rattle.std.specs.List.{list_all, list_any}
 use Rattle.std.specs.Option.{option_map_or, option_and_then}
 use Rattle.std.proofs.lemmas.Bool.{cond-true}
@@ -15,20 +16,22 @@ use Rattle.larch_term.specs.declared.statement.Statement.TheVariants.{Equation, 
 use Rattle.larch_term.specs.declared.variable.Variable.{Variable}
 use Rattle.larch_renaming.specs.Renaming.{renamed_variable}
 use Rattle.larch_renaming.proofs.Renamed.{renamed_occurrences}
-use Rattle.larch_calculus.specs.Observation.{Observation, arguments_with, variables_beside, observed, other_variables, observations_of}
+use Rattle.larch_calculus.specs.Observation.{Observation, arguments_with, variables_beside, observer_term}
+use Rattle.larch_calculus.specs.Observation.{other_variables, observations_of}
 use Rattle.larch_calculus.proofs.RenamedHypotheses.{renamed_observation, observed_renamed, observations_of_renamed}
 use Rattle.larch_certificate.specs.declared.line.CodedEquation.{CodedEquation}
 use Rattle.larch_certificate.specs.declared.line.Line.TheVariants.{Observe}
-use Rattle.larch_lines.specs.ClauseRules.{shows_same, show_same, observed_equal}
-use Rattle.larch_lines.specs.Context.{find_line}
-use Rattle.larch_lines.specs.Events.{State}
-use Rattle.larch_lines.specs.Matching.{all_different, are_apart, variable_name, argument_name}
-use Rattle.larch_lines.specs.Run.{judge}
+use Rattle.larch_verify_meaning.specs.ClauseRules.{shows_same, show_same, observed_equal}
+use Rattle.larch_verify_meaning.specs.Context.{find_line}
+use Rattle.larch_verify_meaning.specs.Events.{State}
+use Rattle.larch_verify_meaning.specs.Matching.{all_different, are_apart, variable_name, argument_name}
+use Rattle.larch_verify_meaning.specs.Run.{judge}
 use Rattle.larch_derive.specs.declared.builder.Builder.{Builder}
 use Rattle.larch_derive.specs.declared.open_box.OpenBox.{OpenBox}
 use Rattle.larch_derive.specs.Builder.{IsPushed, IsCodeIn}
 use Rattle.larch_derive.specs.OpenBox.{in_lines, naming}
-use Rattle.larch_derive.specs.Predicates.{written, written_statement, StandIn, KnownIn, SaysIn, Known, HasStatement, Extends}
+use Rattle.larch_derive.specs.Predicates.{written_term, written_statement, StandIn, KnownIn, SaysIn, Known}
+use Rattle.larch_derive.specs.Predicates.{HasStatement, Extends}
 use Rattle.larch_derive.proofs.Pushing.{pushed_says, pushed_extends}
 use Rattle.larch_derive.proofs.Unchanged.{naming_faithful}
 use Rattle.larch_derive_boxes.proofs.Freshness.{sort_written, known_at}
@@ -102,7 +105,8 @@ names_agree : (names : ℕ → List ℕ) (place : ℕ) (t : Tree) (f : PlainOper
 names_agree names place t f ss i lt e =
     let ts = arguments_with names place t 1 ss in
     let next : 1 + i ≡ suc i = omega arith in
-    alone (argument ts (1 + i)) ∙ ap (λ j. variable_name (argument ts j)) next ∙ argument_named names place t 1 i ss lt e
+    alone (argument ts (1 + i)) ∙ ap (λ j. variable_name (argument ts j)) next
+    ∙ argument_named names place t 1 i ss lt e
 
 -- ---- variables as lines write them
 
@@ -110,11 +114,11 @@ same_variables : (bs : List OpenBox) (vs : List Variable) → map (renamed_varia
 same_variables bs [] = refl
 same_variables bs (v ∷ vs) = ap (λ ws. v ∷ ws) (same_variables bs vs)
 
-same_occurrences : (bs : List OpenBox) (t : Tree) → occurrences (written bs t) ≡ occurrences t
+same_occurrences : (bs : List OpenBox) (t : Tree) → occurrences (written_term bs t) ≡ occurrences t
 same_occurrences bs t = renamed_occurrences (naming bs) t ∙ same_variables bs (occurrences t)
 
 still_apart : (bs : List OpenBox) (vs : List Variable) (l r : Tree) → are_apart vs l r ≡ true
-    → are_apart vs (written bs l) (written bs r) ≡ true
+    → are_apart vs (written_term bs l) (written_term bs r) ≡ true
 still_apart bs vs l r e =
     let left = same_occurrences bs l in
     let right = same_occurrences bs r in
@@ -126,25 +130,26 @@ still_apart bs vs l r e =
 -- the line of one observation passes the test
 one_shown : (a : Builder) (st : State) (l r : Tree) (w : Observation) (n : ℕ) → StandIn a.theory a.boxes a.lines st
     → ShowsSame a l r w n
-    → option_map_or (shows_same (written a.boxes l) (written a.boxes r) (renamed_observation (naming a.boxes) w))
+    → option_map_or (shows_same (written_term a.boxes l) (written_term a.boxes r)
+    (renamed_observation (naming a.boxes) w))
     (find_line st.history n) false ≡ true
 one_shown a st l r w n h c =
     let bs = a.boxes in
-    let x = written bs l in
-    let y = written bs r in
+    let x = written_term bs l in
+    let y = written_term bs r in
     let u = renamed_observation (naming bs) w in
     let f = in_lines bs w.observer in
     let ss = w.observer.domain in
     let names = c.names in
-    let given = observed names u x in
+    let given = observer_term names u x in
     let read = argument_name given in
     let agree = names_agree names w.place x f ss in
     let fits = (naming_faithful a.theory bs h.plain h.others).signatures in
-    let said = said_at a st n (Equation (observed names w l) (observed names w r)) h c.says in
+    let said = said_at a st n (Equation (observer_term names w l) (observer_term names w r)) h c.says in
     let left = ap (app f) (arguments_agree read names w.place x 1 ss agree) in
     let right = ap (app f) (arguments_agree read names w.place y 1 ss agree) in
-    let e = Equation given (observed names u y) in
-    let g = Equation (observed read u x) (observed read u y) in
+    let e = Equation given (observer_term names u y) in
+    let g = Equation (observer_term read u x) (observer_term read u y) in
     ap (λ o. option_map_or (shows_same x y u) o false)
     (said.says ∙ (λ i. Some (Equation (observed_renamed (naming bs) fits names w l i)
     (observed_renamed (naming bs) fits names w r i))))
@@ -156,14 +161,15 @@ one_shown a st l r w n h c =
 -- so do those of all observations
 all_shown : (a : Builder) (st : State) (l r : Tree) → StandIn a.theory a.boxes a.lines st → (ws : List Observation)
     (ns : List ℕ) → ShowSame a l r ws ns
-    → show_same st.history (written a.boxes l) (written a.boxes r) (map (renamed_observation (naming a.boxes)) ws) ns
+    → show_same st.history (written_term a.boxes l) (written_term a.boxes r)
+    (map (renamed_observation (naming a.boxes)) ws) ns
     ≡ true
 all_shown a st l r h [] [] c = refl
 all_shown a st l r h [] (n ∷ ns) c = absurd c
 all_shown a st l r h (w ∷ ws) [] c = absurd c
 all_shown a st l r h (w ∷ ws) (n ∷ ns) c =
-    let x = written a.boxes l in
-    let y = written a.boxes r in
+    let x = written_term a.boxes l in
+    let y = written_term a.boxes r in
     let u = renamed_observation (naming a.boxes) w in
     let us = map (renamed_observation (naming a.boxes)) ws in
     and_both (option_map_or (shows_same x y u) (find_line st.history n) false) (show_same st.history x y us ns)
@@ -176,8 +182,8 @@ observe_judged : (a : Builder) (st : State) (m : ℕ) (l r : Tree) (e : CodedEqu
     → judge a.theory st.history (Observe m e ns) ≡ Some (written_statement a.boxes (Equation l r))
 observe_judged a st m l r e os ns h kl kr s cl cr c =
     let bs = a.boxes in
-    let x = written bs l in
-    let y = written bs r in
+    let x = written_term bs l in
+    let y = written_term bs r in
     let z = sort_of l in
     let g = Equation x y in
     let gs = map (in_lines bs) os in

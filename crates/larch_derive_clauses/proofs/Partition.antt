@@ -1,5 +1,6 @@
 -- Lines that say that a sort is partitioned by operators.
-use Rattle.std.proofs.Common.{◌≡◌, ◌+◌, ◌&&◌, inl, inr, ℕ, true, List, [], ◌∷◌, ◌++◌, map, All, Contains, Some, None, bytes_eq, refl, sym, ◌∙◌, ap}
+use Rattle.std.proofs.Common.{◌≡◌, ◌+◌, ◌&&◌, inl, inr, ℕ, true, List, [], ◌∷◌, ◌++◌, map, All, Contains, Some, None}
+use Rattle.std.proofs.Common.{bytes_eq, refl, sym, ◌∙◌, ap}
 use Rattle.std.specs.List.{slice_get, list_all, list_any}
 use Rattle.std.specs.Option.{option_and_then}
 use Rattle.std.proofs.lemmas.Bool.{cond-true}
@@ -19,10 +20,10 @@ use Rattle.larch_calculus.specs.Generation.{place_name}
 use Rattle.larch_calculus.specs.Observation.{observations}
 use Rattle.larch_calculus.proofs.RenamedHypotheses.{observations_renamed}
 use Rattle.larch_certificate.specs.declared.line.Line.TheVariants.{Partitioned as PartitionedLine}
-use Rattle.larch_lines.specs.ClauseRules.{own_operators, partitioned_by}
-use Rattle.larch_lines.specs.Events.{State, box_constant, part_operator}
-use Rattle.larch_lines.specs.Matching.{same_statements, has_constants}
-use Rattle.larch_lines.specs.Run.{judge}
+use Rattle.larch_verify_meaning.specs.ClauseRules.{own_operators, partitioned_by}
+use Rattle.larch_verify_meaning.specs.Events.{State, box_constant, part_operator}
+use Rattle.larch_verify_meaning.specs.Matching.{same_statements, has_constants}
+use Rattle.larch_verify_meaning.specs.Run.{judge}
 use Rattle.larch_derive.specs.declared.builder.Builder.{Builder}
 use Rattle.larch_derive.specs.declared.open_box.OpenBox.{OpenBox}
 use Rattle.larch_derive.specs.Builder.{IsPushed}
@@ -34,7 +35,8 @@ use Rattle.larch_derive_boxes.specs.Boxes.{box_of, ResultIn, HasResult, AreOwnCo
 use Rattle.larch_derive_boxes.proofs.Freshness.{own_named, has_sorts, sort_of_part}
 use Rattle.larch_derive_clauses.specs.Showing.{ShowsPartitioned}
 use Rattle.larch_derive_clauses.proofs.Generation.{numbered_own}
-use Rattle.larch_derive_clauses.proofs.Written.{inside_faithful, inside_others, found_by, statements_same, statement_same}
+use Rattle.larch_derive_clauses.proofs.Written.{inside_faithful, inside_others, found_by, statements_same}
+use Rattle.larch_derive_clauses.proofs.Written.{statement_same}
 
 -- ---- operators
 

@@ -4,9 +4,10 @@ use Rattle.larch_term.specs.Operator.{PlainOperator}
 use Rattle.larch_term.specs.Tree.{Tree, var, app}
 use Rattle.larch_term.specs.Truth.{truth}
 use Rattle.larch_term.specs.declared.statement.Statement.TheVariants.{Equation}
-use Rattle.larch_calculus.specs.Formula.{constant, applied}
-use Rattle.larch_calculus.specs.Generation.{place_name, constant_terms, equation_at, induction_hypotheses, generation_hypotheses}
-use Rattle.larch_calculus.specs.Observation.{Observation, observed, observations}
+use Rattle.larch_calculus.specs.Formula.{constant, apply_one}
+use Rattle.larch_calculus.specs.Generation.{place_name, constant_terms, equation_at, induction_hypotheses}
+use Rattle.larch_calculus.specs.Generation.{generation_hypotheses}
+use Rattle.larch_calculus.specs.Observation.{Observation, observer_term, observations}
 use Rattle.larch_certificate.specs.declared.line.CodedVar.{CodedVar}
 use Rattle.larch_derive.specs.declared.builder.Builder.{Builder}
 use Rattle.larch_derive.specs.OpenBox.{constant_of}
@@ -14,7 +15,8 @@ use Rattle.larch_derive.specs.Predicates.{Grows}
 use Rattle.larch_derive.proofs.Growth.{grown_said, grows_alike}
 use Rattle.larch_derive_boxes.specs.Boxes.{AreOwnConstants}
 use Rattle.larch_derive_boxes.proofs.Closing.{grown_result}
-use Rattle.larch_derive_clauses.specs.Showing.{ShowsCase, ShowCases, ShowsSame, ShowSame, ShowsGenerated, ShowsPartitioned}
+use Rattle.larch_derive_clauses.specs.Showing.{ShowsCase, ShowCases, ShowsSame, ShowSame, ShowsGenerated}
+use Rattle.larch_derive_clauses.specs.Showing.{ShowsPartitioned}
 
 case_stays : (a b : Builder) (v : CodedVar) (l r : Tree) (f : PlainOperator) (n : ℕ) → Grows a b
     → ShowsCase a v l r f n → ShowsCase b v l r f n
@@ -41,7 +43,7 @@ same_stays a b l r w n g c =
     record {
       names = c.names;
       apart = c.apart;
-      says = grown_said a b n (Equation (observed c.names w l) (observed c.names w r)) g c.says;
+      says = grown_said a b n (Equation (observer_term c.names w l) (observer_term c.names w r)) g c.says;
     }
 
 pub all_same_stay : (a b : Builder) (l r : Tree) (ws : List Observation) (ns : List ℕ) → Grows a b
@@ -64,7 +66,7 @@ generated_stays a b s fs n g c =
       range = c.range;
       outer = ap (λ bs. constant_of bs c.predicate) (grows_alike a b g).1 ∙ c.outer;
       shown = grown_result a b c.box (generation_hypotheses c.predicate s fs)
-          (Equation (applied c.predicate (var c.variable s)) truth) g c.shown;
+          (Equation (apply_one c.predicate (var c.variable s)) truth) g c.shown;
     }
 
 pub partitioned_stays : (a b : Builder) (s : List ℕ) (os : List PlainOperator) (n : ℕ) → Grows a b

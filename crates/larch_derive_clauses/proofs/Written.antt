@@ -1,5 +1,6 @@
 -- What rules take, as lines write it.
-use Rattle.std.proofs.Common.{◌≡◌, ◌+◌, ℕ, suc, true, List, [], ◌∷◌, ◌++◌, map, All, Some, refl, sym, ◌∙◌, ap, subst, arith}
+use Rattle.std.proofs.Common.{◌≡◌, ◌+◌, ℕ, suc, true, List, [], ◌∷◌, ◌++◌, map, All, Some, refl, sym, ◌∙◌, ap, subst}
+use Rattle.std.proofs.Common.{arith}
 use Rattle.std.specs.Option.{option_and_then}
 use Rattle.std.specs.Cmp.Lexicographic.{pointwise}
 use Rattle.std.proofs.lemmas.List.Elements.{All-push}
@@ -14,15 +15,16 @@ use Rattle.larch_term.specs.declared.statement.Statement.TheVariants.{Equation}
 use Rattle.larch_term.proofs.Decided.{statement_Decides}
 use Rattle.larch_calculus.specs.Renaming.{IsFaithful}
 use Rattle.larch_certificate.specs.declared.line.CodedEquation.{CodedEquation}
-use Rattle.larch_lines.specs.Context.{find_symbol, find_closed}
-use Rattle.larch_lines.specs.Decoding.{decode, decode_equation, equation_between}
-use Rattle.larch_lines.specs.Events.{State, operators_from, part_operator}
-use Rattle.larch_lines.specs.Matching.{same_statements}
+use Rattle.larch_verify_meaning.specs.Context.{find_symbol, find_closed}
+use Rattle.larch_verify_meaning.specs.Decoding.{decode, decode_equation, equation_between}
+use Rattle.larch_verify_meaning.specs.Events.{State, operators_from, part_operator}
+use Rattle.larch_verify_meaning.specs.Matching.{same_statements}
 use Rattle.larch_derive.specs.declared.builder.Builder.{Builder}
 use Rattle.larch_derive.specs.declared.open_box.OpenBox.{OpenBox}
 use Rattle.larch_derive.specs.Builder.{IsCodeIn, part_for}
 use Rattle.larch_derive.specs.OpenBox.{in_lines, naming}
-use Rattle.larch_derive.specs.Predicates.{AreOthers, operators_at, written, written_statement, StandIn, KnownIn, SaysIn, HasStatement}
+use Rattle.larch_derive.specs.Predicates.{AreOthers, operators_at, written_term, written_statement, StandIn, KnownIn}
+use Rattle.larch_derive.specs.Predicates.{SaysIn, HasStatement}
 use Rattle.larch_derive.proofs.Pushing.{means_at, one_state}
 use Rattle.larch_derive.proofs.Unchanged.{naming_faithful}
 use Rattle.larch_derive_boxes.specs.Boxes.{box_of, ResultIn, HasResult}
@@ -39,8 +41,8 @@ equation_means a st l r e kl kr s cl cr =
     let bs = a.boxes in
     ap (option_and_then (λ x. option_and_then (equation_between x) (decode (find_symbol a.theory st.history) e.right)))
     (means_at a st l e.left kl cl)
-    ∙ ap (option_and_then (equation_between (written bs l))) (means_at a st r e.right kr cr)
-    ∙ between (written bs l) (written bs r) (sort_written bs l ∙ s ∙ sym (sort_written bs r))
+    ∙ ap (option_and_then (equation_between (written_term bs l))) (means_at a st r e.right kr cr)
+    ∙ between (written_term bs l) (written_term bs r) (sort_written bs l ∙ s ∙ sym (sort_written bs r))
 
 pub equation_known : (a : Builder) (st : State) (l r : Tree) → KnownIn a.theory a.boxes a.lines st l
     → KnownIn a.theory a.boxes a.lines st r → sort_of l ≡ sort_of r
@@ -92,7 +94,8 @@ constants_named bs n j (c ∷ cs) h =
     let here : part_operator n j (part_for c) ≡ in_lines bs c =
     ap (λ k. part_operator n k (part_for c)) (let z : j ≡ j + 0 = omega arith in z) ∙ h 0 c refl in
     let rest = constants_named bs n (suc j) cs
-    (λ i d e. ap (λ k. part_operator n k (part_for d)) (let z : suc j + i ≡ j + suc i = omega arith in z) ∙ h (suc i) d e) in
+    (λ i d e. ap (λ k. part_operator n k (part_for d)) (let z : suc j + i ≡ j + suc i = omega arith in z)
+    ∙ h (suc i) d e) in
     λ i. sym here i ∷ rest i
 
 pub statements_same : (ss rs : List Statement) → ss ≡ rs → same_statements ss rs ≡ true

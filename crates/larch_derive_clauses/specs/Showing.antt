@@ -5,12 +5,12 @@ use Rattle.larch_term.specs.Operator.{PlainOperator}
 use Rattle.larch_term.specs.Tree.{Tree, var, app}
 use Rattle.larch_term.specs.Truth.{truth}
 use Rattle.larch_term.specs.declared.statement.Statement.TheVariants.{Equation}
-use Rattle.larch_calculus.specs.Formula.{constant, applied}
+use Rattle.larch_calculus.specs.Formula.{constant, apply_one}
 use Rattle.larch_calculus.specs.Generation.{place_name, constant_terms, equation_at, induction_hypotheses}
 use Rattle.larch_calculus.specs.Generation.{generation_hypotheses}
-use Rattle.larch_calculus.specs.Observation.{Observation, observed, other_variables, observations}
+use Rattle.larch_calculus.specs.Observation.{Observation, observer_term, other_variables, observations}
 use Rattle.larch_certificate.specs.declared.line.CodedVar.{CodedVar}
-use Rattle.larch_lines.specs.Matching.{are_apart}
+use Rattle.larch_verify_meaning.specs.Matching.{are_apart}
 use Rattle.larch_derive.specs.declared.builder.Builder.{Builder}
 use Rattle.larch_derive.specs.declared.open_box.OpenBox.{OpenBox}
 use Rattle.larch_derive.specs.Builder.{boxes_in}
@@ -41,7 +41,7 @@ ShowCases b v l r (f ∷ fs) (n ∷ ns) = ShowsCase b v l r f n × ShowCases b v
 pub record ShowsSame (b : Builder) (l r : Tree) (w : Observation) (n : ℕ) : Type 0 where
   pub names : ℕ → List ℕ
   pub apart : are_apart (other_variables names w) l r ≡ true
-  pub says : HasEquation b n (observed names w l) (observed names w r)
+  pub says : HasEquation b n (observer_term names w l) (observer_term names w r)
 
 -- the lines do so for each observation, in order
 abbrev pub ShowSame : Builder → Tree → Tree → List Observation → List ℕ → Type 0
@@ -62,7 +62,7 @@ pub record ShowsGenerated (b : Builder) (s : List ℕ) (fs : List PlainOperator)
   pub range : predicate.range ≡ bool_sort
   pub outer : constant_of (boxes_in b) predicate ≡ None
   pub shown : HasResult b box (generation_hypotheses predicate s fs)
-      (Equation (applied predicate (var variable s)) truth)
+      (Equation (apply_one predicate (var variable s)) truth)
 
 -- the closed box with a number shows that operators partition a sort: it has two constants of the sort, it supposes
 -- that observers show the same of them, and its result is that they are equal

@@ -15,7 +15,7 @@ use larch_term::Term;
 /// A line that says an equation by induction on a variable: by the clause of a line, and a closed box for each
 /// generator, in order. A refused line changes nothing.
 #[tactic(auto, using(crate::proofs::Inductions::induct_says, crate::proofs::Inductions::induct_extends))]
-pub fn induct_line(
+pub fn push_induct(
     builder: &mut Builder,
     line: u64,
     variable: CodedVar,
@@ -43,7 +43,7 @@ pub fn induct_line(
 /// A line that says that two terms of a partitioned sort are equal: by the clause of a line, and a line for each
 /// observation, in order. A refused line changes nothing.
 #[tactic(auto, using(crate::proofs::Observers::observe_says, crate::proofs::Observers::observe_extends))]
-pub fn observe_line(
+pub fn push_observe(
     builder: &mut Builder,
     line: u64,
     left: &Term,

@@ -5,5 +5,5 @@ mod clauses;
 mod equations;
 pub mod laws;
 
-pub use clauses::{generated_line, partitioned_line};
-pub use equations::{induct_line, observe_line};
+pub use clauses::{push_generated, push_partitioned};
+pub use equations::{push_induct, push_observe};

@@ -1,5 +1,6 @@
 -- Lines that say an equation with its variables replaced.
-use Rattle.std.proofs.Common.{◌≡◌, ◌<◌, ◌+◌, ℕ, true, List, [], ◌∷◌, ◌++◌, map, length, take, get_or, All, Some, None, bytes_eq, refl, sym, ◌∙◌, ap, ap₂, subst}
+use Rattle.std.proofs.Common.{◌≡◌, ◌<◌, ◌+◌, ℕ, true, List, [], ◌∷◌, ◌++◌, map, length, take, get_or, All, Some, None}
+use Rattle.std.proofs.Common.{bytes_eq, refl, sym, ◌∙◌, ap, ap₂, subst}
 use Rattle.std.specs.Option.{option_map, option_and_then}
 use Rattle.std.proofs.lemmas.Bool.{cond-true}
 use Rattle.std.proofs.lemmas.List.{take_more}
@@ -7,27 +8,28 @@ use Rattle.std.proofs.lemmas.List.Elements.{All-head, All-tail, All-map, All-wea
 use Rattle.std.proofs.lemmas.Slice.Eq.{bytes_eq-Decides}
 use Rattle.larch_term.specs.Sorts.{sort_of, WellSorted, IsOver, IsTermOver}
 use Rattle.larch_term.specs.Statement.{IsStatementOver}
-use Rattle.larch_term.specs.Substitution.{substituted, Fits}
+use Rattle.larch_term.specs.Substitution.{instance_of, Fits}
 use Rattle.larch_term.specs.Tree.{Tree, var, app}
 use Rattle.larch_term.specs.Variable.{occurrences}
 use Rattle.larch_term.specs.declared.statement.Statement.TheVariants.{Equation}
 use Rattle.larch_term.specs.declared.substitution.Entry.{Entry}
-use Rattle.larch_term_laws.proofs.Substitutions.{substituted_sort, substituted_well_sorted, substituted_over}
+use Rattle.larch_term_law.proofs.Substitutions.{substituted_sort, substituted_well_sorted, substituted_over}
 use Rattle.larch_renaming.specs.Renaming.{renamed_entry}
 use Rattle.larch_renaming.proofs.RenamedSubstitutions.{renamed_substituted, apart_by_sorts}
 use Rattle.larch_certificate.specs.declared.line.Binding.{Binding}
 use Rattle.larch_certificate.specs.declared.line.Line.TheVariants.{Inst}
-use Rattle.larch_lines.specs.Context.{find_symbol, find_line}
-use Rattle.larch_lines.specs.Decoding.{each, decode_binding, entry_for}
-use Rattle.larch_lines.specs.Events.{State}
-use Rattle.larch_lines.specs.Matching.{all_different}
-use Rattle.larch_lines.specs.Rules.{instance_by, replaced_variable}
-use Rattle.larch_lines.specs.Run.{judge}
+use Rattle.larch_verify_meaning.specs.Context.{find_symbol, find_line}
+use Rattle.larch_verify_meaning.specs.Decoding.{each, decode_binding, entry_for}
+use Rattle.larch_verify_meaning.specs.Events.{State}
+use Rattle.larch_verify_meaning.specs.Matching.{all_different}
+use Rattle.larch_verify_meaning.specs.Rules.{instance_by, replaced_variable}
+use Rattle.larch_verify_meaning.specs.Run.{judge}
 use Rattle.larch_derive.specs.declared.builder.Builder.{Builder}
 use Rattle.larch_derive.specs.declared.open_box.OpenBox.{OpenBox}
 use Rattle.larch_derive.specs.Builder.{IsPushed, IsCodeIn}
 use Rattle.larch_derive.specs.OpenBox.{naming}
-use Rattle.larch_derive.specs.Predicates.{operators_at, written, written_statement, StandIn, KnownIn, SaysIn, Known, HasStatement, Extends}
+use Rattle.larch_derive.specs.Predicates.{operators_at, written_term, written_statement, StandIn, KnownIn, SaysIn}
+use Rattle.larch_derive.specs.Predicates.{Known, HasStatement, Extends}
 use Rattle.larch_derive.proofs.Pushing.{pushed_says, pushed_extends, means_at, one_state}
 use Rattle.larch_derive_lines.specs.Rules.{variable_in, AreKnownEntries, AreWritten}
 
@@ -50,7 +52,7 @@ written_step b es i xs e x lt is h p q r =
 
 -- ---- what replacements mean
 
-sort_written : (bs : List OpenBox) (t : Tree) → sort_of (written bs t) ≡ sort_of t
+sort_written : (bs : List OpenBox) (t : Tree) → sort_of (written_term bs t) ≡ sort_of t
 sort_written bs (var n s) = refl
 sort_written bs (app f ts) = refl
 
@@ -62,10 +64,10 @@ binding_means : (a : Builder) (st : State) (e : Entry) (x : Binding) → KnownIn
     → decode_binding (find_symbol a.theory st.history) x ≡ Some (renamed_entry (naming a.boxes) e)
 binding_means a st e x k s p q d =
     ap (option_and_then (entry_for x)) (means_at a st e.term x.term k d)
-    ∙ cond-true (bytes_eq (sort_of (written a.boxes e.term)) x.sort)
-    (Some (record { name = x.name; sort = x.sort; term = written a.boxes e.term })) None
-    ((bytes_eq-Decides (sort_of (written a.boxes e.term)) x.sort).1 (sort_written a.boxes e.term ∙ s ∙ sym q))
-    ∙ (λ i. Some (record { name = p i; sort = q i; term = written a.boxes e.term }))
+    ∙ cond-true (bytes_eq (sort_of (written_term a.boxes e.term)) x.sort)
+    (Some (record { name = x.name; sort = x.sort; term = written_term a.boxes e.term })) None
+    ((bytes_eq-Decides (sort_of (written_term a.boxes e.term)) x.sort).1 (sort_written a.boxes e.term ∙ s ∙ sym q))
+    ∙ (λ i. Some (record { name = p i; sort = q i; term = written_term a.boxes e.term }))
 
 each_means : (a : Builder) (st : State) (es : List Entry) (xs : List Binding) → KnownEntriesIn a st es
     → AreWritten a es xs
@@ -91,7 +93,7 @@ same_variables a (e ∷ es) (x ∷ xs) w =
 -- ---- inst
 
 written_substituted : (bs : List OpenBox) (es : List Entry) (t : Tree)
-    → written bs (substituted es t) ≡ substituted (map (renamed_entry (naming bs)) es) (written bs t)
+    → written_term bs (instance_of es t) ≡ instance_of (map (renamed_entry (naming bs)) es) (written_term bs t)
 written_substituted bs es t =
     renamed_substituted (naming bs) es t (apart_by_sorts (naming bs) es (occurrences t) (λ s z e. e))
 
@@ -99,7 +101,7 @@ inst_judged : (a : Builder) (st : State) (m : ℕ) (es : List Entry) (xs : List 
     → SaysIn a.theory a.boxes a.lines st m (Equation l r) → KnownEntriesIn a st es
     → all_different (map variable_in es) ≡ true → AreWritten a es xs
     → judge a.theory st.history (Inst m xs)
-    ≡ Some (written_statement a.boxes (Equation (substituted es l) (substituted es r)))
+    ≡ Some (written_statement a.boxes (Equation (instance_of es l) (instance_of es r)))
 inst_judged a st m es xs l r h k d w =
     let ds = map (renamed_entry (naming a.boxes)) es in
     let find = find_symbol a.theory st.history in
@@ -117,26 +119,27 @@ entries_fit : (a : Builder) (st : State) (es : List Entry) → KnownEntriesIn a 
 entries_fit a st es k = (
   All-map (λ e. WellSorted e.term × (sort_of e.term ≡ e.sort)) (renamed_entry (naming a.boxes)) es
       (All-weaker (λ e. KnownIn a.theory a.boxes a.lines st e.term × (sort_of e.term ≡ e.sort))
-      (λ e. WellSorted (written a.boxes e.term) × (sort_of (written a.boxes e.term) ≡ e.sort))
+      (λ e. WellSorted (written_term a.boxes e.term) × (sort_of (written_term a.boxes e.term) ≡ e.sort))
       (λ e p. (p.0.over.0, sort_written a.boxes e.term ∙ p.1)) es k),
   All-map (λ e. IsOver (operators_at a.theory st) e.term) (renamed_entry (naming a.boxes)) es
       (All-weaker (λ e. KnownIn a.theory a.boxes a.lines st e.term × (sort_of e.term ≡ e.sort))
-      (λ e. IsOver (operators_at a.theory st) (written a.boxes e.term)) (λ e p. p.0.over.1) es k),
+      (λ e. IsOver (operators_at a.theory st) (written_term a.boxes e.term)) (λ e p. p.0.over.1) es k),
 )
 
 inst_over : (a : Builder) (st : State) (m : ℕ) (es : List Entry) (l r : Tree)
     → SaysIn a.theory a.boxes a.lines st m (Equation l r) → KnownEntriesIn a st es
     → IsStatementOver (operators_at a.theory st)
-    (written_statement a.boxes (Equation (substituted es l) (substituted es r)))
+    (written_statement a.boxes (Equation (instance_of es l) (instance_of es r)))
 inst_over a st m es l r h k =
     let ds = map (renamed_entry (naming a.boxes)) es in
     let fit = entries_fit a st es k in
     let w = h.over in
-    let x = written a.boxes l in
-    let y = written a.boxes r in
+    let x = written_term a.boxes l in
+    let y = written_term a.boxes r in
     let fs = operators_at a.theory st in
-    subst (λ u. IsStatementOver fs (Equation u (written a.boxes (substituted es r)))) (sym (written_substituted a.boxes es l))
-    (subst (λ u. IsStatementOver fs (Equation (substituted ds x) u)) (sym (written_substituted a.boxes es r)) (
+    subst (λ u. IsStatementOver fs (Equation u (written_term a.boxes (instance_of es r))))
+    (sym (written_substituted a.boxes es l))
+    (subst (λ u. IsStatementOver fs (Equation (instance_of ds x) u)) (sym (written_substituted a.boxes es r)) (
       (substituted_well_sorted ds x fit.0 w.0.0, substituted_over fs ds x fit.1 w.0.1),
       (substituted_well_sorted ds y fit.0 w.1.0, substituted_over fs ds y fit.1 w.1.1),
       substituted_sort ds x fit.0 ∙ w.2 ∙ sym (substituted_sort ds y fit.0),
@@ -156,11 +159,11 @@ entries_in a st h es k =
 
 pub inst_says : (a b : Builder) (m n : ℕ) (es : List Entry) (xs : List Binding) (l r : Tree) → AreWritten a es xs
     → IsPushed a b (Inst m xs) n → HasStatement a m (Equation l r) → AreKnownEntries a es
-    → all_different (map variable_in es) ≡ true → HasStatement b n (Equation (substituted es l) (substituted es r))
+    → all_different (map variable_in es) ≡ true → HasStatement b n (Equation (instance_of es l) (instance_of es r))
 unfolding HasStatement
 inst_says a b m n es xs l r w p (st, h) k d =
     let i = entries_in a st h.stand es k in
-    pushed_says a b (Inst m xs) n st (Equation (substituted es l) (substituted es r)) p h.stand
+    pushed_says a b (Inst m xs) n st (Equation (instance_of es l) (instance_of es r)) p h.stand
     (inst_judged a st m es xs l r h i d w) (inst_over a st m es l r h i)
 
 pub inst_extends : (a b : Builder) (m n : ℕ) (es : List Entry) (xs : List Binding) (l r : Tree) → AreWritten a es xs
@@ -170,22 +173,24 @@ unfolding HasStatement
 inst_extends a b m n es xs l r w p (st, h) k d =
     let i = entries_in a st h.stand es k in
     pushed_extends a b (Inst m xs) n st
-    (written_statement a.boxes (Equation (substituted es l) (substituted es r))) p h.stand.runs
+    (written_statement a.boxes (Equation (instance_of es l) (instance_of es r))) p h.stand.runs
     (inst_judged a st m es xs l r h i d w)
 
 -- ---- known terms
 
 pub known_substituted : (a : Builder) (es : List Entry) (t : Tree) → Known a t → AreKnownEntries a es
-    → Known a (substituted es t)
+    → Known a (instance_of es t)
 unfolding Known
 known_substituted a es t (st, k) w =
     let fit = entries_fit a st es (entries_in a st k.stand es w) in
     let ds = map (renamed_entry (naming a.boxes)) es in
-    let u = written a.boxes t in (
+    let u = written_term a.boxes t in (
       st,
       record {
         stand = k.stand;
-        over = subst (IsTermOver (operators_at a.theory st)) (sym (written_substituted a.boxes es t))
-            (substituted_well_sorted ds u fit.0 k.over.0, substituted_over (operators_at a.theory st) ds u fit.1 k.over.1);
+        over = subst (IsTermOver (operators_at a.theory st)) (sym (written_substituted a.boxes es t)) (
+          substituted_well_sorted ds u fit.0 k.over.0,
+          substituted_over (operators_at a.theory st) ds u fit.1 k.over.1,
+        );
       },
     )

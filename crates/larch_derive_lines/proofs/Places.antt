@@ -7,7 +7,8 @@ use Rattle.larch_term.specs.Tree.{Tree, app, more, forest_of}
 use Rattle.larch_derive.specs.Predicates.{HasEquation}
 use Rattle.larch_derive.specs.declared.builder.Builder.{Builder}
 
-argument_behind : (done rest : List Tree) (t : Tree) → argument (forest_of (done ++ t ∷ rest)) (suc (length done)) ≡ Some t
+argument_behind : (done rest : List Tree) (t : Tree)
+    → argument (forest_of (done ++ t ∷ rest)) (suc (length done)) ≡ Some t
 argument_behind [] rest t = refl
 argument_behind (d ∷ done) rest t = argument_behind done rest t
 

@@ -1,5 +1,6 @@
 -- Lines that say what is stated of the theory or of all theories, and lines that make an equation of an equality.
-use Rattle.std.proofs.Common.{◌≡◌, inr, ℕ, Bool, true, false, cond, List, ◌∷◌, Option, Some, None, refl, sym, ◌∙◌, ap, subst}
+use Rattle.std.proofs.Common.{◌≡◌, inr, ℕ, Bool, true, false, cond, List, ◌∷◌, Option, Some, None, refl, sym, ◌∙◌, ap}
+use Rattle.std.proofs.Common.{subst}
 use Rattle.std.specs.Option.{option_and_then}
 use Rattle.std.specs.List.{slice_get}
 use Rattle.std.proofs.lemmas.Bool.{cond-true}
@@ -24,13 +25,14 @@ use Rattle.larch_tables.specs.Statement.{IsIdentityStatement}
 use Rattle.larch_tables.specs.Tables.{built_in_rows}
 use Rattle.larch_tables.proofs.Identities.{row_identity}
 use Rattle.larch_certificate.specs.declared.line.Line.TheVariants.{Axiom, Row, Equal as EqualLine}
-use Rattle.larch_lines.specs.Events.{State}
-use Rattle.larch_lines.specs.Rules.{row_says, stated_equal}
-use Rattle.larch_lines.specs.Run.{judge}
+use Rattle.larch_verify_meaning.specs.Events.{State}
+use Rattle.larch_verify_meaning.specs.Rules.{row_says, stated_equal}
+use Rattle.larch_verify_meaning.specs.Run.{judge}
 use Rattle.larch_derive.specs.declared.builder.Builder.{Builder}
 use Rattle.larch_derive.specs.Builder.{IsPushed}
 use Rattle.larch_derive.specs.OpenBox.{in_lines}
-use Rattle.larch_derive.specs.Predicates.{operators_at, written, written_statement, SaysIn, HasNoBadLine, HasStatement, Extends}
+use Rattle.larch_derive.specs.Predicates.{operators_at, written_term, written_statement, SaysIn, HasNoBadLine}
+use Rattle.larch_derive.specs.Predicates.{HasStatement, Extends}
 use Rattle.larch_derive.proofs.Pushing.{own_says, pushed_says, pushed_extends}
 use Rattle.larch_derive.proofs.Unchanged.{own_in_lines}
 
@@ -92,12 +94,16 @@ equal_at f g x y e d =
 
 equal_over : (a : Builder) (st : State) (m : ℕ) (s : List ℕ) (x y : Tree)
     → SaysIn a.theory a.boxes a.lines st m (Equation (equality s x y) truth)
-    → IsTermOver (operators_at a.theory st) (written a.boxes x) × (sort_of (written a.boxes x) ≡ s)
-    × (IsTermOver (operators_at a.theory st) (written a.boxes y) × (sort_of (written a.boxes y) ≡ s))
+    → IsTermOver (operators_at a.theory st) (written_term a.boxes x) × (sort_of (written_term a.boxes x) ≡ s)
+    × (IsTermOver (operators_at a.theory st) (written_term a.boxes y) × (sort_of (written_term a.boxes y) ≡ s))
 equal_over a st m s x y h =
-    let built = own_in_lines a.theory a.boxes (built_in Equal s) h.stand.plain h.stand.others (inr (Equal, (s, refl))) in
-    let w = subst (λ f. IsTermOver (operators_at a.theory st) (app f (more (written a.boxes x) (more (written a.boxes y) none)))) built h.over.0 in
-    let both = sides_over (operators_at a.theory st) (built_in Equal s) s s (written a.boxes x) (written a.boxes y) refl w in
+    let built =
+    own_in_lines a.theory a.boxes (built_in Equal s) h.stand.plain h.stand.others (inr (Equal, (s, refl))) in
+    let w =
+    subst (λ f. IsTermOver (operators_at a.theory st)
+    (app f (more (written_term a.boxes x) (more (written_term a.boxes y) none)))) built h.over.0 in
+    let both = sides_over (operators_at a.theory st) (built_in Equal s) s s (written_term a.boxes x)
+    (written_term a.boxes y) refl w in
     (both.0.0, both.0.1, both.1)
 
 equal_judged : (a : Builder) (st : State) (m : ℕ) (s : List ℕ) (x y : Tree)
@@ -105,11 +111,14 @@ equal_judged : (a : Builder) (st : State) (m : ℕ) (s : List ℕ) (x y : Tree)
     → judge a.theory st.history (EqualLine m) ≡ Some (written_statement a.boxes (Equation x y))
 equal_judged a st m s x y h =
     let sort = (equal_over a st m s x y h).1 in
-    let built = own_in_lines a.theory a.boxes (built_in Equal s) h.stand.plain h.stand.others (inr (Equal, (s, refl))) in
-    let true_ = own_in_lines a.theory a.boxes (built_in True bool_sort) h.stand.plain h.stand.others (inr (True, (bool_sort, refl))) in
+    let built =
+    own_in_lines a.theory a.boxes (built_in Equal s) h.stand.plain h.stand.others (inr (Equal, (s, refl))) in
+    let true_ = own_in_lines a.theory a.boxes (built_in True bool_sort) h.stand.plain h.stand.others
+    (inr (True, (bool_sort, refl))) in
     ap (option_and_then stated_equal) h.says
-    ∙ equal_at (in_lines a.boxes (built_in Equal s)) (in_lines a.boxes (built_in True bool_sort)) (written a.boxes x)
-    (written a.boxes y) (built ∙ ap (built_in Equal) (sym sort)) true_
+    ∙ equal_at (in_lines a.boxes (built_in Equal s)) (in_lines a.boxes (built_in True bool_sort))
+    (written_term a.boxes x)
+    (written_term a.boxes y) (built ∙ ap (built_in Equal) (sym sort)) true_
 
 pub equal_line_says : (a b : Builder) (m n : ℕ) (s : List ℕ) (x y : Tree) → IsPushed a b (EqualLine m) n
     → HasStatement a m (Equation (equality s x y) truth) → HasStatement b n (Equation x y)

@@ -4,7 +4,7 @@ ghost use Rattle.larch_term.specs.Operator.{PlainOperator};
 ghost use Rattle.larch_term.specs.Tree.{Tree, app, forest_of};
 ghost use Rattle.larch_derive_lines.specs.Way.{Leads};
 
-use crate::rules::{refl_line, repl_line, trans_line};
+use crate::rules::{push_refl, push_repl, push_trans};
 use larch_base::{Memory, Sequence};
 use larch_derive::Builder;
 use larch_term::Term;
@@ -13,7 +13,7 @@ use std::alloc::Global;
 /// A line that says that the term at which a way begins equals the one to which a further line leads. A refused line
 /// changes nothing.
 #[tactic(auto, using(larch_derive::proofs::Growth::extends_same, crate::proofs::Ways::led_further))]
-pub fn further_line(
+pub fn push_further(
     alloc: Global,
     builder: &mut Builder,
     way: Option<u64>,
@@ -27,7 +27,7 @@ pub fn further_line(
     match way {
         None => Ok(line),
         Some(way) => {
-            let number = trans_line(alloc, builder, way, line)?;
+            let number = push_trans(alloc, builder, way, line)?;
             Ok(number)
         }
     }
@@ -35,7 +35,7 @@ pub fn further_line(
 
 /// A line that says where a way leads from a known term. A refused line changes nothing.
 #[tactic(auto, using(larch_derive::proofs::Growth::extends_same, crate::proofs::Ways::led_nowhere))]
-pub fn way_line(builder: &mut Builder, start: &Term, way: Option<u64>) -> Result<u64, Memory>
+pub fn push_way(builder: &mut Builder, start: &Term, way: Option<u64>) -> Result<u64, Memory>
     ensures says { IfOk result (λ n. (t : Tree) → Known builder.old start.now → Leads builder.old way start.now t
         → HasEquation builder.new n start.now t) }
     ensures extends { (t : Tree) → Known builder.old start.now → Leads builder.old way start.now t
@@ -44,7 +44,7 @@ pub fn way_line(builder: &mut Builder, start: &Term, way: Option<u64>) -> Result
     match way {
         Some(line) => Ok(line),
         None => {
-            let number = refl_line(builder, start)?;
+            let number = push_refl(builder, start)?;
             Ok(number)
         }
     }
@@ -53,7 +53,7 @@ pub fn way_line(builder: &mut Builder, start: &Term, way: Option<u64>) -> Result
 /// A line that says what another one says, with the argument with a number, counted from 1, of the right side changed
 /// as a further line says. A refused line changes nothing.
 #[tactic(auto, using(larch_derive::proofs::Growth::extends_same))]
-pub fn argument_line(
+pub fn push_argument(
     alloc: Global,
     builder: &mut Builder,
     line: u64,
@@ -69,6 +69,6 @@ pub fn argument_line(
 {
     let mut place = Sequence::new(alloc);
     place.push(number)?;
-    let changed = repl_line(builder, line, place, by)?;
+    let changed = push_repl(builder, line, place, by)?;
     Ok(changed)
 }

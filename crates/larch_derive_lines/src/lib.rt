@@ -7,8 +7,8 @@ mod chains;
 pub mod laws;
 mod rules;
 
-pub use chains::{argument_line, further_line, way_line};
+pub use chains::{push_argument, push_further, push_way};
 pub use rules::{
-    axiom_line, equal_line, inst_line, refl_line, repl_line, row_line, sym_line, trans_line,
-    written_inst_line,
+    push_axiom, push_equal, push_inst, push_refl, push_repl, push_row, push_sym, push_trans,
+    push_written_inst,
 };

@@ -1,13 +1,13 @@
 ghost use Rattle.std.specs.Prelude.{◌≡◌, ℕ, List, ◌∷◌, map, true, Some, IfOk, OnOk, OnErr};
 ghost use Rattle.std.specs.List.{slice_get};
 ghost use Rattle.larch_term.specs.Statement.{IsStatementOver, statement_zero};
-ghost use Rattle.larch_term.specs.Substitution.{substituted};
+ghost use Rattle.larch_term.specs.Substitution.{instance_of};
 ghost use Rattle.larch_term.specs.Truth.{truth};
 ghost use Rattle.larch_term.specs.declared.statement.Statement.{Statement};
 ghost use Rattle.larch_term.specs.declared.substitution.Entry.{Entry};
 ghost use Rattle.larch_calculus.specs.Formula.{equality};
-ghost use Rattle.larch_lines.specs.Matching.{all_different};
-ghost use Rattle.larch_lines.specs.Rules.{row_says};
+ghost use Rattle.larch_verify_meaning.specs.Matching.{all_different};
+ghost use Rattle.larch_verify_meaning.specs.Rules.{row_says};
 ghost use Rattle.larch_derive.specs.Builder.{IsCodeIn, theory_in};
 ghost use Rattle.larch_derive_lines.specs.Rules.{variable_in, AreKnownEntries, AreWritten};
 ghost use Rattle.larch_term.specs.Place.{at, put};
@@ -22,7 +22,7 @@ use std::alloc::Global;
 
 /// A line that says that a known term equals itself. It answers the line's number; a refused line changes nothing.
 #[tactic(auto, using(larch_derive::proofs::Pushing::refl_says, larch_derive::proofs::Pushing::refl_extends))]
-pub fn refl_line(builder: &mut Builder, term: &Term) -> Result<u64, Memory>
+pub fn push_refl(builder: &mut Builder, term: &Term) -> Result<u64, Memory>
     ensures says { IfOk result (λ n. Known builder.old term.now → HasEquation builder.new n term.now term.now) }
     ensures extends { OnOk result (Known builder.old term.now → Extends builder.old builder.new) }
     ensures err { OnErr result (builder.new ≡ builder.old) }
@@ -34,7 +34,7 @@ pub fn refl_line(builder: &mut Builder, term: &Term) -> Result<u64, Memory>
 
 /// A line that says what another one says, with the sides exchanged. A refused line changes nothing.
 #[tactic(auto, using(larch_derive::proofs::Pushing::sym_says, larch_derive::proofs::Pushing::sym_extends))]
-pub fn sym_line(builder: &mut Builder, line: u64) -> Result<u64, Memory>
+pub fn push_sym(builder: &mut Builder, line: u64) -> Result<u64, Memory>
     ensures says { IfOk result (λ n. (l r : Tree) → HasEquation builder.old line l r → HasEquation builder.new n r l) }
     ensures extends { OnOk result ((l r : Tree) → HasEquation builder.old line l r → Extends builder.old builder.new) }
     ensures err { OnErr result (builder.new ≡ builder.old) }
@@ -46,7 +46,7 @@ pub fn sym_line(builder: &mut Builder, line: u64) -> Result<u64, Memory>
 /// A line that says what another one says, with the right side of a further one at a place of its right side, where the
 /// left side of the further one stands. A refused line changes nothing.
 #[tactic(auto, using(larch_derive::proofs::Pushing::repl_says, larch_derive::proofs::Pushing::repl_extends))]
-pub fn repl_line(builder: &mut Builder, line: u64, place: Path, by: u64) -> Result<u64, Memory>
+pub fn push_repl(builder: &mut Builder, line: u64, place: Path, by: u64) -> Result<u64, Memory>
     ensures says { IfOk result (λ n. (l r u v : Tree) → HasEquation builder.old line l r
         → HasEquation builder.old by u v
         → at r place ≡ Some u → HasEquation builder.new n l (put r place v)) }
@@ -61,7 +61,7 @@ pub fn repl_line(builder: &mut Builder, line: u64, place: Path, by: u64) -> Resu
 /// A line that says that the left side of a line equals the right side of another one, whose left side is the first
 /// one's right side. A refused line changes nothing.
 #[tactic(auto, using(larch_derive::proofs::Pushing::trans_says, larch_derive::proofs::Pushing::trans_extends))]
-pub fn trans_line(alloc: Global, builder: &mut Builder, line: u64, by: u64) -> Result<u64, Memory>
+pub fn push_trans(alloc: Global, builder: &mut Builder, line: u64, by: u64) -> Result<u64, Memory>
     ensures says { IfOk result (λ n. (l r v : Tree) → HasEquation builder.old line l r → HasEquation builder.old by r v
         → HasEquation builder.new n l v) }
     ensures extends { OnOk result ((l r v : Tree) → HasEquation builder.old line l r → HasEquation builder.old by r v
@@ -75,7 +75,7 @@ pub fn trans_line(alloc: Global, builder: &mut Builder, line: u64, by: u64) -> R
 /// A line that says what another one says with variables replaced, all at once. The entries are of different variables,
 /// and their terms known. A refused line changes nothing.
 #[tactic(auto, using(crate::proofs::Instances::inst_says, crate::proofs::Instances::inst_extends))]
-pub fn inst_line(
+pub fn push_inst(
     alloc: Global,
     builder: &mut Builder,
     line: u64,
@@ -84,7 +84,7 @@ pub fn inst_line(
     ensures says { IfOk result (λ n. (l r : Tree) → HasEquation builder.old line l r
         → AreKnownEntries builder.old by.now
         → all_different (map variable_in by.now) ≡ true
-        → HasEquation builder.new n (substituted by.now l) (substituted by.now r)) }
+        → HasEquation builder.new n (instance_of by.now l) (instance_of by.now r)) }
     ensures extends { OnOk result ((l r : Tree) → HasEquation builder.old line l r → AreKnownEntries builder.old by.now
         → all_different (map variable_in by.now) ≡ true → Extends builder.old builder.new) }
     ensures err { OnErr result (builder.new ≡ builder.old) }
@@ -97,7 +97,7 @@ pub fn inst_line(
 /// A line that says what another one says with variables replaced, all at once, by entries that are written already.
 /// The entries are of different variables, and their terms known. A refused line changes nothing.
 #[tactic(auto, using(crate::proofs::Instances::inst_says, crate::proofs::Instances::inst_extends))]
-pub fn written_inst_line(
+pub fn push_written_inst(
     builder: &mut Builder,
     line: u64,
     bindings: Bindings,
@@ -105,7 +105,7 @@ pub fn written_inst_line(
     ensures says { IfOk result (λ n. (es : List Entry) (l r : Tree) → AreWritten builder.old es bindings
         → HasEquation builder.old line l r → AreKnownEntries builder.old es
         → all_different (map variable_in es) ≡ true
-        → HasEquation builder.new n (substituted es l) (substituted es r)) }
+        → HasEquation builder.new n (instance_of es l) (instance_of es r)) }
     ensures extends { OnOk result ((es : List Entry) (l r : Tree) → AreWritten builder.old es bindings
         → HasEquation builder.old line l r → AreKnownEntries builder.old es
         → all_different (map variable_in es) ≡ true → Extends builder.old builder.new) }
@@ -141,7 +141,7 @@ fn write_entry(builder: &Builder, entry: &Entry) -> Result<Binding, Memory>
 /// A line that says a statement of the theory by its number, counted from 1; 0 is that the truth values are generated
 /// by true and false. A refused line changes nothing.
 #[tactic(auto, using(crate::proofs::Stated::axiom_says, crate::proofs::Stated::axiom_extends))]
-pub fn axiom_line(builder: &mut Builder, statement: u64) -> Result<u64, Memory>
+pub fn push_axiom(builder: &mut Builder, statement: u64) -> Result<u64, Memory>
     ensures says { IfOk result (λ n. (s : Statement) → HasNoBadLine builder.old
         → slice_get (statement_zero ∷ (theory_in builder.old).statements) statement ≡ Some s
         → IsStatementOver (theory_in builder.old).operators s → HasStatement builder.new n s) }
@@ -156,7 +156,7 @@ pub fn axiom_line(builder: &mut Builder, statement: u64) -> Result<u64, Memory>
 
 /// A line that says a built-in row, at a sort where the row has one. A refused line changes nothing.
 #[tactic(auto, using(crate::proofs::Stated::row_line_says, crate::proofs::Stated::row_line_extends))]
-pub fn row_line(builder: &mut Builder, row: u64, sort: Option<Sort>) -> Result<u64, Memory>
+pub fn push_row(builder: &mut Builder, row: u64, sort: Option<Sort>) -> Result<u64, Memory>
     ensures says { IfOk result (λ n. (s : Statement) → HasNoBadLine builder.old → row_says row sort ≡ Some s
         → HasStatement builder.new n s) }
     ensures extends { OnOk result ((s : Statement) → HasNoBadLine builder.old → row_says row sort ≡ Some s
@@ -170,7 +170,7 @@ pub fn row_line(builder: &mut Builder, row: u64, sort: Option<Sort>) -> Result<u
 /// A line that says an equation, from one that says that the equality of its sides is true. A refused line changes
 /// nothing.
 #[tactic(auto, using(crate::proofs::Stated::equal_line_says, crate::proofs::Stated::equal_line_extends))]
-pub fn equal_line(builder: &mut Builder, line: u64) -> Result<u64, Memory>
+pub fn push_equal(builder: &mut Builder, line: u64) -> Result<u64, Memory>
     ensures says { IfOk result (λ n. (s : List ℕ) (l r : Tree) → HasEquation builder.old line (equality s l r) truth
         → HasEquation builder.new n l r) }
     ensures extends { OnOk result ((s : List ℕ) (l r : Tree) → HasEquation builder.old line (equality s l r) truth

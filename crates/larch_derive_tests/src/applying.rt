@@ -1,9 +1,9 @@
 use crate::numbers::empty;
-use larch_applying::{ApplyRefusal, Encodings, apply_match};
 use larch_base::Memory;
 use larch_derive::Builder;
-use larch_plans::truth;
-use larch_redexes::{RowTables, RuleTable, first_redex};
+use larch_prove_plans::truth;
+use larch_rewrite_match::{RowTables, RuleTable, first_redex};
+use larch_rewrite_step::{ApplyRefusal, Encodings, apply_match};
 use larch_store::Store;
 use larch_term::{BuiltIn, Term, Terms, bool_sort};
 use std::alloc::Global;

@@ -1,7 +1,7 @@
 use crate::numbers::empty;
 use larch_base::Memory;
 use larch_certificate::Line;
-use larch_derive::{Builder, SharedList};
+use larch_derive::{Builder, ChunkedList};
 use std::alloc::Global;
 
 // How many lines there are.
@@ -47,7 +47,7 @@ fn refused_lines_change_nothing(rt: HostRuntime) -> Result<(), Memory> {
 
 #[test]
 fn long_lists_are_dropped(rt: HostRuntime) -> Result<(), Memory> {
-    let mut list = SharedList::new(rt.alloc());
+    let mut list = ChunkedList::new(rt.alloc());
     for number in 0..1_000_000u64 {
         list.push(number)?;
     }

@@ -1,9 +1,9 @@
 use crate::numbers::empty;
 use larch_base::Memory;
 use larch_derive::Builder;
-use larch_derive_lines::refl_line;
-use larch_formulas::equated_line;
-use larch_plans::truth;
+use larch_derive_formulas::push_equality;
+use larch_derive_lines::push_refl;
+use larch_prove_plans::truth;
 use larch_term::Term;
 use std::alloc::Global;
 
@@ -15,8 +15,8 @@ fn line_for_truth(alloc: Global) -> Result<u64, Memory> {
 }
 
 fn line_for(alloc: Global, builder: &mut Builder, term: &Term) -> Result<u64, Memory> {
-    let line = refl_line(builder, term)?;
-    equated_line(alloc, builder, term, line)
+    let line = push_refl(builder, term)?;
+    push_equality(alloc, builder, term, line)
 }
 
 #[test]

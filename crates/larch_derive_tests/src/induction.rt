@@ -3,9 +3,9 @@ use larch_base::{Bytes, Memory, Sequence};
 use larch_certificate::{CodedVar, Numbers, Path};
 use larch_certificate_printer::print_certificate;
 use larch_derive::Builder;
-use larch_derive_boxes::{close_box, hyp_line};
-use larch_derive_clauses::induct_line;
-use larch_derive_lines::{axiom_line, inst_line, repl_line};
+use larch_derive_boxes::{close_box, push_hyp};
+use larch_derive_clauses::push_induct;
+use larch_derive_lines::{push_axiom, push_inst, push_repl};
 use std::alloc::Global;
 use std::test::Fail;
 
@@ -14,9 +14,9 @@ const EXPECTED: &[u8] =
 
 // The three statements.
 fn state(builder: &mut Builder) -> Result<(), Memory> {
-    axiom_line(builder, 1)?;
-    axiom_line(builder, 2)?;
-    axiom_line(builder, 3)?;
+    push_axiom(builder, 1)?;
+    push_axiom(builder, 2)?;
+    push_axiom(builder, 3)?;
     Ok(())
 }
 
@@ -31,7 +31,7 @@ fn first_case(alloc: Global, builder: &mut Builder) -> Result<u64, Memory> {
 // What is shown in the box of 0: the line's number.
 fn show_first_case(alloc: Global, builder: &mut Builder) -> Result<u64, Memory> {
     let by = nought_for_x(alloc)?;
-    inst_line(alloc, builder, 2, &by)
+    push_inst(alloc, builder, 2, &by)
 }
 
 // The box of s is opened: its number.
@@ -52,15 +52,15 @@ fn place(alloc: Global) -> Result<Path, Memory> {
 // What is shown in the box of s: the line's number.
 fn show_second_case(alloc: Global, builder: &mut Builder, number: u64) -> Result<u64, Memory> {
     let line = stated_line(alloc, builder)?;
-    let supposed = hyp_line(builder, number, 1)?;
+    let supposed = push_hyp(builder, number, 1)?;
     let place = place(alloc)?;
-    repl_line(builder, line, place, supposed)
+    push_repl(builder, line, place, supposed)
 }
 
 // What the third statement says in the box of s: the line's number.
 fn stated_line(alloc: Global, builder: &mut Builder) -> Result<u64, Memory> {
     let by = for_both(alloc)?;
-    inst_line(alloc, builder, 3, &by)
+    push_inst(alloc, builder, 3, &by)
 }
 
 // The box of s: its number.
@@ -92,7 +92,7 @@ fn conclude(alloc: Global, builder: &mut Builder, boxes: Numbers) -> Result<u64,
     let right = x_term(alloc)?;
     let left = sum(alloc, x_term(alloc)?)?;
     let variable = x_variable(alloc)?;
-    induct_line(builder, 1, variable, &left, &right, boxes)
+    push_induct(builder, 1, variable, &left, &right, boxes)
 }
 
 // The whole proof: the number of its last line.

@@ -1,5 +1,5 @@
 use crate::numbers::theory;
-use larch_plans::{Method, PlanRefusal, falsity, plan, truth};
+use larch_prove_plans::{Method, PlanRefusal, falsity, plan, truth};
 use larch_term::Term;
 use std::alloc::Global;
 use std::test::Fail;

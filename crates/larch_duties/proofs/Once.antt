@@ -9,7 +9,7 @@ use Rattle.larch_term.proofs.Decided.{operator_Decides, statement_Decides}
 use Rattle.larch_term.specs.Equality.{same_operator, same_statement}
 use Rattle.larch_term.specs.Operator.{PlainOperator}
 use Rattle.larch_term.specs.declared.statement.Statement.{Statement}
-use Rattle.larch_flat.specs.Gathered.{stands_in, with_new, with_operator}
+use Rattle.larch_flat_meaning.specs.Gathered.{stands_in, with_new, with_operator}
 use Rattle.larch_duties.specs.Kept.{Finds}
 use Rattle.larch_duties.specs.Names.{FindsNames, with_word}
 
@@ -34,16 +34,19 @@ module _ {A : Type 0} (same : A → A → Bool) (tells : (x y : A) → Decides (
   there_too : (xs : List A) (x y : A) → list_any (same x) xs ≡ true → same y x ≡ true → list_any (same y) xs ≡ true
   there_too xs x y there e = ap (λ z. list_any (same z) xs) ((tells y x).0 e) ∙ there
 
-  by_test : (xs : List A) (x y : A) (b : Bool) → list_any (same x) xs ≡ b → list_any (same y) (cond b xs (xs ++ x ∷ [])) ≡ (list_any (same y) xs || same y x)
+  by_test : (xs : List A) (x y : A) (b : Bool) → list_any (same x) xs ≡ b
+      → list_any (same y) (cond b xs (xs ++ x ∷ [])) ≡ (list_any (same y) xs || same y x)
   by_test xs x y true e = or_same (list_any (same y) xs) (same y x) (there_too xs x y e)
-  by_test xs x y false e = list_any-append (same y) xs (x ∷ []) ∙ ap (λ b. list_any (same y) xs || b) (or_false (same y x))
+  by_test xs x y false e =
+      list_any-append (same y) xs (x ∷ []) ∙ ap (λ b. list_any (same y) xs || b) (or_false (same y x))
 
   -- one more is found
   pub one_found : (xs : List A) (x y : A) → list_any (same y) (with_one xs x) ≡ (list_any (same y) xs || same y x)
   one_found xs x y = by_test xs x y (list_any (same x) xs) refl
 
   -- what is put behind others is found
-  pub all_found : (xs ys : List A) (y : A) → list_any (same y) (fold with_one xs ys) ≡ (list_any (same y) xs || list_any (same y) ys)
+  pub all_found : (xs ys : List A) (y : A)
+      → list_any (same y) (fold with_one xs ys) ≡ (list_any (same y) xs || list_any (same y) ys)
   all_found xs [] y = sym (or_false (list_any (same y) xs))
   all_found xs (x ∷ ys) y =
       all_found (with_one xs x) ys y ∙ ap (λ b. b || list_any (same y) ys) (one_found xs x y)
@@ -64,9 +67,11 @@ turned false true = refl
 turned false false = refl
 
 -- and one more is found among other names
-pub name_found : (index names : List (List ℕ)) (n : List ℕ) → FindsNames index names → FindsNames (with_word index n) (n ∷ names)
+pub name_found : (index names : List (List ℕ)) (n : List ℕ) → FindsNames index names
+    → FindsNames (with_word index n) (n ∷ names)
 name_found index names n h m =
-    one_found bytes_eq bytes_eq-Decides index n m ∙ ap (λ b. b || bytes_eq m n) (h m) ∙ turned (list_any (bytes_eq m) names) (bytes_eq m n)
+    one_found bytes_eq bytes_eq-Decides index n m ∙ ap (λ b. b || bytes_eq m n) (h m)
+    ∙ turned (list_any (bytes_eq m) names) (bytes_eq m n)
 
 -- so are statements
 pub statements_found : (ss : List Statement) (s : Statement) → stands_in (fold with_new [] ss) s ≡ stands_in ss s

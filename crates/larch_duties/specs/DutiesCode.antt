@@ -9,9 +9,9 @@ use Rattle.larch_term.specs.Tree.{Tree}
 use Rattle.larch_term.specs.TreeCode.{coded_tree}
 use Rattle.larch_term.specs.declared.statement.Statement.{Statement}
 use Rattle.larch_term.specs.declared.statement.Theory.{Theory}
-use Rattle.larch_claims.specs.Conversions.{Clause, Conversion, Copied}
-use Rattle.larch_claims.specs.Duties.{ClauseDuties, Duties, Duty}
-use Rattle.larch_marked.specs.MarkedCode.{coded_statement}
+use Rattle.larch_duties_meaning.specs.Conversions.{Clause, Conversion, Copied}
+use Rattle.larch_duties_meaning.specs.Duties.{ClauseDuties, Duties, Duty}
+use Rattle.larch_flat_statements.specs.MarkedCode.{coded_statement}
 
 abbrev pub coded_conversion : Coded Conversion
 coded_conversion =

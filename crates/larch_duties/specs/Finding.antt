@@ -1,14 +1,14 @@
 -- Duties that are found by the texts of their labels.
 use Rattle.std.specs.Prelude.{ℕ, suc, if◌then◌else◌, ◌+◌, bytes_eq, is_some, length, List, [], ◌∷◌, Option, Some, None}
 use Rattle.std.specs.Prelude.{option_map}
-use Rattle.larch_base.specs.Labels.{label_text}
+use Rattle.larch_base.specs.Label.{label_text}
 use Rattle.larch_base.specs.declared.label.Label.{Label}
 use Rattle.larch_base.specs.declared.label.Label.TheVariants.{Assume, Imply, Convert}
 use Rattle.larch_term.specs.declared.statement.Statement.{Statement}
 use Rattle.larch_term.specs.declared.statement.Theory.{Theory}
-use Rattle.larch_flat.specs.Gathered.{Gathered}
-use Rattle.larch_claims.specs.Conversions.{Clause, Conversion, clause_over, clause_theory}
-use Rattle.larch_claims.specs.Duties.{is_its_copy}
+use Rattle.larch_flat_meaning.specs.Gathered.{Gathered}
+use Rattle.larch_duties_meaning.specs.Conversions.{Clause, Conversion, clause_over, clause_theory}
+use Rattle.larch_duties_meaning.specs.Duties.{is_its_copy}
 use Rattle.larch_duties.specs.Kept.{theory_in}
 
 -- the label of the same kind with the next number

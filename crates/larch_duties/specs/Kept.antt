@@ -4,10 +4,10 @@ use Rattle.larch_base.specs.declared.label.Label.TheVariants.{Assume, Imply}
 use Rattle.larch_term.specs.Operator.{PlainOperator}
 use Rattle.larch_term.specs.declared.statement.Statement.{Statement}
 use Rattle.larch_term.specs.declared.statement.Theory.{Theory}
-use Rattle.larch_flat.specs.Gathered.{Gathered, statements_in}
-use Rattle.larch_claims.specs.Conversions.{Conversion, clause_over}
-use Rattle.larch_claims.specs.Duties.{Duties, clause_duties, labelled}
-use Rattle.larch_claims.specs.Implied.{is_among}
+use Rattle.larch_flat_meaning.specs.Gathered.{Gathered, statements_in}
+use Rattle.larch_duties_meaning.specs.Conversions.{Conversion, clause_over}
+use Rattle.larch_duties_meaning.specs.Duties.{Duties, clause_duties, label_all}
+use Rattle.larch_duties_meaning.specs.Implied.{is_among}
 
 -- the theory of what a flat trait gathers
 abbrev pub theory_in : Gathered → Theory
@@ -17,7 +17,7 @@ theory_in g = record { operators = g.operators; statements = statements_in g.mar
 abbrev pub duties_in : Gathered → List Statement → List Conversion → Duties
 duties_in g implied conversions =
     record {
-      own = labelled Assume 1 (theory_in g) g.discharge ++ labelled Imply 1 (theory_in g) implied;
+      own = label_all Assume 1 (theory_in g) g.discharge ++ label_all Imply 1 (theory_in g) implied;
       clauses = clause_duties 1 (theory_in g) (map (clause_over (theory_in g)) conversions);
     }
 

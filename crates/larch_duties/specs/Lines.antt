@@ -3,10 +3,10 @@ use Rattle.std.specs.Prelude.{ℕ, suc, ◌+◌, List, [], ◌∷◌, ◌++◌, 
 use Rattle.larch_print.specs.Print.{printed_statement}
 use Rattle.larch_term.specs.declared.statement.Statement.{Statement}
 use Rattle.larch_term.specs.declared.statement.Theory.{Theory}
-use Rattle.larch_flat.specs.Gathered.{Gathered}
-use Rattle.larch_claims.specs.Conversions.{Clause, Conversion, Copied, clause_over, copy_of}
-use Rattle.larch_claims.specs.Duties.{is_its_copy}
-use Rattle.larch_claims.specs.Listing.{listed_marked, listed_operator}
+use Rattle.larch_flat_meaning.specs.Gathered.{Gathered}
+use Rattle.larch_duties_meaning.specs.Conversions.{Clause, Conversion, Copied, clause_over, copy_of}
+use Rattle.larch_duties_meaning.specs.Duties.{is_its_copy}
+use Rattle.larch_duties_meaning.specs.Listing.{listed_marked, listed_operator}
 
 -- a line for a statement, with a number between these words
 abbrev pub numbered_line : List ℕ → ℕ → List ℕ → Statement → List ℕ

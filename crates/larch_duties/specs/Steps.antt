@@ -5,14 +5,14 @@ use Rattle.larch_base.specs.declared.fault.Fault.{Fault}
 use Rattle.larch_raw.specs.declared.reference.RawRef.{RawRef}
 use Rattle.larch_renaming.specs.Renaming.{renamed_statement}
 use Rattle.larch_term.specs.declared.statement.Statement.{Statement}
-use Rattle.larch_items.specs.Steps.{after}
-use Rattle.larch_flat.specs.Flat.{FlatTrait, referred, renamed_marked}
-use Rattle.larch_flat.specs.Gathered.{Marked, stands_in, statements_in}
-use Rattle.larch_flat.specs.Replacements.{Replacements, renaming, replacements_of}
-use Rattle.larch_flat.specs.Stops.{Stop, stopped_if, surely}
-use Rattle.larch_claims.specs.Implied.{implied_by}
-use Rattle.larch_sources.specs.Sources.{Table, files_in}
-use Rattle.larch_flatten.specs.Parts.{flat_trait}
+use Rattle.larch_traits_items.specs.Steps.{after}
+use Rattle.larch_flat_meaning.specs.Flat.{FlatTrait, at_reference, renamed_marked}
+use Rattle.larch_flat_meaning.specs.Gathered.{Marked, stands_in, statements_in}
+use Rattle.larch_flat_meaning.specs.Replacements.{Replacements, renaming, replacements_of}
+use Rattle.larch_flat_meaning.specs.Stops.{Stop, stopped_if, surely}
+use Rattle.larch_duties_meaning.specs.Implied.{implied_by}
+use Rattle.larch_flat_sources.specs.Sources.{Table, files_in}
+use Rattle.larch_flat.specs.Parts.{flat_trait}
 
 -- what a trait implies by a reference to another one
 abbrev pub trait_implies : FlatTrait → RawRef → FlatTrait → Result (List Statement) Fault
@@ -21,7 +21,7 @@ trait_implies own ref other =
 
 -- the same by what is told of the other one
 abbrev pub told_implies : FlatTrait → RawRef → Result FlatTrait Stop → Result (List Statement) Stop
-told_implies own ref answer = after (referred ref.name.pos answer) (λ other. surely (trait_implies own ref other))
+told_implies own ref answer = after (at_reference ref.name.pos answer) (λ other. surely (trait_implies own ref other))
 
 -- the same by what was read of files
 abbrev pub reference_implies : Table → FlatTrait → RawRef → Result (List Statement) Stop

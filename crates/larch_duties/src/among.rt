@@ -1,5 +1,5 @@
 ghost use Rattle.std.specs.Prelude.{◌≡◌, IfOk};
-ghost use Rattle.larch_claims.specs.Implied.{is_among};
+ghost use Rattle.larch_duties_meaning.specs.Implied.{is_among};
 ghost use Rattle.larch_duties.specs.Kept.{Finds};
 
 use indexmap::IndexSet;

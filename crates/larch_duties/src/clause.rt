@@ -1,12 +1,12 @@
 ghost use Rattle.std.specs.Prelude.{◌≡◌, ◌++◌, codes, decimal, filter, map, IfOk};
 ghost use Rattle.larch_term.specs.Tree.{var};
 ghost use Rattle.larch_term.specs.declared.statement.Statement.TheVariants.{Equation};
-ghost use Rattle.larch_renaming.specs.Renaming.{renamed, renamed_statement};
-ghost use Rattle.larch_flat.specs.Gathered.{statements_in};
-ghost use Rattle.larch_flat.specs.Replacements.{renaming};
-ghost use Rattle.larch_claims.specs.Conversions.{by_copies, bytes_of, clause_by, clause_over, copies, copy_of};
-ghost use Rattle.larch_claims.specs.Conversions.{names_one_of};
-ghost use Rattle.larch_claims.specs.Duties.{arguments, is_its_copy, of_variables};
+ghost use Rattle.larch_renaming.specs.Renaming.{rename_tree, renamed_statement};
+ghost use Rattle.larch_flat_meaning.specs.Gathered.{statements_in};
+ghost use Rattle.larch_flat_meaning.specs.Replacements.{renaming};
+ghost use Rattle.larch_duties_meaning.specs.Conversions.{by_copies, bytes_of, clause_by, clause_over, copies, copy_of};
+ghost use Rattle.larch_duties_meaning.specs.Conversions.{names_one_of};
+ghost use Rattle.larch_duties_meaning.specs.Duties.{arguments, is_its_copy, of_variables};
 ghost use Rattle.larch_duties.specs.Kept.{theory_in};
 
 use crate::among::Among;
@@ -15,9 +15,9 @@ use crate::known::marked_at;
 use crate::standing::names_one_of;
 use crate::words::{names_of, take_word, word_for};
 use larch_base::{Memory, Name, Sequence};
-use larch_gathered::Flat;
-use larch_marked::MarkedStatements;
-use larch_replacing::{NewNames, Replacements};
+use larch_flat_gathering::Flat;
+use larch_flat_replacing::{NewNames, Replacements};
+use larch_flat_statements::MarkedStatements;
 use larch_term::{Operator, Sort, Sorts, Statement, Statements, Term, Terms, copy};
 use std::alloc::Global;
 use std::marker::Model;
@@ -39,7 +39,7 @@ impl Drop for Copied {
 }
 
 impl Model for Copied {
-    ghost use Rattle.larch_claims.specs.Conversions.{Copied as WithWord};
+    ghost use Rattle.larch_duties_meaning.specs.Conversions.{Copied as WithWord};
     ghost use Rattle.larch_duties.specs.DutiesCode.{coded_copied};
 
     ghost Value = { WithWord };
@@ -58,7 +58,7 @@ pub(crate) struct Clause {
 }
 
 impl Model for Clause {
-    ghost use Rattle.larch_claims.specs.Conversions.{Clause as Added};
+    ghost use Rattle.larch_duties_meaning.specs.Conversions.{Clause as Added};
     ghost use Rattle.larch_duties.specs.DutiesCode.{coded_clause};
 
     ghost Value = { Added };
@@ -165,7 +165,7 @@ fn copied_in(
 
 // That each of some terms is the same by new names.
 fn exempt_in(alloc: Global, names: &NewNames, terms: &[Term]) -> Result<Statements, Memory>
-    ensures { IfOk result (λ exempt. exempt ≡ map (λ t. Equation t (renamed (renaming names.now) t)) terms.now) }
+    ensures { IfOk result (λ exempt. exempt ≡ map (λ t. Equation t (rename_tree (renaming names.now) t)) terms.now) }
 {
     let mut exempt = Sequence::new(alloc);
     for term in terms {

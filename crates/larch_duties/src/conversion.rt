@@ -1,23 +1,23 @@
 ghost use Rattle.std.specs.Prelude.{◌≡◌, [], find, IfOk, None};
 ghost use Rattle.std.specs.Option.{option_copied};
 ghost use Rattle.larch_base.specs.Answering.{Answers};
-ghost use Rattle.larch_items.specs.References.{all_same, exact_of, is_meant, only_operator};
-ghost use Rattle.larch_items.specs.Refusals.{told};
-ghost use Rattle.larch_items.specs.Steps.{all_taken, each};
+ghost use Rattle.larch_traits_items.specs.References.{all_same, exact_of, is_meant, only_operator};
+ghost use Rattle.larch_traits_items.specs.Refusal.{cause};
+ghost use Rattle.larch_traits_items.specs.Steps.{all_taken, each};
 ghost use Rattle.larch_sorts_meaning.specs.Read.{read_term};
-ghost use Rattle.larch_sorts_meaning.specs.Refusals.{told as read_told};
-ghost use Rattle.larch_claims.specs.Implied.{is_among};
-ghost use Rattle.larch_claims.specs.Conversions.{conversion_of, take_converted, take_exempted};
+ghost use Rattle.larch_sorts_meaning.specs.Refusal.{told as read_told};
+ghost use Rattle.larch_duties_meaning.specs.Implied.{is_among};
+ghost use Rattle.larch_duties_meaning.specs.Conversions.{conversion_of, take_converted, take_exempted};
 
 use crate::among::Among;
 use crate::standing::has_one_of;
 use larch_base::{Code, Memory, Name, Sequence};
-use larch_items::{TraitRefusal, declare_variables, operator_of};
 use larch_raw::{RawConversion, RawEquation, RawOpRef};
 use larch_sorts::read_lone;
 use larch_sorts_meaning::{ReadRefusal, Scope};
 use larch_sorts_signature::Signature;
 use larch_term::{Operator, Operators, Term};
+use larch_traits_items::{TraitRefusal, declare_variables, operator_of};
 use std::alloc::Global;
 use std::marker::Model;
 
@@ -38,7 +38,7 @@ impl Drop for Conversion {
 }
 
 impl Model for Conversion {
-    ghost use Rattle.larch_claims.specs.Conversions.{Conversion as Read};
+    ghost use Rattle.larch_duties_meaning.specs.Conversions.{Conversion as Read};
     ghost use Rattle.larch_duties.specs.DutiesCode.{coded_conversion};
 
     ghost Value = { Read };
@@ -54,7 +54,7 @@ pub(crate) fn conversions_of(
     signature: &Signature,
     raws: &[RawConversion],
 ) -> Result<Sequence<Conversion>, TraitRefusal>
-    ensures { Answers told result (each (conversion_of signature.now) raws.now) }
+    ensures { Answers cause result (each (conversion_of signature.now) raws.now) }
 {
     let mut conversions = Sequence::new(alloc);
     for raw in raws {
@@ -70,7 +70,7 @@ fn conversion_of(
     signature: &Signature,
     raw: &RawConversion,
 ) -> Result<Conversion, TraitRefusal>
-    ensures { Answers told result (conversion_of signature.now raw.now) }
+    ensures { Answers cause result (conversion_of signature.now raw.now) }
 {
     let converted = all_converted(alloc, signature.operators(), raw.converted.as_slice())?;
     let scope = declare_variables(alloc, signature, raw.variables.as_slice())?;
@@ -88,7 +88,7 @@ fn all_converted(
     own: &[Operator],
     references: &[RawOpRef],
 ) -> Result<Operators, TraitRefusal>
-    ensures { Answers told result (all_taken (take_converted own.now) references.now []) }
+    ensures { Answers cause result (all_taken (take_converted own.now) references.now []) }
 {
     let mut converted = Sequence::new(alloc);
     for reference in references {
@@ -104,7 +104,7 @@ fn with_converted(
     reference: &RawOpRef,
     converted: Operators,
 ) -> Result<Operators, TraitRefusal>
-    ensures { Answers told result (take_converted own.now reference.now converted) }
+    ensures { Answers cause result (take_converted own.now reference.now converted) }
 {
     let exact = exact_of(alloc, reference)?;
     let Some(operator) = only_operator(own, &exact, &reference.form.name) else {
@@ -153,16 +153,14 @@ fn first_meant<'a>(
 ) -> Option<&'a Operator>
     ensures { option_copied result ≡ find (is_meant exact.now name.now) own.now }
 {
-    own.iter()
-        .find(|operator| is_meant(operator, exact, name))
+    own.iter().find(|operator| is_meant(operator, exact, name))
 }
 
 // Whether all operators that are meant are equal to one.
 fn are_all_same(own: &[Operator], exact: &Option<Operator>, name: &Name, first: &Operator) -> bool
     ensures { result ≡ all_same (is_meant exact.now name.now) first.now own.now }
 {
-    own.iter()
-        .all(|operator| !is_meant(operator, exact, name) || *first == *operator)
+    own.iter().all(|operator| !is_meant(operator, exact, name) || *first == *operator)
 }
 
 // Whether a reference of this name, or of this one operator, means an operator.
@@ -190,7 +188,7 @@ fn all_exempted(
     converted: &[Operator],
     terms: &[RawEquation],
 ) -> Result<Sequence<Term>, TraitRefusal>
-    ensures { Answers told result (all_taken (take_exempted signature.now converted.now scope.now) terms.now []) }
+    ensures { Answers cause result (all_taken (take_exempted signature.now converted.now scope.now) terms.now []) }
 {
     let among = Among::of(alloc, converted)?;
     let exempted = exempted_among(alloc, signature, scope, &among, terms)?;
@@ -205,7 +203,7 @@ fn exempted_among(
     among: &Among,
     terms: &[RawEquation],
 ) -> Result<Sequence<Term>, TraitRefusal>
-    ensures { Answers told result (all_taken (take_exempted signature.now among.now scope.now) terms.now []) }
+    ensures { Answers cause result (all_taken (take_exempted signature.now among.now scope.now) terms.now []) }
 {
     let mut exempted = Sequence::new(alloc);
     for raw in terms {
@@ -223,7 +221,7 @@ fn with_exempted(
     raw: &RawEquation,
     exempted: Sequence<Term>,
 ) -> Result<Sequence<Term>, TraitRefusal>
-    ensures { Answers told result (take_exempted signature.now converted.now scope.now raw.now exempted) }
+    ensures { Answers cause result (take_exempted signature.now converted.now scope.now raw.now exempted) }
 {
     if raw.right.is_some() {
         return Err(TraitRefusal::Wrong(raw.first, Code::Exempt));
@@ -245,7 +243,7 @@ fn read(
     raw: &RawEquation,
 ) -> Result<Term, TraitRefusal>
     requires { raw.now.right ≡ None }
-    ensures { Answers told result (read_term signature.now scope.now None raw.now) }
+    ensures { Answers cause result (read_term signature.now scope.now None raw.now) }
 {
     match read_lone(alloc, signature, scope, raw, None) {
         Ok(term) => Ok(term),
@@ -255,7 +253,7 @@ fn read(
 
 // What is wrong with a term.
 fn refusal_of(refusal: ReadRefusal) -> TraitRefusal
-    ensures { told result ≡ read_told refusal }
+    ensures { cause result ≡ read_told refusal }
 {
     match refusal {
         ReadRefusal::UnknownSort(pos) => TraitRefusal::Wrong(pos, Code::UnknownSort),

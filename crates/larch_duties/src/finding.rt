@@ -1,21 +1,21 @@
 ghost use Rattle.std.specs.Prelude.{◌≡◌, ◌+◌, ◌++◌, bytes_eq, find, map, option_map, IfOk};
 ghost use Rattle.std.specs.Option.{option_copied};
-ghost use Rattle.larch_base.specs.Labels.{label_text};
-ghost use Rattle.larch_flat.specs.Gathered.{statements_in};
-ghost use Rattle.larch_claims.specs.Conversions.{clause_theory, copy_of};
-ghost use Rattle.larch_claims.specs.Duties.{all_duties};
+ghost use Rattle.larch_base.specs.Label.{label_text};
+ghost use Rattle.larch_flat_meaning.specs.Gathered.{statements_in};
+ghost use Rattle.larch_duties_meaning.specs.Conversions.{clause_theory, copy_of};
+ghost use Rattle.larch_duties_meaning.specs.Duties.{all_duties};
 ghost use Rattle.larch_duties.specs.Finding.{clause_duty, converted_duty, kept_duty, label_behind, labelled_in};
 ghost use Rattle.larch_duties.specs.Finding.{own_labelled};
 ghost use Rattle.larch_duties.specs.Kept.{theory_in};
 
 use crate::clause::{Clause, Copied, clause_over, copy_of, is_its_copy};
 use crate::conversion::Conversion;
-use crate::implied::joined;
+use crate::implied::join_statements;
 use crate::known::marked_at;
 use crate::trait_duties::Duties;
 use larch_base::{Label, Memory, Sequence};
-use larch_gathered::Flat;
-use larch_marked::MarkedStatements;
+use larch_flat_gathering::Flat;
+use larch_flat_statements::MarkedStatements;
 use larch_term::{Operators, Statement, Statements, Theory, copy_operators, copy_statement};
 use std::alloc::Global;
 
@@ -212,8 +212,8 @@ fn clause_theory(alloc: Global, flat: &Flat, clause: Clause) -> Result<Theory, M
         exempt,
     } = clause;
     let operators = with_copies(alloc, operators, copies.as_slice())?;
-    let added = joined(copied, exempt)?;
-    let statements = joined(statements, added)?;
+    let added = join_statements(copied, exempt)?;
+    let statements = join_statements(statements, added)?;
     Ok(Theory {
         operators,
         statements,

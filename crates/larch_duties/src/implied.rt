@@ -1,26 +1,26 @@
 ghost use Rattle.std.specs.Prelude.{◌≡◌, [], ◌++◌, length, map, not, IfOk};
 ghost use Rattle.std.specs.List.{list_all};
 ghost use Rattle.larch_base.specs.Answering.{Answers};
-ghost use Rattle.larch_items.specs.Refusals.{told};
-ghost use Rattle.larch_items.specs.Steps.{all_behind, all_taken};
-ghost use Rattle.larch_claims.specs.Implied.{implied, is_among};
-ghost use Rattle.larch_sources.specs.Sources.{files_in};
-ghost use Rattle.larch_flatten.specs.Known.{AreAllKnown, Knows, stop_told};
+ghost use Rattle.larch_traits_items.specs.Refusal.{cause};
+ghost use Rattle.larch_traits_items.specs.Steps.{all_behind, all_taken};
+ghost use Rattle.larch_duties_meaning.specs.Implied.{implied_statements, is_among};
+ghost use Rattle.larch_flat_sources.specs.Sources.{files_in};
+ghost use Rattle.larch_flat.specs.Known.{AreAllKnown, Knows, stop_told};
 ghost use Rattle.larch_duties.specs.Steps.{new_in, reference_implies, renamed_in, trait_implies};
 ghost use Rattle.larch_duties.specs.TraitDuties.{flat_with};
 
 use crate::among::Among;
 use crate::known::{known_of, marked_at};
 use larch_base::{Code, Memory, Sequence};
-use larch_flatten::FlatTraits;
-use larch_gathered::Flat;
-use larch_items::{TraitRefusal, state_items};
-use larch_marked::{MarkedStatements, new_among};
+use larch_flat::FlatTraits;
+use larch_flat_gathering::Flat;
+use larch_flat_replacing::{NewNames, replacements_of};
+use larch_flat_sources::Sources;
+use larch_flat_statements::{MarkedStatements, new_among};
 use larch_raw::{RawRef, RawTrait};
-use larch_replacing::{NewNames, replacements_of};
 use larch_sorts_signature::Signature;
-use larch_sources::Sources;
 use larch_term::{Operator, Statements};
+use larch_traits_items::{TraitRefusal, state_items};
 use std::alloc::Global;
 
 // A trait: its text, with what its flat trait gathers.
@@ -43,18 +43,21 @@ pub(crate) fn implied<'a>(
     requires all { AreAllKnown sources.now flat_traits.now }
     requires signature { signature.now ≡ flat.now.operators }
     ensures { Answers stop_told result
-        (implied (length sources.now) (files_in sources.now) (flat_with raw.now flat.now)) }
+        (implied_statements (length sources.now) (files_in sources.now) (flat_with raw.now flat.now)) }
 {
     let references = raw.implied.as_slice();
     let own = Flattened { text: raw, flat };
     let statements = by_references(alloc, sources, flat_traits, &own, references)?;
     let more = state_items(alloc, signature, raw.implied_items.as_slice())?;
-    let all = joined(statements, more)?;
+    let all = join_statements(statements, more)?;
     Ok(all)
 }
 
 // Statements with others behind them.
-pub(crate) fn joined(statements: Statements, more: Statements) -> Result<Statements, Memory>
+pub(crate) fn join_statements(
+    statements: Statements,
+    more: Statements,
+) -> Result<Statements, Memory>
     ensures { IfOk result (λ all. all ≡ statements ++ more) }
 {
     let mut all = statements.into_vec();
@@ -81,7 +84,7 @@ fn by_references(
     let mut statements = Sequence::new(alloc);
     for reference in references {
         let more = by_reference(alloc, sources, flat_traits, own, &among, reference)?;
-        statements = joined(statements, more)?;
+        statements = join_statements(statements, more)?;
     }
     Ok(statements)
 }
@@ -123,7 +126,7 @@ fn by_trait(
     reference: &RawRef,
 ) -> Result<Statements, TraitRefusal>
     requires own { among.now ≡ own.now.flat.now.operators }
-    ensures { Answers told result (trait_implies (flat_with own.now.text.now own.now.flat.now) reference.now
+    ensures { Answers cause result (trait_implies (flat_with own.now.text.now own.now.flat.now) reference.now
         (flat_with other.now.text.now other.now.flat.now)) }
 {
     let ours = own.flat;

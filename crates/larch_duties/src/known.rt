@@ -1,12 +1,12 @@
 ghost use Rattle.std.specs.Prelude.{◌≡◌, ◌<◌, ◌+◌, ◌++◌, ◌∷◌, true, drop, get_or, length, slice_get, take, IfOk, None, Some};
-ghost use Rattle.larch_flat.specs.Gathered.{new_among, with_statement};
+ghost use Rattle.larch_flat_meaning.specs.Gathered.{new_among, with_statement};
 ghost use Rattle.std.specs.Prelude.{[], fold, false};
-ghost use Rattle.larch_flatten.specs.Known.{is_known};
+ghost use Rattle.larch_flat.specs.Known.{is_known};
 
 use larch_base::{Fault, Memory};
-use larch_flatten::FlatTraits;
-use larch_gathered::Flat;
-use larch_marked::{MarkedStatements, new_among};
+use larch_flat::FlatTraits;
+use larch_flat_gathering::Flat;
+use larch_flat_statements::{MarkedStatements, new_among};
 use larch_term::{Statement, Statements, copy_statement};
 use std::alloc::Global;
 
@@ -27,11 +27,11 @@ pub(crate) fn marked_at(marked: &MarkedStatements, index: usize) -> (&Statement,
     ensures taken { take (index + 1) marked.now
         ≡ take index marked.now ++ record { statement = result.0.now; assumed = result.1 } ∷ [] }
 {
-    placed(marked, index)
+    entry_at(marked, index)
 }
 
 // The same, as it is kept.
-fn placed(marked: &MarkedStatements, index: usize) -> (&Statement, bool)
+fn entry_at(marked: &MarkedStatements, index: usize) -> (&Statement, bool)
     requires { index < length marked.now }
     ensures { Some (record { statement = result.0.now; assumed = result.1 }) ≡ slice_get marked.now index }
 {
@@ -46,13 +46,13 @@ pub(crate) fn not_discharged(
 ) -> Result<Statements, Memory>
     ensures { IfOk result (λ found. found ≡ new_among discharge.now statements) }
 {
-    let known = asserted(alloc, discharge)?;
+    let known = asserted_statements(alloc, discharge)?;
     let found = new_among(alloc, &known, statements)?;
     Ok(found)
 }
 
 // Statements that are asserted.
-fn asserted(alloc: Global, statements: &[Statement]) -> Result<MarkedStatements, Memory>
+fn asserted_statements(alloc: Global, statements: &[Statement]) -> Result<MarkedStatements, Memory>
     ensures { IfOk result (λ marked. marked ≡ fold (λ ms s. with_statement s false ms) [] statements.now) }
 {
     let mut marked = MarkedStatements::new(alloc);

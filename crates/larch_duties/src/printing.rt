@@ -1,10 +1,10 @@
 ghost use Rattle.std.specs.Prelude.{◌≡◌, ◌<◌, ◌+◌, ◌++◌, codes, flat_map, length, IfOk, OnOk};
 ghost use Rattle.larch_base.specs.Answering.{Answers};
 ghost use Rattle.larch_raw.specs.declared.equation.RawTrait.{RawTrait};
-ghost use Rattle.larch_flat.specs.Gathered.{Marked};
-ghost use Rattle.larch_claims.specs.Listing.{listed, listed_marked, listed_operator, mark_text};
-ghost use Rattle.larch_sources.specs.Sources.{name_at};
-ghost use Rattle.larch_flatten.specs.Known.{AreAllKnown, Knows, stop_told};
+ghost use Rattle.larch_flat_meaning.specs.Gathered.{Marked};
+ghost use Rattle.larch_duties_meaning.specs.Listing.{trait_listing, listed_marked, listed_operator, mark_text};
+ghost use Rattle.larch_flat_sources.specs.Sources.{name_at};
+ghost use Rattle.larch_flat.specs.Known.{AreAllKnown, Knows, stop_told};
 ghost use Rattle.larch_duties.specs.Kept.{theory_in};
 ghost use Rattle.larch_duties.specs.Lines.{added_lines, clause_lines, clauses_lines, converted_lines, copy_lines};
 ghost use Rattle.larch_duties.specs.Lines.{flat_lines, numbered_line, numbered_lines, own_lines};
@@ -15,13 +15,13 @@ use crate::conversion::Conversion;
 use crate::known::{known_of, marked_at};
 use crate::trait_duties::{Duties, duties_of};
 use larch_base::{Bytes, Memory};
-use larch_flatten::FlatTraits;
-use larch_gathered::Flat;
-use larch_items::TraitRefusal;
-use larch_marked::MarkedStatements;
+use larch_flat::FlatTraits;
+use larch_flat_gathering::Flat;
+use larch_flat_sources::Sources;
+use larch_flat_statements::MarkedStatements;
 use larch_print::{write_operator, write_statement};
-use larch_sources::Sources;
 use larch_term::{Operator, Statement};
+use larch_traits_items::TraitRefusal;
 use std::alloc::Global;
 
 /// The lines of the trait of the file with a number and of its duties, behind the line of its name, where all flat
@@ -50,7 +50,7 @@ pub fn list_trait(
 /// The lines of a flat trait and of duties: operators, statements with numbers, then duties, and before those of each
 /// clause `converts` what it adds.
 pub fn print_duties(alloc: Global, flat: &Flat, duties: &Duties) -> Result<Bytes, Memory>
-    ensures { (raw : RawTrait) → IfOk result (λ text. text ≡ listed (flat_with raw flat.now) duties.now) }
+    ensures { (raw : RawTrait) → IfOk result (λ text. text ≡ trait_listing (flat_with raw flat.now) duties.now) }
 {
     let count = flat.marked.len() as u64;
     let own = duties.flat;

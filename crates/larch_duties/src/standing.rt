@@ -1,8 +1,8 @@
 ghost use Rattle.std.specs.Prelude.{◌≡◌};
 ghost use Rattle.std.specs.List.{list_any};
 ghost use Rattle.larch_term.specs.Tree.{forest_of};
-ghost use Rattle.larch_claims.specs.Conversions.{has_one_of, have_one_of, names_one_of};
-ghost use Rattle.larch_claims.specs.Implied.{is_among};
+ghost use Rattle.larch_duties_meaning.specs.Conversions.{has_one_of, have_one_of, names_one_of};
+ghost use Rattle.larch_duties_meaning.specs.Implied.{is_among};
 
 use crate::among::Among;
 use larch_term::{Node, Operator, Statement, Term, Terms};

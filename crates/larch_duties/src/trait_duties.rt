@@ -1,28 +1,28 @@
 ghost use Rattle.std.specs.Prelude.{◌≡◌, ◌<◌, ◌-◌, ◌^◌, length, min, nat_lt, sum_by, IfOk};
 ghost use Rattle.larch_base.specs.Answering.{Answers};
 ghost use Rattle.larch_base.specs.declared.limits.TheConstants.{MAX_DUTIES};
-ghost use Rattle.larch_claims.specs.Duties.{all_duties};
-ghost use Rattle.larch_sources.specs.Sources.{name_at};
-ghost use Rattle.larch_flatten.specs.Known.{AreAllKnown, Knows, stop_told};
+ghost use Rattle.larch_duties_meaning.specs.Duties.{all_duties};
+ghost use Rattle.larch_flat_sources.specs.Sources.{name_at};
+ghost use Rattle.larch_flat.specs.Known.{AreAllKnown, Knows, stop_told};
 ghost use Rattle.larch_duties.specs.Kept.{duties_in};
-ghost use Rattle.larch_duties.specs.TraitDuties.{claimed, flat_with, trait_duties};
+ghost use Rattle.larch_duties.specs.TraitDuties.{claims_of, flat_with, trait_duties};
 
 use crate::conversion::{Conversion, conversions_of};
 use crate::implied::implied;
 use crate::known::{known_of, not_discharged};
 use larch_base::limits::MAX_DUTIES;
 use larch_base::{Code, Memory, Sequence};
-use larch_flatten::FlatTraits;
-use larch_gathered::Flat;
-use larch_items::TraitRefusal;
+use larch_flat::FlatTraits;
+use larch_flat_gathering::Flat;
+use larch_flat_sources::Sources;
 use larch_raw::RawTrait;
 use larch_sorts_signature::Signature;
-use larch_sources::Sources;
 use larch_term::{Statement, Statements, copy_operators};
+use larch_traits_items::TraitRefusal;
 use std::alloc::Global;
 use std::marker::Model;
 
-/// The duties of a trait whose flat trait is borrowed. Contracts see them as `larch_claims` defines them; copies and
+/// The duties of a trait whose flat trait is borrowed. Contracts see them as `larch_duties_meaning` defines them; copies and
 /// theories aren't kept.
 pub struct Duties<'a> {
     pub(crate) flat: &'a Flat,
@@ -42,7 +42,7 @@ impl Drop for Duties<'_> {
 }
 
 impl<'a> Model for Duties<'a> {
-    ghost use Rattle.larch_claims.specs.Duties.{Duties as Whole};
+    ghost use Rattle.larch_duties_meaning.specs.Duties.{Duties as Whole};
     ghost use Rattle.larch_duties.specs.DutiesCode.{coded_duties};
     ghost use Rattle.larch_duties.specs.Kept.{duties_in};
 
@@ -69,7 +69,7 @@ pub fn duties_of<'a>(
 {
     match known_of(flat_traits, number) {
         Ok(flat) => match sources.text(number) {
-            Ok(raw) => claimed(alloc, sources, flat_traits, flat, raw),
+            Ok(raw) => claims_of(alloc, sources, flat_traits, flat, raw),
             Err(fault) => Err(TraitRefusal::Wrong(fault.pos, fault.code)),
         },
         Err(fault) => Err(TraitRefusal::Wrong(fault.pos, fault.code)),
@@ -77,7 +77,7 @@ pub fn duties_of<'a>(
 }
 
 // The duties of a flat trait with this text.
-pub(crate) fn claimed<'a>(
+pub(crate) fn claims_of<'a>(
     alloc: Global,
     sources: &Sources,
     flat_traits: &FlatTraits,
@@ -86,7 +86,7 @@ pub(crate) fn claimed<'a>(
 ) -> Result<Duties<'a>, TraitRefusal>
     requires known { Knows sources.now flat_traits.now }
     requires all { AreAllKnown sources.now flat_traits.now }
-    ensures { Answers stop_told result (claimed sources.now (flat_with raw.now flat.now)) }
+    ensures { Answers stop_told result (claims_of sources.now (flat_with raw.now flat.now)) }
 {
     let signature = signature_of(alloc, flat)?;
     let statements = implied(alloc, sources, flat_traits, flat, raw, &signature)?;

@@ -1,6 +1,6 @@
 ghost use Rattle.std.specs.Prelude.{◌≡◌, ◌++◌, ℕ, List, bytes_eq, codes, map, IfOk, OnOk};
 ghost use Rattle.std.specs.List.{list_any};
-ghost use Rattle.larch_claims.specs.Conversions.{bytes_of, free_word, word_tried};
+ghost use Rattle.larch_duties_meaning.specs.Conversions.{bytes_of, free_word, word_tried};
 ghost use Rattle.larch_duties.specs.Names.{FindsNames, with_word};
 
 use indexmap::IndexSet;
@@ -48,7 +48,7 @@ fn word_tried(alloc: Global, place: usize, name: &Name) -> Result<Name, Memory>
     ensures { IfOk result (λ word. word ≡ word_tried place name.now) }
 {
     if is_word(name.bytes()) {
-        let word = primed(alloc, name)?;
+        let word = with_prime(alloc, name)?;
         return Ok(word);
     }
     let text = format!(in alloc; "conv{place}'")?;
@@ -64,7 +64,7 @@ fn free_word(alloc: Global, taken: &IndexSet<Name>, tried: Name) -> Result<Name,
 {
     let mut word = tried;
     while is_taken(taken, &word) {
-        word = primed(alloc, &word)?;
+        word = with_prime(alloc, &word)?;
     }
     Ok(word)
 }
@@ -77,7 +77,7 @@ fn is_taken(taken: &IndexSet<Name>, name: &Name) -> bool
 }
 
 // A word with ' behind it.
-fn primed(alloc: Global, word: &Name) -> Result<Name, Memory>
+fn with_prime(alloc: Global, word: &Name) -> Result<Name, Memory>
     ensures { IfOk result (λ longer. longer ≡ word.now ++ codes "'") }
 {
     let mut longer = Vec::from_slice(alloc, word.bytes())?;

@@ -1,8 +1,2 @@
-pub mod Examples
-pub mod Files
-pub mod Flat
-pub mod Gathered
-pub mod Laws
-pub mod Reach
-pub mod Replacements
-pub mod Stops
+pub mod Known
+pub mod Parts

@@ -1,5 +1,12 @@
-//! Flat traits: definitions, examples of them, and their laws. No function here does anything.
+//! The flat traits of files that refer to one another: each is worked out once, when it is first asked for.
+//!
+//! References are followed by recursion, at most as deep as there are files, 256 in a session; a level takes a few
+//! kilobytes of stack at most.
 #![tactic(auto)]
 
-pub mod examples;
-pub mod laws;
+mod flat_traits;
+mod flattening;
+mod taking;
+
+pub use flat_traits::FlatTraits;
+pub use flattening::flatten;

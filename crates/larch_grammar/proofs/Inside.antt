@@ -1,27 +1,35 @@
 -- In the first reference behind `implies` nothing is counted. So a flaw that is counted where references follow stands
 -- behind it, or stands where an item follows too.
-use Rattle.std.proofs.Common.{◌≡◌, ℕ, ◌⊎◌, Bool, true, false, not, cond, Option, Some, None, Result, Ok, Err, List, [], ◌∷◌, inl, inr, refl, sym, ap, subst, ◌∙◌}
+use Rattle.std.proofs.Common.{◌≡◌, ℕ, ◌⊎◌, Bool, true, false, not, cond, Option, Some, None, Result, Ok, Err, List, []}
+use Rattle.std.proofs.Common.{◌∷◌, inl, inr, refl, sym, ap, subst, ◌∙◌}
 use Rattle.larch_base.specs.declared.position.Pos.{Pos}
 use Rattle.larch_lexer.specs.declared.token.Token.{Token}
-use Rattle.larch_fronts.specs.Answer.{at_end, at_mark, at_step, go_on}
-use Rattle.larch_fronts.specs.Claims.{position_or}
-use Rattle.larch_fronts.specs.Mark.{admitted}
-use Rattle.larch_fronts.specs.declared.mark.Flaw.{Flaw}
-use Rattle.larch_fronts.specs.declared.mark.Flaw.TheVariants.{Syntax}
-use Rattle.larch_fronts.proofs.Walking.{none_some, some_equal}
+use Rattle.larch_grammar_law.specs.Answer.{at_end, at_mark, at_step, go_on}
+use Rattle.larch_grammar_law.specs.Claims.{position_or}
+use Rattle.larch_grammar_law.specs.Mark.{admission}
+use Rattle.larch_grammar_law.specs.declared.mark.Flaw.{Flaw}
+use Rattle.larch_grammar_law.specs.declared.mark.Flaw.TheVariants.{Syntax}
+use Rattle.larch_grammar_law.proofs.Walking.{none_some, some_equal}
 use Rattle.larch_raw.specs.declared.declared.RawForm.{RawForm}
 use Rattle.larch_raw.specs.declared.declared.RawWord.{RawWord}
 use Rattle.larch_raw.specs.declared.equation.RawTrait.{RawTrait}
 use Rattle.larch_grammar.specs.Answers.{trait_from}
 use Rattle.larch_grammar.specs.Composition.{close_ref, open_ref}
-use Rattle.larch_grammar.specs.Leading.{behind_first, behind_group, behind_word, from_first, from_second, opened, or_further}
-use Rattle.larch_grammar.specs.Machine.{Taking, after_form, after_bracket_marker, after_leading_marker, after_marker_symbol, after_trait_ref, after_ref_name, after_rename, after_symbol_form, as_trait, begin_form, begin_item, end_form, end_marks, final, after_form_bracket, outside, step, step_at}
-use Rattle.larch_grammar.specs.Refused.{earlier, implied_tokens, is_counted, is_implies, known, position_of_token, reaches_end}
-use Rattle.larch_grammar.specs.Terminals.{ends_reference, terminal_of}
+use Rattle.larch_grammar.specs.Leading.{behind_first, behind_group, behind_word, from_first, from_second, open_depth}
+use Rattle.larch_grammar.specs.Leading.{or_further}
+use Rattle.larch_grammar.specs.Machine.{Taking, after_form, after_bracket_marker, after_leading_marker}
+use Rattle.larch_grammar.specs.Machine.{after_marker_symbol, after_trait_ref, after_ref_name, after_rename}
+use Rattle.larch_grammar.specs.Machine.{after_symbol_form, as_trait, begin_form, begin_item, end_form, end_marks, final}
+use Rattle.larch_grammar.specs.Machine.{after_form_bracket, outside, step, step_at}
+use Rattle.larch_grammar.specs.Refused.{earlier, implied_tokens, is_counted, is_implies, known, position_of_token}
+use Rattle.larch_grammar.specs.Refused.{reaches_end}
+use Rattle.larch_grammar.specs.Terminal.{ends_reference, terminal_of}
 use Rattle.larch_grammar.specs.declared.terminal.Bracket.{Bracket}
 use Rattle.larch_grammar.specs.declared.terminal.Bracket.TheVariants.{Square, Curly}
 use Rattle.larch_grammar.specs.declared.terminal.Terminal.{Terminal}
-use Rattle.larch_grammar.specs.declared.terminal.Terminal.TheVariants.{Word, Symbol, Arrow, Colon, Comma, Dot, Marker, Open, Close, OpenBracket, CloseBracket, For, Generated, Partitioned}
+use Rattle.larch_grammar.specs.declared.terminal.Terminal.TheVariants.{Word, Symbol, Arrow, Colon, Comma, Dot, Marker}
+use Rattle.larch_grammar.specs.declared.terminal.Terminal.TheVariants.{Open, Close, OpenBracket, CloseBracket, For}
+use Rattle.larch_grammar.specs.declared.terminal.Terminal.TheVariants.{Generated, Partitioned}
 use Rattle.larch_grammar.specs.declared.machine.FormBracket.{FormBracket}
 use Rattle.larch_grammar.specs.declared.machine.Naming.{Naming}
 use Rattle.larch_grammar.specs.declared.machine.Naming.TheVariants.{Actual, Renaming, Renamed}
@@ -31,7 +39,12 @@ use Rattle.larch_grammar.specs.declared.machine.RefKind.TheVariants.{First}
 use Rattle.larch_grammar.specs.declared.machine.Signing.{Signing}
 use Rattle.larch_grammar.specs.declared.machine.Signing.TheVariants.{Replacement}
 use Rattle.larch_grammar.specs.declared.machine.State.{State}
-use Rattle.larch_grammar.specs.declared.machine.State.TheVariants.{NeedRef, AfterRefName, AfterTraitRef, AfterRename, NeedForm, AfterSymbolForm, AfterDotForm, AfterLeadingMarker, AfterMarkerSymbol, AfterFormBracket, AfterBracketMarker, NeedBracketMarker, AfterForm, NeedSig, AfterSort, NeedSort, NeedRange}
+use Rattle.larch_grammar.specs.declared.machine.State.TheVariants.{NeedRef, AfterRefName, AfterTraitRef, AfterRename}
+use Rattle.larch_grammar.specs.declared.machine.State.TheVariants.{NeedForm, AfterSymbolForm, AfterDotForm}
+use Rattle.larch_grammar.specs.declared.machine.State.TheVariants.{AfterLeadingMarker, AfterMarkerSymbol}
+use Rattle.larch_grammar.specs.declared.machine.State.TheVariants.{AfterFormBracket, AfterBracketMarker}
+use Rattle.larch_grammar.specs.declared.machine.State.TheVariants.{NeedBracketMarker, AfterForm, NeedSig, AfterSort}
+use Rattle.larch_grammar.specs.declared.machine.State.TheVariants.{NeedSort, NeedRange}
 use Rattle.larch_grammar.proofs.Places.{Ordered, both_true, first_after, never_itself, not_earlier}
 use Rattle.larch_grammar.proofs.Readings.{Parts, Read, a_part, no_part, parts_in, same, token_read, two_parts}
 
@@ -74,7 +87,7 @@ OfFirst b = b ≡ Some First
 data Inside : Terminal → Taking → Type 0 where
   refused : {x : Terminal} → Inside x None
   closes : {r : RawTrait} {b : RefKind} → OfFirst (Some b) → Inside Close (outside (AfterTraitRef r b))
-  goes_on : {x : Terminal} {k : State} → opened x 0 ≡ Some 0 → OfFirst (inside_kind k) → Inside x (outside k)
+  goes_on : {x : Terminal} {k : State} → open_depth x 0 ≡ Some 0 → OfFirst (inside_kind k) → Inside x (outside k)
 
 form_inside : (n : Naming) (f : RawForm) (x : Terminal) → OfFirst (naming_kind n) → Inside x (after_form n f x)
 form_inside (Actual o) f For e = goes_on refl e
@@ -118,11 +131,13 @@ marker_symbol_inside : (n : Naming) (p : Pos) (w : RawWord) (x : Terminal) → O
 marker_symbol_inside n p w (Marker q) e = goes_on refl e
 marker_symbol_inside n p w x e = form_inside n _ x e
 
-need_marks_inside : (c : FormBracket) (x : Terminal) → OfFirst (naming_kind c.naming) → Inside x (after_form_bracket c x)
+need_marks_inside : (c : FormBracket) (x : Terminal) → OfFirst (naming_kind c.naming)
+    → Inside x (after_form_bracket c x)
 need_marks_inside c (Marker q) e = goes_on refl e
 need_marks_inside c x e = marks_inside c.naming c.behind c.bracket 0 c.pos x e
 
-mark_inside : (c : FormBracket) (m : ℕ) (x : Terminal) → OfFirst (naming_kind c.naming) → Inside x (after_bracket_marker c m x)
+mark_inside : (c : FormBracket) (m : ℕ) (x : Terminal) → OfFirst (naming_kind c.naming)
+    → Inside x (after_bracket_marker c m x)
 mark_inside c m Comma e = goes_on refl e
 mark_inside c m x e = marks_inside c.naming c.behind c.bracket m c.pos x e
 
@@ -220,7 +235,7 @@ mark_at p k go f (Ok m) e = inr (m, e)
 step_at_place : (p : Pos) (h : ℕ) (go : Going) (f : Flaw × Pos) (o : Taking) → Flawed (go_on (at_step p h o) go) f
     → (f.1 ≡ p) ⊎ ((m : ℕ) × (k : State) × Flawed (go m k) f)
 step_at_place p h go f None e = inl (ap (λ (g : Flaw × Pos). g.1) (sym (err_equal e)))
-step_at_place p h go f (Some taken) e = by (mark_at p taken.1 go f (admitted h taken.0) e)
+step_at_place p h go f (Some taken) e = by (mark_at p taken.1 go f (admission h taken.0) e)
   where
     by : (f.1 ≡ p) ⊎ ((m : ℕ) × Flawed (go m taken.1) f) → (f.1 ≡ p) ⊎ ((m : ℕ) × (k : State) × Flawed (go m k) f)
     by (inl q) = inl q
@@ -291,10 +306,11 @@ inside_counted : {x y : Terminal} {a : Taking} (p end : Pos) (ts : List Token) (
     → ((k : State) → OfFirst (inside_kind k) → Flawed (trait_from true end 0 k ts) f
     → Reaches end f (behind_group known 0 ts))
     → Flawed (go_on (at_step p h a) (λ m k. trait_from true end m k ts)) f
-    → Reaches end f (or_further (opened x 0) ts (λ n. behind_group known n ts))
+    → Reaches end f (or_further (open_depth x 0) ts (λ n. behind_group known n ts))
 inside_counted p end ts h f rd refused o c rest e = not_syntax e c
 inside_counted p end ts h f (same q) (closes {r} {b} first) o c rest e =
-    ref_counted end ts 0 r f o c (subst (λ x. Flawed (trait_from true end 0 (AfterTraitRef r x) ts) f) (some_equal first) e)
+    ref_counted end ts 0 r f o c (subst (λ x. Flawed (trait_from true end 0 (AfterTraitRef r x) ts) f)
+    (some_equal first) e)
 inside_counted p end ts h f (same q) (goes_on {k = k} opens first) o c rest e =
     subst (λ x. Reaches end f (or_further x ts (λ n. behind_group known n ts))) (sym opens) (rest k first e)
 inside_counted p end ts h f two_parts (goes_on {k = k} opens first) o c rest e = rest k first e
@@ -371,7 +387,7 @@ same_either : (p end : Pos) (ts : List Token) (h : ℕ) (f : Flaw × Pos) (o : T
     → Either end f (go_on (at_step p h o) (λ m k. trait_from false end m k ts)) (implied_tokens ts)
 same_either p end ts h f None rest e = inl e
 same_either p end ts h f (Some taken) rest e =
-    mark_either p end ts taken.1 f (admitted h taken.0) (λ m. rest m taken.1) e
+    mark_either p end ts taken.1 f (admission h taken.0) (λ m. rest m taken.1) e
 
 parts_either : {a b : Taking} (p end : Pos) (ts : List Token) (h : ℕ) (f : Flaw × Pos) → Parts a b → Ordered end ts
     → Counts f → Flawed (go_on (at_step p h b) (λ m k. trait_from true end m k ts)) f

@@ -1,13 +1,15 @@
 -- Where tokens rise, the place of a flaw says how many tokens stand before it; and whether a list of references ends
 -- before that place is seen from the tokens up to it.
-use Rattle.std.proofs.Common.{◌≡◌, ℕ, ◌==◌, ◌&&◌, ◌⊎◌, nat_lt, Bool, true, false, not, cond, Option, Some, None, List, [], ◌∷◌, ◌++◌, All, inl, inr, refl, sym, ap, ◌∙◌, arith}
+use Rattle.std.proofs.Common.{◌≡◌, ℕ, ◌==◌, ◌&&◌, ◌⊎◌, nat_lt, Bool, true, false, not, cond, Option, Some, None, List}
+use Rattle.std.proofs.Common.{[], ◌∷◌, ◌++◌, All, inl, inr, refl, sym, ap, ◌∙◌, arith}
 use Rattle.std.proofs.lemmas.Bool.{eq-eqb, eqb-true, lt-ltb, ltb-true, or_cases, or_left, or_right}
 use Rattle.std.proofs.lemmas.List.Elements.{All-head, All-tail}
 use Rattle.larch_base.specs.declared.position.Pos.{Pos}
 use Rattle.larch_lexer.specs.Order.{Precedes, Rising}
 use Rattle.larch_lexer.specs.declared.token.Token.{Token}
-use Rattle.larch_fronts.specs.Claims.{position_or}
-use Rattle.larch_grammar.specs.Leading.{behind_first, behind_group, behind_word, ends_behind, ends_references, from_first, from_second, opened, or_further}
+use Rattle.larch_grammar_law.specs.Claims.{position_or}
+use Rattle.larch_grammar.specs.Leading.{behind_first, behind_group, behind_word, ends_behind, ends_references}
+use Rattle.larch_grammar.specs.Leading.{from_first, from_second, open_depth, or_further}
 use Rattle.larch_grammar.specs.Refused.{earlier, implied_tokens, is_implies, known, position_of_token, reaches_end}
 use Rattle.larch_grammar.specs.declared.terminal.Terminal.{Terminal}
 use Rattle.larch_grammar.specs.declared.terminal.Terminal.TheVariants.{Word, Open, Generated, Partitioned}
@@ -137,7 +139,7 @@ never_further p end (Some n) ts a h = h n
 never_group : (p end : Pos) (ts : List Token) (n : ℕ) → After p end ts
     → reaches_end p end (behind_group known n ts) ≡ false
 never_group p end [] n a = refl
-never_group p end (t ∷ ts) n a = never_further p end (opened (known t) n) ts a.1 (λ m. never_group p end ts m a.1)
+never_group p end (t ∷ ts) n a = never_further p end (open_depth (known t) n) ts a.1 (λ m. never_group p end ts m a.1)
 
 never_second : (p end : Pos) (x : Terminal) (t : Token) (ts : List Token) → After p end (t ∷ ts)
     → reaches_end p end (from_second known x t ts) ≡ false
@@ -195,9 +197,9 @@ group_local : (end : Pos) (us : List Token) (t : Token) (ts vs : List Token) (n 
     → reaches_end t.pos end (behind_group known n (us ++ t ∷ ts)) ≡ true
     → ends_at (behind_group known n ((us ++ t ∷ []) ++ vs)) ≡ true
 group_local end [] t ts vs n o e =
-    opposite e (never_further t.pos end (opened (known t) n) ts o.0 (λ m. never_group t.pos end ts m o.0))
+    opposite e (never_further t.pos end (open_depth (known t) n) ts o.0 (λ m. never_group t.pos end ts m o.0))
 group_local end (u ∷ us) t ts vs n o e =
-    further_local end (opened (known u) n) us t ts vs (λ m f. group_local end us t ts vs m o.1 f) e
+    further_local end (open_depth (known u) n) us t ts vs (λ m f. group_local end us t ts vs m o.1 f) e
 
 second_here : (end : Pos) (x : Terminal) (t : Token) (ts vs : List Token) → After t.pos end ts
     → reaches_end t.pos end (from_second known x t ts) ≡ true → ends_at (from_second known x t vs) ≡ true

@@ -4,7 +4,7 @@ use Rattle.std.proofs.lemmas.Bool.{false_from_ne_true}
 use Rattle.std.proofs.lemmas.Slice.Eq.{bytes_eq-Decides}
 use Rattle.std.specs.Str.{bytes_eq}
 use Rattle.larch_base.specs.declared.position.Pos.{Pos}
-use Rattle.larch_grammar.specs.Terminals.{punctuation_terminal}
+use Rattle.larch_grammar.specs.Terminal.{punctuation_terminal}
 use Rattle.larch_grammar.specs.declared.terminal.Terminal.TheVariants.{Other}
 
 another : (text byte : List ℕ) → length byte ≡ 1 → (length text ≡ 1 → ⊥) → bytes_eq text byte ≡ false

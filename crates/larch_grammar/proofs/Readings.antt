@@ -1,6 +1,7 @@
 -- A token list is a trait in at most one way, whether references follow `implies` or an item does. So what the grammar
 -- says of an answer it says of one answer alone.
-use Rattle.std.proofs.Common.{◌≡◌, ◌↔◌, ℕ, Bool, true, false, not, IsTrue, codes, cond, ◌||◌, Option, Some, None, Result, Ok, Err, List, [], ◌∷◌, map, refl, sym, ap, subst, ◌∙◌}
+use Rattle.std.proofs.Common.{◌≡◌, ◌↔◌, ℕ, Bool, true, false, not, IsTrue, codes, cond, ◌||◌, Option, Some, None}
+use Rattle.std.proofs.Common.{Result, Ok, Err, List, [], ◌∷◌, map, refl, sym, ap, subst, ◌∙◌}
 use Rattle.std.proofs.Math.Path.{ap₂}
 use Rattle.std.specs.Str.{bytes_eq}
 use Rattle.larch_base.specs.declared.position.Pos.{Pos}
@@ -8,12 +9,12 @@ use Rattle.larch_lexer.specs.TokenList.{TokenList}
 use Rattle.larch_lexer.specs.declared.token.Kind.{Kind}
 use Rattle.larch_lexer.specs.declared.token.Kind.TheVariants as kind
 use Rattle.larch_lexer.specs.declared.token.Token.{Token}
-use Rattle.larch_fronts.specs.Claims.{Means, Spells, tokens_of}
-use Rattle.larch_fronts.specs.Walks.{Accepts}
-use Rattle.larch_fronts.specs.declared.mark.Flaw.{Flaw}
-use Rattle.larch_fronts.specs.declared.mark.Mark.{Mark}
-use Rattle.larch_fronts.specs.declared.mark.Mark.TheVariants.{Outside}
-use Rattle.larch_fronts.proofs.Walking.{head_equal, nil_cons, none_some, some_equal, tail_equal, taken}
+use Rattle.larch_grammar_law.specs.Claims.{Means, Spells, tokens_of}
+use Rattle.larch_grammar_law.specs.Walks.{Accepts}
+use Rattle.larch_grammar_law.specs.declared.mark.Flaw.{Flaw}
+use Rattle.larch_grammar_law.specs.declared.mark.Mark.{Mark}
+use Rattle.larch_grammar_law.specs.declared.mark.Mark.TheVariants.{Outside}
+use Rattle.larch_grammar_law.proofs.Walking.{head_equal, nil_cons, none_some, some_equal, tail_equal, taken}
 use Rattle.larch_raw.specs.declared.declared.RawForm.{RawForm}
 use Rattle.larch_raw.specs.declared.declared.RawWord.{RawWord}
 use Rattle.larch_raw.specs.declared.equation.RawEquation.{RawEquation}
@@ -23,29 +24,47 @@ use Rattle.larch_raw.specs.declared.reference.RawRef.{RawRef}
 use Rattle.larch_raw.specs.RawTree.{RawTree}
 use Rattle.larch_grammar.specs.Answers.{AnyTrait, MeansTrait, Traits, either, trait_answer, trait_by}
 use Rattle.larch_grammar.specs.Composition.{is_open, IsRef, a_ref, actuals, bare}
-use Rattle.larch_grammar.specs.Forms.{Marked, unmarked, a_word}
-use Rattle.larch_grammar.specs.Leading.{behind_word, ends_behind, from_first, from_second, opened, or_further}
-use Rattle.larch_grammar.specs.Machine.{Taking, after_form, after_group, begin_bracket, begin_claim, behind_refs, end_marks, final, hand, hand_equation, open_item, outside, step, step_at, word_frames}
+use Rattle.larch_grammar.specs.Form.{Marked, without_mark, a_word}
+use Rattle.larch_grammar.specs.Leading.{behind_word, ends_behind, from_first, from_second, open_depth, or_further}
+use Rattle.larch_grammar.specs.Machine.{Taking, after_form, after_group, begin_bracket, begin_claim, behind_refs}
+use Rattle.larch_grammar.specs.Machine.{end_marks, final, hand, hand_equation, open_item, outside, step, step_at}
+use Rattle.larch_grammar.specs.Machine.{word_frames}
 use Rattle.larch_grammar.specs.Refused.{is_implies, position_of_token}
-use Rattle.larch_grammar.specs.Terminals.{bracket_terminal, claim_word, ends_reference, head_word, punctuation_terminal, run_terminal, term_word, terminal_by, terminal_of, word_terminal}
+use Rattle.larch_grammar.specs.Terminal.{bracket_terminal, claim_word, ends_reference, head_word, punctuation_terminal}
+use Rattle.larch_grammar.specs.Terminal.{run_terminal, term_word, terminal_by, terminal_of, word_terminal}
 use Rattle.larch_grammar.specs.Terms.{equation_of, formula_of}
-use Rattle.larch_grammar.specs.Traits.{begins_references, ends_references, implying, seen}
+use Rattle.larch_grammar.specs.Traits.{begins_references, ends_references, implying, as_marked}
 use Rattle.larch_grammar.specs.Trees.{call_tree, chain_tree, if_tree, prefix_tree}
 use Rattle.larch_grammar.specs.declared.terminal.Bracket.{Bracket}
 use Rattle.larch_grammar.specs.declared.terminal.Bracket.TheVariants.{Square, Curly}
 use Rattle.larch_grammar.specs.declared.terminal.Terminal.{Terminal}
-use Rattle.larch_grammar.specs.declared.terminal.Terminal.TheVariants.{Word, Symbol, Not, Connective, Equality, Equates, Arrow, Colon, Comma, Semicolon, Dot, Open, Close, OpenBracket, CloseBracket, ForAll, Trait, Introduces, Asserts, Implies, Converts, Exempting, Generated, Partitioned, By, Includes, Assumes, For, Enumeration, Tuple, Union, Of, If, Then, Else, Other}
+use Rattle.larch_grammar.specs.declared.terminal.Terminal.TheVariants.{Word, Symbol, Not, Connective, Equality, Equates}
+use Rattle.larch_grammar.specs.declared.terminal.Terminal.TheVariants.{Arrow, Colon, Comma, Semicolon, Dot, Open, Close}
+use Rattle.larch_grammar.specs.declared.terminal.Terminal.TheVariants.{OpenBracket, CloseBracket, ForAll, Trait}
+use Rattle.larch_grammar.specs.declared.terminal.Terminal.TheVariants.{Introduces, Asserts, Implies, Converts}
+use Rattle.larch_grammar.specs.declared.terminal.Terminal.TheVariants.{Exempting, Generated, Partitioned, By, Includes}
+use Rattle.larch_grammar.specs.declared.terminal.Terminal.TheVariants.{Assumes, For, Enumeration, Tuple, Union, Of, If}
+use Rattle.larch_grammar.specs.declared.terminal.Terminal.TheVariants.{Then, Else, Other}
 use Rattle.larch_grammar.specs.declared.machine.Frame.{Frame}
-use Rattle.larch_grammar.specs.declared.machine.Frame.TheVariants.{InFields, InStrays, Prefixed, InPostfixes, InInfixes, InEqualities, InConnectives, InParentheses, InList, InIf, InThen, InElse, InLeft, InRight, InExempted}
+use Rattle.larch_grammar.specs.declared.machine.Frame.TheVariants.{InFields, InStrays, Prefixed, InPostfixes, InInfixes}
+use Rattle.larch_grammar.specs.declared.machine.Frame.TheVariants.{InEqualities, InConnectives, InParentheses, InList}
+use Rattle.larch_grammar.specs.declared.machine.Frame.TheVariants.{InIf, InThen, InElse, InLeft, InRight, InExempted}
 use Rattle.larch_grammar.specs.declared.machine.Listing.TheVariants.{Call, First as call_first, Bracketed}
 use Rattle.larch_grammar.specs.declared.machine.Naming.{Naming}
-use Rattle.larch_grammar.specs.declared.machine.Naming.TheVariants.{Declared, Referred, Formal, Actual, Renaming, Renamed, Lone, Converted}
+use Rattle.larch_grammar.specs.declared.machine.Naming.TheVariants.{Declared, Referred, Formal, Actual, Renaming}
+use Rattle.larch_grammar.specs.declared.machine.Naming.TheVariants.{Renamed, Lone, Converted}
 use Rattle.larch_grammar.specs.declared.machine.RefKind.{RefKind}
 use Rattle.larch_grammar.specs.declared.machine.RefKind.TheVariants.{Included, Assumed, First, Further}
-use Rattle.larch_grammar.specs.declared.machine.Scope.{Scope}
-use Rattle.larch_grammar.specs.declared.machine.Scope.TheVariants.{Quantified, Exempted}
+use Rattle.larch_grammar.specs.declared.machine.VariablesFor.{VariablesFor}
+use Rattle.larch_grammar.specs.declared.machine.VariablesFor.TheVariants.{Quantified, Exempted}
 use Rattle.larch_grammar.specs.declared.machine.State.{State}
-use Rattle.larch_grammar.specs.declared.machine.State.TheVariants.{Start, AfterHead, AfterConstant, AfterField, AfterRefName, AfterTraitRef, InPart, AfterSymbolForm, AfterMarkerSymbol, NeedRef, AfterFormBracket, AfterBracketMarker, AfterForm, AfterOperatorRef, InItems, FirstWord, AfterSemicolon, WordBehind, AfterGroup, AfterImplies, AfterWord, NeedFirst, AfterSymbol, Have}
+use Rattle.larch_grammar.specs.declared.machine.State.TheVariants.{Start, AfterHead, AfterConstant, AfterField}
+use Rattle.larch_grammar.specs.declared.machine.State.TheVariants.{AfterRefName, AfterTraitRef, InPart, AfterSymbolForm}
+use Rattle.larch_grammar.specs.declared.machine.State.TheVariants.{AfterMarkerSymbol, NeedRef, AfterFormBracket}
+use Rattle.larch_grammar.specs.declared.machine.State.TheVariants.{AfterBracketMarker, AfterForm, AfterOperatorRef}
+use Rattle.larch_grammar.specs.declared.machine.State.TheVariants.{InItems, FirstWord, AfterSemicolon, WordBehind}
+use Rattle.larch_grammar.specs.declared.machine.State.TheVariants.{AfterGroup, AfterImplies, AfterWord, NeedFirst}
+use Rattle.larch_grammar.specs.declared.machine.State.TheVariants.{AfterSymbol, Have}
 use Rattle.larch_grammar.specs.declared.machine.Waiting.{Waiting}
 use Rattle.larch_grammar.specs.declared.machine.Waiting.TheVariants.{Alone, Item}
 use Rattle.larch_grammar.specs.declared.machine.Whole.{Whole}
@@ -160,7 +179,7 @@ data AreRead : List Marked → List Marked → Type 0 where
       → AreRead ((x, m) ∷ i) ((y, n) ∷ j)
 
 tokens_read : (ms ns : List (Token × Mark)) → tokens_of ms ≡ tokens_of ns
-    → AreRead (map (seen false) ms) (map (seen true) ns)
+    → AreRead (map (as_marked false) ms) (map (as_marked true) ns)
 tokens_read [] [] e = none_read
 tokens_read [] (n ∷ ns) e = absurd (nil_cons e)
 tokens_read (m ∷ ms) [] e = absurd (nil_cons (sym e))
@@ -170,7 +189,7 @@ tokens_read (m ∷ ms) (n ∷ ns) e =
 
 -- in both readings a list of references ends at the same tokens, and a parenthesis closes at the same one
 
-opened_read : {x y : Terminal} → Read x y → (n : ℕ) → opened x n ≡ opened y n
+opened_read : {x y : Terminal} → Read x y → (n : ℕ) → open_depth x n ≡ open_depth y n
 opened_read (same p) n = refl
 opened_read two_parts n = refl
 
@@ -181,7 +200,7 @@ ends_read (more_read two_parts rs) = refl
 
 -- a list of references ends there
 abbrev pub ends : Option (List Marked) → Bool
-ends o = ends_behind unmarked o
+ends o = ends_behind without_mark o
 
 further_read : (o : Option ℕ) (i j : List Marked) → ends_references i ≡ ends_references j
     → ((n : ℕ) → ends (group n i) ≡ ends (group n j))
@@ -193,20 +212,21 @@ group_read : {i j : List Marked} → AreRead i j → (n : ℕ) → ends (group n
 group_read none_read n = refl
 group_read (more_read {x} {y} {i = i} {j = j} r rs) n =
     ap (λ o. ends (or_further o i (λ l. group l i))) (opened_read r n)
-    ∙ further_read (opened y n) i j (ends_read rs) (group_read rs)
+    ∙ further_read (open_depth y n) i j (ends_read rs) (group_read rs)
 
 second_read : {i j : List Marked} (x : Terminal) (m n : Mark) → AreRead i j
-    → ends (from_second unmarked x (x, m) i) ≡ ends (from_second unmarked x (x, n) j)
+    → ends (from_second without_mark x (x, m) i) ≡ ends (from_second without_mark x (x, n) j)
 second_read (Open p) m n rs = group_read rs 0
 second_read _ m n rs = refl
 
-behind_word_read : {i j : List Marked} → AreRead i j → ends (behind_word unmarked i) ≡ ends (behind_word unmarked j)
+behind_word_read : {i j : List Marked} → AreRead i j
+    → ends (behind_word without_mark i) ≡ ends (behind_word without_mark j)
 behind_word_read none_read = refl
 behind_word_read (more_read {x} {m = m} {n = n} (same p) rs) = second_read x m n rs
 behind_word_read (more_read two_parts rs) = refl
 
 first_read : {i j : List Marked} (x : Terminal) → AreRead i j
-    → ends (from_first unmarked x i) ≡ ends (from_first unmarked x j)
+    → ends (from_first without_mark x i) ≡ ends (from_first without_mark x j)
 first_read (Word w) rs = behind_word_read rs
 first_read _ rs = refl
 
@@ -223,7 +243,7 @@ abbrev pub From : State → List Marked → Whole → Type 0
 From n i z = Accepts (step false) final n i z
 
 pub from_seen : (g : Bool) (ms : List (Token × Mark)) (n : State) (z : Whole)
-    → Accepts (step_at g false) final n ms z → From n (map (seen g) ms) z
+    → Accepts (step_at g false) final n ms z → From n (map (as_marked g) ms) z
 from_seen g [] n z a = a
 from_seen g (m ∷ ms) n z a = (a.0, a.1, from_seen g ms a.0 z a.2)
 
@@ -243,7 +263,7 @@ after_first r t none e a = none_some (sym none ∙ ap (λ p. step false p.1 t) (
 name_begins : (r : RawTrait) (w : RawWord) (t : Terminal) (m : Mark) (i : List Marked) (z : Whole)
     → IsTrue (not (is_open t)) → IsTrue (ends_reference t)
     → From (NeedRef r First) ((Word w, Outside) ∷ (t, m) ∷ i) z
-    → IsTrue (ends (from_second unmarked t (t, m) i))
+    → IsTrue (ends (from_second without_mark t (t, m) i))
 name_begins r w (Open p) m i z o e a = let q : false ≡ true = o in cc
 name_begins r w Generated m i z o e a = absurd (after_first r Generated refl a.1 a.2.1)
 name_begins r w Partitioned m i z o e a = absurd (after_first r Partitioned refl a.1 a.2.1)
@@ -339,7 +359,7 @@ bracket_parts : (b : Bracket) (l : Option RawTree) (p : Pos) (k : List Frame)
 bracket_parts Square l p k = no_part
 bracket_parts Curly l p k = no_part
 
-scope_parts : (sc : Scope) (vs : List RawVar)
+scope_parts : (sc : VariablesFor) (vs : List RawVar)
     → Parts (after_group sc vs (Implies false)) (after_group sc vs (Implies true))
 scope_parts (Quantified r) vs = no_part
 scope_parts (Exempted r rs) vs = no_part

@@ -4,7 +4,7 @@ use Rattle.std.proofs.lemmas.Bool.{false_from_ne_true, true≢false}
 use Rattle.std.proofs.lemmas.Slice.Eq.{bytes_eq-Decides}
 use Rattle.std.specs.Str.{bytes_eq}
 use Rattle.larch_base.specs.declared.position.Pos.{Pos}
-use Rattle.larch_grammar.specs.Terminals.{begins_reserved, word_terminal}
+use Rattle.larch_grammar.specs.Terminal.{begins_reserved, word_terminal}
 use Rattle.larch_grammar.specs.declared.terminal.Terminal.TheVariants.{Word}
 
 another : (word text : List ℕ) → begins_reserved word ≡ true → begins_reserved text ≡ false → bytes_eq text word ≡ false
@@ -12,7 +12,8 @@ another word text reserved plain =
     false_from_ne_true (bytes_eq text word)
     (λ same. true≢false (sym reserved ∙ (sym (ap begins_reserved ((bytes_eq-Decides text word).0 same)) ∙ plain)))
 
-pub plain_word : (lists : Bool) (text : List ℕ) (pos : Pos) → begins_reserved text ≡ false → word_terminal lists text pos ≡ Word (record { name = text; pos = pos })
+pub plain_word : (lists : Bool) (text : List ℕ) (pos : Pos) → begins_reserved text ≡ false
+    → word_terminal lists text pos ≡ Word (record { name = text; pos = pos })
 plain_word lists text pos plain =
     rw (
       another (codes "trait") text refl plain,

@@ -1,23 +1,26 @@
 -- A flaw stands where the whole grammar has it, whether references follow `implies` or an item does.
-use Rattle.std.proofs.Common.{◌≡◌, ℕ, ◌⊎◌, Bool, true, false, not, cond, Option, Some, None, Result, Err, List, [], ◌∷◌, ◌++◌, All, map, inl, inr, refl, sym, ap, subst, ◌∙◌, append_assoc}
+use Rattle.std.proofs.Common.{◌≡◌, ℕ, ◌⊎◌, Bool, true, false, not, cond, Option, Some, None, Result, Err, List, [], ◌∷◌}
+use Rattle.std.proofs.Common.{◌++◌, All, map, inl, inr, refl, sym, ap, subst, ◌∙◌, append_assoc}
 use Rattle.std.proofs.lemmas.List.{append-nil}
 use Rattle.larch_base.specs.declared.position.Pos.{Pos}
 use Rattle.larch_lexer.specs.Order.{Precedes, Rising}
 use Rattle.larch_lexer.specs.TokenList.{TokenList}
 use Rattle.larch_lexer.specs.declared.token.Token.{Token}
-use Rattle.larch_fronts.specs.Claims.{Begins, Counted, Means, Spells, Stands, position_or, tokens_of}
-use Rattle.larch_fronts.specs.declared.mark.Flaw.{Flaw}
-use Rattle.larch_fronts.specs.declared.mark.Flaw.TheVariants.{Mixed, Syntax, Deep, Large}
-use Rattle.larch_fronts.specs.declared.mark.Mark.{Mark}
-use Rattle.larch_fronts.proofs.Walking.{head_equal, none_some, some_equal, tail_equal}
+use Rattle.larch_grammar_law.specs.Claims.{Begins, Counted, Means, Spells, Stands, position_or, tokens_of}
+use Rattle.larch_grammar_law.specs.declared.mark.Flaw.{Flaw}
+use Rattle.larch_grammar_law.specs.declared.mark.Flaw.TheVariants.{Mixed, Syntax, Deep, Large}
+use Rattle.larch_grammar_law.specs.declared.mark.Mark.{Mark}
+use Rattle.larch_grammar_law.proofs.Walking.{head_equal, none_some, some_equal, tail_equal}
 use Rattle.larch_raw.specs.declared.equation.RawTrait.{RawTrait}
 use Rattle.larch_grammar.specs.Answers.{AnyTrait, StandsInAny, Traits, trait_answer, trait_by}
-use Rattle.larch_grammar.specs.Forms.{unmarked}
-use Rattle.larch_grammar.specs.Leading.{behind_first, behind_group, behind_word, from_first, from_second, opened, or_further}
+use Rattle.larch_grammar.specs.Form.{without_mark}
+use Rattle.larch_grammar.specs.Leading.{behind_first, behind_group, behind_word, from_first, from_second, open_depth}
+use Rattle.larch_grammar.specs.Leading.{or_further}
 use Rattle.larch_grammar.specs.Leading as leading
 use Rattle.larch_grammar.specs.Machine.{Taking, step}
-use Rattle.larch_grammar.specs.Refused.{earlier, implied_tokens, is_counted, is_implies, known, position_of_token, reaches, reaches_end, which}
-use Rattle.larch_grammar.specs.Traits.{begins_references, ends_references, seen}
+use Rattle.larch_grammar.specs.Refused.{earlier, implied_tokens, is_counted, is_implies, known, position_of_token}
+use Rattle.larch_grammar.specs.Refused.{reaches, reaches_end, which}
+use Rattle.larch_grammar.specs.Traits.{begins_references, ends_references, as_marked}
 use Rattle.larch_grammar.specs.declared.terminal.Terminal.{Terminal}
 use Rattle.larch_grammar.specs.declared.terminal.Terminal.TheVariants.{Word, Open}
 use Rattle.larch_grammar.specs.declared.machine.State.{State}
@@ -28,8 +31,10 @@ use Rattle.larch_grammar.proofs.CompleteTraits.{complete_trait}
 use Rattle.larch_grammar.proofs.Groups.{group}
 use Rattle.larch_grammar.proofs.Inside.{counted_either}
 use Rattle.larch_grammar.proofs.Law.{reading_law, trait_law}
-use Rattle.larch_grammar.proofs.Places.{Ordered, end_local, ends_at, first_after, implied_local, one_earlier, opposite, precedes_earlier, rest_after, rising_ordered}
-use Rattle.larch_grammar.proofs.Readings.{From, Parts, Read, a_part, ends, from_fits, from_seen, no_part, parts_in, same, token_read, two_parts}
+use Rattle.larch_grammar.proofs.Places.{Ordered, end_local, ends_at, first_after, implied_local, one_earlier, opposite}
+use Rattle.larch_grammar.proofs.Places.{precedes_earlier, rest_after, rising_ordered}
+use Rattle.larch_grammar.proofs.Readings.{From, Parts, Read, a_part, ends, from_fits, from_seen, no_part, parts_in}
+use Rattle.larch_grammar.proofs.Readings.{same, token_read, two_parts}
 
 -- tokens with their marks, and without
 
@@ -37,40 +42,41 @@ use Rattle.larch_grammar.proofs.Readings.{From, Parts, Read, a_part, ends, from_
 abbrev MarkedTokens : Type 0
 MarkedTokens = List (Token × Mark)
 
-ends_known : (ms : MarkedTokens) → ends_references (map (seen false) ms) ≡ leading.ends_references known (tokens_of ms)
+ends_known : (ms : MarkedTokens)
+    → ends_references (map (as_marked false) ms) ≡ leading.ends_references known (tokens_of ms)
 ends_known [] = refl
 ends_known (m ∷ ms) = refl
 
 further_known : (o : Option ℕ) (ms : MarkedTokens)
-    → ((n : ℕ) → ends (group n (map (seen false) ms)) ≡ ends_at (behind_group known n (tokens_of ms)))
-    → ends (or_further o (map (seen false) ms) (λ n. group n (map (seen false) ms)))
+    → ((n : ℕ) → ends (group n (map (as_marked false) ms)) ≡ ends_at (behind_group known n (tokens_of ms)))
+    → ends (or_further o (map (as_marked false) ms) (λ n. group n (map (as_marked false) ms)))
     ≡ ends_at (or_further o (tokens_of ms) (λ n. behind_group known n (tokens_of ms)))
 further_known None ms h = ends_known ms
 further_known (Some n) ms h = h n
 
 group_known : (ms : MarkedTokens) (n : ℕ)
-    → ends (group n (map (seen false) ms)) ≡ ends_at (behind_group known n (tokens_of ms))
+    → ends (group n (map (as_marked false) ms)) ≡ ends_at (behind_group known n (tokens_of ms))
 group_known [] n = refl
-group_known (m ∷ ms) n = further_known (opened (known m.0) n) ms (group_known ms)
+group_known (m ∷ ms) n = further_known (open_depth (known m.0) n) ms (group_known ms)
 
 second_known : (x : Terminal) (m : Token × Mark) (ms : MarkedTokens)
-    → ends (from_second unmarked x (seen false m) (map (seen false) ms))
+    → ends (from_second without_mark x (as_marked false m) (map (as_marked false) ms))
     ≡ ends_at (from_second known x m.0 (tokens_of ms))
 second_known (Open p) m ms = group_known ms 0
 second_known _ m ms = refl
 
 word_known : (ms : MarkedTokens)
-    → ends (behind_word unmarked (map (seen false) ms)) ≡ ends_at (behind_word known (tokens_of ms))
+    → ends (behind_word without_mark (map (as_marked false) ms)) ≡ ends_at (behind_word known (tokens_of ms))
 word_known [] = refl
 word_known (m ∷ ms) = second_known (known m.0) m ms
 
 from_known : (x : Terminal) (ms : MarkedTokens)
-    → ends (from_first unmarked x (map (seen false) ms)) ≡ ends_at (from_first known x (tokens_of ms))
+    → ends (from_first without_mark x (map (as_marked false) ms)) ≡ ends_at (from_first known x (tokens_of ms))
 from_known (Word w) ms = word_known ms
 from_known _ ms = refl
 
 begins_known : (ms : MarkedTokens)
-    → begins_references (map (seen false) ms) ≡ ends_at (behind_first known (tokens_of ms))
+    → begins_references (map (as_marked false) ms) ≡ ends_at (behind_first known (tokens_of ms))
 begins_known [] = refl
 begins_known (m ∷ ms) = from_known (known m.0) ms
 
@@ -81,15 +87,15 @@ never_true true e = sym e
 never_true false e = refl
 
 part_apart : {a b : Taking} {m : Mark} {k : State} (z : Whole) (ms : MarkedTokens) → Parts a b → a ≡ Some (m, k)
-    → From k (map (seen false) ms) z → ends_at (behind_first known (tokens_of ms)) ≡ false
+    → From k (map (as_marked false) ms) z → ends_at (behind_first known (tokens_of ms)) ≡ false
 part_apart z ms no_part e a = absurd (none_some e)
 part_apart z ms (a_part {r}) e a =
-    let i = map (seen false) ms in
+    let i = map (as_marked false) ms in
     let f = from_fits i (AfterImplies r) z (subst (λ p. From p.1 i z) (sym (some_equal e)) a) in
-    sym (begins_known ms) ∙ never_true (begins_references (map (seen false) ms)) f.0
+    sym (begins_known ms) ∙ never_true (begins_references (map (as_marked false) ms)) f.0
 
 token_apart : {x y : Terminal} {m : Mark} {k : State} (n : State) (z : Whole) (ms : MarkedTokens) → Read x y
-    → step false n x ≡ Some (m, k) → From k (map (seen false) ms) z
+    → step false n x ≡ Some (m, k) → From k (map (as_marked false) ms) z
     → ends_at (behind_first known (implied_tokens (tokens_of ms))) ≡ false
     → ends_at (behind_first known (cond (is_implies x) (tokens_of ms) (implied_tokens (tokens_of ms)))) ≡ false
 token_apart n z ms (same q) e a rest =
@@ -97,7 +103,7 @@ token_apart n z ms (same q) e a rest =
     (sym q) rest
 token_apart n z ms two_parts e a rest = part_apart z ms (parts_in false n) e a
 
-marked_apart : (ms : MarkedTokens) (n : State) (z : Whole) → From n (map (seen false) ms) z
+marked_apart : (ms : MarkedTokens) (n : State) (z : Whole) → From n (map (as_marked false) ms) z
     → ends_at (behind_first known (implied_tokens (tokens_of ms))) ≡ false
 marked_apart [] n z a = refl
 marked_apart (m ∷ ms) n z a = token_apart n z ms (token_read m.0) a.1 a.2 (marked_apart ms a.0 z a.2)

@@ -1,7 +1,8 @@
--- The grammar of shorthands and of references to traits, as relations between the tokens that are left before and behind.
+-- The grammar of shorthands and of references to traits, as relations between the tokens that are left before and
+-- behind.
 use Rattle.std.specs.Prelude.{Bool, true, false, not, IsTrue, List, [], ◌∷◌, ◌++◌, map}
 use Rattle.larch_base.specs.declared.position.Pos.{Pos}
-use Rattle.larch_fronts.specs.declared.mark.Mark.TheVariants.{Outside}
+use Rattle.larch_grammar_law.specs.declared.mark.Mark.TheVariants.{Outside}
 use Rattle.larch_raw.specs.declared.declared.RawForm.{RawForm}
 use Rattle.larch_raw.specs.declared.declared.RawOpRef.{RawOpRef}
 use Rattle.larch_raw.specs.declared.declared.RawWord.{RawWord}
@@ -19,8 +20,9 @@ use Rattle.larch_grammar.specs.declared.machine.OpenRef.{OpenRef}
 use Rattle.larch_grammar.specs.declared.machine.RefKind.{RefKind}
 use Rattle.larch_grammar.specs.declared.machine.RefKind.TheVariants.{Included, Assumed, First, Further}
 use Rattle.larch_grammar.specs.declared.terminal.Terminal.{Terminal}
-use Rattle.larch_grammar.specs.declared.terminal.Terminal.TheVariants.{Colon, Comma, Open, Close, Includes, Assumes, For, Enumeration, Tuple, Union, Of}
-use Rattle.larch_grammar.specs.Forms.{Marked, IsWord, AreWords, IsForm, AreForms, IsOpRef}
+use Rattle.larch_grammar.specs.declared.terminal.Terminal.TheVariants.{Colon, Comma, Open, Close, Includes, Assumes}
+use Rattle.larch_grammar.specs.declared.terminal.Terminal.TheVariants.{For, Enumeration, Tuple, Union, Of}
+use Rattle.larch_grammar.specs.Form.{Marked, IsWord, AreWords, IsForm, AreForms, IsOpRef}
 
 -- shorthands
 
@@ -87,8 +89,10 @@ pub data HasFormals : List Marked → List Marked → List RawForm → Type 0 wh
 
 -- the trait with a reference more, which is included, assumed or implied
 abbrev pub with_ref : RawTrait → RefKind → RawRef → RawTrait
-with_ref raw Included target = record raw { references = raw.references ++ record { assumed = false; target = target } ∷ [] }
-with_ref raw Assumed target = record raw { references = raw.references ++ record { assumed = true; target = target } ∷ [] }
+with_ref raw Included target =
+    record raw { references = raw.references ++ record { assumed = false; target = target } ∷ [] }
+with_ref raw Assumed target =
+    record raw { references = raw.references ++ record { assumed = true; target = target } ∷ [] }
 with_ref raw First target = record raw { implied = raw.implied ++ target ∷ [] }
 with_ref raw Further target = record raw { implied = raw.implied ++ target ∷ [] }
 
@@ -116,7 +120,8 @@ abbrev pub replacement : RawForm → RawOpRef → RawActual
 replacement f r = actual.Replace f r.form r.sig
 
 mutual
-  -- Actual { "," Actual } ")", where the actuals before are these; Actual = Form [ "for" Form [ ":" Sig ] ]; with `true`
+  -- Actual { "," Actual } ")", where the actuals before are these; Actual = Form [ "for" Form [ ":" Sig ] ]; with
+  -- `true`
   -- a replacement stands before, and only replacements follow
   pub data AreActuals : Bool → List RawActual → List Marked → List Marked → List RawActual → Type 0 where
     in_place : {ps qs : List RawActual} {f : RawForm} {i j o : List Marked} → IsForm i j f

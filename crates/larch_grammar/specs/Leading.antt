@@ -3,15 +3,15 @@ use Rattle.std.specs.Prelude.{ℕ, zero, suc, Bool, true, false, Option, Some, N
 use Rattle.larch_base.specs.declared.position.Pos.{Pos}
 use Rattle.larch_grammar.specs.declared.terminal.Terminal.{Terminal}
 use Rattle.larch_grammar.specs.declared.terminal.Terminal.TheVariants.{Word, Open, Close, Generated, Partitioned}
-use Rattle.larch_grammar.specs.Terminals.{ends_reference}
+use Rattle.larch_grammar.specs.Terminal.{ends_reference}
 
 -- how many parentheses are open behind a token, where so many are inside a group before it; nothing where it closes
 -- the group
-abbrev pub opened : Terminal → ℕ → Option ℕ
-opened (Open p) n = Some (suc n)
-opened Close zero = None
-opened Close (suc n) = Some n
-opened _ n = Some n
+abbrev pub open_depth : Terminal → ℕ → Option ℕ
+open_depth (Open p) n = Some (suc n)
+open_depth Close zero = None
+open_depth Close (suc n) = Some n
+open_depth _ n = Some n
 
 -- what stands behind a token that closes a group, or further
 abbrev pub or_further : {Rest : Type 0} → Option ℕ → Rest → (ℕ → Option Rest) → Option Rest
@@ -22,7 +22,7 @@ module _ {Seen : Type 0} (see : Seen → Terminal) where
   -- what stands behind the `)` that closes a group, so many others being open inside; nothing where none closes
   abbrev pub behind_group : ℕ → List Seen → Option (List Seen)
   behind_group n [] = None
-  behind_group n (t ∷ ts) = or_further (opened (see t) n) ts (λ m. behind_group m ts)
+  behind_group n (t ∷ ts) = or_further (open_depth (see t) n) ts (λ m. behind_group m ts)
 
   -- what stands behind a word and its parenthesis, where this is the token behind the word; nothing in a clause
   abbrev pub from_second : Terminal → Seen → List Seen → Option (List Seen)
@@ -41,7 +41,8 @@ module _ {Seen : Type 0} (see : Seen → Terminal) where
   from_first (Word w) ts = behind_word ts
   from_first _ ts = None
 
-  -- what stands behind the word that comes first and behind the parenthesis that opens directly behind it; nothing where
+  -- what stands behind the word that comes first and behind the parenthesis that opens directly behind it; nothing
+  -- where
   -- no word comes first, where it begins a clause, and where the parenthesis is never closed
   abbrev pub behind_first : List Seen → Option (List Seen)
   behind_first [] = None

@@ -1,12 +1,12 @@
 pub mod Answers
 pub mod Composition
 pub mod Depth
-pub mod Forms
+pub mod Form
 pub mod Leading
 pub mod Machine
 pub mod Opening
 pub mod Refused
-pub mod Terminals
+pub mod Terminal
 pub mod Terms
 pub mod Traits
 pub mod Trees

@@ -3,8 +3,8 @@
 use Rattle.std.specs.Prelude.{ℕ, suc, Bool, true, false, cond, Option, Some, None, List, [], ◌∷◌, ◌++◌}
 use Rattle.larch_base.specs.declared.position.Pos.{Pos}
 use Rattle.larch_lexer.specs.declared.token.Token.{Token}
-use Rattle.larch_fronts.specs.declared.mark.Mark.{Mark}
-use Rattle.larch_fronts.specs.declared.mark.Mark.TheVariants as mark
+use Rattle.larch_grammar_law.specs.declared.mark.Mark.{Mark}
+use Rattle.larch_grammar_law.specs.declared.mark.Mark.TheVariants as mark
 use Rattle.larch_raw.specs.declared.declared.RawForm.{RawForm}
 use Rattle.larch_raw.specs.declared.declared.RawOpRef.{RawOpRef}
 use Rattle.larch_raw.specs.declared.declared.RawSig.{RawSig}
@@ -20,40 +20,71 @@ use Rattle.larch_raw.specs.RawTree.{RawTree, qualified}
 use Rattle.larch_grammar.specs.declared.terminal.Bracket.{Bracket}
 use Rattle.larch_grammar.specs.declared.terminal.Bracket.TheVariants.{Square, Curly}
 use Rattle.larch_grammar.specs.declared.terminal.Terminal.{Terminal}
-use Rattle.larch_grammar.specs.declared.terminal.Terminal.TheVariants.{Word, Symbol, Not, Connective, Equality, Equates, Arrow, Colon, Comma, Semicolon, Dot, Marker, Open, Close, OpenBracket, CloseBracket, ForAll, Trait, Introduces, Asserts, Implies, Converts, Exempting, Generated, Partitioned, By, Includes, Assumes, For, Enumeration, Tuple, Union, Of, If, Then, Else}
+use Rattle.larch_grammar.specs.declared.terminal.Terminal.TheVariants.{Word, Symbol, Not, Connective, Equality, Equates}
+use Rattle.larch_grammar.specs.declared.terminal.Terminal.TheVariants.{Arrow, Colon, Comma, Semicolon, Dot, Marker}
+use Rattle.larch_grammar.specs.declared.terminal.Terminal.TheVariants.{Open, Close, OpenBracket, CloseBracket, ForAll}
+use Rattle.larch_grammar.specs.declared.terminal.Terminal.TheVariants.{Trait, Introduces, Asserts, Implies, Converts}
+use Rattle.larch_grammar.specs.declared.terminal.Terminal.TheVariants.{Exempting, Generated, Partitioned, By, Includes}
+use Rattle.larch_grammar.specs.declared.terminal.Terminal.TheVariants.{Assumes, For, Enumeration, Tuple, Union, Of, If}
+use Rattle.larch_grammar.specs.declared.terminal.Terminal.TheVariants.{Then, Else}
 use Rattle.larch_grammar.specs.declared.machine.Clause.{Clause}
 use Rattle.larch_grammar.specs.declared.machine.FieldsKind.TheVariants as fields_kind
 use Rattle.larch_grammar.specs.declared.machine.FormBracket.{FormBracket}
 use Rattle.larch_grammar.specs.declared.machine.Frame.{Frame}
-use Rattle.larch_grammar.specs.declared.machine.Frame.TheVariants.{InFields, InStrays, Prefixed, InPostfixes, InInfixes, InEqualities, InConnectives, InParentheses, InList, InIf, InThen, InElse, InLeft, InRight, InExempted}
+use Rattle.larch_grammar.specs.declared.machine.Frame.TheVariants.{InFields, InStrays, Prefixed, InPostfixes, InInfixes}
+use Rattle.larch_grammar.specs.declared.machine.Frame.TheVariants.{InEqualities, InConnectives, InParentheses, InList}
+use Rattle.larch_grammar.specs.declared.machine.Frame.TheVariants.{InIf, InThen, InElse, InLeft, InRight, InExempted}
 use Rattle.larch_grammar.specs.declared.machine.Link.{Link}
 use Rattle.larch_grammar.specs.declared.machine.Listing.{Listing}
 use Rattle.larch_grammar.specs.declared.machine.Listing.TheVariants.{Call, First as call_first, Bracketed}
 use Rattle.larch_grammar.specs.declared.machine.Naming.{Naming}
-use Rattle.larch_grammar.specs.declared.machine.Naming.TheVariants.{Declared, Referred, Formal, Actual, Renaming, Renamed, Lone, Converted}
+use Rattle.larch_grammar.specs.declared.machine.Naming.TheVariants.{Declared, Referred, Formal, Actual, Renaming}
+use Rattle.larch_grammar.specs.declared.machine.Naming.TheVariants.{Renamed, Lone, Converted}
 use Rattle.larch_grammar.specs.declared.machine.OpenConversion.{OpenConversion}
 use Rattle.larch_grammar.specs.declared.machine.OpenFields.{OpenFields}
 use Rattle.larch_grammar.specs.declared.machine.OpenItem.{OpenItem}
 use Rattle.larch_grammar.specs.declared.machine.OpenRef.{OpenRef}
 use Rattle.larch_grammar.specs.declared.machine.RefKind.{RefKind}
 use Rattle.larch_grammar.specs.declared.machine.RefKind.TheVariants.{Included, Assumed, First, Further}
-use Rattle.larch_grammar.specs.declared.machine.Scope.{Scope}
-use Rattle.larch_grammar.specs.declared.machine.Scope.TheVariants.{Quantified, Exempted}
+use Rattle.larch_grammar.specs.declared.machine.VariablesFor.{VariablesFor}
+use Rattle.larch_grammar.specs.declared.machine.VariablesFor.TheVariants.{Quantified, Exempted}
 use Rattle.larch_grammar.specs.declared.machine.Signing.{Signing}
-use Rattle.larch_grammar.specs.declared.machine.Signing.TheVariants.{Declaration, Reference, Replacement, LoneForm, Conversion}
+use Rattle.larch_grammar.specs.declared.machine.Signing.TheVariants.{Declaration, Reference, Replacement, LoneForm}
+use Rattle.larch_grammar.specs.declared.machine.Signing.TheVariants.{Conversion}
 use Rattle.larch_grammar.specs.declared.machine.State.{State}
-use Rattle.larch_grammar.specs.declared.machine.State.TheVariants.{Start, AfterName, AfterFormals, NeedTrait, AfterHead, ShortWord, NeedConstants, NeedConstant, AfterConstant, NeedFields, NeedName, AfterNames, NeedFurtherName, NeedNamesSort, AfterField, NeedRef, AfterRefName, AfterTraitRef, AfterRename, InPart, NeedForm, AfterSymbolForm, AfterDotForm, AfterLeadingMarker, AfterMarkerSymbol, AfterFormBracket, AfterBracketMarker, NeedBracketMarker, AfterForm, NeedSig, AfterSort, NeedSort, NeedRange, AfterOperatorRef, AfterLone, InItems, FirstWord, AfterSemicolon, WordBehind, ClauseWord, NeedBy, NeedVariable, AfterVariable, NeedFurtherVariable, NeedVariableSort, AfterGroup, AfterImplies, ImpliedWord, BehindFirst, AfterConverted, NeedExempted, NeedFurtherExempted, NeedEquation, NeedTerm, NeedOperand, NeedPrefixed, NeedPost, NeedField, NeedSortOf, AfterWord, NeedFirst, AfterSymbol, Have}
+use Rattle.larch_grammar.specs.declared.machine.State.TheVariants.{Start, AfterName, AfterFormals, NeedTrait, AfterHead}
+use Rattle.larch_grammar.specs.declared.machine.State.TheVariants.{ShortWord, NeedConstants, NeedConstant}
+use Rattle.larch_grammar.specs.declared.machine.State.TheVariants.{AfterConstant, NeedFields, NeedName, AfterNames}
+use Rattle.larch_grammar.specs.declared.machine.State.TheVariants.{NeedFurtherName, NeedNamesSort, AfterField, NeedRef}
+use Rattle.larch_grammar.specs.declared.machine.State.TheVariants.{AfterRefName, AfterTraitRef, AfterRename, InPart}
+use Rattle.larch_grammar.specs.declared.machine.State.TheVariants.{NeedForm, AfterSymbolForm, AfterDotForm}
+use Rattle.larch_grammar.specs.declared.machine.State.TheVariants.{AfterLeadingMarker, AfterMarkerSymbol}
+use Rattle.larch_grammar.specs.declared.machine.State.TheVariants.{AfterFormBracket, AfterBracketMarker}
+use Rattle.larch_grammar.specs.declared.machine.State.TheVariants.{NeedBracketMarker, AfterForm, NeedSig, AfterSort}
+use Rattle.larch_grammar.specs.declared.machine.State.TheVariants.{NeedSort, NeedRange, AfterOperatorRef, AfterLone}
+use Rattle.larch_grammar.specs.declared.machine.State.TheVariants.{InItems, FirstWord, AfterSemicolon, WordBehind}
+use Rattle.larch_grammar.specs.declared.machine.State.TheVariants.{ClauseWord, NeedBy, NeedVariable, AfterVariable}
+use Rattle.larch_grammar.specs.declared.machine.State.TheVariants.{NeedFurtherVariable, NeedVariableSort, AfterGroup}
+use Rattle.larch_grammar.specs.declared.machine.State.TheVariants.{AfterImplies, ImpliedWord, BehindFirst}
+use Rattle.larch_grammar.specs.declared.machine.State.TheVariants.{AfterConverted, NeedExempted, NeedFurtherExempted}
+use Rattle.larch_grammar.specs.declared.machine.State.TheVariants.{NeedEquation, NeedTerm, NeedOperand, NeedPrefixed}
+use Rattle.larch_grammar.specs.declared.machine.State.TheVariants.{NeedPost, NeedField, NeedSortOf, AfterWord}
+use Rattle.larch_grammar.specs.declared.machine.State.TheVariants.{NeedFirst, AfterSymbol, Have}
 use Rattle.larch_grammar.specs.declared.machine.Waiting.{Waiting}
 use Rattle.larch_grammar.specs.declared.machine.Waiting.TheVariants.{Alone, Item}
 use Rattle.larch_grammar.specs.declared.machine.Whole.{Whole}
 use Rattle.larch_grammar.specs.declared.machine.Whole.TheVariants as whole
-use Rattle.larch_grammar.specs.Composition.{close_fields, close_ref, fields_at, next_kind, open_fields, open_ref, with_actual, with_fields, with_shorthand}
+use Rattle.larch_grammar.specs.Composition.{close_fields, close_ref, fields_at, next_kind, open_fields, open_ref}
+use Rattle.larch_grammar.specs.Composition.{with_actual, with_fields, with_shorthand}
 use Rattle.larch_grammar.specs.Depth.{depth_of}
-use Rattle.larch_grammar.specs.Forms.{variables_at}
-use Rattle.larch_grammar.specs.Terminals.{ends_reference, terminal_of, position_of}
-use Rattle.larch_grammar.specs.Terms.{opens, opens_head, chained, formula_of, equation_of}
-use Rattle.larch_grammar.specs.Traits.{implying, named, with_conversion, with_declaration, with_item, with_equations}
-use Rattle.larch_grammar.specs.Trees.{infix_name, prefix_name, postfix_name, field_name, prefix_tree, postfix_tree, field_tree, call_tree, bracket_tree, listing_tree, if_tree, chain_tree, mixfix, plain_form, bracket_form}
+use Rattle.larch_grammar.specs.Form.{variables_at}
+use Rattle.larch_grammar.specs.Terminal.{ends_reference, terminal_of, position_of}
+use Rattle.larch_grammar.specs.Terms.{opens, opens_head, chain_link, formula_of, equation_of}
+use Rattle.larch_grammar.specs.Traits.{implying, empty_trait, with_conversion, with_declaration, with_item}
+use Rattle.larch_grammar.specs.Traits.{with_equations}
+use Rattle.larch_grammar.specs.Trees.{infix_name, prefix_name, postfix_name, field_name, prefix_tree, postfix_tree}
+use Rattle.larch_grammar.specs.Trees.{field_tree, call_tree, bracket_tree, listing_tree, if_tree, chain_tree, mixfix}
+use Rattle.larch_grammar.specs.Trees.{plain_form, bracket_form}
 
 -- the mark and the state of a step, if there is one
 abbrev pub Taking : Type 0
@@ -154,8 +185,10 @@ abbrev pub hand_list : RawTree → Listing → List RawTree → List Frame → T
 hand_list r h ts k Comma = plainly (NeedTerm (InList h (ts ++ r ∷ []) ∷ k))
 hand_list r (Call w) ts k Close = plainly (Have (listing_tree (Call w) (ts ++ r ∷ [])) k)
 hand_list r (call_first raw w) ts k Close = plainly (BehindFirst raw w (ts ++ r ∷ []))
-hand_list r (Bracketed Square l p) ts k (CloseBracket Square) = plainly (Have (listing_tree (Bracketed Square l p) (ts ++ r ∷ [])) k)
-hand_list r (Bracketed Curly l p) ts k (CloseBracket Curly) = plainly (Have (listing_tree (Bracketed Curly l p) (ts ++ r ∷ [])) k)
+hand_list r (Bracketed Square l p) ts k (CloseBracket Square) =
+    plainly (Have (listing_tree (Bracketed Square l p) (ts ++ r ∷ [])) k)
+hand_list r (Bracketed Curly l p) ts k (CloseBracket Curly) =
+    plainly (Have (listing_tree (Bracketed Curly l p) (ts ++ r ∷ [])) k)
 hand_list r h ts k _ = None
 
 -- conversions
@@ -197,7 +230,8 @@ after_converted raw rs Comma = outside (NeedForm (Converted raw rs))
 after_converted raw rs Exempting = outside (NeedExempted raw rs)
 after_converted raw rs t = begin_conversion (with_conversion raw rs [] []) t
 
--- a term is read, and a token stands behind it: the innermost frame takes the token, or hands on what it makes of the term
+-- a term is read, and a token stands behind it: the innermost frame takes the token, or hands on what it makes of the
+-- term
 abbrev pub hand : Bool → RawTree → List Frame → Terminal → Taking
 hand s r [] t = None
 hand s r (InFields ∷ k) (Dot p) = at_head (NeedField r p k)
@@ -211,11 +245,23 @@ hand s r (InPostfixes ∷ k) (Symbol x) = at_head (Have (postfix_tree x r) (InPo
 hand s r (InPostfixes ∷ k) t = hand s r k t
 hand s r (InInfixes None ∷ k) (Symbol x) = at_head (AfterSymbol x r k)
 hand s r (InInfixes None ∷ k) t = hand s r k t
-hand s r (InInfixes (Some l) ∷ k) (Symbol x) = Some (chained (Some l.symbol) x, NeedPost (InInfixes (Some (record { symbol = x; left = chain_tree (Some l) r })) ∷ k))
+hand s r (InInfixes (Some l) ∷ k) (Symbol x) =
+    Some (
+      chain_link (Some l.symbol) x,
+      NeedPost (InInfixes (Some (record { symbol = x; left = chain_tree (Some l) r })) ∷ k),
+    )
 hand s r (InInfixes (Some l) ∷ k) t = hand s (chain_tree (Some l) r) k t
-hand s r (InEqualities l ∷ k) (Equality x) = Some (chained (symbol_of l) x, NeedOperand (InEqualities (Some (record { symbol = x; left = chain_tree l r })) ∷ k))
+hand s r (InEqualities l ∷ k) (Equality x) =
+    Some (
+      chain_link (symbol_of l) x,
+      NeedOperand (InEqualities (Some (record { symbol = x; left = chain_tree l r })) ∷ k),
+    )
 hand s r (InEqualities l ∷ k) t = hand s (chain_tree l r) k t
-hand s r (InConnectives l ∷ k) (Connective x) = Some (chained (symbol_of l) x, NeedOperand (InEqualities None ∷ InConnectives (Some (record { symbol = x; left = chain_tree l r })) ∷ k))
+hand s r (InConnectives l ∷ k) (Connective x) =
+    Some (
+      chain_link (symbol_of l) x,
+      NeedOperand (InEqualities None ∷ InConnectives (Some (record { symbol = x; left = chain_tree l r })) ∷ k),
+    )
 hand s r (InConnectives l ∷ k) t = hand s (chain_tree l r) k t
 hand s r (InParentheses ∷ k) Close = plainly (Have r k)
 hand s r (InParentheses ∷ k) t = None
@@ -269,7 +315,8 @@ begin_bracket b l p k t = begin_term t (InList (Bracketed b l p) [] ∷ InFields
 abbrev pub after_symbol : Bool → RawWord → RawTree → List Frame → Terminal → Taking
 after_symbol s x r k (Word w) = begin_post (Word w) (InInfixes (Some (record { symbol = x; left = r })) ∷ k)
 after_symbol s x r k (Open p) = begin_post (Open p) (InInfixes (Some (record { symbol = x; left = r })) ∷ k)
-after_symbol s x r k (OpenBracket b p) = begin_post (OpenBracket b p) (InInfixes (Some (record { symbol = x; left = r })) ∷ k)
+after_symbol s x r k (OpenBracket b p) =
+    begin_post (OpenBracket b p) (InInfixes (Some (record { symbol = x; left = r })) ∷ k)
 after_symbol s x r k t = hand s (postfix_tree x r) (InPostfixes ∷ k) t
 
 -- the frames of an equation that begins with a word
@@ -407,12 +454,12 @@ after_semicolon raw vs es Converts = begin_part (with_equations raw vs es) Conve
 after_semicolon raw vs es t = begin_equation t (Item (open_item raw vs es))
 
 -- what variables are read for begins: an equation, or a term that is exempted
-abbrev pub begin_quantified : Scope → List RawVar → Terminal → Taking
+abbrev pub begin_quantified : VariablesFor → List RawVar → Terminal → Taking
 begin_quantified (Quantified raw) vs t = begin_equation t (Item (open_item raw vs []))
 begin_quantified (Exempted raw rs) vs t = begin_exempted (open_conversion raw rs vs []) t
 
 -- variables with their sorts are read
-abbrev pub after_group : Scope → List RawVar → Terminal → Taking
+abbrev pub after_group : VariablesFor → List RawVar → Terminal → Taking
 after_group sc vs Comma = outside (NeedVariable sc vs)
 after_group sc vs t = begin_quantified sc vs t
 
@@ -480,7 +527,8 @@ implied_word s raw w t = cond (ends_reference t) None (after_word s w (word_fram
 
 -- the same and its arguments are read
 abbrev pub behind_first : Bool → RawTrait → RawWord → List RawTree → Terminal → Taking
-behind_first s raw w ts t = cond (ends_reference t) None (hand s (call_tree w ts) (InFields ∷ word_frames w (Item (open_item raw [] []))) t)
+behind_first s raw w ts t =
+    cond (ends_reference t) None (hand s (call_tree w ts) (InFields ∷ word_frames w (Item (open_item raw [] []))) t)
 
 -- the mark of a token and the state behind it
 abbrev pub step : Bool → State → Terminal → Taking
@@ -488,7 +536,7 @@ step s Start (Word name) = outside (AfterName name)
 step s (AfterName name) (Colon p) = outside (NeedTrait name [])
 step s (AfterName name) (Open p) = outside (NeedForm (Formal name []))
 step s (AfterFormals name fs) (Colon p) = outside (NeedTrait name fs)
-step s (NeedTrait name fs) Trait = outside (AfterHead (named name fs))
+step s (NeedTrait name fs) Trait = outside (AfterHead (empty_trait name fs))
 step s (AfterHead raw) t = after_head raw t
 step s (ShortWord raw w) t = short_word raw w t
 step s (NeedConstants raw sort) Of = outside (NeedConstant raw sort [])

@@ -3,13 +3,13 @@ use Rattle.std.specs.Prelude.{Bool, true, false, not, cond, nat_lt, ◌==◌, �
 use Rattle.larch_base.specs.declared.position.Pos.{Pos}
 use Rattle.larch_lexer.specs.TokenList.{TokenList}
 use Rattle.larch_lexer.specs.declared.token.Token.{Token}
-use Rattle.larch_fronts.specs.Claims.{position_or}
-use Rattle.larch_fronts.specs.declared.mark.Flaw.{Flaw}
-use Rattle.larch_fronts.specs.declared.mark.Flaw.TheVariants.{Syntax}
+use Rattle.larch_grammar_law.specs.Claims.{position_or}
+use Rattle.larch_grammar_law.specs.declared.mark.Flaw.{Flaw}
+use Rattle.larch_grammar_law.specs.declared.mark.Flaw.TheVariants.{Syntax}
 use Rattle.larch_grammar.specs.declared.terminal.Terminal.{Terminal}
 use Rattle.larch_grammar.specs.declared.terminal.Terminal.TheVariants.{Implies}
 use Rattle.larch_grammar.specs.Leading.{behind_first, ends_references}
-use Rattle.larch_grammar.specs.Terminals.{terminal_of}
+use Rattle.larch_grammar.specs.Terminal.{terminal_of}
 
 -- a token as a terminal
 abbrev pub known : Token → Terminal

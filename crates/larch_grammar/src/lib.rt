@@ -23,7 +23,7 @@ pub use draft::Draft;
 pub use form::{bracket_form, field_form, infix_form, plain_form, postfix_form, prefix_form};
 pub use machine::{
     Before, Clause, FieldsKind, FormBracket, Frame, Link, Listing, Naming, OpenConversion,
-    OpenFields, OpenItem, OpenRef, RefKind, Scope, Signing, State, Waiting, Whole,
+    OpenFields, OpenItem, OpenRef, RefKind, Signing, State, VariablesFor, Waiting, Whole,
 };
 pub use stack::Stack;
 pub use terminal::{Bracket, Terminal, ends_reference, position_of, terminal_of};

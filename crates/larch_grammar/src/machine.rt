@@ -118,7 +118,7 @@ pub enum Signing {
 
 /// What variables are read for.
 #[derive(Drop)]
-pub enum Scope {
+pub enum VariablesFor {
     /// An item of a trait.
     Quantified(Draft),
     /// What is exempted from the conversion of these references in a trait.
@@ -301,15 +301,15 @@ pub enum State {
     /// `generated` or `partitioned`: `by`.
     NeedBy(Clause),
     /// `\forall`, or a `,` behind these variables: a word.
-    NeedVariable(Scope, RawVars),
+    NeedVariable(VariablesFor, RawVars),
     /// These variables, and names of which the sort is to come: `,` or `:`.
-    AfterVariable(Scope, RawVars, RawWords),
+    AfterVariable(VariablesFor, RawVars, RawWords),
     /// A `,` behind the names: a word.
-    NeedFurtherVariable(Scope, RawVars, RawWords),
+    NeedFurtherVariable(VariablesFor, RawVars, RawWords),
     /// The `:` behind the names: a word.
-    NeedVariableSort(Scope, RawVars, RawWords),
+    NeedVariableSort(VariablesFor, RawVars, RawWords),
     /// These variables with their sorts: `,`, or an equation or a term.
-    AfterGroup(Scope, RawVars),
+    AfterGroup(VariablesFor, RawVars),
     /// `implies`: an item, a conversion, or the end.
     AfterImplies(Draft),
     /// The same and a word: an item of either kind.

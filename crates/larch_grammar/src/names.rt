@@ -9,32 +9,37 @@ use std::alloc::Global;
 pub(crate) fn infix_name(alloc: Global, symbol: &Name) -> Result<Name, Memory>
     ensures { IfOk result (λ name. name ≡ infix_name symbol.now) }
 {
-    spelled(alloc, b"__ ", symbol, b" __")
+    spelling_between(alloc, b"__ ", symbol, b" __")
 }
 
 // `- __`.
 pub(crate) fn prefix_name(alloc: Global, symbol: &Name) -> Result<Name, Memory>
     ensures { IfOk result (λ name. name ≡ prefix_name symbol.now) }
 {
-    spelled(alloc, b"", symbol, b" __")
+    spelling_between(alloc, b"", symbol, b" __")
 }
 
 // `__ !`.
 pub(crate) fn postfix_name(alloc: Global, symbol: &Name) -> Result<Name, Memory>
     ensures { IfOk result (λ name. name ≡ postfix_name symbol.now) }
 {
-    spelled(alloc, b"__ ", symbol, b"")
+    spelling_between(alloc, b"__ ", symbol, b"")
 }
 
 // `__.first`.
 pub(crate) fn field_name(alloc: Global, word: &Name) -> Result<Name, Memory>
     ensures { IfOk result (λ name. name ≡ field_name word.now) }
 {
-    spelled(alloc, b"__.", word, b"")
+    spelling_between(alloc, b"__.", word, b"")
 }
 
 // A name with something before it and behind it.
-fn spelled(alloc: Global, before: &[u8], name: &Name, behind: &[u8]) -> Result<Name, Memory>
+fn spelling_between(
+    alloc: Global,
+    before: &[u8],
+    name: &Name,
+    behind: &[u8],
+) -> Result<Name, Memory>
     ensures { IfOk result (λ whole. whole ≡ before.now ++ (name.now ++ behind.now)) }
 {
     let mut text = Bytes::new(alloc);

@@ -1,6 +1,6 @@
 ghost use Rattle.std.specs.Prelude.{◌≡◌, ◌∷◌, [], false, IfOk};
-ghost use Rattle.larch_grammar.specs.Terminals.{begins_reserved, claim_word, ends_reference, head_word, position_of, punctuation_terminal, run_terminal};
-ghost use Rattle.larch_grammar.specs.Terminals.{term_word, terminal_by, terminal_of, word_terminal};
+ghost use Rattle.larch_grammar.specs.Terminal.{begins_reserved, claim_word, ends_reference, head_word, position_of, punctuation_terminal, run_terminal};
+ghost use Rattle.larch_grammar.specs.Terminal.{term_word, terminal_by, terminal_of, word_terminal};
 ghost use Rattle.larch_lexer.specs.declared.token.Kind.TheVariants.{Backslash};
 
 use larch_base::{Memory, Name, Pos};

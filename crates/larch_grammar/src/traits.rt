@@ -1,8 +1,8 @@
 ghost use Rattle.std.specs.Prelude.{◌≡◌, ◌++◌, ◌∷◌, [], IfOk};
-ghost use Rattle.larch_grammar.specs.Forms.{variables_at};
+ghost use Rattle.larch_grammar.specs.Form.{variables_at};
 ghost use Rattle.larch_grammar.specs.Machine.{close_conversion, open_conversion, with_clause, with_exempted, with_reference};
 ghost use Rattle.larch_grammar.specs.Terms.{equation_of, formula_of};
-ghost use Rattle.larch_grammar.specs.Traits.{implying, named, with_conversion, with_declaration, with_equations, with_item};
+ghost use Rattle.larch_grammar.specs.Traits.{implying, empty_trait, with_conversion, with_declaration, with_equations, with_item};
 
 use crate::draft::Draft;
 use crate::machine::{Clause, OpenConversion};
@@ -15,7 +15,7 @@ use std::alloc::Global;
 
 /// A trait of this name with these formals and nothing in it.
 pub fn named(alloc: Global, name: RawWord, formals: RawForms) -> Result<Draft, Memory>
-    ensures { IfOk result (λ draft. draft ≡ named name formals) }
+    ensures { IfOk result (λ draft. draft ≡ empty_trait name formals) }
 {
     let raw = RawTrait {
         name,

@@ -3,5 +3,5 @@ pub mod Faults
 pub mod Folder
 pub mod Put
 pub mod Reader
-pub mod Refusals
+pub mod Refusal
 pub mod Take

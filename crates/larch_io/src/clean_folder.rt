@@ -1,6 +1,6 @@
 ghost use Rattle.std.specs.Prelude.{◌≡◌, ◌≤◌, [], Some, vec_len, IfOk, IfErr, OnOk, OnErr};
 ghost use Rattle.std.specs.Option.{option_copied};
-ghost use Rattle.larch_io.specs.Refusals.{FileRefused, FolderFaults};
+ghost use Rattle.larch_io.specs.Refusal.{FileRefused, FolderFaults};
 ghost use Rattle.larch_io.specs.Folder.{IsFile, PutsFile, file_of};
 
 use crate::folder::Folder;

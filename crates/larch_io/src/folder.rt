@@ -1,5 +1,5 @@
 ghost use Rattle.std.specs.Prelude.{◌≡◌, ◌≤◌, ℕ, List, Option, IfOk, IfErr, OnOk, vec_len};
-ghost use Rattle.larch_io.specs.Refusals.{FileRefused, FolderFaults};
+ghost use Rattle.larch_io.specs.Refusal.{FileRefused, FolderFaults};
 ghost use Rattle.larch_base.specs.declared.limits.TheConstants.{MAX_FILE_BYTES};
 ghost use Rattle.larch_io.specs.Folder.{FileMap, IsFile};
 

@@ -25,7 +25,7 @@ pub use clean_folder::CleanFolder;
 pub use clean_sink::CleanSink;
 pub use clean_source::CleanSource;
 pub use folder::Folder;
-pub use line::Line;
+pub use line::TextLine;
 pub use memory_folder::MemoryFolder;
 pub use memory_sink::MemorySink;
 pub use memory_source::MemorySource;

@@ -4,11 +4,11 @@ use std::marker::Model;
 
 /// A line without its newline. Contracts see it as its bytes.
 #[derive(Debug, Drop)]
-pub struct Line {
+pub struct TextLine {
     bytes: Vec<u8>,
 }
 
-impl Model for Line {
+impl Model for TextLine {
     ghost use Rattle.std.specs.Prelude.{List, ℕ};
 
     ghost Value = { List ℕ };
@@ -16,12 +16,12 @@ impl Model for Line {
     ghost view = { λ line. line.bytes.items };
 }
 
-impl Line {
+impl TextLine {
     /// These bytes as a line. It takes no memory.
-    pub(crate) fn from_vec(bytes: Vec<u8>) -> Line
+    pub(crate) fn from_vec(bytes: Vec<u8>) -> TextLine
         ensures { result ≡ bytes.items }
     {
-        Line { bytes }
+        TextLine { bytes }
     }
 
     /// The bytes.

@@ -2,7 +2,7 @@ ghost use Rattle.std.specs.Prelude.{◌≡◌, ◌↔◌, ◌≤◌, Some, Conta
 ghost use Rattle.larch_base.specs.declared.limits.TheConstants.{MAX_FILE_BYTES};
 ghost use Rattle.larch_io.specs.Calls.{IsNextCall, no_calls};
 ghost use Rattle.larch_io.specs.Folder.{IsFile, PutsFile};
-ghost use Rattle.larch_io.specs.Refusals.{FileRefused, FolderFaults};
+ghost use Rattle.larch_io.specs.Refusal.{FileRefused, FolderFaults};
 ghost use Rattle.larch_io.specs.declared.refusal.FolderRefusal.TheVariants.{Failed as folder_failed};
 
 use crate::calls::Calls;

@@ -1,7 +1,7 @@
 ghost use Rattle.std.specs.Prelude.{◌≡◌, ◌↔◌, ◌<◌, ◌≤◌, [], Some, Contains, min, length, IsErrOf, IfOk, IfErr, OnOk};
 ghost use Rattle.std.specs.Io.KnownBytes.{WriteAppends};
 ghost use Rattle.larch_io.specs.Faults.{one_more};
-ghost use Rattle.larch_io.specs.Refusals.{WriteFaults};
+ghost use Rattle.larch_io.specs.Refusal.{WriteFaults};
 ghost use Rattle.larch_io.specs.Calls.{IsNextCall, no_calls};
 
 use crate::calls::Calls;

@@ -1,6 +1,6 @@
 ghost use Rattle.std.specs.Prelude.{◌≡◌, IfErr, OnOk, OnErr};
 ghost use Rattle.std.specs.Io.KnownBytes.{Appends};
-ghost use Rattle.larch_io.specs.Refusals.{WriteFaults};
+ghost use Rattle.larch_io.specs.Refusal.{WriteFaults};
 ghost use Rattle.larch_io.specs.Put.{PutsFront};
 
 use crate::refusal::WriteRefusal;

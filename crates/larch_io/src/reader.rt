@@ -3,7 +3,7 @@ ghost use Rattle.std.specs.Prelude.{OnOk, OnErr};
 ghost use Rattle.std.specs.Io.{StartsWith, appended_bytes};
 ghost use Rattle.std.specs.Io.KnownBytes.{Consumes, Keeps, IsAtEnd};
 ghost use Rattle.larch_base.specs.declared.limits.TheConstants.{MAX_SOURCE_BYTES};
-ghost use Rattle.larch_io.specs.Refusals.{FillRefused, TakeFaults};
+ghost use Rattle.larch_io.specs.Refusal.{FillRefused, TakeFaults};
 ghost use Rattle.larch_io.specs.Reader.{Takes, room_of};
 
 use crate::refusal::TakeRefusal;

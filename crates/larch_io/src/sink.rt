@@ -1,6 +1,6 @@
 ghost use Rattle.std.specs.Prelude.{◌≡◌, ◌<◌, ◌≤◌, ℕ, List, Option, length, IfOk, IfErr, OnOk};
 ghost use Rattle.std.specs.Io.KnownBytes.{WriteAppends};
-ghost use Rattle.larch_io.specs.Refusals.{WriteFaults};
+ghost use Rattle.larch_io.specs.Refusal.{WriteFaults};
 
 use crate::refusal::WriteRefusal;
 

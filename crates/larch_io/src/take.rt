@@ -1,10 +1,10 @@
 ghost use Rattle.std.specs.Prelude.{◌≡◌, ◌≢◌, ◌+◌, ◌≤◌, [], All, length, take, IfOk, IfErr, OnOk, OnErr};
 ghost use Rattle.larch_base.specs.declared.limits.TheConstants.{MAX_SOURCE_BYTES};
 ghost use Rattle.larch_io.specs.Reader.{Takes, room_of};
-ghost use Rattle.larch_io.specs.Refusals.{BytesRefused, LineRefused, TakeFaults};
+ghost use Rattle.larch_io.specs.Refusal.{BytesRefused, LineRefused, TakeFaults};
 ghost use Rattle.larch_io.specs.Take.{EndIs, LineStands, TakesLine};
 
-use crate::line::Line;
+use crate::line::TextLine;
 use crate::reader::Reader;
 use crate::refusal::TakeRefusal;
 use crate::source::Source;
@@ -18,7 +18,7 @@ pub fn take_line<S: Source>(
     alloc: Global,
     reader: &mut Reader,
     source: &mut S,
-) -> Result<Line, TakeRefusal>
+) -> Result<TextLine, TakeRefusal>
     ensures line { IfOk result (TakesLine reader.old reader.new (S.left source.old) (S.left source.new)) }
     ensures none { OnErr result (Takes reader.old reader.new (S.left source.old) (S.left source.new) []) }
     ensures refused { IfErr result (λ refusal. LineRefused refusal reader.old reader.new) }
@@ -28,7 +28,7 @@ pub fn take_line<S: Source>(
 {
     let (length, ending) = find_line(reader, source)?;
     let bytes = reader.take_front(alloc, length, ending)?;
-    Ok(Line::from_vec(bytes))
+    Ok(TextLine::from_vec(bytes))
 }
 
 /// Takes so many bytes. It never answers `TooLong`, which is of lines alone.

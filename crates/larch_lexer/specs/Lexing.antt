@@ -2,7 +2,7 @@
 use Rattle.std.specs.Prelude.{ℕ, zero, suc, ◌+◌, ◌==◌, if◌then◌else◌, List, [], ◌∷◌, take, Ok, Err}
 use Rattle.larch_base.specs.Position.{start_of_text, advance}
 use Rattle.larch_base.specs.declared.position.Pos.{Pos}
-use Rattle.larch_lexer.specs.Pieces.{piece_at}
+use Rattle.larch_lexer.specs.Piece.{piece_at}
 use Rattle.larch_lexer.specs.TokenTable.{LexAnswer, with_tokens}
 use Rattle.larch_lexer.specs.declared.piece.Piece.{Piece}
 use Rattle.larch_lexer.specs.declared.piece.Piece.TheVariants.{Skipped, Kept, Nothing}
@@ -28,8 +28,8 @@ lexed_within zero position (byte ∷ rest) =
 lexed_within (suc inside) position (byte ∷ rest) = lexed_within inside (advance position byte) rest
 
 -- the tokens of a text and the position of its end, or the position of the first byte that begins no token
-unfoldable pub lexed : List ℕ → LexAnswer
-lexed text = lexed_within 0 start_of_text text
+unfoldable pub lexing_of : List ℕ → LexAnswer
+lexing_of text = lexed_within 0 start_of_text text
 
 -- where the line of a number begins
 abbrev pub start_of_line : ℕ → Pos

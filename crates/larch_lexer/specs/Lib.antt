@@ -1,6 +1,6 @@
 pub mod Lexing
 pub mod Order
-pub mod Pieces
-pub mod Refusals
+pub mod Piece
+pub mod Refusal
 pub mod TokenList
 pub mod TokenTable

@@ -2,8 +2,8 @@ ghost use Rattle.std.specs.Prelude.{◌≡◌, ◌≢◌, ◌≤◌, ◌+◌, �
 ghost use Rattle.larch_base.specs.Position.{advance};
 ghost use Rattle.larch_base.specs.declared.limits.TheConstants.{MAX_FILE_BYTES};
 ghost use Rattle.larch_base.specs.Answering.{Answers};
-ghost use Rattle.larch_lexer.specs.Lexing.{lexed, lexed_line, lexed_within, line_ends, tokens_of};
-ghost use Rattle.larch_lexer.specs.Refusals.{told};
+ghost use Rattle.larch_lexer.specs.Lexing.{lexing_of, lexed_line, lexed_within, line_ends, tokens_of};
+ghost use Rattle.larch_lexer.specs.Refusal.{cause};
 
 use crate::names::Names;
 use crate::piece::{Piece, piece_at};
@@ -18,7 +18,7 @@ use std::alloc::Global;
 #[tactic(auto, unfolding(crate::specs::Lexing::lexed), using(crate::proofs::Positions::line_ends_within))]
 pub fn lex_lsl(alloc: Global, text: &[u8]) -> Result<Tokens, LexRefusal>
     requires { length text.now ≤ MAX_FILE_BYTES }
-    ensures { Answers told result (lexed text.now) }
+    ensures { Answers cause result (lexing_of text.now) }
 {
     lex_from(alloc, Pos::start(), text)
 }
@@ -29,7 +29,7 @@ pub fn lex_lsl(alloc: Global, text: &[u8]) -> Result<Tokens, LexRefusal>
 pub fn lex_lp(alloc: Global, line: &[u8], number: u32) -> Result<Tokens, LexRefusal>
     requires short { length line.now ≤ MAX_FILE_BYTES }
     requires one_line { All (λ byte. byte ≢ 10) line.now }
-    ensures { Answers told result (lexed_line number line.now) }
+    ensures { Answers cause result (lexed_line number line.now) }
 {
     let start = Pos {
         line: number,
@@ -43,7 +43,7 @@ pub fn lex_lp(alloc: Global, line: &[u8], number: u32) -> Result<Tokens, LexRefu
 fn lex_from(alloc: Global, start: Pos, text: &[u8]) -> Result<Tokens, LexRefusal>
     requires line { start.line + line_ends text.now < 2 ^ 32 }
     requires column { start.column + length text.now < 2 ^ 32 }
-    ensures { Answers told result (lexed_within 0 start text.now) }
+    ensures { Answers cause result (lexed_within 0 start text.now) }
 {
     let mut names = Names::new(alloc, text.len())?;
     let mut tokens = Sequence::new(alloc);

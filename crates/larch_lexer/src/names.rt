@@ -71,7 +71,7 @@ impl Names {
 
     #[inline(never)]
     fn shared_place_of(&self, bytes: &[u8]) -> usize {
-        match mixed(bytes).checked_rem(self.shared) {
+        match mix(bytes).checked_rem(self.shared) {
             Some(place) => OF_BYTES.saturating_add(place),
             None => 0,
         }
@@ -79,7 +79,7 @@ impl Names {
 }
 
 // A number that few other texts have.
-fn mixed(bytes: &[u8]) -> usize {
+fn mix(bytes: &[u8]) -> usize {
     let mut number: usize = 0;
     for byte in bytes {
         number = number.wrapping_mul(31).wrapping_add(usize::from(*byte));

@@ -1,6 +1,6 @@
 ghost use Rattle.std.specs.Prelude.{◌≡◌, ◌≤◌, length, IfSome};
-ghost use Rattle.larch_lexer.specs.Pieces.{further_of, stands_in, stands_in_word, stretch_length, piece_at};
-ghost use Rattle.larch_lexer.specs.Pieces.{piece_at_underscore, piece_at_backslash, piece_at_symbol};
+ghost use Rattle.larch_lexer.specs.Piece.{further_of, stands_in, stands_in_word, stretch_length, piece_at};
+ghost use Rattle.larch_lexer.specs.Piece.{piece_at_underscore, piece_at_backslash, piece_at_symbol};
 ghost use Rattle.larch_lexer.specs.TokenTable.{begins_with, is_blank, is_punctuation, is_symbol};
 
 use crate::token::Kind;

@@ -2,33 +2,34 @@
 use Rattle.std.proofs.Common.{◌≡◌, refl, sym, ap, ◌∙◌, ℕ, Bool, false, List, [], Option, Some, None, Result, Ok, Err}
 use Rattle.std.specs.Prelude.{bytes_eq, length}
 use Rattle.std.proofs.lemmas.List.Elements.{All-contains}
-use Rattle.larch_base.specs.Labels.{label_text}
+use Rattle.larch_base.specs.Label.{label_text}
 use Rattle.larch_base.specs.declared.label.Label.{Label}
 use Rattle.larch_calculus.specs.Derivable.{Derivable}
 use Rattle.larch_calculus.specs.Renaming.{HasPlainNames}
 use Rattle.larch_certificate.specs.declared.line.Line.{Line}
 use Rattle.larch_certificate_text.specs.CertificateText.{read_certificate}
-use Rattle.larch_lines.specs.Acceptance.{verdict}
+use Rattle.larch_verify_meaning.specs.Acceptance.{verdict}
 use Rattle.larch_term.specs.Statement.{IsWellSortedTheory}
 use Rattle.larch_term.specs.declared.statement.Statement.{Statement}
 use Rattle.larch_term.specs.declared.statement.Theory.{Theory}
-use Rattle.larch_items.proofs.Kept.{after_was, found_is}
-use Rattle.larch_flat.specs.Stops.{Stop}
-use Rattle.larch_flatten.specs.Parts.{flat_trait}
-use Rattle.larch_sources.specs.Sources.{Table as Sources, files_in}
+use Rattle.larch_traits_items.proofs.Kept.{after_was, found_is}
+use Rattle.larch_flat_meaning.specs.Stops.{Stop}
+use Rattle.larch_flat.specs.Parts.{flat_trait}
+use Rattle.larch_flat_sources.specs.Sources.{Table as Sources, files_in}
 use Rattle.larch_traits.specs.Files.{Table}
 use Rattle.larch_traits.specs.Reading.{read_files}
 use Rattle.larch_traits.proofs.Worded.{read_worded}
-use Rattle.larch_claims.specs.Duties.{Duties, Duty, all_duties}
-use Rattle.larch_claims.specs.Laws.{IsSoundDuty}
-use Rattle.larch_claims.proofs.Plain.{duties_plain}
-use Rattle.larch_claims.proofs.Sound.{duties_sound}
-use Rattle.larch_duties.specs.TraitDuties.{claimed, trait_duties}
+use Rattle.larch_duties_meaning.specs.Duties.{Duties, Duty, all_duties}
+use Rattle.larch_duties_meaning.specs.Laws.{IsSoundDuty}
+use Rattle.larch_duties_meaning.proofs.Plain.{duties_plain}
+use Rattle.larch_duties_meaning.proofs.Sound.{duties_sound}
+use Rattle.larch_duties.specs.TraitDuties.{claims_of, trait_duties}
 use Rattle.larch_io.specs.Folder.{FileMap, file_of}
 use Rattle.larch_words.specs.declared.call.Verification.{Verification}
 use Rattle.larch_main.specs.Answer.{IsAnswer, answer_by}
-use Rattle.larch_main.specs.Gather.{Gathered, Whole, Absent, TooLarge, and_then, evidence_in, fetching, gathered}
-use Rattle.larch_main.specs.Verify.{IsShown, duty_among, duty_in, duty_with, judged_by, verdict_told, verified}
+use Rattle.larch_main.specs.Gather.{Gathered, Whole, Absent, TooLarge, and_then, evidence_in, fetching, gather_names}
+use Rattle.larch_main.specs.Verify.{IsShown, duty_among, duty_in, duty_with, judged_by, verdict_told}
+use Rattle.larch_main.specs.Verify.{verification_answer}
 use Rattle.larch_main.specs.declared.answer.Answer.{Answer}
 use Rattle.larch_main.specs.declared.gather.Evidence.{Evidence}
 use Rattle.larch_main.specs.declared.status.Status.TheVariants.{Good}
@@ -53,12 +54,15 @@ whole_same : (one e : Evidence) → SameFound (Whole one) (Whole e) → one.file
 whole_same one e is = let same : one ≡ e = cc in ap (λ x. x.files) same
 
 -- the files of the evidence are those that were gathered
-evidence_files : (folder : FileMap) (certificate : List ℕ) (names : List (List ℕ)) (e : Evidence) → evidence_in folder certificate names ≡ Whole e
-    → gathered folder [] names ≡ Whole e.files
+evidence_files : (folder : FileMap) (certificate : List ℕ) (names : List (List ℕ)) (e : Evidence)
+    → evidence_in folder certificate names ≡ Whole e
+    → gather_names folder [] names ≡ Whole e.files
 evidence_files folder certificate names e is =
     let a = then_whole (fetching certificate (file_of folder certificate))
-    (λ text. and_then (gathered folder [] names) (λ files. Whole (record { certificate = text; files = files }))) e is in
-    let b = then_whole (gathered folder [] names) (λ files. Whole (record { certificate = a.0; files = files })) e a.2 in
+    (λ text. and_then (gather_names folder [] names) (λ files. Whole (record { certificate = text; files = files }))) e
+    is in
+    let b = then_whole (gather_names folder [] names)
+    (λ files. Whole (record { certificate = a.0; files = files })) e a.2 in
     b.1 ∙ ap Whole (whole_same (record { certificate = a.0; files = b.0 }) e b.2)
 
 told_good : (o : Option ℕ) → (verdict_told o).status ≡ Good → o ≡ None
@@ -76,14 +80,16 @@ duty_from : (label : List ℕ) (r : Result Duties Stop) (d : Duty) → duty_amon
 duty_from label (Ok ds) d e = (ds, refl, e)
 duty_from label (Err stop) d e = cc
 
-module _ (law : (t : Theory) (s : Statement) (lines : List Line) → IsWellSortedTheory t → HasPlainNames t → verdict t s lines ≡ None → Derivable t s) where
+module _ (law : (t : Theory) (s : Statement) (lines : List Line) → IsWellSortedTheory t → HasPlainNames t
+    → verdict t s lines ≡ None → Derivable t s) where
   -- a duty of a trait for which a certificate is accepted
-  duty_derivable : (files : Table) (stem : List ℕ) (label : Label) (d : Duty) (lines : List Line) → duty_in files stem label ≡ Some d
+  duty_derivable : (files : Table) (stem : List ℕ) (label : Label) (d : Duty) (lines : List Line)
+      → duty_in files stem label ≡ Some d
       → verdict d.theory d.statement lines ≡ None → Derivable d.theory d.statement
   duty_derivable files stem label d lines found accepted =
       let sources : Sources = read_files files in
       let a = duty_from (label_text label) (trait_duties sources stem) d found in
-      let b = after_was (flat_trait sources stem) (claimed sources) a.0 a.1 in
+      let b = after_was (flat_trait sources stem) (claims_of sources) a.0 a.1 in
       let c = found_is (λ x. bytes_eq (label_text label) (label_text x.label)) (all_duties a.0) d a.2 in
       let sound = All-contains IsSoundDuty (all_duties a.0) d
       (duties_sound (files_in sources) (read_worded files) (length sources) stem b.0 a.0 b.1 b.2) c.0 in
@@ -92,9 +98,11 @@ module _ (law : (t : Theory) (s : Statement) (lines : List Line) → IsWellSorte
       law d.theory d.statement lines sound.0.0.well_sorted plain accepted
 
   pub shown : (asked : Verification) (folder : FileMap) (output : List ℕ)
-      → IsAnswer (answer_by (verified asked.stem asked.label) (evidence_in folder asked.certificate asked.files)) output Good → IsShown folder asked
+      → IsAnswer (answer_by (verification_answer asked.stem asked.label)
+      (evidence_in folder asked.certificate asked.files)) output Good → IsShown folder asked
   shown asked folder output is =
-      let a = answer_good (verified asked.stem asked.label) (evidence_in folder asked.certificate asked.files) (sym is.1) in
+      let a = answer_good (verification_answer asked.stem asked.label)
+      (evidence_in folder asked.certificate asked.files) (sym is.1) in
       let e : Evidence = a.0 in
       let j = judged_good (duty_in e.files asked.stem asked.label) (read_certificate false e.certificate) a.2 in
       record {

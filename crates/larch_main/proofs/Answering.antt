@@ -5,39 +5,53 @@ use Rattle.std.specs.Prelude.{IfErr, IfSome, OnOk, Option, Some, None}
 use Rattle.larch_traits.specs.Files.{Table}
 use Rattle.larch_words.specs.declared.call.Call.TheVariants as call_
 use Rattle.larch_main.specs.Answer.{answer_by, answer_to, no_file, size_passed}
-use Rattle.larch_main.specs.Check.{checked}
-use Rattle.larch_main.specs.Gather.{Gathered, Whole, Absent, TooLarge, evidence_in, gathered}
+use Rattle.larch_main.specs.Check.{check_answer}
+use Rattle.larch_main.specs.Gather.{Gathered, Whole, Absent, TooLarge, evidence_in, gather_names}
 use Rattle.larch_main.specs.Look.{ComesTo, EvidenceFor, found_of}
-use Rattle.larch_main.specs.Verify.{verified}
+use Rattle.larch_main.specs.Verify.{verification_answer}
 use Rattle.larch_main.specs.declared.gather.Evidence.{Evidence}
 use Rattle.larch_main.specs.declared.progress.Halt.{Halt}
 use Rattle.larch_words.specs.declared.call.Verification.{Verification}
-use Rattle.larch_main.specs.Obligations.{obliged}
+use Rattle.larch_main.specs.Obligations.{obligations_answer}
 use Rattle.larch_main.specs.Running.{Answered}
 use Rattle.larch_main.specs.declared.answer.Answer.{Answer}
 use Rattle.larch_main.specs.declared.gather.GatherRefusal.{GatherRefusal}
 use Rattle.larch_main.specs.declared.gather.GatherRefusal.TheVariants as refusal_
 
 -- the answer to what was gathered is the answer to the call
-pub check_answered : (told : Option FileMap) (names : List (List ℕ)) (found : Gathered Table) (answer : Answer) → ComesTo told names found
-    → answer ≡ answer_by checked found → Answered (call_.Check names) told answer
+pub check_answered : (told : Option FileMap) (names : List (List ℕ)) (found : Gathered Table) (answer : Answer)
+    → ComesTo told names found
+    → answer ≡ answer_by check_answer found → Answered (call_.Check names) told answer
 check_answered told names found answer comes is =
-    let same : answer ≡ answer_by checked (gathered comes.folder [] names) = is ∙ ap (answer_by checked) (sym comes.is_found) in
-    record { folder = comes.folder; is_folder = comes.is_folder; defined = λ input. (ap (λ a. a.text) same, ap (λ a. a.status) same) }
+    let same : answer ≡ answer_by check_answer (gather_names comes.folder [] names) =
+    is ∙ ap (answer_by check_answer) (sym comes.is_found) in
+    record {
+      folder = comes.folder;
+      is_folder = comes.is_folder;
+      defined = λ input. (ap (λ a. a.text) same, ap (λ a. a.status) same);
+    }
 
-pub obligations_answered : (told : Option FileMap) (names : List (List ℕ)) (found : Gathered Table) (answer : Answer) → ComesTo told names found
-    → answer ≡ answer_by obliged found → Answered (call_.Obligations names) told answer
+pub obligations_answered : (told : Option FileMap) (names : List (List ℕ)) (found : Gathered Table) (answer : Answer)
+    → ComesTo told names found
+    → answer ≡ answer_by obligations_answer found → Answered (call_.Obligations names) told answer
 obligations_answered told names found answer comes is =
-    let same : answer ≡ answer_by obliged (gathered comes.folder [] names) = is ∙ ap (answer_by obliged) (sym comes.is_found) in
-    record { folder = comes.folder; is_folder = comes.is_folder; defined = λ input. (ap (λ a. a.text) same, ap (λ a. a.status) same) }
+    let same : answer ≡ answer_by obligations_answer (gather_names comes.folder [] names) =
+    is ∙ ap (answer_by obligations_answer) (sym comes.is_found) in
+    record {
+      folder = comes.folder;
+      is_folder = comes.is_folder;
+      defined = λ input. (ap (λ a. a.text) same, ap (λ a. a.status) same);
+    }
 
 pub verify_answered : (told : Option FileMap) (asked : Verification) (found : Gathered Evidence) (answer : Answer)
-    → EvidenceFor told asked.certificate asked.files found → answer ≡ answer_by (verified asked.stem asked.label) found
+    → EvidenceFor told asked.certificate asked.files found
+    → answer ≡ answer_by (verification_answer asked.stem asked.label) found
     → Answered (call_.Verify asked) told answer
 verify_answered told asked found answer comes is =
     let same : answer
-        ≡ answer_by (verified asked.stem asked.label) (evidence_in comes.folder asked.certificate asked.files) =
-    is ∙ ap (answer_by (verified asked.stem asked.label)) (sym comes.is_found) in
+    ≡ answer_by (verification_answer asked.stem asked.label)
+    (evidence_in comes.folder asked.certificate asked.files) =
+    is ∙ ap (answer_by (verification_answer asked.stem asked.label)) (sym comes.is_found) in
     record {
       folder = comes.folder;
       is_folder = comes.is_folder;
@@ -89,6 +103,7 @@ module _ (told : Option FileMap) (names : List (List ℕ)) where
   obligations_refused refusal_.Memory comes = tt
 
 -- a call that answers one thing answers what is the same
-pub same_ok : {A E : Type 0} (one other : A) (result : Result A E) → one ≡ other → IfOk result (λ found. found ≡ one) → IfOk result (λ found. found ≡ other)
+pub same_ok : {A E : Type 0} (one other : A) (result : Result A E) → one ≡ other → IfOk result (λ found. found ≡ one)
+    → IfOk result (λ found. found ≡ other)
 same_ok one other (Ok found) e is = is ∙ e
 same_ok one other (Err error) e is = tt

@@ -1,5 +1,6 @@
 -- How a session goes on and ends.
-use Rattle.std.proofs.Common.{◌≡◌, ℕ, ◌⊎◌, inl, inr, Bool, true, false, List, [], ◌++◌, length, Option, Some, None, Ok, refl, sym, subst, ◌∙◌, append_assoc, append-nil}
+use Rattle.std.proofs.Common.{◌≡◌, ℕ, ◌⊎◌, inl, inr, Bool, true, false, List, [], ◌++◌, length, Option, Some, None, Ok}
+use Rattle.std.proofs.Common.{refl, sym, subst, ◌∙◌, append_assoc, append-nil}
 use Rattle.std.specs.Io.KnownBytes.{Appends, Consumes, IsAtEnd}
 use Rattle.std.proofs.KnownBytes.{Consumes-nil, Consumes-trans, Appends-nil, Appends-trans}
 use Rattle.larch_io.specs.Faults.{Rose}
@@ -9,12 +10,14 @@ use Rattle.larch_io.specs.Reader.{ReadsBytes}
 use Rattle.larch_main.specs.declared.progress.Move.TheVariants.{Goes, Stops}
 use Rattle.larch_main.specs.declared.progress.Progress.{Progress}
 use Rattle.larch_main.specs.declared.status.Status.{Status}
-use Rattle.larch_main.specs.declared.status.Status.TheVariants.{Good, Remains, Words, ReadFault, WriteFault, Memory, Malformed, Size, NoFile}
+use Rattle.larch_main.specs.declared.status.Status.TheVariants.{Good, Remains, Words, ReadFault, WriteFault, Memory}
+use Rattle.larch_main.specs.declared.status.Status.TheVariants.{Malformed, Size, NoFile}
 use Rattle.larch_words.specs.declared.call.Call.TheVariants as call_
 use Rattle.larch_main.specs.Gather.{IsFolder}
 use Rattle.larch_main.specs.Laws.{IsEnd}
 use Rattle.larch_main.specs.Progress.{state_of, Machine, at_line, MayFollow, Wants, Moves}
-use Rattle.larch_main.specs.Running.{IsInput, Answers, WritesFront, BreaksOff, TakesWhole, Writes, TakesInput, Counts, source_failed, sink_failed}
+use Rattle.larch_main.specs.Running.{IsInput, Answers, WritesFront, BreaksOff, TakesWhole, Writes, TakesInput, Counts}
+use Rattle.larch_main.specs.Running.{source_failed, sink_failed}
 use Rattle.larch_main.specs.Session.{State, start, with_status, waiting, Session, goes_on, ends, breaks_off}
 use Rattle.larch_main.specs.SoFar.{SoFar}
 use Rattle.larch_main.specs.Say.{Says}
@@ -26,7 +29,8 @@ abbrev pub known_rest : Option (List ℕ) → List ℕ
 known_rest None = []
 known_rest (Some bytes) = bytes
 
-pub input_is : (left leaves : Option (List ℕ)) (given : List ℕ) → Consumes left leaves given → IsInput left (given ++ known_rest leaves)
+pub input_is : (left leaves : Option (List ℕ)) (given : List ℕ) → Consumes left leaves given
+    → IsInput left (given ++ known_rest leaves)
 input_is None leaves given c = tt
 input_is (Some xs) None given c = absurd c
 input_is (Some xs) (Some ys) given c = c
@@ -48,7 +52,8 @@ abbrev pub machine : Progress → Machine
 machine progress = at_line (state_of progress)
 
 -- what is claimed of the statuses with which a session ends by itself
-writes_end : (told : Option FileMap) (left leaves held holds : Option (List ℕ)) (status : Status) → IsEnd status → Answers call_.Session told left leaves held holds status → Writes call_.Session told left leaves held holds status
+writes_end : (told : Option FileMap) (left leaves held holds : Option (List ℕ)) (status : Status) → IsEnd status
+    → Answers call_.Session told left leaves held holds status → Writes call_.Session told left leaves held holds status
 writes_end told left leaves held holds Good is a = a
 writes_end told left leaves held holds Remains is a = a
 writes_end told left leaves held holds Malformed is a = a
@@ -59,7 +64,8 @@ writes_end told left leaves held holds WriteFault is a = absurd is
 writes_end told left leaves held holds Memory is a = absurd is
 writes_end told left leaves held holds NoFile is a = absurd is
 
-takes_end : (left leaves held holds : Option (List ℕ)) (status : Status) → IsEnd status → TakesWhole left leaves held holds status → TakesInput left leaves held holds status
+takes_end : (left leaves held holds : Option (List ℕ)) (status : Status) → IsEnd status
+    → TakesWhole left leaves held holds status → TakesInput left leaves held holds status
 takes_end left leaves held holds Good is t = t
 takes_end left leaves held holds Remains is t = t
 takes_end left leaves held holds Malformed is t = tt
@@ -106,7 +112,8 @@ StopsWith p q leaves after written status = Moves (machine p) p q leaves after (
 
 module _ (left held : Option (List ℕ)) where
   -- a session that begins
-  pub so_far_start : (p : Progress) → state_of p ≡ start → p.reader.kept ≡ [] → p.reader.ended ≡ false → SoFar p left left held held
+  pub so_far_start : (p : Progress) → state_of p ≡ start → p.reader.kept ≡ [] → p.reader.ended ≡ false
+      → SoFar p left left held held
   so_far_start p is nothing still = record {
     given = [];
     written = [];
@@ -114,18 +121,21 @@ module _ (left held : Option (List ℕ)) where
     over = λ e. cc;
     wrote = Appends-nil held;
     next = λ ended rest output ending last follows session.
-        subst (λ state. Session ended state rest output ending last) is (subst (λ kept. Session ended (state_of p) (kept ++ rest) output ending last) nothing session);
+        subst (λ state. Session ended state rest output ending last) is
+        (subst (λ kept. Session ended (state_of p) (kept ++ rest) output ending last) nothing session);
   }
 
   -- the source ended, where a step read that it did
-  over_after : (p q : Progress) (leaves after holds : Option (List ℕ)) (given : List ℕ) → SoFar p left leaves held holds → ReadsBytes p.reader q.reader leaves after given → q.reader.ended ≡ true → IsAtEnd after
+  over_after : (p q : Progress) (leaves after holds : Option (List ℕ)) (given : List ℕ) → SoFar p left leaves held holds
+      → ReadsBytes p.reader q.reader leaves after given → q.reader.ended ≡ true → IsAtEnd after
   over_after p q leaves after holds given s r e = elim (r.ends e) [
     | inl before ↦ subst IsAtEnd (sym (r.quiet before).1) (s.over before)
     | inr at_end ↦ at_end
   ]
 
   -- a session that goes on by a step
-  pub so_far_on : (p q : Progress) (leaves after holds kept : Option (List ℕ)) (written : List ℕ) → SoFar p left leaves held holds
+  pub so_far_on : (p q : Progress) (leaves after holds kept : Option (List ℕ)) (written : List ℕ)
+      → SoFar p left leaves held holds
       → GoesOn p q leaves after written → Appends holds kept written → SoFar q left after held kept
   so_far_on p q leaves after holds kept written s (reply, says, m) put = record {
     given = s.given ++ m.given;
@@ -134,36 +144,56 @@ module _ (left held : Option (List ℕ)) where
     over = over_after p q leaves after holds m.given s m.reads;
     wrote = Appends-trans held holds kept s.written written s.wrote put;
     next = λ ended rest output ending last follows session.
-        let longer = s.next ended (m.given ++ rest) (written ++ output) ending last (may_follow_both m.given ended rest m.reads follows) (goes_on reply written (m.step_is ended rest follows) says session) in
-        subst (λ bytes. Session ended start bytes ((s.written ++ written) ++ output) ending last) (sym (append_assoc s.given m.given rest))
-        (subst (λ text. Session ended start (s.given ++ (m.given ++ rest)) text ending last) (sym (append_assoc s.written written output)) longer);
+        let longer = s.next ended (m.given ++ rest) (written ++ output) ending last
+        (may_follow_both m.given ended rest m.reads follows)
+        (goes_on reply written (m.step_is ended rest follows) says session) in
+        subst (λ bytes. Session ended start bytes ((s.written ++ written) ++ output) ending last)
+        (sym (append_assoc s.given m.given rest))
+        (subst (λ text. Session ended start (s.given ++ (m.given ++ rest)) text ending last)
+        (sym (append_assoc s.written written output)) longer);
   }
 
   -- a session that stops: whatever follows, and so on its whole input
-  stopped : (p q : Progress) (leaves after holds : Option (List ℕ)) (text : List ℕ) (status : Status) (s : SoFar p left leaves held holds)
-      → (m : StopsWith p q leaves after text status) (ended : Bool) (rest : List ℕ) → MayFollow q.reader.ended ended rest
+  stopped : (p q : Progress) (leaves after holds : Option (List ℕ)) (text : List ℕ) (status : Status)
+      (s : SoFar p left leaves held holds)
+      → (m : StopsWith p q leaves after text status) (ended : Bool) (rest : List ℕ)
+      → MayFollow q.reader.ended ended rest
       → Session ended start ((s.given ++ m.2.given) ++ rest) (s.written ++ text) (with_status status) (state_of q)
   stopped p q leaves after holds text status s (reply, says, m) ended rest follows =
-      subst (λ bytes. Session ended start bytes (s.written ++ text) (with_status status) (state_of q)) (sym (append_assoc s.given m.given rest))
-      (s.next ended (m.given ++ rest) text (with_status status) (state_of q) (may_follow_both m.given ended rest m.reads follows) (ends reply (m.step_is ended rest follows) says))
+      subst (λ bytes. Session ended start bytes (s.written ++ text) (with_status status) (state_of q))
+      (sym (append_assoc s.given m.given rest))
+      (s.next ended (m.given ++ rest) text (with_status status) (state_of q)
+      (may_follow_both m.given ended rest m.reads follows) (ends reply (m.step_is ended rest follows) says))
 
   -- what follows in the whole input
-  whole_follows : (p q : Progress) (leaves after holds : Option (List ℕ)) (given : List ℕ) → SoFar p left leaves held holds → ReadsBytes p.reader q.reader leaves after given → MayFollow q.reader.ended true (known_rest after)
-  whole_follows p q leaves after holds given s r = λ e. (refl, end_is after (over_after p q leaves after holds given s r e))
+  whole_follows : (p q : Progress) (leaves after holds : Option (List ℕ)) (given : List ℕ)
+      → SoFar p left leaves held holds → ReadsBytes p.reader q.reader leaves after given
+      → MayFollow q.reader.ended true (known_rest after)
+  whole_follows p q leaves after holds given s r =
+      λ e. (refl, end_is after (over_after p q leaves after holds given s r e))
 
-  pub so_far_answers : (told : Option FileMap) (p q : Progress) (leaves after holds kept : Option (List ℕ)) (text : List ℕ) (status : Status) → SoFar p left leaves held holds
-      → StopsWith p q leaves after text status → Appends holds kept text → Answers call_.Session told left after held kept status
+  pub so_far_answers : (told : Option FileMap) (p q : Progress) (leaves after holds kept : Option (List ℕ))
+      (text : List ℕ) (status : Status) → SoFar p left leaves held holds
+      → StopsWith p q leaves after text status → Appends holds kept text
+      → Answers call_.Session told left after held kept status
   so_far_answers told p q leaves after holds kept text status s m put = record {
     folder = known_files told;
     is_folder = folder_is told;
     input = (s.given ++ m.2.given) ++ known_rest after;
     output = s.written ++ text;
-    is_input = input_is left after (s.given ++ m.2.given) (Consumes-trans left leaves after s.given m.2.given s.gave m.2.reads.gave);
-    defined = (state_of q, stopped p q leaves after holds text status s m true (known_rest after) (whole_follows p q leaves after holds m.2.given s m.2.reads));
+    is_input =
+        input_is left after (s.given ++ m.2.given)
+        (Consumes-trans left leaves after s.given m.2.given s.gave m.2.reads.gave);
+    defined = (
+      state_of q,
+      stopped p q leaves after holds text status s m true (known_rest after)
+          (whole_follows p q leaves after holds m.2.given s m.2.reads),
+    );
     written = Appends-trans held holds kept s.written text s.wrote put;
   }
 
-  pub so_far_whole : (p q : Progress) (leaves after holds kept : Option (List ℕ)) (text : List ℕ) (status : Status) → SoFar p left leaves held holds
+  pub so_far_whole : (p q : Progress) (leaves after holds kept : Option (List ℕ)) (text : List ℕ) (status : Status)
+      → SoFar p left leaves held holds
       → StopsWith p q leaves after text status → Appends holds kept text → TakesWhole left after held kept status
   so_far_whole p q leaves after holds kept text status s m put = record {
     given = s.given ++ m.2.given;
@@ -174,28 +204,38 @@ module _ (left held : Option (List ℕ)) where
     written = Appends-trans held holds kept s.written text s.wrote put;
   }
     where
-      at : (ended : Bool) → MayFollow q.reader.ended ended [] → Session ended start (s.given ++ m.2.given) (s.written ++ text) (with_status status) (state_of q)
-      at ended follows = subst (λ bytes. Session ended start bytes (s.written ++ text) (with_status status) (state_of q)) (append-nil (s.given ++ m.2.given)) (stopped p q leaves after holds text status s m ended [] follows)
+      at : (ended : Bool) → MayFollow q.reader.ended ended []
+          → Session ended start (s.given ++ m.2.given) (s.written ++ text) (with_status status) (state_of q)
+      at ended follows =
+          subst (λ bytes. Session ended start bytes (s.written ++ text) (with_status status) (state_of q))
+          (append-nil (s.given ++ m.2.given)) (stopped p q leaves after holds text status s m ended [] follows)
 
-      by : (b : Bool) → q.reader.ended ≡ b → (Session true start (s.given ++ m.2.given) (s.written ++ text) (with_status status) (state_of q) × IsAtEnd after) ⊎ Session false start (s.given ++ m.2.given) (s.written ++ text) (with_status status) (state_of q)
+      by : (b : Bool) → q.reader.ended ≡ b
+          → (Session true start (s.given ++ m.2.given) (s.written ++ text) (with_status status) (state_of q)
+          × IsAtEnd after) ⊎ Session false start (s.given ++ m.2.given) (s.written ++ text) (with_status status)
+          (state_of q)
       by true e = inl (at true (λ _. (refl, refl)), over_after p q leaves after holds m.2.given s m.2.reads e)
       by false e = inr (at false (λ t. cc))
 
   -- a session whose source fails
-  pub so_far_breaks : (p q : Progress) (leaves after holds : Option (List ℕ)) → SoFar p left leaves held holds → Wants (machine p) p.reader q.reader leaves after → BreaksOff left after held holds
+  pub so_far_breaks : (p q : Progress) (leaves after holds : Option (List ℕ)) → SoFar p left leaves held holds
+      → Wants (machine p) p.reader q.reader leaves after → BreaksOff left after held holds
   so_far_breaks p q leaves after holds s w = record {
     given = s.given ++ w.given;
     output = s.written;
     last = state_of p;
     gave = Consumes-trans left leaves after s.given w.given s.gave w.reads.gave;
     replies = subst (λ text. Session false start (s.given ++ w.given) text waiting (state_of p)) (append-nil s.written)
-        (s.next false w.given [] waiting (state_of p) (λ over. cc ((w.reads.quiet over).2, w.open_still)) (breaks_off w.step_is));
+        (s.next false w.given [] waiting (state_of p) (λ over. cc ((w.reads.quiet over).2, w.open_still))
+        (breaks_off w.step_is));
     written = s.wrote;
   }
 
   -- a front of what a session writes: what it wrote, and a front of the next text
-  pub so_far_front : (told : Option FileMap) (p : Progress) (leaves holds kept : Option (List ℕ)) (front : List ℕ) (s : SoFar p left leaves held holds)
-      → (input output : List ℕ) (status : Status) (last : State) → IsInput left input → Session true start input ((s.written ++ front) ++ output) (with_status status) last → Appends holds kept front
+  pub so_far_front : (told : Option FileMap) (p : Progress) (leaves holds kept : Option (List ℕ)) (front : List ℕ)
+      (s : SoFar p left leaves held holds)
+      → (input output : List ℕ) (status : Status) (last : State) → IsInput left input
+      → Session true start input ((s.written ++ front) ++ output) (with_status status) last → Appends holds kept front
       → (after : Option (List ℕ)) → WritesFront call_.Session told left after held kept
   so_far_front told p leaves holds kept front s input output status last is session put after = record {
     folder = known_files told;
@@ -210,108 +250,157 @@ module _ (left held : Option (List ℕ)) where
   }
 
   -- a front of the reply of a step that goes on
-  so_far_reply_front : (told : Option FileMap) (p q : Progress) (leaves after holds kept : Option (List ℕ)) (front rest : List ℕ) → SoFar p left leaves held holds
-      → GoesOn p q leaves after (front ++ rest) → Appends holds kept front → WritesFront call_.Session told left after held kept
+  so_far_reply_front : (told : Option FileMap) (p q : Progress) (leaves after holds kept : Option (List ℕ))
+      (front rest : List ℕ) → SoFar p left leaves held holds
+      → GoesOn p q leaves after (front ++ rest) → Appends holds kept front
+      → WritesFront call_.Session told left after held kept
   so_far_reply_front told p q leaves after holds kept front rest s (reply, says, m) put =
       let input = known_rest after in
       let end = session_ends (state_of q) (q.reader.kept ++ input) in
       let follows = whole_follows p q leaves after holds m.given s m.reads in
-      let session = s.next true (m.given ++ input) ((front ++ rest) ++ end.0) (with_status end.1) end.2 (may_follow_both m.given true input m.reads follows) (goes_on reply (front ++ rest) (m.step_is true input follows) says end.4) in
-      let text : s.written ++ ((front ++ rest) ++ end.0) ≡ (s.written ++ front) ++ (rest ++ end.0) = simp append_assoc in
+      let session = s.next true (m.given ++ input) ((front ++ rest) ++ end.0) (with_status end.1) end.2
+      (may_follow_both m.given true input m.reads follows)
+      (goes_on reply (front ++ rest) (m.step_is true input follows) says end.4) in
+      let text : s.written ++ ((front ++ rest) ++ end.0) ≡ (s.written ++ front) ++ (rest ++ end.0) =
+      simp append_assoc in
       so_far_front told p leaves holds kept front s ((s.given ++ m.given) ++ input) (rest ++ end.0) end.1 end.2
       (input_is left after (s.given ++ m.given) (Consumes-trans left leaves after s.given m.given s.gave m.reads.gave))
-      (subst (λ bytes. Session true start bytes ((s.written ++ front) ++ (rest ++ end.0)) (with_status end.1) end.2) (sym (append_assoc s.given m.given input))
+      (subst (λ bytes. Session true start bytes ((s.written ++ front) ++ (rest ++ end.0)) (with_status end.1) end.2)
+      (sym (append_assoc s.given m.given input))
       (subst (λ text. Session true start (s.given ++ (m.given ++ input)) text (with_status end.1) end.2) text session))
       put after
 
   -- a front of the last text
-  so_far_text_front : (told : Option FileMap) (p q : Progress) (leaves after holds kept : Option (List ℕ)) (front rest : List ℕ) (status : Status) → SoFar p left leaves held holds
-      → StopsWith p q leaves after (front ++ rest) status → Appends holds kept front → WritesFront call_.Session told left after held kept
+  so_far_text_front : (told : Option FileMap) (p q : Progress) (leaves after holds kept : Option (List ℕ))
+      (front rest : List ℕ) (status : Status) → SoFar p left leaves held holds
+      → StopsWith p q leaves after (front ++ rest) status → Appends holds kept front
+      → WritesFront call_.Session told left after held kept
   so_far_text_front told p q leaves after holds kept front rest status s m put =
       let input = known_rest after in
       so_far_front told p leaves holds kept front s ((s.given ++ m.2.given) ++ input) rest status (state_of q)
-      (input_is left after (s.given ++ m.2.given) (Consumes-trans left leaves after s.given m.2.given s.gave m.2.reads.gave))
-      (subst (λ text. Session true start ((s.given ++ m.2.given) ++ input) text (with_status status) (state_of q)) (sym (append_assoc s.written front rest))
-      (stopped p q leaves after holds (front ++ rest) status s m true input (whole_follows p q leaves after holds m.2.given s m.2.reads)))
+      (input_is left after (s.given ++ m.2.given)
+      (Consumes-trans left leaves after s.given m.2.given s.gave m.2.reads.gave))
+      (subst (λ text. Session true start ((s.given ++ m.2.given) ++ input) text (with_status status) (state_of q))
+      (sym (append_assoc s.written front rest))
+      (stopped p q leaves after holds (front ++ rest) status s m true input
+      (whole_follows p q leaves after holds m.2.given s m.2.reads)))
       put after
 
   -- nothing more was written, whatever became of the source
-  pub so_far_nothing : (told : Option FileMap) (p : Progress) (leaves holds : Option (List ℕ)) → SoFar p left leaves held holds → (after : Option (List ℕ)) → WritesFront call_.Session told left after held holds
+  pub so_far_nothing : (told : Option FileMap) (p : Progress) (leaves holds : Option (List ℕ))
+      → SoFar p left leaves held holds → (after : Option (List ℕ))
+      → WritesFront call_.Session told left after held holds
   so_far_nothing told p leaves holds s after =
       let input = known_rest leaves in
       let end = session_ends (state_of p) (p.reader.kept ++ input) in
       let session = s.next true input end.0 (with_status end.1) end.2 (λ e. (refl, end_is leaves (s.over e))) end.4 in
-      so_far_front told p leaves holds holds [] s (s.given ++ input) end.0 end.1 end.2 (input_is left leaves s.given s.gave)
-      (subst (λ text. Session true start (s.given ++ input) (text ++ end.0) (with_status end.1) end.2) (sym (append-nil s.written)) session)
+      so_far_front told p leaves holds holds [] s (s.given ++ input) end.0 end.1 end.2
+      (input_is left leaves s.given s.gave)
+      (subst (λ text. Session true start (s.given ++ input) (text ++ end.0) (with_status end.1) end.2)
+      (sym (append-nil s.written)) session)
       (Appends-nil holds) after
 
   -- a front of the reply of a step that goes on, by what the sink ensures
-  pub so_far_reply_cut : (told : Option FileMap) (p q : Progress) (leaves after holds kept : Option (List ℕ)) (written : List ℕ) → SoFar p left leaves held holds
-      → GoesOn p q leaves after written → PutsFront holds kept written → WritesFront call_.Session told left after held kept
+  pub so_far_reply_cut : (told : Option FileMap) (p q : Progress) (leaves after holds kept : Option (List ℕ))
+      (written : List ℕ) → SoFar p left leaves held holds
+      → GoesOn p q leaves after written → PutsFront holds kept written
+      → WritesFront call_.Session told left after held kept
   so_far_reply_cut told p q leaves after holds kept written s m put =
       so_far_reply_front told p q leaves after holds kept put.0 put.1 s (subst (GoesOn p q leaves after) put.2 m) put.4
 
-  so_far_text_cut : (told : Option FileMap) (p q : Progress) (leaves after holds kept : Option (List ℕ)) (text : List ℕ) (status : Status) → SoFar p left leaves held holds
-      → StopsWith p q leaves after text status → PutsFront holds kept text → WritesFront call_.Session told left after held kept
+  so_far_text_cut : (told : Option FileMap) (p q : Progress) (leaves after holds kept : Option (List ℕ)) (text : List ℕ)
+      (status : Status) → SoFar p left leaves held holds
+      → StopsWith p q leaves after text status → PutsFront holds kept text
+      → WritesFront call_.Session told left after held kept
   so_far_text_cut told p q leaves after holds kept text status s m put =
-      so_far_text_front told p q leaves after holds kept put.0 put.1 status s (subst (λ said. StopsWith p q leaves after said status) put.2 m) put.4
+      so_far_text_front told p q leaves after holds kept put.0 put.1 status s
+      (subst (λ said. StopsWith p q leaves after said status) put.2 m) put.4
 
   -- nothing was written before the first step
   pub nothing_yet : (told : Option FileMap) → WritesFront call_.Session told left left held held
   nothing_yet told =
       let input = known_rest left in
       let end = session_ends start input in
-      record { folder = known_files told; is_folder = folder_is told; input = input; front = []; rest = end.0; status = end.1; is_input = input_is left left [] (Consumes-nil left); defined = (end.2, end.4); written = Appends-nil held }
+      record {
+        folder = known_files told;
+        is_folder = folder_is told;
+        input = input;
+        front = [];
+        rest = end.0;
+        status = end.1;
+        is_input = input_is left left [] (Consumes-nil left);
+        defined = (end.2, end.4);
+        written = Appends-nil held;
+      }
 
   -- a session stops with one of its statuses
-  end_of : (p q : Progress) (leaves after holds : Option (List ℕ)) (text : List ℕ) (status : Status) → SoFar p left leaves held holds
+  end_of : (p q : Progress) (leaves after holds : Option (List ℕ)) (text : List ℕ) (status : Status)
+      → SoFar p left leaves held holds
       → StopsWith p q leaves after text status → IsEnd status
   end_of p q leaves after holds text status s (reply, says, m) =
       let rest = known_rest after in
       let input = p.reader.kept ++ (m.given ++ rest) in
-      subst (Shape true (length input)) (m.step_is true rest (whole_follows p q leaves after holds m.given s m.reads)) (step_shape true (state_of p) input)
+      subst (Shape true (length input)) (m.step_is true rest (whole_follows p q leaves after holds m.given s m.reads))
+      (step_shape true (state_of p) input)
 
   -- the last text was to be written
-  pub said_output : (told : Option FileMap) (p q : Progress) (leaves after holds kept : Option (List ℕ)) (before now : ℕ) (text : List ℕ) (status result : Status) → SoFar p left leaves held holds
-      → StopsWith p q leaves after text status → Says holds kept before now text status result → Writes call_.Session told left after held kept result
+  pub said_output : (told : Option FileMap) (p q : Progress) (leaves after holds kept : Option (List ℕ))
+      (before now : ℕ) (text : List ℕ) (status result : Status) → SoFar p left leaves held holds
+      → StopsWith p q leaves after text status → Says holds kept before now text status result
+      → Writes call_.Session told left after held kept result
   said_output told p q leaves after holds kept before now text status result s m said = elim said [
     | inl whole ↦ subst (Writes call_.Session told left after held kept) (sym whole.0)
-        (writes_end told left after held kept status (end_of p q leaves after holds text status s m) (so_far_answers told p q leaves after holds kept text status s m whole.1))
+        (writes_end told left after held kept status (end_of p q leaves after holds text status s m)
+        (so_far_answers told p q leaves after holds kept text status s m whole.1))
     | inr front ↦ elim front [
-      | inl failed ↦ subst (Writes call_.Session told left after held kept) (sym failed.0) (so_far_text_cut told p q leaves after holds kept text status s m failed.1)
-      | inr lacking ↦ subst (Writes call_.Session told left after held kept) (sym lacking.0) (so_far_text_cut told p q leaves after holds kept text status s m lacking.1)
+      | inl failed ↦
+          subst (Writes call_.Session told left after held kept) (sym failed.0)
+          (so_far_text_cut told p q leaves after holds kept text status s m failed.1)
+      | inr lacking ↦
+          subst (Writes call_.Session told left after held kept) (sym lacking.0)
+          (so_far_text_cut told p q leaves after holds kept text status s m lacking.1)
     ]
   ]
 
-  pub said_input : (p q : Progress) (leaves after holds kept : Option (List ℕ)) (before now : ℕ) (text : List ℕ) (status result : Status) → SoFar p left leaves held holds
-      → StopsWith p q leaves after text status → Says holds kept before now text status result → TakesInput left after held kept result
+  pub said_input : (p q : Progress) (leaves after holds kept : Option (List ℕ)) (before now : ℕ) (text : List ℕ)
+      (status result : Status) → SoFar p left leaves held holds
+      → StopsWith p q leaves after text status → Says holds kept before now text status result
+      → TakesInput left after held kept result
   said_input p q leaves after holds kept before now text status result s m said = elim said [
     | inl whole ↦ subst (TakesInput left after held kept) (sym whole.0)
-        (takes_end left after held kept status (end_of p q leaves after holds text status s m) (so_far_whole p q leaves after holds kept text status s m whole.1))
+        (takes_end left after held kept status (end_of p q leaves after holds text status s m)
+        (so_far_whole p q leaves after holds kept text status s m whole.1))
     | inr front ↦ elim front [
       | inl failed ↦ subst (TakesInput left after held kept) (sym failed.0) tt
       | inr lacking ↦ subst (TakesInput left after held kept) (sym lacking.0) tt
     ]
   ]
 
-  pub said_source : (p q : Progress) (leaves after holds kept : Option (List ℕ)) (before now : ℕ) (text : List ℕ) (status result : Status) (old new : ℕ) → new ≡ old → SoFar p left leaves held holds
-      → StopsWith p q leaves after text status → Says holds kept before now text status result → Counts (source_failed call_.Session result) old new
+  pub said_source : (p q : Progress) (leaves after holds kept : Option (List ℕ)) (before now : ℕ) (text : List ℕ)
+      (status result : Status) (old new : ℕ) → new ≡ old → SoFar p left leaves held holds
+      → StopsWith p q leaves after text status → Says holds kept before now text status result
+      → Counts (source_failed call_.Session result) old new
   said_source p q leaves after holds kept before now text status result old new same s m said = elim said [
     | inl whole ↦ subst (λ r. Counts (source_failed call_.Session r) old new) (sym whole.0)
-        (quiet (source_failed call_.Session status) old new (source_end status (end_of p q leaves after holds text status s m)) same)
+        (quiet (source_failed call_.Session status) old new
+        (source_end status (end_of p q leaves after holds text status s m)) same)
     | inr front ↦ elim front [
       | inl failed ↦ subst (λ r. Counts (source_failed call_.Session r) old new) (sym failed.0) same
       | inr lacking ↦ subst (λ r. Counts (source_failed call_.Session r) old new) (sym lacking.0) same
     ]
   ]
 
-  pub said_sink : (p q : Progress) (leaves after holds kept : Option (List ℕ)) (before now : ℕ) (text : List ℕ) (status result : Status) (first : ℕ) → before ≡ first → SoFar p left leaves held holds
-      → StopsWith p q leaves after text status → Says holds kept before now text status result → Counts (sink_failed result) first now
+  pub said_sink : (p q : Progress) (leaves after holds kept : Option (List ℕ)) (before now : ℕ) (text : List ℕ)
+      (status result : Status) (first : ℕ) → before ≡ first → SoFar p left leaves held holds
+      → StopsWith p q leaves after text status → Says holds kept before now text status result
+      → Counts (sink_failed result) first now
   said_sink p q leaves after holds kept before now text status result first same s m said = elim said [
     | inl whole ↦ subst (λ r. Counts (sink_failed r) first now) (sym whole.0)
-        (quiet (sink_failed status) first now (sink_end status (end_of p q leaves after holds text status s m)) (whole.2 ∙ same))
+        (quiet (sink_failed status) first now (sink_end status (end_of p q leaves after holds text status s m))
+        (whole.2 ∙ same))
     | inr front ↦ elim front [
-      | inl failed ↦ subst (λ r. Counts (sink_failed r) first now) (sym failed.0) (subst (λ n. Rose n now) same failed.2)
+      | inl failed ↦
+          subst (λ r. Counts (sink_failed r) first now) (sym failed.0) (subst (λ n. Rose n now) same failed.2)
       | inr lacking ↦ subst (λ r. Counts (sink_failed r) first now) (sym lacking.0) (lacking.2 ∙ same)
     ]
   ]

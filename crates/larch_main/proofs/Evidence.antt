@@ -1,32 +1,39 @@
 -- A certificate and files that a folder has.
-use Rattle.std.proofs.Common.{◌≡◌, refl, sym, ap, subst, ◌∙◌, ℕ, ◌≤◌, Bool, true, false, cond, nat_lt, ◌&&◌, List, [], ◌∷◌, length, Option, Some, None, inl, inr, arith, Err}
+use Rattle.std.proofs.Common.{◌≡◌, refl, sym, ap, subst, ◌∙◌, ℕ, ◌≤◌, Bool, true, false, cond, nat_lt, ◌&&◌, List, []}
+use Rattle.std.proofs.Common.{◌∷◌, length, Option, Some, None, inl, inr, arith, Err}
 use Rattle.std.specs.Prelude.{IfSome}
 use Rattle.std.specs.List.{list_all}
 use Rattle.std.specs.Str.{bytes_eq}
 use Rattle.std.specs.Cmp.Lexicographic.{bytes_decides, nat_list_eq_equiv}
 use Rattle.std.proofs.lemmas.Bool.Decides.{nat_tests}
-use Rattle.larch_base.specs.FileNames.{is_file_name}
+use Rattle.larch_base.specs.FileName.{is_file_name}
 use Rattle.larch_base.specs.declared.limits.TheConstants.{MAX_FILE_BYTES}
 use Rattle.larch_base.proofs.Bools.{true_or_false}
 use Rattle.larch_io.specs.Folder.{FileMap, file_of, IsFile}
-use Rattle.larch_io.specs.Refusals.{FileRefused}
+use Rattle.larch_io.specs.Refusal.{FileRefused}
 use Rattle.larch_io.specs.declared.refusal.FolderRefusal.{FolderRefusal}
 use Rattle.larch_io.specs.declared.refusal.FolderRefusal.TheVariants.{Failed, Memory, NotThere, TooLong}
 use Rattle.larch_main.specs.declared.gather.GatherRefusal.{GatherRefusal}
 use Rattle.larch_main.specs.declared.gather.GatherRefusal.TheVariants as refusal_
 use Rattle.larch_traits.specs.Files.{Table}
 use Rattle.larch_words.specs.Call.{is_certificate}
-use Rattle.larch_main.specs.Gather.{Gathered, Whole, Absent, TooLarge, IsFolder, and_then, fetching, gathered, putting}
+use Rattle.larch_main.specs.Gather.{Gathered, Whole, Absent, TooLarge, IsFolder, and_then, fetching, gather_names}
+use Rattle.larch_main.specs.Gather.{putting}
 use Rattle.larch_main.specs.Look.{ComesTo, EvidenceFor, Fetches, IsRefusalFor, IsSeen, found_of}
 use Rattle.larch_main.specs.declared.gather.Evidence.{Evidence}
 use Rattle.larch_main.proofs.Looking.{seen_absent, seen_file, seen_long}
 use Rattle.larch_main.proofs.NameTexts.{certificate_is_no_file}
 
 -- what a folder gave under a certificate's name
-pub fetched : (told : Option FileMap) (name bytes : List ℕ) → IsFile told name bytes → length bytes ≤ MAX_FILE_BYTES → Fetches told name (Whole bytes)
+pub fetched : (told : Option FileMap) (name bytes : List ℕ) → IsFile told name bytes → length bytes ≤ MAX_FILE_BYTES
+    → Fetches told name (Whole bytes)
 fetched told name bytes is short =
     let small : nat_lt MAX_FILE_BYTES (length bytes) ≡ false = grind (arith, nat_tests) in
-    record { seen = Some bytes; is_seen = seen_file told name bytes is; comes_to = ap (λ b. cond b TooLarge (Whole bytes)) small }
+    record {
+      seen = Some bytes;
+      is_seen = seen_file told name bytes is;
+      comes_to = ap (λ b. cond b TooLarge (Whole bytes)) small;
+    }
 
 fetched_long : (told : Option FileMap) (name : List ℕ) → FileRefused TooLong told name → Fetches told name TooLarge
 fetched_long told name why =
@@ -37,18 +44,19 @@ fetched_long told name why =
 -- another folder has the same under each of these names
 same_gathered : (folder other : FileMap) (names : List (List ℕ)) → list_all is_file_name names ≡ true
     → ((name : List ℕ) → is_file_name name ≡ true → file_of other name ≡ file_of folder name) → (files : Table)
-    → gathered other files names ≡ gathered folder files names
+    → gather_names other files names ≡ gather_names folder files names
 same_gathered folder other [] all same files = refl
 same_gathered folder other (name ∷ names) all same files =
     let p = both (is_file_name name) (list_all is_file_name names) all in
-    ap (λ seen. and_then (putting files name seen) (λ more. gathered other more names)) (same name p.0)
+    ap (λ seen. and_then (putting files name seen) (λ more. gather_names other more names)) (same name p.0)
     ∙ then_same (putting files name (file_of folder name)) (same_gathered folder other names p.1 same)
   where
     both : (a b : Bool) → (a && b) ≡ true → (a ≡ true) × (b ≡ true)
     both true b e = (refl, e)
     both false b e = cc
 
-    then_same : {A B : Type 0} (found : Gathered A) {f g : A → Gathered B} → ((a : A) → f a ≡ g a) → and_then found f ≡ and_then found g
+    then_same : {A B : Type 0} (found : Gathered A) {f g : A → Gathered B} → ((a : A) → f a ≡ g a)
+        → and_then found f ≡ and_then found g
     then_same (Whole a) h = h a
     then_same (Absent name) h = refl
     then_same TooLarge h = refl
@@ -60,7 +68,8 @@ record Joined (told : Option FileMap) (certificate : List ℕ) (seen : Option (L
   pub is_seen : file_of both certificate ≡ seen
   pub same : (name : List ℕ) → is_file_name name ≡ true → file_of both name ≡ file_of folder name
 
-joined_with : (certificate : List ℕ) → is_certificate certificate ≡ true → (bytes : List ℕ) (folder : FileMap) → Joined None certificate (Some bytes) folder
+joined_with : (certificate : List ℕ) → is_certificate certificate ≡ true → (bytes : List ℕ) (folder : FileMap)
+    → Joined None certificate (Some bytes) folder
 joined_with certificate is bytes folder = record {
   both = (certificate, bytes) ∷ folder;
   is_folder = tt;
@@ -70,11 +79,14 @@ joined_with certificate is bytes folder = record {
   where
     apart : (name : List ℕ) → is_file_name name ≡ true → bytes_eq name certificate ≡ false
     apart name named = elim (true_or_false (bytes_eq name certificate)) [
-      | inl same ↦ absurd (certificate_is_no_file certificate is (subst (λ n. is_file_name n ≡ true) ((bytes_decides name certificate).0 same) named))
+      | inl same ↦
+          absurd (certificate_is_no_file certificate is
+          (subst (λ n. is_file_name n ≡ true) ((bytes_decides name certificate).0 same) named))
       | inr other ↦ other
     ]
 
-joined : (told : Option FileMap) (certificate : List ℕ) → is_certificate certificate ≡ true → (bytes : List ℕ) → IsSeen told certificate (Some bytes)
+joined : (told : Option FileMap) (certificate : List ℕ) → is_certificate certificate ≡ true → (bytes : List ℕ)
+    → IsSeen told certificate (Some bytes)
     → (folder : FileMap) → IsFolder told folder → Joined told certificate (Some bytes) folder
 joined None certificate is bytes seen folder told_is = joined_with certificate is bytes folder
 joined (Some files) certificate is bytes seen folder told_is = record {
@@ -85,7 +97,8 @@ joined (Some files) certificate is bytes seen folder told_is = record {
 }
 
 -- the certificate is there, and the files come to something
-module _ (told : Option FileMap) (certificate : List ℕ) (is : is_certificate certificate ≡ true) (names : List (List ℕ)) (all : list_all is_file_name names ≡ true)
+module _ (told : Option FileMap) (certificate : List ℕ) (is : is_certificate certificate ≡ true) (names : List (List ℕ))
+    (all : list_all is_file_name names ≡ true)
     (bytes : List ℕ) (got : Fetches told certificate (Whole bytes)) where
   seen_whole : (seen : Option (List ℕ)) → fetching certificate seen ≡ Whole bytes → seen ≡ Some bytes
   seen_whole None e = cc
@@ -96,15 +109,20 @@ module _ (told : Option FileMap) (certificate : List ℕ) (is : is_certificate c
       by_size false e = cc
 
   pub whole_evidence : (found : Gathered Table) → ComesTo told names found
-      → EvidenceFor told certificate names (and_then found (λ files. Whole (record { certificate = bytes; files = files })))
+      → EvidenceFor told certificate names
+      (and_then found (λ files. Whole (record { certificate = bytes; files = files })))
   whole_evidence found comes =
       let e = seen_whole got.seen got.comes_to in
-      let j = joined told certificate is bytes (subst (IsSeen told certificate) e got.is_seen) comes.folder comes.is_folder in
+      let j =
+      joined told certificate is bytes
+      (subst (IsSeen told certificate) e got.is_seen) comes.folder comes.is_folder in
       record {
         folder = j.both;
         is_folder = j.is_folder;
         is_found =
-            ap (λ f. and_then f (λ text. and_then (gathered j.both [] names) (λ files. Whole (record { certificate = text; files = files }))))
+            ap
+            (λ f. and_then f (λ text. and_then (gather_names j.both [] names)
+            (λ files. Whole (record { certificate = text; files = files }))))
             (ap (fetching certificate) (j.is_seen ∙ sym e) ∙ got.comes_to)
             ∙ ap (λ f. and_then f (λ files. Whole (record { certificate = bytes; files = files })))
             (same_gathered comes.folder j.both names all j.same [] ∙ comes.is_found);
@@ -127,11 +145,14 @@ folder_showing None certificate None is = ([], tt, refl)
 folder_showing None certificate (Some bytes) is =
     ((certificate, bytes) ∷ [], tt, ap (λ b. cond b (Some bytes) None) (nat_list_eq_equiv.refl certificate))
 
-no_evidence : (told : Option FileMap) (certificate : List ℕ) (names : List (List ℕ)) (found : Gathered (List ℕ)) (ends : Gathered Evidence)
-    → Fetches told certificate found → ((next : List ℕ → Gathered Evidence) → and_then found next ≡ ends) → EvidenceFor told certificate names ends
+no_evidence : (told : Option FileMap) (certificate : List ℕ) (names : List (List ℕ)) (found : Gathered (List ℕ))
+    (ends : Gathered Evidence)
+    → Fetches told certificate found → ((next : List ℕ → Gathered Evidence) → and_then found next ≡ ends)
+    → EvidenceFor told certificate names ends
 no_evidence told certificate names found ends got stops =
     let f = folder_showing told certificate got.seen got.is_seen in
-    let next : List ℕ → Gathered Evidence = λ text. and_then (gathered f.0 [] names) (λ files. Whole (record { certificate = text; files = files })) in
+    let next : List ℕ → Gathered Evidence =
+    λ text. and_then (gather_names f.0 [] names) (λ files. Whole (record { certificate = text; files = files })) in
     record {
       folder = f.0;
       is_folder = f.1;

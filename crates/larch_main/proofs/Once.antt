@@ -28,17 +28,24 @@ stops_waits e = cc
 pub once : {ended : Bool} {state last final : State} {input first second : List ℕ} {here there : Ending}
     → Session ended state input first here last → Session ended state input second there final
     → (here ≡ there) × (last ≡ final) × (first ≡ second)
-once {ended} (goes_on {next = next} {rest = rest} reply written is says more) (goes_on {next = onward} {last = final} {rest = behind} {output = other} {ending = there} also wrote so spells further) =
+once {ended} (goes_on {next = next} {rest = rest} reply written is says more)
+    (goes_on {next = onward} {last = final} {rest = behind} {output = other}
+    {ending = there} also wrote so spells further) =
     let same = next_is (sym is ∙ so) in
-    let rest_of = once more (subst (λ state. Session ended state rest other there final) (sym same.0) (subst (λ bytes. Session ended onward bytes other there final) (sym same.2) further)) in
+    let rest_of =
+    once more (subst (λ state. Session ended state rest other there final) (sym same.0)
+    (subst (λ bytes. Session ended onward bytes other there final) (sym same.2) further)) in
     let wrote_is = one_text reply written wrote says (subst (λ r. Spells r wrote) (sym same.1) spells) in
     (rest_of.0, rest_of.1, ap₂ (λ xs ys. xs ++ ys) wrote_is rest_of.2)
 once (goes_on reply written is says more) (ends also so spells) = not_both (sym is ∙ so)
 once (goes_on reply written is says more) (breaks_off so) = goes_waits (sym is ∙ so)
 once (ends reply is says) (goes_on also wrote so spells further) = not_both (sym so ∙ is)
 once (ends {written = written} reply is says) (ends {written = wrote} also so spells) =
-    let same = last_is (sym is ∙ so) in
-    (ap₂ (λ status _. with_status status) same.2 same.2, same.0, one_text reply written wrote says (subst (λ r. Spells r wrote) (sym same.1) spells))
+    let same = last_is (sym is ∙ so) in (
+      ap₂ (λ status _. with_status status) same.2 same.2,
+      same.0,
+      one_text reply written wrote says (subst (λ r. Spells r wrote) (sym same.1) spells),
+    )
 once (ends reply is says) (breaks_off so) = stops_waits (sym is ∙ so)
 once (breaks_off is) (goes_on also wrote so spells further) = goes_waits (sym so ∙ is)
 once (breaks_off is) (ends also so spells) = stops_waits (sym so ∙ is)

@@ -1,14 +1,14 @@
 -- A report has one line of each trait.
 use Rattle.std.proofs.Common.{◌≡◌, refl, ◌∙◌, ap, ℕ, List, [], ◌∷◌, ◌++◌, length, map, flat_map, Result, Ok, Err, arith}
-use Rattle.larch_flat.specs.Flat.{FlatTrait}
-use Rattle.larch_flat.specs.Laws.{IsTold}
-use Rattle.larch_flat.specs.Stops.{Stop, Refused, TooDeep}
-use Rattle.larch_flatten.specs.Parts.{flat_trait}
-use Rattle.larch_items.specs.Steps.{after}
-use Rattle.larch_sources.specs.Sources.{Table as Sources, files_in, names_in}
-use Rattle.larch_sources.proofs.Tables.{among, names_length}
-use Rattle.larch_claims.proofs.Told.{duties_told}
-use Rattle.larch_duties.specs.TraitDuties.{claimed, trait_duties}
+use Rattle.larch_flat_meaning.specs.Flat.{FlatTrait}
+use Rattle.larch_flat_meaning.specs.Laws.{IsTold}
+use Rattle.larch_flat_meaning.specs.Stops.{Stop, Refused, TooDeep}
+use Rattle.larch_flat.specs.Parts.{flat_trait}
+use Rattle.larch_traits_items.specs.Steps.{after}
+use Rattle.larch_flat_sources.specs.Sources.{Table as Sources, files_in, names_in}
+use Rattle.larch_flat_sources.proofs.Tables.{among, names_length}
+use Rattle.larch_duties_meaning.proofs.Told.{duties_told}
+use Rattle.larch_duties.specs.TraitDuties.{claims_of, trait_duties}
 use Rattle.larch_main.specs.Laws.{stem_in}
 use Rattle.larch_main.specs.Report.{trait_lines}
 use Rattle.larch_main.specs.declared.report.ReportLine.{ReportLine}
@@ -19,12 +19,12 @@ one_line stem (Ok t) rest told = refl
 one_line stem (Err (Refused fault)) rest told = refl
 one_line stem (Err TooDeep) rest told = absurd told
 
-claims_told : (sources : Sources) (own : FlatTrait) → IsTold (claimed sources own)
+claims_told : (sources : Sources) (own : FlatTrait) → IsTold (claims_of sources own)
 claims_told sources own =
     let l = names_length sources in
     duties_told (files_in sources) (names_in sources) (among sources) (length sources) (omega (arith, l)) own
 
-duties_by : (sources : Sources) (flat : Result FlatTrait Stop) → IsTold flat → IsTold (after flat (claimed sources))
+duties_by : (sources : Sources) (flat : Result FlatTrait Stop) → IsTold flat → IsTold (after flat (claims_of sources))
 duties_by sources (Ok own) told = claims_told sources own
 duties_by sources (Err (Refused fault)) told = tt
 duties_by sources (Err TooDeep) told = absurd told

@@ -1,11 +1,13 @@
 -- How steps of the code follow one another.
-use Rattle.std.proofs.Common.{◌≡◌, ℕ, ◌+◌, ◌-◌, ◌<◌, ◌≤◌, inl, inr, Bool, true, false, cond, List, [], ◌∷◌, ◌++◌, length, Option, Some, None, Result, Ok, Err, IfOk, IfErr, OnOk, nat_lt, refl, sym, ap, ap₂, subst, ◌∙◌, arith, append_assoc, append-nil, length-append}
+use Rattle.std.proofs.Common.{◌≡◌, ℕ, ◌+◌, ◌-◌, ◌<◌, ◌≤◌, inl, inr, Bool, true, false, cond, List, [], ◌∷◌, ◌++◌}
+use Rattle.std.proofs.Common.{length, Option, Some, None, Result, Ok, Err, IfOk, IfErr, OnOk, nat_lt, refl, sym, ap}
+use Rattle.std.proofs.Common.{ap₂, subst, ◌∙◌, arith, append_assoc, append-nil, length-append}
 use Rattle.std.specs.Io.KnownBytes.{IsAtEnd}
 use Rattle.std.proofs.lemmas.Bool.Decides.{nat_tests}
 use Rattle.std.proofs.KnownBytes.{Consumes-nil, Consumes-trans}
 use Rattle.larch_base.specs.declared.limits.TheConstants.{MAX_FILE_BYTES, MAX_LINE_BYTES, MAX_SOURCE_BYTES}
 use Rattle.larch_io.specs.Reader.{Taken, ReadsBytes, Takes, room_of}
-use Rattle.larch_io.specs.Refusals.{LineRefused, BytesRefused}
+use Rattle.larch_io.specs.Refusal.{LineRefused, BytesRefused}
 use Rattle.larch_io.specs.Take.{TakesLine}
 use Rattle.larch_traits.specs.Files.{Table, drop_file}
 use Rattle.larch_io.specs.declared.refusal.TakeRefusal.{TakeRefusal}
@@ -22,10 +24,13 @@ use Rattle.larch_main.specs.declared.status.Status.TheVariants.{Malformed, Size}
 use Rattle.larch_main.specs.Command.{command_of}
 use Rattle.larch_main.specs.Lines.{line, line_at}
 use Rattle.larch_main.specs.Report.{report_of, report_text, is_good}
-use Rattle.larch_main.specs.Session.{State, took, Reply, nothing, reported, Step, goes, stops, step, on_line, on_command, on_bytes, on_file}
-use Rattle.larch_main.specs.Session.{status_of, room_left, malformed, too_large}
-use Rattle.larch_main.specs.Progress.{state_of, Machine, at_line, at_command, at_bytes, at_file, MayFollow, Makes, Wants, Moves, IsStop, Never, Refuses, PutsIn}
-use Rattle.larch_main.proofs.Found.{line_found, last_found, none_found, long_found, full_found, unfinished_found, bytes_found, cut_found, wanting_found, too_many_found}
+use Rattle.larch_main.specs.Session.{State, took, Reply, nothing, reported, Step, goes, stops, step, on_line}
+use Rattle.larch_main.specs.Session.{on_command, on_bytes, on_file}
+use Rattle.larch_main.specs.Session.{status_of, room_left, malformed_reply, too_large}
+use Rattle.larch_main.specs.Progress.{state_of, Machine, at_line, at_command, at_bytes, at_file, MayFollow, Makes}
+use Rattle.larch_main.specs.Progress.{Wants, Moves, IsStop, Never, Refuses, PutsIn}
+use Rattle.larch_main.proofs.Found.{line_found, last_found, none_found, long_found, full_found, unfinished_found}
+use Rattle.larch_main.proofs.Found.{bytes_found, cut_found, wanting_found, too_many_found}
 
 true_is_false : {P : Type 0} → true ≡ false → P
 true_is_false e = cc
@@ -38,10 +43,12 @@ nothing_and_nothing : (xs ys : List ℕ) → xs ≡ [] → ys ≡ [] → xs ++ y
 nothing_and_nothing xs ys p q = cc
 
 -- reading twice
-pub reads_then : {a b c : Taken} {x y z : Option (List ℕ)} (g h : List ℕ) → ReadsBytes a b x y g → ReadsBytes b c y z h → ReadsBytes a c x z (g ++ h)
+pub reads_then : {a b c : Taken} {x y z : Option (List ℕ)} (g h : List ℕ) → ReadsBytes a b x y g → ReadsBytes b c y z h
+    → ReadsBytes a c x z (g ++ h)
 reads_then {a} {b} {c} {x} {y} {z} g h r s = record {
   gave = Consumes-trans x y z g h r.gave s.gave;
-  quiet = λ e. let first = r.quiet e in let second = s.quiet first.2 in (nothing_and_nothing g h first.0 second.0, second.1 ∙ first.1, second.2);
+  quiet = λ e. let first = r.quiet e in let second = s.quiet first.2 in
+      (nothing_and_nothing g h first.0 second.0, second.1 ∙ first.1, second.2);
   ends = λ e. elim (s.ends e) [
     | inl over ↦ elim (r.ends over) [
       | inl over_before ↦ inl over_before
@@ -55,16 +62,19 @@ reads_then {a} {b} {c} {x} {y} {z} g h r s = record {
 pub record Passes (first second : Machine) (old new : Taken) (before after : Option (List ℕ)) : Type 0 where
   pub given : List ℕ
   pub reads : ReadsBytes old new before after given
-  pub same : (ended : Bool) (rest : List ℕ) → MayFollow new.ended ended rest → first ended (old.kept ++ (given ++ rest)) ≡ second ended (new.kept ++ rest)
+  pub same : (ended : Bool) (rest : List ℕ) → MayFollow new.ended ended rest
+      → first ended (old.kept ++ (given ++ rest)) ≡ second ended (new.kept ++ rest)
 
 -- what may follow what was given later may follow, with that, what was given earlier
-pub may_follow_both : {b c : Taken} {y z : Option (List ℕ)} (h : List ℕ) (ended : Bool) (rest : List ℕ) → ReadsBytes b c y z h → MayFollow c.ended ended rest → MayFollow b.ended ended (h ++ rest)
+pub may_follow_both : {b c : Taken} {y z : Option (List ℕ)} (h : List ℕ) (ended : Bool) (rest : List ℕ)
+    → ReadsBytes b c y z h → MayFollow c.ended ended rest → MayFollow b.ended ended (h ++ rest)
 may_follow_both h ended rest s m = λ over.
     let quiet = s.quiet over in
     let follows = m quiet.2 in
     (follows.0, nothing_and_nothing h rest quiet.0 follows.1)
 
-makes_after : {first second : Machine} {a b c : Taken} {x y z : Option (List ℕ)} (made : List ℕ → Step) → Passes first second a b x y → Makes second b c y z made → Makes first a c x z made
+makes_after : {first second : Machine} {a b c : Taken} {x y z : Option (List ℕ)} (made : List ℕ → Step)
+    → Passes first second a b x y → Makes second b c y z made → Makes first a c x z made
 makes_after {first} {second} {a} {b} {c} made p m = record {
   given = p.given ++ m.given;
   reads = reads_then p.given m.given p.reads m.reads;
@@ -74,7 +84,8 @@ makes_after {first} {second} {a} {b} {c} made p m = record {
       ∙ m.step_is ended rest follows;
 }
 
-wants_after : {first second : Machine} {a b c : Taken} {x y z : Option (List ℕ)} → Passes first second a b x y → Wants second b c y z → Wants first a c x z
+wants_after : {first second : Machine} {a b c : Taken} {x y z : Option (List ℕ)} → Passes first second a b x y
+    → Wants second b c y z → Wants first a c x z
 wants_after {first} {second} {a} {b} {c} p w = record {
   given = p.given ++ w.given;
   reads = reads_then p.given w.given p.reads w.reads;
@@ -93,33 +104,49 @@ moves_after p q r x y z (Err ReadFault) passes m = wants_after passes m
 moves_after p q r x y z (Err Memory) passes m = tt
 
 -- a machine that stops whatever follows
-stop_moves : (machine : Machine) (p q : Progress) (x y : Option (List ℕ)) (given : List ℕ) (reply : Reply) (status : Status) (result : Result Move Halt)
-    → ReadsBytes p.reader q.reader x y given → ((ended : Bool) (rest : List ℕ) → MayFollow q.reader.ended ended rest → machine ended (p.reader.kept ++ (given ++ rest)) ≡ stops (state_of q) reply status)
+stop_moves : (machine : Machine) (p q : Progress) (x y : Option (List ℕ)) (given : List ℕ) (reply : Reply)
+    (status : Status) (result : Result Move Halt)
+    → ReadsBytes p.reader q.reader x y given
+    → ((ended : Bool) (rest : List ℕ) → MayFollow q.reader.ended ended rest
+    → machine ended (p.reader.kept ++ (given ++ rest)) ≡ stops (state_of q) reply status)
     → IsStop reply status result → Moves machine p q x y result
 stop_moves machine p q x y given reply status (Ok (Goes written)) reads stop is = absurd is
-stop_moves machine p q x y given reply status (Ok (Stops written ended)) reads stop is =
-    (reply, is.0, record { given = given; reads = reads; step_is = λ e rest follows. stop e rest follows ∙ ap (stops (state_of q) reply) (sym is.1) })
+stop_moves machine p q x y given reply status (Ok (Stops written ended)) reads stop is = (
+  reply,
+  is.0,
+  record {
+    given = given;
+    reads = reads;
+    step_is = λ e rest follows. stop e rest follows ∙ ap (stops (state_of q) reply) (sym is.1);
+  },
+)
 stop_moves machine p q x y given reply status (Err ReadFault) reads stop is = absurd is
 stop_moves machine p q x y given reply status (Err Memory) reads stop is = tt
 
 -- what was kept and given, and what follows
-seam : (kept given front now rest : List ℕ) → kept ++ given ≡ front ++ now → kept ++ (given ++ rest) ≡ front ++ (now ++ rest)
-seam kept given front now rest moved = sym (append_assoc kept given rest) ∙ ap (λ bytes. bytes ++ rest) moved ∙ append_assoc front now rest
+seam : (kept given front now rest : List ℕ) → kept ++ given ≡ front ++ now
+    → kept ++ (given ++ rest) ≡ front ++ (now ++ rest)
+seam kept given front now rest moved =
+    sym (append_assoc kept given rest) ∙ ap (λ bytes. bytes ++ rest) moved ∙ append_assoc front now rest
 
 -- the state behind what was taken
-state_behind : (p : Progress) (reader : Taken) (front rest : List ℕ) → reader.count ≡ p.reader.count + length front → took (state_of p) (front ++ rest) rest ≡ state_of (record p { reader = reader })
+state_behind : (p : Progress) (reader : Taken) (front rest : List ℕ) → reader.count ≡ p.reader.count + length front
+    → took (state_of p) (front ++ rest) rest ≡ state_of (record p { reader = reader })
 state_behind p reader front rest counted =
-    let e : p.reader.count + (length (front ++ rest) - length rest) ≡ reader.count = omega (arith, length-append front rest) in
+    let e : p.reader.count + (length (front ++ rest) - length rest) ≡ reader.count =
+    omega (arith, length-append front rest) in
     λ i. record { files = p.files; taken = e i; good = p.good }
 
 -- a reader from which nothing was taken stands for the same state
-state_kept : (p : Progress) (reader : Taken) → reader.count ≡ p.reader.count + 0 → state_of p ≡ state_of (record p { reader = reader })
+state_kept : (p : Progress) (reader : Taken) → reader.count ≡ p.reader.count + 0
+    → state_of p ≡ state_of (record p { reader = reader })
 state_kept p reader counted =
     let e : p.reader.count ≡ reader.count = omega arith in
     λ i. record { files = p.files; taken = e i; good = p.good }
 
 -- a step that stops in one state stops in an equal one
-stops_in : {made : Step} {a b : State} (reply : Reply) (status : Status) → made ≡ stops a reply status → a ≡ b → made ≡ stops b reply status
+stops_in : {made : Step} {a b : State} (reply : Reply) (status : Status) → made ≡ stops a reply status → a ≡ b
+    → made ≡ stops b reply status
 stops_in reply status is same = is ∙ ap (λ state. stops state reply status) same
 
 -- a line and its newline
@@ -128,14 +155,19 @@ with_newline front rest = append_assoc front (10 ∷ []) rest
 
 -- a line was found: its command is carried out in the state behind it
 line_step : (p : Progress) (reader : Taken) (text rest : List ℕ) (ended : Bool) (input : List ℕ) (taken : List ℕ)
-    → input ≡ taken ++ rest → reader.count ≡ p.reader.count + length taken → line_at ended (room_left (state_of p)) input ≡ line text rest
-    → step ended (state_of p) input ≡ on_command ended p.reader.count (state_of (record p { reader = reader })) rest (command_of text)
+    → input ≡ taken ++ rest → reader.count ≡ p.reader.count + length taken
+    → line_at ended (room_left (state_of p)) input ≡ line text rest
+    → step ended (state_of p) input
+    ≡ on_command ended p.reader.count (state_of (record p { reader = reader })) rest (command_of text)
 line_step p reader text rest ended input taken is counted found =
     ap (on_line ended (state_of p) input) found
-    ∙ ap (λ state. on_command ended p.reader.count state rest (command_of text)) (ap (λ bytes. took (state_of p) bytes rest) is ∙ state_behind p reader taken rest counted)
+    ∙ ap (λ state. on_command ended p.reader.count state rest (command_of text))
+    (ap (λ bytes. took (state_of p) bytes rest) is ∙ state_behind p reader taken rest counted)
 
-pub line_passes : (p : Progress) (reader : Taken) (x y : Option (List ℕ)) (text : List ℕ) → TakesLine p.reader reader x y text → reader.count ≤ MAX_SOURCE_BYTES
-    → Passes (at_line (state_of p)) (at_command p.reader.count (state_of (record p { reader = reader })) (command_of text)) p.reader reader x y
+pub line_passes : (p : Progress) (reader : Taken) (x y : Option (List ℕ)) (text : List ℕ)
+    → TakesLine p.reader reader x y text → reader.count ≤ MAX_SOURCE_BYTES
+    → Passes (at_line (state_of p))
+    (at_command p.reader.count (state_of (record p { reader = reader })) (command_of text)) p.reader reader x y
 line_passes p reader x y text t limit = elim t.1 [
   | inl whole ↦ record {
     given = whole.given;
@@ -146,7 +178,8 @@ line_passes p reader x y text t limit = elim t.1 [
         let counted : reader.count ≡ p.reader.count + length (text ++ 10 ∷ []) = whole.counted in
         let few : length text < room_left (state_of p) = omega arith in
         line_step p reader text (reader.kept ++ rest) ended _ (text ++ 10 ∷ []) is counted
-        (ap (line_at ended (room_left (state_of p))) (is ∙ with_newline text (reader.kept ++ rest)) ∙ line_found ended _ text (reader.kept ++ rest) t.0 few);
+        (ap (line_at ended (room_left (state_of p))) (is ∙ with_newline text (reader.kept ++ rest))
+        ∙ line_found ended _ text (reader.kept ++ rest) t.0 few);
   }
   | inr last ↦ record {
     given = last.0.given;
@@ -155,11 +188,13 @@ line_passes p reader x y text t limit = elim t.1 [
         let at_end = follows last.3 in
         let none : reader.kept ++ rest ≡ [] = nothing_and_nothing reader.kept rest last.2 at_end.1 in
         let is = seam p.reader.kept last.0.given text reader.kept rest last.0.moved in
-        let all : p.reader.kept ++ (last.0.given ++ rest) ≡ text = is ∙ ap (λ bytes. text ++ bytes) none ∙ append-nil text in
+        let all : p.reader.kept ++ (last.0.given ++ rest) ≡ text =
+        is ∙ ap (λ bytes. text ++ bytes) none ∙ append-nil text in
         let counted : reader.count ≡ p.reader.count + length text = last.0.counted in
         let few : length text ≤ room_left (state_of p) = omega arith in
         line_step p reader text (reader.kept ++ rest) ended _ text is counted
-        (ap₂ (λ e bytes. line_at e (room_left (state_of p)) bytes) at_end.0 all ∙ last_found _ text t.0 last.1 few ∙ ap (line text) (sym none));
+        (ap₂ (λ e bytes. line_at e (room_left (state_of p)) bytes) at_end.0 all ∙ last_found _ text t.0 last.1 few
+        ∙ ap (line text) (sym none));
   }
 ]
 
@@ -168,30 +203,38 @@ nothing_taken : (kept given now rest : List ℕ) → kept ++ given ≡ [] ++ now
 nothing_taken kept given now rest moved = seam kept given [] now rest moved
 
 -- no line could be taken: the session stops, or waits
-pub line_refused : (p : Progress) (reader : Taken) (x y : Option (List ℕ)) (refusal : TakeRefusal) (result : Result Move Halt)
+pub line_refused : (p : Progress) (reader : Taken) (x y : Option (List ℕ)) (refusal : TakeRefusal)
+    (result : Result Move Halt)
     → Takes p.reader reader x y [] → LineRefused refusal p.reader reader
-    → Refuses refusal (IsStop nothing (status_of (state_of p))) (IsStop (malformed p.reader.count) Malformed) result
+    → Refuses refusal (IsStop nothing (status_of (state_of p)))
+    (IsStop (malformed_reply p.reader.count) Malformed) result
     → Moves (at_line (state_of p)) p (record p { reader = reader }) x y result
 line_refused p reader x y take_.ReadFault result t why is =
     subst (Moves (at_line (state_of p)) p (record p { reader = reader }) x y) (sym is) (record {
       given = t.given;
       reads = t.reads;
       open_still = why.0;
-      step_is = ap (λ bytes. step false (state_of p) bytes) t.moved ∙ ap (on_line false (state_of p) reader.kept) (unfinished_found _ reader.kept (let few : length reader.kept ≤ MAX_LINE_BYTES = why.1.1 in omega arith) why.2 why.1.0);
+      step_is =
+          ap (λ bytes. step false (state_of p) bytes) t.moved
+          ∙ ap (on_line false (state_of p) reader.kept)
+          (unfinished_found _ reader.kept
+          (let few : length reader.kept ≤ MAX_LINE_BYTES = why.1.1 in omega arith) why.2 why.1.0);
     })
 line_refused p reader x y take_.End result t why is =
     stop_moves _ p (record p { reader = reader }) x y t.given nothing _ result t.reads
     (λ ended rest follows.
     let at_end = follows why.1 in
-    let none : p.reader.kept ++ (t.given ++ rest) ≡ [] = nothing_taken p.reader.kept t.given reader.kept rest t.moved ∙ nothing_and_nothing reader.kept rest why.0 at_end.1 in
+    let none : p.reader.kept ++ (t.given ++ rest) ≡ [] = nothing_taken p.reader.kept t.given reader.kept rest t.moved
+    ∙ nothing_and_nothing reader.kept rest why.0 at_end.1 in
     stops_in nothing (status_of (state_of p))
-    (ap₂ (λ e bytes. step e (state_of p) bytes) at_end.0 none ∙ ap (on_line true (state_of p) []) (none_found (room_left (state_of p))))
+    (ap₂ (λ e bytes. step e (state_of p) bytes) at_end.0 none
+    ∙ ap (on_line true (state_of p) []) (none_found (room_left (state_of p))))
     (state_kept p reader t.counted))
     is
 line_refused p reader x y take_.TooLong result t why is =
     stop_moves _ p (record p { reader = reader }) x y t.given _ _ result t.reads
     (λ ended rest follows.
-    stops_in (malformed p.reader.count) Malformed
+    stops_in (malformed_reply p.reader.count) Malformed
     (ap (λ bytes. step ended (state_of p) bytes) (nothing_taken p.reader.kept t.given reader.kept rest t.moved)
     ∙ ap (on_line ended (state_of p) (reader.kept ++ rest)) (long_found ended _ reader.kept rest why.0 why.1 why.2))
     (state_kept p reader t.counted))
@@ -201,14 +244,19 @@ line_refused p reader x y take_.Full result t why is =
     (λ ended rest follows.
     stops_in too_large Size
     (ap (λ bytes. step ended (state_of p) bytes) (nothing_taken p.reader.kept t.given reader.kept rest t.moved)
-    ∙ ap (on_line ended (state_of p) (reader.kept ++ rest)) (full_found ended _ reader.kept rest why.0 (let few : room_of p.reader ≤ MAX_LINE_BYTES = why.1 in omega arith) why.2))
+    ∙ ap (on_line ended (state_of p) (reader.kept ++ rest))
+    (full_found ended _ reader.kept rest why.0
+    (let few : room_of p.reader ≤ MAX_LINE_BYTES = why.1 in omega arith) why.2))
     (state_kept p reader t.counted))
     is
-line_refused p reader x y take_.Memory result t why is = subst (Moves (at_line (state_of p)) p (record p { reader = reader }) x y) (sym is) tt
+line_refused p reader x y take_.Memory result t why is =
+    subst (Moves (at_line (state_of p)) p (record p { reader = reader }) x y) (sym is) tt
 
 -- so many bytes were found: they are put in as a file in the state behind them
-pub bytes_pass : (p : Progress) (reader : Taken) (x y : Option (List ℕ)) (before : ℕ) (name text : List ℕ) → Takes p.reader reader x y text → reader.count ≤ MAX_SOURCE_BYTES
-    → Passes (at_bytes before (state_of p) name (length text)) (at_file (state_of (record p { reader = reader })) name text) p.reader reader x y
+pub bytes_pass : (p : Progress) (reader : Taken) (x y : Option (List ℕ)) (before : ℕ) (name text : List ℕ)
+    → Takes p.reader reader x y text → reader.count ≤ MAX_SOURCE_BYTES
+    → Passes (at_bytes before (state_of p) name (length text))
+    (at_file (state_of (record p { reader = reader })) name text) p.reader reader x y
 bytes_pass p reader x y before name text t limit = record {
   given = t.given;
   reads = t.reads;
@@ -217,12 +265,15 @@ bytes_pass p reader x y before name text t limit = record {
       let counted : reader.count ≡ p.reader.count + length text = t.counted in
       let few : length text ≤ room_left (state_of p) = omega arith in
       ap (at_bytes before (state_of p) name (length text) ended) is
-      ∙ ap (on_bytes before (state_of p) name (text ++ (reader.kept ++ rest))) (bytes_found ended (room_left (state_of p)) text (reader.kept ++ rest) few)
-      ∙ ap (λ state. on_file state name text (reader.kept ++ rest)) (state_behind p reader text (reader.kept ++ rest) counted);
+      ∙ ap (on_bytes before (state_of p) name (text ++ (reader.kept ++ rest)))
+      (bytes_found ended (room_left (state_of p)) text (reader.kept ++ rest) few)
+      ∙ ap (λ state. on_file state name text (reader.kept ++ rest))
+      (state_behind p reader text (reader.kept ++ rest) counted);
 }
 
 -- the file is put in, or is one too many
-pub file_moves : (p : Progress) (files : Table) (x : Option (List ℕ)) (name text : List ℕ) (result : Result Move Halt) → PutsIn p.files files name text result
+pub file_moves : (p : Progress) (files : Table) (x : Option (List ℕ)) (name text : List ℕ) (result : Result Move Halt)
+    → PutsIn p.files files name text result
     → Moves (at_file (state_of p) name text) p (record p { files = files }) x x result
 file_moves p files x name text (Ok (Goes written)) puts = (
   nothing,
@@ -230,7 +281,10 @@ file_moves p files x name text (Ok (Goes written)) puts = (
   record {
     given = [];
     reads = reads_none p.reader x;
-    step_is = λ ended rest follows. rw puts.1 (λ i. goes (record { files = sym puts.2 i; taken = p.reader.count; good = p.good }) nothing (p.reader.kept ++ rest));
+    step_is =
+        λ ended rest follows. rw puts.1
+        (λ i. goes (record { files = sym puts.2 i; taken = p.reader.count; good = p.good }) nothing
+        (p.reader.kept ++ rest));
   },
 )
 file_moves p files x name text (Ok (Stops written status)) puts = (
@@ -239,30 +293,40 @@ file_moves p files x name text (Ok (Stops written status)) puts = (
   record {
     given = [];
     reads = reads_none p.reader x;
-    step_is = λ ended rest follows. rw puts.2 (λ i. stops (record { files = sym puts.3 i; taken = p.reader.count; good = p.good }) too_large (sym puts.1 i));
+    step_is =
+        λ ended rest follows. rw puts.2
+        (λ i. stops (record { files = sym puts.3 i; taken = p.reader.count; good = p.good }) too_large (sym puts.1 i));
   },
 )
 file_moves p files x name text (Err ReadFault) puts = absurd puts
 file_moves p files x name text (Err Memory) puts = tt
 
 -- the bytes of a file couldn't be taken
-pub bytes_refused : (p : Progress) (reader : Taken) (x y : Option (List ℕ)) (before : ℕ) (name : List ℕ) (count : ℕ) (refusal : TakeRefusal) (result : Result Move Halt)
-    → Takes p.reader reader x y [] → BytesRefused refusal count p.reader reader → Refuses refusal (IsStop (malformed before) Malformed) Never result
+pub bytes_refused : (p : Progress) (reader : Taken) (x y : Option (List ℕ)) (before : ℕ) (name : List ℕ) (count : ℕ)
+    (refusal : TakeRefusal) (result : Result Move Halt)
+    → Takes p.reader reader x y [] → BytesRefused refusal count p.reader reader
+    → Refuses refusal (IsStop (malformed_reply before) Malformed) Never result
     → Moves (at_bytes before (state_of p) name count) p (record p { reader = reader }) x y result
 bytes_refused p reader x y before name count take_.ReadFault result t why is =
     subst (Moves (at_bytes before (state_of p) name count) p (record p { reader = reader }) x y) (sym is) (record {
       given = t.given;
       reads = t.reads;
       open_still = why.0;
-      step_is = ap (at_bytes before (state_of p) name count false) t.moved ∙ ap (on_bytes before (state_of p) name reader.kept) (wanting_found _ count reader.kept why.1 why.2);
+      step_is =
+          ap (at_bytes before (state_of p) name count false) t.moved
+          ∙ ap (on_bytes before (state_of p) name reader.kept) (wanting_found _ count reader.kept why.1 why.2);
     })
 bytes_refused p reader x y before name count take_.End result t why is =
     stop_moves _ p (record p { reader = reader }) x y t.given _ _ result t.reads
     (λ ended rest follows.
     let at_end = follows why.0 in
-    let all : p.reader.kept ++ (t.given ++ rest) ≡ reader.kept = nothing_taken p.reader.kept t.given reader.kept rest t.moved ∙ ap (λ bytes. reader.kept ++ bytes) at_end.1 ∙ append-nil reader.kept in
-    stops_in (malformed before) Malformed
-    (ap₂ (at_bytes before (state_of p) name count) at_end.0 all ∙ ap (on_bytes before (state_of p) name reader.kept) (cut_found _ count reader.kept why.1 why.2))
+    let all : p.reader.kept ++ (t.given ++ rest)
+    ≡ reader.kept =
+    nothing_taken p.reader.kept t.given reader.kept rest t.moved ∙ ap (λ bytes. reader.kept ++ bytes) at_end.1
+    ∙ append-nil reader.kept in
+    stops_in (malformed_reply before) Malformed
+    (ap₂ (at_bytes before (state_of p) name count) at_end.0 all
+    ∙ ap (on_bytes before (state_of p) name reader.kept) (cut_found _ count reader.kept why.1 why.2))
     (state_kept p reader t.counted))
     is
 bytes_refused p reader x y before name count take_.TooLong result t why is = absurd why
@@ -271,24 +335,30 @@ bytes_refused p reader x y before name count take_.Full result t why is =
     (λ ended rest follows.
     stops_in too_large Size
     (ap (at_bytes before (state_of p) name count ended) (nothing_taken p.reader.kept t.given reader.kept rest t.moved)
-    ∙ ap (on_bytes before (state_of p) name (reader.kept ++ rest)) (too_many_found ended _ count reader.kept rest why.0 why.1))
+    ∙ ap (on_bytes before (state_of p) name (reader.kept ++ rest))
+    (too_many_found ended _ count reader.kept rest why.0 why.1))
     (state_kept p reader t.counted))
     is
-bytes_refused p reader x y before name count take_.Memory result t why is = subst (Moves (at_bytes before (state_of p) name count) p (record p { reader = reader }) x y) (sym is) tt
+bytes_refused p reader x y before name count take_.Memory result t why is =
+    subst (Moves (at_bytes before (state_of p) name count) p (record p { reader = reader }) x y) (sym is) tt
 
 -- the line is no command
-pub none_moves : (p : Progress) (x : Option (List ℕ)) (before : ℕ) (result : Result Move Halt) → IsStop (malformed before) Malformed result
+pub none_moves : (p : Progress) (x : Option (List ℕ)) (before : ℕ) (result : Result Move Halt)
+    → IsStop (malformed_reply before) Malformed result
     → Moves (at_command before (state_of p) None) p p x x result
 none_moves p x before result is =
-    stop_moves (at_command before (state_of p) None) p p x x [] (malformed before) Malformed result (reads_none p.reader x) (λ ended rest follows. refl) is
+    stop_moves (at_command before (state_of p) None) p p x x [] (malformed_reply before) Malformed result
+    (reads_none p.reader x) (λ ended rest follows. refl) is
 
 -- the line is empty
 pub skip_moves : (p : Progress) (x : Option (List ℕ)) (before : ℕ) (written : List ℕ) → written ≡ []
     → Moves (at_command before (state_of p) (Some Skip)) p p x x (Ok (Goes written))
-skip_moves p x before written is = (nothing, is, record { given = []; reads = reads_none p.reader x; step_is = λ ended rest follows. refl })
+skip_moves p x before written is =
+    (nothing, is, record { given = []; reads = reads_none p.reader x; step_is = λ ended rest follows. refl })
 
 -- a file was taken out
-pub drop_moves : (p : Progress) (files : Table) (x : Option (List ℕ)) (before : ℕ) (name written : List ℕ) → files ≡ drop_file p.files name → written ≡ []
+pub drop_moves : (p : Progress) (files : Table) (x : Option (List ℕ)) (before : ℕ) (name written : List ℕ)
+    → files ≡ drop_file p.files name → written ≡ []
     → Moves (at_command before (state_of p) (Some (Drop name))) p (record p { files = files }) x x (Ok (Goes written))
 drop_moves p files x before name written is nothing_said = (
   nothing,
@@ -296,12 +366,15 @@ drop_moves p files x before name written is nothing_said = (
   record {
     given = [];
     reads = reads_none p.reader x;
-    step_is = λ ended rest follows. λ i. goes (record { files = sym is i; taken = p.reader.count; good = p.good }) nothing (p.reader.kept ++ rest);
+    step_is =
+        λ ended rest follows. λ i. goes (record { files = sym is i; taken = p.reader.count; good = p.good }) nothing
+        (p.reader.kept ++ rest);
   },
 )
 
 -- `quit` ends the session
-pub quit_moves : (p : Progress) (x : Option (List ℕ)) (before : ℕ) (command : Option Command) (move : Move) → command ≡ Some Quit
+pub quit_moves : (p : Progress) (x : Option (List ℕ)) (before : ℕ) (command : Option Command) (move : Move)
+    → command ≡ Some Quit
     → move ≡ Stops [] (status_of (state_of p)) → Moves (at_command before (state_of p) command) p p x x (Ok move)
 quit_moves p x before command move quits is =
     subst (λ asked. Moves (at_command before (state_of p) asked) p p x x (Ok move)) (sym quits)
@@ -310,35 +383,45 @@ quit_moves p x before command move quits is =
 
 -- `report` was answered
 pub report_moves : (p q : Progress) (x : Option (List ℕ)) (before : ℕ) (result : Result Move Halt)
-    → IfOk result (λ move. move ≡ Goes (report_text (report_of p.files))) → OnOk result (q ≡ record p { good = is_good (report_of p.files) }) → IfErr result (λ halt. halt ≡ Memory)
+    → IfOk result (λ move. move ≡ Goes (report_text (report_of p.files)))
+    → OnOk result (q ≡ record p { good = is_good (report_of p.files) }) → IfErr result (λ halt. halt ≡ Memory)
     → Moves (at_command before (state_of p) (Some Report)) p q x x result
 report_moves p q x before (Ok (Goes written)) said good memory =
     let same : written ≡ report_text (report_of p.files) = cc in (
       reported (report_of p.files),
       same,
-      subst (λ r. Makes (at_command before (state_of p) (Some Report)) p.reader r.reader x x (λ rest. goes (state_of r) (reported (report_of p.files)) rest)) (sym good) (record {
-        given = [];
-        reads = reads_none p.reader x;
-        step_is = λ ended rest follows. refl;
-      }),
+      subst (λ r. Makes (at_command before (state_of p) (Some Report)) p.reader r.reader x x
+          (λ rest. goes (state_of r) (reported (report_of p.files)) rest)) (sym good) (record {
+            given = [];
+            reads = reads_none p.reader x;
+            step_is = λ ended rest follows. refl;
+          }),
     )
 report_moves p q x before (Ok (Stops text status)) said good memory = cc
 report_moves p q x before (Err ReadFault) said good memory = cc
 report_moves p q x before (Err Memory) said good memory = tt
 
 -- a length above the limit
-pub put_too_large : (p : Progress) (x : Option (List ℕ)) (before : ℕ) (name : List ℕ) (count : ℕ) (result : Result Move Halt)
+pub put_too_large : (p : Progress) (x : Option (List ℕ)) (before : ℕ) (name : List ℕ) (count : ℕ)
+    (result : Result Move Halt)
     → MAX_FILE_BYTES < count → IsStop too_large Size result
     → Moves (at_command before (state_of p) (Some (Put name count))) p p x x result
 put_too_large p x before name count result large is =
     let test : nat_lt MAX_FILE_BYTES count ≡ true = grind (arith, nat_tests) in
     stop_moves _ p p x x [] too_large Size result (reads_none p.reader x)
-    (λ ended rest follows. ap (λ larger. cond larger (stops (state_of p) too_large Size) (at_bytes before (state_of p) name count ended (p.reader.kept ++ rest))) test)
+    (λ ended rest follows. ap (λ larger.
+    cond larger (stops (state_of p) too_large Size)
+    (at_bytes before (state_of p) name count ended (p.reader.kept ++ rest))) test)
     is
 
 -- a length within it
-pub put_passes : (p q : Progress) (x y : Option (List ℕ)) (before : ℕ) (name : List ℕ) (count : ℕ) (result : Result Move Halt)
-    → count ≤ MAX_FILE_BYTES → Moves (at_bytes before (state_of p) name count) p q x y result → Moves (at_command before (state_of p) (Some (Put name count))) p q x y result
+pub put_passes : (p q : Progress) (x y : Option (List ℕ)) (before : ℕ) (name : List ℕ) (count : ℕ)
+    (result : Result Move Halt)
+    → count ≤ MAX_FILE_BYTES → Moves (at_bytes before (state_of p) name count) p q x y result
+    → Moves (at_command before (state_of p) (Some (Put name count))) p q x y result
 put_passes p q x y before name count result within moves =
     let test : nat_lt MAX_FILE_BYTES count ≡ false = grind (arith, nat_tests) in
-    subst (λ large. Moves (λ ended input. cond large (stops (state_of p) too_large Size) (at_bytes before (state_of p) name count ended input)) p q x y result) (sym test) moves
+    subst
+    (λ large. Moves (λ ended input.
+    cond large (stops (state_of p) too_large Size) (at_bytes before (state_of p) name count ended input)) p q x y
+    result) (sym test) moves

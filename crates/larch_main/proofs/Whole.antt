@@ -1,5 +1,6 @@
 -- Calls that write one text at their end, and what no fault leaves.
-use Rattle.std.proofs.Common.{◌≡◌, ◌≢◌, ℕ, inl, inr, Bool, true, false, List, [], Option, Some, None, Result, Ok, Err, refl, sym, subst}
+use Rattle.std.proofs.Common.{◌≡◌, ◌≢◌, ℕ, inl, inr, Bool, true, false, List, [], Option, Some, None, Result, Ok, Err}
+use Rattle.std.proofs.Common.{refl, sym, subst}
 use Rattle.std.proofs.KnownBytes.{Consumes-nil, Appends-nil}
 use Rattle.std.specs.Prelude.{IfErr, IfOk, MatchBool, OnOk}
 use Rattle.std.specs.Io.KnownBytes.{Appends}
@@ -8,8 +9,8 @@ use Rattle.larch_io.specs.Folder.{FileMap}
 use Rattle.larch_io.specs.Put.{PutsFront}
 use Rattle.larch_certificate.specs.declared.line.Line.{Line}
 use Rattle.larch_certificate_text.specs.CertificateText.{read_certificate}
-use Rattle.larch_lines.specs.Acceptance.{verdict}
-use Rattle.larch_claims.specs.Duties.{Duty}
+use Rattle.larch_verify_meaning.specs.Acceptance.{verdict}
+use Rattle.larch_duties_meaning.specs.Duties.{Duty}
 use Rattle.larch_words.specs.declared.call.Call.{Call}
 use Rattle.larch_words.specs.declared.call.Call.TheVariants as call_
 use Rattle.larch_main.specs.Answer.{TellsAnswer, answer_by, good_or_remains, said}
@@ -17,15 +18,18 @@ use Rattle.larch_main.specs.declared.answer.Answer.{Answer}
 use Rattle.larch_main.specs.declared.progress.Halt.{Halt}
 use Rattle.larch_main.specs.declared.progress.Halt.TheVariants as halt_
 use Rattle.larch_main.specs.declared.status.Status.{Status}
-use Rattle.larch_main.specs.declared.status.Status.TheVariants.{Good, Remains, Words, ReadFault, WriteFault, Memory, Malformed, Size, NoFile}
-use Rattle.larch_main.specs.Check.{checked}
-use Rattle.larch_main.specs.Gather.{Gathered, Whole, Absent, TooLarge, IsFolder, evidence_in, gathered}
-use Rattle.larch_main.specs.Obligations.{obliged}
-use Rattle.larch_main.specs.Running.{usage_text, Answered, Output, Answers, WritesBefore, WritesFront, Writes, CallTakes, Counts, KeepsFolder, KeepsSource, folder_failed, source_failed, sink_failed, reads_folder, reads_source}
+use Rattle.larch_main.specs.declared.status.Status.TheVariants.{Good, Remains, Words, ReadFault, WriteFault, Memory}
+use Rattle.larch_main.specs.declared.status.Status.TheVariants.{Malformed, Size, NoFile}
+use Rattle.larch_main.specs.Check.{check_answer}
+use Rattle.larch_main.specs.Gather.{Gathered, Whole, Absent, TooLarge, IsFolder, evidence_in, gather_names}
+use Rattle.larch_main.specs.Obligations.{obligations_answer}
+use Rattle.larch_main.specs.Running.{usage_text, Answered, Output, Answers, WritesBefore, WritesFront, Writes}
+use Rattle.larch_main.specs.Running.{CallTakes, Counts, KeepsFolder, KeepsSource, folder_failed, source_failed}
+use Rattle.larch_main.specs.Running.{sink_failed, reads_folder, reads_source}
 use Rattle.larch_main.specs.Progress.{HaltFaults}
 use Rattle.larch_main.specs.Report.{is_good, report_of}
 use Rattle.larch_main.specs.Say.{Says}
-use Rattle.larch_main.specs.Verify.{duty_in, judged_by, verdict_told, verified}
+use Rattle.larch_main.specs.Verify.{duty_in, judged_by, verdict_told, verification_answer}
 use Rattle.larch_main.proofs.Endings.{known_rest, input_is, known_files, folder_is, nothing_yet}
 
 -- a status that stands beside a text
@@ -39,7 +43,8 @@ either_said : (b : Bool) → IsSaid (good_or_remains b)
 either_said true = tt
 either_said false = tt
 
-answer_said : {A : Type 0} (told : A → Answer) → ((found : A) → IsSaid (told found).status) → (found : Gathered A) → IsSaid (answer_by told found).status
+answer_said : {A : Type 0} (told : A → Answer) → ((found : A) → IsSaid (told found).status) → (found : Gathered A)
+    → IsSaid (answer_by told found).status
 answer_said told each (Whole found) = each found
 answer_said told each (Absent name) = tt
 answer_said told each TooLarge = tt
@@ -54,19 +59,24 @@ judged_said (Some duty) (Ok read) = verdict_said (verdict duty.theory duty.state
 judged_said duty (Err number) = tt
 
 -- the answer to a call that names files stands beside such a status
-pub output_said : (call : Call) → reads_folder call ≡ true → (folder : FileMap) (input text : List ℕ) (status : Status) → Output call folder input text status → IsSaid status
+pub output_said : (call : Call) → reads_folder call ≡ true → (folder : FileMap) (input text : List ℕ) (status : Status)
+    → Output call folder input text status → IsSaid status
 output_said call_.Session reads folder input text status is = cc
 output_said (call_.Check names) reads folder input text status is =
-    subst IsSaid (sym is.1) (answer_said checked (λ files. either_said (is_good (report_of files))) (gathered folder [] names))
+    subst IsSaid (sym is.1) (answer_said check_answer (λ files. either_said (is_good (report_of files)))
+    (gather_names folder [] names))
 output_said (call_.Obligations names) reads folder input text status is =
-    subst IsSaid (sym is.1) (answer_said obliged (λ files. either_said (is_good (report_of files))) (gathered folder [] names))
+    subst IsSaid (sym is.1) (answer_said obligations_answer (λ files. either_said (is_good (report_of files)))
+    (gather_names folder [] names))
 output_said (call_.Verify asked) reads folder input text status is =
     subst IsSaid (sym is.1)
-    (answer_said (verified asked.stem asked.label) (λ e. judged_said (duty_in e.files asked.stem asked.label) (read_certificate false e.certificate))
+    (answer_said (verification_answer asked.stem asked.label)
+    (λ e. judged_said (duty_in e.files asked.stem asked.label) (read_certificate false e.certificate))
     (evidence_in folder asked.certificate asked.files))
 output_said call_.Nothing reads folder input text status is = cc
 
-writes_said : (call : Call) (told : Option FileMap) (left leaves held holds : Option (List ℕ)) (status : Status) → IsSaid status
+writes_said : (call : Call) (told : Option FileMap) (left leaves held holds : Option (List ℕ)) (status : Status)
+    → IsSaid status
     → Answers call told left leaves held holds status → Writes call told left leaves held holds status
 writes_said call told left leaves held holds Good is a = a
 writes_said call told left leaves held holds Remains is a = a
@@ -80,7 +90,8 @@ writes_said call told left leaves held holds Memory is a = absurd is
 
 -- nothing was written of a defined output
 nothing_of : (call : Call) (told : Option FileMap) (left held : Option (List ℕ)) (answer : Answer)
-    → Output call (known_files told) (known_rest left) answer.text answer.status → WritesFront call told left left held held
+    → Output call (known_files told) (known_rest left) answer.text answer.status
+    → WritesFront call told left left held held
 nothing_of call told left held answer is = record {
   folder = known_files told;
   input = known_rest left;
@@ -94,19 +105,25 @@ nothing_of call told left held answer is = record {
 }
 
 -- nothing was written, and memory ran out
-pub nothing_written : (call : Call) (told : Option FileMap) (left held : Option (List ℕ)) → WritesFront call told left left held held
+pub nothing_written : (call : Call) (told : Option FileMap) (left held : Option (List ℕ))
+    → WritesFront call told left left held held
 nothing_written call_.Session told left held = nothing_yet left held told
 nothing_written (call_.Check names) told left held =
-    nothing_of (call_.Check names) told left held (answer_by checked (gathered (known_files told) [] names)) (refl, refl)
+    nothing_of (call_.Check names) told left held (answer_by check_answer (gather_names (known_files told) [] names))
+    (refl, refl)
 nothing_written (call_.Obligations names) told left held =
-    nothing_of (call_.Obligations names) told left held (answer_by obliged (gathered (known_files told) [] names)) (refl, refl)
+    nothing_of (call_.Obligations names) told left held
+    (answer_by obligations_answer (gather_names (known_files told) [] names)) (refl, refl)
 nothing_written (call_.Verify asked) told left held =
     nothing_of (call_.Verify asked) told left held
-    (answer_by (verified asked.stem asked.label) (evidence_in (known_files told) asked.certificate asked.files)) (refl, refl)
-nothing_written call_.Nothing told left held = nothing_of call_.Nothing told left held (said usage_text Words) (refl, refl)
+    (answer_by (verification_answer asked.stem asked.label)
+    (evidence_in (known_files told) asked.certificate asked.files)) (refl, refl)
+nothing_written call_.Nothing told left held =
+    nothing_of call_.Nothing told left held (said usage_text Words) (refl, refl)
 
 module _ (call : Call) (told : Option FileMap) (left held kept : Option (List ℕ)) where
-  module _ (folder : FileMap) (text : List ℕ) (status : Status) (is : IsFolder told folder) (defined : Output call folder (known_rest left) text status) where
+  module _ (folder : FileMap) (text : List ℕ) (status : Status) (is : IsFolder told folder)
+      (defined : Output call folder (known_rest left) text status) where
     whole : Appends held kept text → Answers call told left left held kept status
     whole put = record {
       folder = folder;
@@ -132,9 +149,12 @@ module _ (call : Call) (told : Option FileMap) (left held kept : Option (List �
     }
 
     -- a text that is the output was to be written
-    pub said_writes : IsSaid status → (before now : ℕ) (result : Status) → Says held kept before now text status result → Writes call told left left held kept result
+    pub said_writes : IsSaid status → (before now : ℕ) (result : Status) → Says held kept before now text status result
+        → Writes call told left left held kept result
     said_writes says before now result said = elim said [
-      | inl said_all ↦ subst (Writes call told left left held kept) (sym said_all.0) (writes_said call told left left held kept status says (whole said_all.1))
+      | inl said_all ↦
+          subst (Writes call told left left held kept) (sym said_all.0)
+          (writes_said call told left left held kept status says (whole said_all.1))
       | inr front ↦ elim front [
         | inl failed ↦ subst (Writes call told left left held kept) (sym failed.0) (cut failed.1)
         | inr lacking ↦ subst (Writes call told left left held kept) (sym lacking.0) (cut lacking.1)
@@ -157,9 +177,12 @@ module _ (status : Status) (says : IsSaid status) where
   quiet : (failed : Bool) (before now : ℕ) → failed ≡ false → now ≡ before → Counts failed before now
   quiet failed before now is same = subst (λ b. Counts b before now) (sym is) same
 
-  pub said_sink : (held kept : Option (List ℕ)) (before now : ℕ) (text : List ℕ) (result : Status) → Says held kept before now text status result → Counts (sink_failed result) before now
+  pub said_sink : (held kept : Option (List ℕ)) (before now : ℕ) (text : List ℕ) (result : Status)
+      → Says held kept before now text status result → Counts (sink_failed result) before now
   said_sink held kept before now text result said = elim said [
-    | inl whole ↦ subst (λ r. Counts (sink_failed r) before now) (sym whole.0) (quiet (sink_failed status) before now (no_sink_fault status says) whole.2)
+    | inl whole ↦
+        subst (λ r. Counts (sink_failed r) before now) (sym whole.0)
+        (quiet (sink_failed status) before now (no_sink_fault status says) whole.2)
     | inr front ↦ elim front [
       | inl failed ↦ subst (λ r. Counts (sink_failed r) before now) (sym failed.0) failed.2
       | inr lacking ↦ subst (λ r. Counts (sink_failed r) before now) (sym lacking.0) lacking.2
@@ -177,10 +200,13 @@ module _ (status : Status) (says : IsSaid status) where
   no_folder_fault call WriteFault is = absurd is
   no_folder_fault call Memory is = absurd is
 
-  pub said_folder : (call : Call) (held kept : Option (List ℕ)) (before now : ℕ) (text : List ℕ) (result : Status) (first last : ℕ) → last ≡ first
+  pub said_folder : (call : Call) (held kept : Option (List ℕ)) (before now : ℕ) (text : List ℕ) (result : Status)
+      (first last : ℕ) → last ≡ first
       → Says held kept before now text status result → Counts (folder_failed call result) first last
   said_folder call held kept before now text result first last same said = elim said [
-    | inl whole ↦ subst (λ r. Counts (folder_failed call r) first last) (sym whole.0) (quiet (folder_failed call status) first last (no_folder_fault call status says) same)
+    | inl whole ↦
+        subst (λ r. Counts (folder_failed call r) first last) (sym whole.0)
+        (quiet (folder_failed call status) first last (no_folder_fault call status says) same)
     | inr front ↦ elim front [
       | inl failed ↦ subst (λ r. Counts (folder_failed call r) first last) (sym failed.0) same
       | inr lacking ↦ subst (λ r. Counts (folder_failed call r) first last) (sym lacking.0) same
@@ -188,7 +214,8 @@ module _ (status : Status) (says : IsSaid status) where
   ]
 
 -- before a fault of the folder nothing was written
-before_fault : (call : Call) → reads_folder call ≡ true → (left held : Option (List ℕ)) → WritesBefore call left left held held
+before_fault : (call : Call) → reads_folder call ≡ true → (left held : Option (List ℕ))
+    → WritesBefore call left left held held
 before_fault call_.Session reads left held = cc
 before_fault (call_.Check names) reads left held = Appends-nil held
 before_fault (call_.Obligations names) reads left held = Appends-nil held
@@ -200,10 +227,12 @@ module _ (call : Call) (reads : reads_folder call ≡ true) (told : Option FileM
   answer_is_said answer by = output_said call reads by.folder [] answer.text answer.status (by.defined [])
 
   -- what is answered to a call that names files was to be written
-  pub look_writes : (answered : Result Answer Halt) → IfOk answered (λ answer. Answered call told answer) → (left held kept : Option (List ℕ)) (before now : ℕ) (result : Status)
+  pub look_writes : (answered : Result Answer Halt) → IfOk answered (λ answer. Answered call told answer)
+      → (left held kept : Option (List ℕ)) (before now : ℕ) (result : Status)
       → TellsAnswer held kept before now answered result → Writes call told left left held kept result
   look_writes (Ok answer) by left held kept before now result tells =
-      said_writes call told left held kept by.folder answer.text answer.status by.is_folder (by.defined (known_rest left)) (answer_is_said answer by)
+      said_writes call told left held kept by.folder answer.text answer.status by.is_folder
+      (by.defined (known_rest left)) (answer_is_said answer by)
       before now result tells
   look_writes (Err halt_.ReadFault) by left held kept before now result tells =
       subst (Writes call told left left held kept) (sym tells.0)
@@ -212,51 +241,71 @@ module _ (call : Call) (reads : reads_folder call ≡ true) (told : Option FileM
       subst (Writes call told left left held kept) (sym tells.0)
       (subst (λ k. WritesFront call told left left held k) (sym tells.1) (nothing_written call told left held))
 
-  pub look_sink : (answered : Result Answer Halt) → IfOk answered (λ answer. Answered call told answer) → (held kept : Option (List ℕ)) (before now : ℕ) (result : Status)
+  pub look_sink : (answered : Result Answer Halt) → IfOk answered (λ answer. Answered call told answer)
+      → (held kept : Option (List ℕ)) (before now : ℕ) (result : Status)
       → TellsAnswer held kept before now answered result → Counts (sink_failed result) before now
   look_sink (Ok answer) by held kept before now result tells =
       said_sink answer.status (answer_is_said answer by) held kept before now answer.text result tells
-  look_sink (Err halt_.ReadFault) by held kept before now result tells = subst (λ r. Counts (sink_failed r) before now) (sym tells.0) tells.2
-  look_sink (Err halt_.Memory) by held kept before now result tells = subst (λ r. Counts (sink_failed r) before now) (sym tells.0) tells.2
+  look_sink (Err halt_.ReadFault) by held kept before now result tells =
+      subst (λ r. Counts (sink_failed r) before now) (sym tells.0) tells.2
+  look_sink (Err halt_.Memory) by held kept before now result tells =
+      subst (λ r. Counts (sink_failed r) before now) (sym tells.0) tells.2
 
-  pub look_folder : (answered : Result Answer Halt) → IfOk answered (λ answer. Answered call told answer) → (held kept : Option (List ℕ)) (before now : ℕ) (result : Status)
+  pub look_folder : (answered : Result Answer Halt) → IfOk answered (λ answer. Answered call told answer)
+      → (held kept : Option (List ℕ)) (before now : ℕ) (result : Status)
       (first last : ℕ) → OnOk answered (last ≡ first) → IfErr answered (λ halt. HaltFaults halt first last)
       → TellsAnswer held kept before now answered result → Counts (folder_failed call result) first last
   look_folder (Ok answer) by held kept before now result first last fine failed tells =
-      said_folder answer.status (answer_is_said answer by) call held kept before now answer.text result first last fine tells
+      said_folder answer.status (answer_is_said answer by) call held kept before now answer.text result first
+      last fine tells
   look_folder (Err halt_.ReadFault) by held kept before now result first last fine failed tells =
-      subst (λ r. Counts (folder_failed call r) first last) (sym tells.0) (subst (λ b. Counts b first last) (sym reads) failed)
+      subst (λ r. Counts (folder_failed call r) first last) (sym tells.0)
+      (subst (λ b. Counts b first last) (sym reads) failed)
   look_folder (Err halt_.Memory) by held kept before now result first last fine failed tells =
       subst (λ r. Counts (folder_failed call r) first last) (sym tells.0) failed
 
 -- the usage line was to be written
-pub usage_writes : (told : Option FileMap) (left held kept : Option (List ℕ)) (before now : ℕ) (result : Status) → Says held kept before now usage_text Words result
+pub usage_writes : (told : Option FileMap) (left held kept : Option (List ℕ)) (before now : ℕ) (result : Status)
+    → Says held kept before now usage_text Words result
     → Writes call_.Nothing told left left held kept result
-usage_writes told left held kept = said_writes call_.Nothing told left held kept (known_files told) usage_text Words (folder_is told) (refl, refl) tt
+usage_writes told left held kept =
+    said_writes call_.Nothing told left held kept (known_files told) usage_text Words (folder_is told) (refl, refl) tt
 
-pub usage_sink : (held kept : Option (List ℕ)) (before now : ℕ) (result : Status) → Says held kept before now usage_text Words result → Counts (sink_failed result) before now
+pub usage_sink : (held kept : Option (List ℕ)) (before now : ℕ) (result : Status)
+    → Says held kept before now usage_text Words result → Counts (sink_failed result) before now
 usage_sink held kept before now result said = said_sink Words tt held kept before now usage_text result said
 
 -- where no count rose and memory didn't run out, the whole output was written
-pub complete : (call : Call) (told : Option FileMap) (left leaves held holds : Option (List ℕ)) (result : Status) (a b c d e f : ℕ)
-    → Writes call told left leaves held holds result → Counts (source_failed call result) a b → Counts (folder_failed call result) c d → Counts (sink_failed result) e f
-    → (Rose a b → ⊥) → (Rose c d → ⊥) → (Rose e f → ⊥) → result ≢ Memory → Answers call told left leaves held holds result
+pub complete : (call : Call) (told : Option FileMap) (left leaves held holds : Option (List ℕ)) (result : Status)
+    (a b c d e f : ℕ)
+    → Writes call told left leaves held holds result → Counts (source_failed call result) a b
+    → Counts (folder_failed call result) c d → Counts (sink_failed result) e f
+    → (Rose a b → ⊥) → (Rose c d → ⊥) → (Rose e f → ⊥) → result ≢ Memory
+    → Answers call told left leaves held holds result
 complete call told left leaves held holds Good a b c d e f w source folder sink read look write memory = w
 complete call told left leaves held holds Remains a b c d e f w source folder sink read look write memory = w
 complete call told left leaves held holds Words a b c d e f w source folder sink read look write memory = w
-complete call_.Session told left leaves held holds ReadFault a b c d e f w source folder sink read look write memory = absurd (read source)
-complete (call_.Check names) told left leaves held holds ReadFault a b c d e f w source folder sink read look write memory = absurd (look folder)
-complete (call_.Obligations names) told left leaves held holds ReadFault a b c d e f w source folder sink read look write memory = absurd (look folder)
-complete (call_.Verify asked) told left leaves held holds ReadFault a b c d e f w source folder sink read look write memory = absurd (look folder)
-complete call_.Nothing told left leaves held holds ReadFault a b c d e f w source folder sink read look write memory = absurd w
-complete call told left leaves held holds WriteFault a b c d e f w source folder sink read look write memory = absurd (write sink)
-complete call told left leaves held holds Memory a b c d e f w source folder sink read look write memory = absurd (memory refl)
+complete call_.Session told left leaves held holds ReadFault a b c d e f w source folder sink read look write memory =
+    absurd (read source)
+complete (call_.Check names) told left leaves held holds ReadFault a b c d e f w source folder sink read look write
+    memory = absurd (look folder)
+complete (call_.Obligations names) told left leaves held holds ReadFault a b c d e f w source folder sink read look
+    write memory = absurd (look folder)
+complete (call_.Verify asked) told left leaves held holds ReadFault a b c d e f w source folder sink read look write
+    memory = absurd (look folder)
+complete call_.Nothing told left leaves held holds ReadFault a b c d e f w source folder sink read look write memory =
+    absurd w
+complete call told left leaves held holds WriteFault a b c d e f w source folder sink read look write memory =
+    absurd (write sink)
+complete call told left leaves held holds Memory a b c d e f w source folder sink read look write memory =
+    absurd (memory refl)
 complete call told left leaves held holds Malformed a b c d e f w source folder sink read look write memory = w
 complete call told left leaves held holds Size a b c d e f w source folder sink read look write memory = w
 complete call told left leaves held holds NoFile a b c d e f w source folder sink read look write memory = w
 
 -- where memory ran out before the words were read, whatever they ask for
-pub memory_input : (call : Call) (left leaves held holds : Option (List ℕ)) → CallTakes call left leaves held holds Memory
+pub memory_input : (call : Call) (left leaves held holds : Option (List ℕ))
+    → CallTakes call left leaves held holds Memory
 memory_input call_.Session left leaves held holds = tt
 memory_input (call_.Check names) left leaves held holds = tt
 memory_input (call_.Obligations names) left leaves held holds = tt
@@ -271,7 +320,8 @@ look_unread (call_.Obligations names) reads = refl
 look_unread (call_.Verify asked) reads = refl
 look_unread call_.Nothing reads = refl
 
-pub look_source : (call : Call) → reads_folder call ≡ true → (status : Status) (n : ℕ) → Counts (source_failed call status) n n
+pub look_source : (call : Call) → reads_folder call ≡ true → (status : Status) (n : ℕ)
+    → Counts (source_failed call status) n n
 look_source call reads Good n = refl
 look_source call reads Remains n = refl
 look_source call reads Words n = refl
@@ -293,19 +343,25 @@ pub source_kept : {A : Type 0} (call : Call) (x : A) → KeepsSource call x x
 source_kept call x = kept_by (reads_source call) x
 
 -- what holds of one call holds of the same call
-pub writes_as : (these call : Call) (told : Option FileMap) (left leaves held holds : Option (List ℕ)) (result : Status) → these ≡ call
+pub writes_as : (these call : Call) (told : Option FileMap) (left leaves held holds : Option (List ℕ)) (result : Status)
+    → these ≡ call
     → Writes these told left leaves held holds result → Writes call told left leaves held holds result
-writes_as these call told left leaves held holds result is w = subst (λ c. Writes c told left leaves held holds result) is w
+writes_as these call told left leaves held holds result is w =
+    subst (λ c. Writes c told left leaves held holds result) is w
 
-pub completes_as : (these call : Call) (told : Option FileMap) (left leaves held holds : Option (List ℕ)) (result : Status) (a b c d e f : ℕ) → these ≡ call
-    → Writes these told left leaves held holds result → Counts (source_failed these result) a b → Counts (folder_failed these result) c d → Counts (sink_failed result) e f
-    → (Rose a b → ⊥) → (Rose c d → ⊥) → (Rose e f → ⊥) → result ≢ Memory → Answers call told left leaves held holds result
+pub completes_as : (these call : Call) (told : Option FileMap) (left leaves held holds : Option (List ℕ))
+    (result : Status) (a b c d e f : ℕ) → these ≡ call
+    → Writes these told left leaves held holds result → Counts (source_failed these result) a b
+    → Counts (folder_failed these result) c d → Counts (sink_failed result) e f
+    → (Rose a b → ⊥) → (Rose c d → ⊥) → (Rose e f → ⊥) → result ≢ Memory
+    → Answers call told left leaves held holds result
 completes_as these call told left leaves held holds result a b c d e f is w source folder sink read look write memory =
     subst (λ t. Answers t told left leaves held holds result) is
     (complete these told left leaves held holds result a b c d e f w source folder sink read look write memory)
 
 -- a call that doesn't read the source has no fault of it
-pub unread : (call : Call) → reads_source call ≡ false → (status : Status) (n : ℕ) → Counts (source_failed call status) n n
+pub unread : (call : Call) → reads_source call ≡ false → (status : Status) (n : ℕ)
+    → Counts (source_failed call status) n n
 unread call reads Good n = refl
 unread call reads Remains n = refl
 unread call reads Words n = refl
@@ -317,7 +373,8 @@ unread call reads Size n = refl
 unread call reads NoFile n = refl
 
 -- and one that doesn't look at the folder none of that
-pub unlooked : (call : Call) → reads_folder call ≡ false → (status : Status) (n : ℕ) → Counts (folder_failed call status) n n
+pub unlooked : (call : Call) → reads_folder call ≡ false → (status : Status) (n : ℕ)
+    → Counts (folder_failed call status) n n
 unlooked call reads Good n = refl
 unlooked call reads Remains n = refl
 unlooked call reads Words n = refl

@@ -51,5 +51,6 @@ IsAnswer answer text status = (text ≡ answer.text) × (status ≡ answer.statu
 -- what becomes of what is answered: it is written as the last text; or nothing is, where there was no answer
 abbrev pub TellsAnswer : Option (List ℕ) → Option (List ℕ) → ℕ → ℕ → Result Answer Halt → Status → Type 0
 TellsAnswer held holds before now (Ok answer) result = Says held holds before now answer.text answer.status result
-TellsAnswer held holds before now (Err ReadFault) result = (result ≡ status_.ReadFault) × (holds ≡ held) × (now ≡ before)
+TellsAnswer held holds before now (Err ReadFault) result =
+    (result ≡ status_.ReadFault) × (holds ≡ held) × (now ≡ before)
 TellsAnswer held holds before now (Err Memory) result = (result ≡ status_.Memory) × (holds ≡ held) × (now ≡ before)

@@ -5,5 +5,5 @@ use Rattle.larch_main.specs.Report.{report_of, report_text, is_good}
 use Rattle.larch_main.specs.declared.answer.Answer.{Answer}
 
 -- the report on the files, and whether it is good
-abbrev pub checked : Table → Answer
-checked files = said (report_text (report_of files)) (good_or_remains (is_good (report_of files)))
+abbrev pub check_answer : Table → Answer
+check_answer files = said (report_text (report_of files)) (good_or_remains (is_good (report_of files)))

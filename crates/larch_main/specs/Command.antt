@@ -4,7 +4,7 @@ use Rattle.std.specs.Prelude.{List, [], ◌∷◌, length, Option, Some, None, c
 use Rattle.std.specs.Char.{is_ascii_digit}
 use Rattle.std.specs.List.{before_first, after_first, list_all}
 use Rattle.std.specs.Str.{bytes_eq}
-use Rattle.larch_base.specs.FileNames.{is_file_name, is_trait_file}
+use Rattle.larch_base.specs.FileName.{is_file_name, is_trait_file}
 use Rattle.larch_main.specs.declared.command.Command.{Command}
 use Rattle.larch_main.specs.declared.command.Command.TheVariants.{Skip, Put, Drop, Report, Quit}
 

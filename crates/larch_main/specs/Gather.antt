@@ -33,10 +33,10 @@ and_then (Absent name) more = Absent name
 and_then TooLarge more = TooLarge
 
 -- the files of these names are put in, one after the other
-abbrev pub gathered : FileMap → Table → List (List ℕ) → Gathered Table
-gathered folder files [] = Whole files
-gathered folder files (name ∷ names) =
-    and_then (putting files name (file_of folder name)) (λ more. gathered folder more names)
+abbrev pub gather_names : FileMap → Table → List (List ℕ) → Gathered Table
+gather_names folder files [] = Whole files
+gather_names folder files (name ∷ names) =
+    and_then (putting files name (file_of folder name)) (λ more. gather_names folder more names)
 
 -- a file that isn't put in, by what a folder has under its name: it may be absent or too long
 abbrev pub fetching : List ℕ → Option (List ℕ) → Gathered (List ℕ)
@@ -47,4 +47,4 @@ fetching name (Some bytes) = if nat_lt MAX_FILE_BYTES (length bytes) then TooLar
 abbrev pub evidence_in : FileMap → List ℕ → List (List ℕ) → Gathered Evidence
 evidence_in folder certificate names =
     and_then (fetching certificate (file_of folder certificate)) (λ text.
-    and_then (gathered folder [] names) (λ files. Whole (record { certificate = text; files = files })))
+    and_then (gather_names folder [] names) (λ files. Whole (record { certificate = text; files = files })))

@@ -1,5 +1,6 @@
 -- The first line of bytes, and the first so many of them.
-use Rattle.std.specs.Prelude.{ℕ, ◌+◌, ◌==◌, ◌&&◌, not, nat_lt, nat_le, min, if◌then◌else◌, Bool, List, [], length, take, drop}
+use Rattle.std.specs.Prelude.{ℕ, ◌+◌, ◌==◌, ◌&&◌, not, nat_lt, nat_le, min, if◌then◌else◌, Bool, List, [], length, take}
+use Rattle.std.specs.Prelude.{drop}
 use Rattle.std.specs.List.{position_or_len}
 use Rattle.larch_base.specs.declared.limits.TheConstants.{MAX_LINE_BYTES}
 

@@ -1,5 +1,6 @@
 -- What the code has gathered so far, and what one look at a folder adds.
-use Rattle.std.specs.Prelude.{◌≡◌, ◌⊎◌, true, false, ℕ, nat_lt, List, [], length, Option, Some, None, IfSome, Result, Ok, Err}
+use Rattle.std.specs.Prelude.{◌≡◌, ◌⊎◌, true, false, ℕ, nat_lt, List, [], length, Option, Some, None, IfSome, Result}
+use Rattle.std.specs.Prelude.{Ok, Err}
 use Rattle.std.specs.Cmp.Lexicographic.{slice_cmp}
 use Rattle.std.specs.List.Sorted.{IsStrictlySortedBy}
 use Rattle.std.specs.Ordering.{nat_cmp}
@@ -9,7 +10,8 @@ use Rattle.larch_io.specs.declared.refusal.FolderRefusal.{FolderRefusal}
 use Rattle.larch_io.specs.declared.refusal.FolderRefusal.TheVariants.{Failed, NotThere, TooLong, Memory}
 use Rattle.larch_traits.specs.Files.{Table, has_file, names_of, text_of}
 use Rattle.larch_io.specs.Faults.{Rose}
-use Rattle.larch_main.specs.Gather.{Gathered, Whole, Absent, TooLarge, IsFolder, evidence_in, fetching, putting, gathered}
+use Rattle.larch_main.specs.Gather.{Gathered, Whole, Absent, TooLarge, IsFolder, evidence_in, fetching, putting}
+use Rattle.larch_main.specs.Gather.{gather_names}
 use Rattle.larch_main.specs.declared.gather.Evidence.{Evidence}
 use Rattle.larch_main.specs.declared.gather.GatherRefusal.{GatherRefusal}
 use Rattle.larch_main.specs.declared.gather.GatherRefusal.TheVariants as refusal_
@@ -70,13 +72,13 @@ pub record Gathers (told : Option FileMap) (names rest : List (List ℕ)) (files
   pub short : (name bytes : List ℕ) → text_of files name ≡ Some bytes → nat_lt MAX_FILE_BYTES (length bytes) ≡ false
   pub are_of : AreOf told files
   pub onward : (folder : FileMap) → AreOf (Some folder) files
-      → gathered folder [] names ≡ gathered folder files rest
+      → gather_names folder [] names ≡ gather_names folder files rest
 
 -- some folder, the told one where it is told, comes to this by these names
 pub record ComesTo (told : Option FileMap) (names : List (List ℕ)) (found : Gathered Table) : Type 0 where
   pub folder : FileMap
   pub is_folder : IsFolder told folder
-  pub is_found : gathered folder [] names ≡ found
+  pub is_found : gather_names folder [] names ≡ found
 
 -- what a folder has under a name, told or not, comes to this as a file that isn't put in
 pub record Fetches (told : Option FileMap) (name : List ℕ) (found : Gathered (List ℕ)) : Type 0 where
@@ -85,7 +87,8 @@ pub record Fetches (told : Option FileMap) (name : List ℕ) (found : Gathered (
   pub comes_to : fetching name seen ≡ found
 
 -- some folder, the told one where it is told, comes to this by a certificate's name and these names
-pub record EvidenceFor (told : Option FileMap) (certificate : List ℕ) (names : List (List ℕ)) (found : Gathered Evidence)
+pub record EvidenceFor (told : Option FileMap) (certificate : List ℕ) (names : List (List ℕ))
+    (found : Gathered Evidence)
     : Type 0 where
   pub folder : FileMap
   pub is_folder : IsFolder told folder

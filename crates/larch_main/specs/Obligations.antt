@@ -1,7 +1,7 @@
 -- What is answered where the obligations of files are asked for.
 use Rattle.std.specs.Prelude.{ℕ, List, [], ◌++◌, flat_map, codes, Result, Ok, Err}
-use Rattle.larch_flat.specs.Stops.{Stop, Refused, TooDeep}
-use Rattle.larch_sources.specs.Sources.{Table as Sources}
+use Rattle.larch_flat_meaning.specs.Stops.{Stop, Refused, TooDeep}
+use Rattle.larch_flat_sources.specs.Sources.{Table as Sources}
 use Rattle.larch_duties.specs.TraitDuties.{trait_listed}
 use Rattle.larch_traits.specs.Files.{Table}
 use Rattle.larch_traits.specs.Reading.{read_files}
@@ -10,7 +10,8 @@ use Rattle.larch_main.specs.Report.{is_good, line_text, report_of}
 use Rattle.larch_main.specs.declared.answer.Answer.{Answer}
 use Rattle.larch_main.specs.declared.report.ReportLine.TheVariants.{Right, Wrong}
 
--- the line of a trait, and behind it the lines of its flat trait and duties; or its line alone, where something is wrong
+-- the line of a trait, and behind it the lines of its flat trait and duties; or its line alone, where something is
+-- wrong
 abbrev pub listing_of : List ℕ → Result (List ℕ) Stop → List ℕ
 listing_of stem (Ok listed) = line_text (Right stem) ++ listed
 listing_of stem (Err (Refused fault)) = line_text (Wrong stem fault)
@@ -25,5 +26,6 @@ abbrev pub listings_of : Sources → List ℕ
 listings_of sources = flat_map (λ source. listed_at sources source.0) sources
 
 -- the listings of all trait files and a last line; it is good where nothing is wrong with a trait
-abbrev pub obliged : Table → Answer
-obliged files = said (listings_of (read_files files) ++ codes "end\n") (good_or_remains (is_good (report_of files)))
+abbrev pub obligations_answer : Table → Answer
+obligations_answer files =
+    said (listings_of (read_files files) ++ codes "end\n") (good_or_remains (is_good (report_of files)))

@@ -14,7 +14,8 @@ use Rattle.larch_main.specs.declared.progress.Move.TheVariants.{Goes, Stops}
 use Rattle.larch_main.specs.declared.progress.Halt.{Halt}
 use Rattle.larch_main.specs.declared.progress.Halt.TheVariants.{ReadFault, Memory}
 use Rattle.larch_main.specs.Lines.{bytes_at}
-use Rattle.larch_main.specs.Session.{State, Reply, Spells, Step, goes, stops, waits, step, on_command, on_bytes, on_file}
+use Rattle.larch_main.specs.Session.{State, Reply, Spells, Step, goes, stops, waits, step, on_command, on_bytes}
+use Rattle.larch_main.specs.Session.{on_file}
 use Rattle.larch_main.specs.Session.{room_left, put_is_refused, too_large}
 
 -- the state that a running session stands for

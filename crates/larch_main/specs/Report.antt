@@ -1,11 +1,12 @@
 -- The report on the trait files of a session: its lines, and what is said and counted by them.
-use Rattle.std.specs.Prelude.{◌≡◌, ℕ, ◌==◌, Bool, true, false, List, [], ◌∷◌, ◌++◌, length, flat_map, count_by, decimal, codes}
+use Rattle.std.specs.Prelude.{◌≡◌, ℕ, ◌==◌, Bool, true, false, List, [], ◌∷◌, ◌++◌, length, flat_map, count_by, decimal}
+use Rattle.std.specs.Prelude.{codes}
 use Rattle.std.specs.Prelude.{Result, Ok, Err}
 use Rattle.larch_base.specs.CodeText.{code_text}
 use Rattle.larch_base.specs.Position.{position_text}
 use Rattle.larch_base.specs.declared.fault.Fault.{Fault}
-use Rattle.larch_flat.specs.Stops.{Stop, Refused, TooDeep}
-use Rattle.larch_sources.specs.Sources.{Table as Sources}
+use Rattle.larch_flat_meaning.specs.Stops.{Stop, Refused, TooDeep}
+use Rattle.larch_flat_sources.specs.Sources.{Table as Sources}
 use Rattle.larch_duties.specs.TraitDuties.{trait_duties}
 use Rattle.larch_traits.specs.Files.{Table}
 use Rattle.larch_traits.specs.Reading.{read_files}

@@ -7,12 +7,13 @@ use Rattle.larch_words.specs.declared.call.Call.{Call}
 use Rattle.larch_words.specs.declared.call.Call.TheVariants as call_
 use Rattle.larch_main.specs.declared.answer.Answer.{Answer}
 use Rattle.larch_main.specs.declared.status.Status.{Status}
-use Rattle.larch_main.specs.declared.status.Status.TheVariants.{Good, Remains, Words, ReadFault, WriteFault, Memory, Malformed, Size, NoFile}
+use Rattle.larch_main.specs.declared.status.Status.TheVariants.{Good, Remains, Words, ReadFault, WriteFault, Memory}
+use Rattle.larch_main.specs.declared.status.Status.TheVariants.{Malformed, Size, NoFile}
 use Rattle.larch_main.specs.Answer.{IsAnswer, answer_by, said}
-use Rattle.larch_main.specs.Check.{checked}
-use Rattle.larch_main.specs.Gather.{IsFolder, evidence_in, gathered}
-use Rattle.larch_main.specs.Obligations.{obliged}
-use Rattle.larch_main.specs.Verify.{verified}
+use Rattle.larch_main.specs.Check.{check_answer}
+use Rattle.larch_main.specs.Gather.{IsFolder, evidence_in, gather_names}
+use Rattle.larch_main.specs.Obligations.{obligations_answer}
+use Rattle.larch_main.specs.Verify.{verification_answer}
 use Rattle.larch_main.specs.Session.{State, start, with_status, waiting, Session}
 
 abbrev pub usage_text : List ℕ
@@ -23,11 +24,12 @@ abbrev pub Output : Call → FileMap → List ℕ → List ℕ → Status → Ty
 Output call_.Session folder input output status =
     (last : State) × Session true start input output (with_status status) last
 Output (call_.Check names) folder input output status =
-    IsAnswer (answer_by checked (gathered folder [] names)) output status
+    IsAnswer (answer_by check_answer (gather_names folder [] names)) output status
 Output (call_.Obligations names) folder input output status =
-    IsAnswer (answer_by obliged (gathered folder [] names)) output status
+    IsAnswer (answer_by obligations_answer (gather_names folder [] names)) output status
 Output (call_.Verify asked) folder input output status =
-    IsAnswer (answer_by (verified asked.stem asked.label) (evidence_in folder asked.certificate asked.files)) output status
+    IsAnswer (answer_by (verification_answer asked.stem asked.label) (evidence_in folder asked.certificate asked.files))
+    output status
 Output call_.Nothing folder input output status = IsAnswer (said usage_text Words) output status
 
 -- this is the answer to a call: on some folder, the told one where it is told, and whatever the input is

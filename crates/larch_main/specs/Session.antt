@@ -18,7 +18,7 @@ pub record State : Type 0 where
   -- its files
   pub files : Table
   -- how many bytes were taken
-  pub taken : ℕ
+  pub bytes_taken : ℕ
   -- whether the last report said of nothing that it is wrong
   pub good : Bool
 
@@ -55,8 +55,8 @@ Spells (said these) written = written ≡ these
 Spells (reported lines) written = written ≡ report_text lines
 
 -- what is written where the input leaves the grammar: the number of bytes before the line
-abbrev pub malformed : ℕ → Reply
-malformed before = said (codes "malformed at byte " ++ decimal before ++ codes "\n")
+abbrev pub malformed_reply : ℕ → Reply
+malformed_reply before = said (codes "malformed_reply at byte " ++ decimal before ++ codes "\n")
 
 abbrev pub too_large : Reply
 too_large = said (codes "too large\n")
@@ -82,13 +82,13 @@ on_file state name file rest =
 -- the bytes of a `put` whose line begins behind `before` bytes, the state being the one behind the line
 abbrev pub on_bytes : ℕ → State → List ℕ → List ℕ → BytesFound → Step
 on_bytes before state name input (bytes file rest) = on_file (took state input rest) name file rest
-on_bytes before state name input cut = stops state (malformed before) Malformed
+on_bytes before state name input cut = stops state (malformed_reply before) Malformed
 on_bytes before state name input too_many = stops state too_large Size
 on_bytes before state name input wanting = waits
 
 -- a line's command, the state being the one behind the line
 abbrev pub on_command : Bool → ℕ → State → List ℕ → Option Command → Step
-on_command ended before state rest None = stops state (malformed before) Malformed
+on_command ended before state rest None = stops state (malformed_reply before) Malformed
 on_command ended before state rest (Some Skip) = goes state nothing rest
 on_command ended before state rest (Some Report) =
     goes (record state { good = is_good (report_of state.files) }) (reported (report_of state.files)) rest
@@ -103,7 +103,7 @@ abbrev pub on_line : Bool → State → List ℕ → LineFound → Step
 on_line ended state input (line words rest) =
     on_command ended state.taken (took state input rest) rest (command_of words)
 on_line ended state input no_line = stops state nothing (status_of state)
-on_line ended state input long_line = stops state (malformed state.taken) Malformed
+on_line ended state input long_line = stops state (malformed_reply state.taken) Malformed
 on_line ended state input full = stops state too_large Size
 on_line ended state input unfinished = waits
 

@@ -1,7 +1,8 @@
 -- The numbers of statuses.
 use Rattle.std.specs.Prelude.{ℕ}
 use Rattle.larch_main.specs.declared.status.Status.{Status}
-use Rattle.larch_main.specs.declared.status.Status.TheVariants.{Good, Remains, Words, ReadFault, WriteFault, Memory, Malformed, Size, NoFile}
+use Rattle.larch_main.specs.declared.status.Status.TheVariants.{Good, Remains, Words, ReadFault, WriteFault, Memory}
+use Rattle.larch_main.specs.declared.status.Status.TheVariants.{Malformed, Size, NoFile}
 
 -- what the process ends with
 abbrev pub number_of : Status → ℕ

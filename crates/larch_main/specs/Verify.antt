@@ -1,20 +1,21 @@
 -- What is answered where a certificate is to be verified.
-use Rattle.std.specs.Prelude.{◌≡◌, ℕ, Bool, false, List, [], ◌++◌, bytes_eq, find, decimal, codes, Option, Some, None, Result, Ok, Err}
-use Rattle.larch_base.specs.Labels.{label_text}
+use Rattle.std.specs.Prelude.{◌≡◌, ℕ, Bool, false, List, [], ◌++◌, bytes_eq, find, decimal, codes, Option, Some, None}
+use Rattle.std.specs.Prelude.{Result, Ok, Err}
+use Rattle.larch_base.specs.Label.{label_text}
 use Rattle.larch_base.specs.declared.label.Label.{Label}
 use Rattle.larch_certificate.specs.declared.line.Line.{Line}
 use Rattle.larch_certificate_text.specs.CertificateText.{read_certificate}
-use Rattle.larch_lines.specs.Acceptance.{verdict}
+use Rattle.larch_verify_meaning.specs.Acceptance.{verdict}
 use Rattle.larch_calculus.specs.Derivable.{Derivable}
-use Rattle.larch_flat.specs.Stops.{Stop}
+use Rattle.larch_flat_meaning.specs.Stops.{Stop}
 use Rattle.larch_io.specs.Folder.{FileMap}
 use Rattle.larch_duties.specs.TraitDuties.{trait_duties}
 use Rattle.larch_traits.specs.Files.{Table}
 use Rattle.larch_traits.specs.Reading.{read_files}
-use Rattle.larch_claims.specs.Duties.{Duties, Duty, all_duties}
+use Rattle.larch_duties_meaning.specs.Duties.{Duties, Duty, all_duties}
 use Rattle.larch_words.specs.declared.call.Verification.{Verification}
 use Rattle.larch_main.specs.Answer.{said}
-use Rattle.larch_main.specs.Gather.{Whole, gathered}
+use Rattle.larch_main.specs.Gather.{Whole, gather_names}
 use Rattle.larch_main.specs.declared.answer.Answer.{Answer}
 use Rattle.larch_main.specs.declared.gather.Evidence.{Evidence}
 use Rattle.larch_main.specs.declared.status.Status.TheVariants.{Good, Remains, Malformed}
@@ -38,28 +39,28 @@ verdict_told None = said (codes "accepted\n") Good
 verdict_told (Some number) = said (codes "refused " ++ (decimal number ++ codes "\n")) Remains
 
 -- the text of the certificate is outside the grammar from this line on
-abbrev pub malformed : ℕ → Answer
-malformed number = said (codes "malformed at line " ++ (decimal number ++ codes "\n")) Malformed
+abbrev pub malformed_answer : ℕ → Answer
+malformed_answer number = said (codes "malformed_answer at line " ++ (decimal number ++ codes "\n")) Malformed
 
 -- the verdict on a certificate for a duty, if there is one
-abbrev pub judged : Option Duty → List Line → Answer
-judged None lines = said (codes "no duty\n") Remains
-judged (Some duty) lines = verdict_told (verdict duty.theory duty.statement lines)
+abbrev pub verdict_of : Option Duty → List Line → Answer
+verdict_of None lines = said (codes "no duty\n") Remains
+verdict_of (Some duty) lines = verdict_told (verdict duty.theory duty.statement lines)
 
 -- the same by what the text of the certificate is: it may be none, which comes before that there is no duty
 abbrev pub judged_by : Option Duty → Result (Bool × List Line) ℕ → Answer
-judged_by duty (Ok read) = judged duty read.1
-judged_by duty (Err number) = malformed number
+judged_by duty (Ok read) = verdict_of duty read.1
+judged_by duty (Err number) = malformed_answer number
 
 -- the verdict on a certificate and files
-abbrev pub verified : List ℕ → Label → Evidence → Answer
-verified stem label e = judged_by (duty_in e.files stem label) (read_certificate false e.certificate)
+abbrev pub verification_answer : List ℕ → Label → Evidence → Answer
+verification_answer stem label e = judged_by (duty_in e.files stem label) (read_certificate false e.certificate)
 
 -- what was to be verified is so: among these files of the folder the trait has a duty with the label, and its statement
 -- is derivable from its theory
 pub record IsShown (folder : FileMap) (asked : Verification) : Type 0 where
   pub files : Table
-  pub are_files : gathered folder [] asked.files ≡ Whole files
+  pub are_files : gather_names folder [] asked.files ≡ Whole files
   pub duty : Duty
   pub is_duty : duty_in files asked.stem asked.label ≡ Some duty
   pub derivable : Derivable duty.theory duty.statement

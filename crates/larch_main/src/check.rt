@@ -1,9 +1,9 @@
 ghost use Rattle.std.specs.Prelude.{◌≡◌, IfErr, IfOk, IfSome, OnOk, true};
 ghost use Rattle.std.specs.List.{list_all};
-ghost use Rattle.larch_base.specs.FileNames.{is_file_name};
+ghost use Rattle.larch_base.specs.FileName.{is_file_name};
 ghost use Rattle.larch_words.specs.declared.call.Call.TheVariants.{Check as call_check};
 ghost use Rattle.larch_main.specs.Answer.{answer_of};
-ghost use Rattle.larch_main.specs.Check.{checked};
+ghost use Rattle.larch_main.specs.Check.{check_answer};
 ghost use Rattle.larch_main.specs.Running.{Answered};
 ghost use Rattle.larch_main.specs.Look.{GatherFaults};
 
@@ -16,7 +16,11 @@ use larch_traits::Files;
 use std::alloc::Global;
 
 /// What is answered to a check of the files of these names.
-pub fn check<F: Folder>(alloc: Global, names: &[FileName], folder: &mut F) -> Result<Answer, GatherRefusal>
+pub fn check<F: Folder>(
+    alloc: Global,
+    names: &[FileName],
+    folder: &mut F,
+) -> Result<Answer, GatherRefusal>
     requires { list_all is_file_name names.now ≡ true }
     ensures answer { IfSome (answer_of result) (λ answer. Answered (call_check names.now) (F.files folder.old) answer) }
     ensures same { F.files folder.new ≡ F.files folder.old }
@@ -30,7 +34,7 @@ pub fn check<F: Folder>(alloc: Global, names: &[FileName], folder: &mut F) -> Re
 
 // The report on these files.
 fn report(alloc: Global, files: &Files) -> Result<Answer, Memory>
-    ensures { IfOk result (λ answer. answer ≡ checked files.now) }
+    ensures { IfOk result (λ answer. answer ≡ check_answer files.now) }
 {
     let lines = report_on(alloc, files)?;
     let text = report_text(alloc, lines.as_slice())?;

@@ -1,6 +1,6 @@
 ghost use Rattle.std.specs.Prelude.{◌≡◌, ◌≤◌, ◌<◌, ◌^◌, length, IfOk, Some, None, IsTrue};
 ghost use Rattle.std.specs.List.{before_first, after_first, position_or_len};
-ghost use Rattle.larch_base.specs.FileNames.{is_file_name, is_trait_file};
+ghost use Rattle.larch_base.specs.FileName.{is_file_name, is_trait_file};
 ghost use Rattle.larch_main.specs.Command.{is_blank, are_digits, is_length, number_of_digits, put_of, drop_of, command_of};
 
 use larch_base::{FileName, Memory, NameRefusal};

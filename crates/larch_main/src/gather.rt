@@ -1,8 +1,8 @@
 ghost use Rattle.std.specs.Prelude.{◌≡◌, ◌≤◌, ℕ, IfErr, IfSome, OnOk, true, vec_len};
 ghost use Rattle.std.specs.List.{list_all};
-ghost use Rattle.larch_base.specs.FileNames.{is_file_name};
+ghost use Rattle.larch_base.specs.FileName.{is_file_name};
 ghost use Rattle.larch_base.specs.declared.limits.TheConstants.{MAX_FILE_BYTES};
-ghost use Rattle.larch_io.specs.Refusals.{FolderFaults};
+ghost use Rattle.larch_io.specs.Refusal.{FolderFaults};
 ghost use Rattle.larch_words.specs.Call.{is_certificate};
 ghost use Rattle.larch_main.specs.Look.{ComesTo, EvidenceFor, Fetches, GatherFaults, IsRefusalFor, Looks, found_of};
 ghost use Rattle.larch_traits.specs.Files.{put_file};

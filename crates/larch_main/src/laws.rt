@@ -12,8 +12,8 @@ ghost use Rattle.larch_main.specs.Session.{State, Ending, Session};
 ghost use Rattle.larch_main.specs.Verify.{IsShown};
 ghost use Rattle.larch_main.specs.declared.status.Status.TheVariants.{Good};
 
-use larch_lines_law::laws::accepted_is_derivable;
 use larch_traits::laws::each_flat_trait_is_told;
+use larch_verify_law::laws::accepted_is_derivable;
 
 /// On every input, from every state, a session ends by itself, with one of the statuses 0, 1, 6 and 7.
 pub fn every_session_ends()

@@ -1,11 +1,11 @@
 ghost use Rattle.std.specs.Prelude.{◌≡◌, ◌<◌, ◌++◌, length, IfErr, IfOk, IfSome, OnOk, true};
 ghost use Rattle.std.specs.List.{list_all};
-ghost use Rattle.larch_base.specs.FileNames.{is_file_name};
+ghost use Rattle.larch_base.specs.FileName.{is_file_name};
 ghost use Rattle.larch_words.specs.declared.call.Call.TheVariants.{Obligations as call_obligations};
 ghost use Rattle.larch_main.specs.Answer.{answer_of};
-ghost use Rattle.larch_sources.specs.Sources.{name_at};
-ghost use Rattle.larch_flatten.specs.Known.{AreAllKnown, Knows};
-ghost use Rattle.larch_main.specs.Obligations.{listed_at, listings_of, obliged};
+ghost use Rattle.larch_flat_sources.specs.Sources.{name_at};
+ghost use Rattle.larch_flat.specs.Known.{AreAllKnown, Knows};
+ghost use Rattle.larch_main.specs.Obligations.{listed_at, listings_of, obligations_answer};
 ghost use Rattle.larch_main.specs.Running.{Answered};
 ghost use Rattle.larch_main.specs.Look.{GatherFaults};
 ghost use Rattle.larch_main.specs.Report.{IsLineOf, source_lines};
@@ -15,11 +15,11 @@ use crate::gather::{GatherRefusal, gather};
 use crate::report::{ReportLine, append_line, is_good};
 use larch_base::{Bytes, Fault, FileName, Memory, Sequence};
 use larch_duties::list_trait;
-use larch_flatten::{FlatTraits, flatten};
+use larch_flat::{FlatTraits, flatten};
+use larch_flat_sources::Sources;
 use larch_io::Folder;
-use larch_items::TraitRefusal;
-use larch_sources::Sources;
 use larch_traits::{Files, read_files};
+use larch_traits_items::TraitRefusal;
 use std::alloc::Global;
 
 /// What is answered where the obligations of the files of these names are asked for.
@@ -42,7 +42,7 @@ pub fn obligations<F: Folder>(
 
 // The listings of all trait files, and whether nothing is wrong with any.
 fn listings(alloc: Global, files: &Files) -> Result<Answer, Memory>
-    ensures { IfOk result (λ answer. answer ≡ obliged files.now) }
+    ensures { IfOk result (λ answer. answer ≡ obligations_answer files.now) }
 {
     let sources = read_files(alloc, files)?;
     let flat_traits = flatten(alloc, &sources)?;

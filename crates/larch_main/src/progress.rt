@@ -4,7 +4,7 @@ ghost use Rattle.larch_main.specs.Command.{command_of};
 ghost use Rattle.larch_main.specs.Progress.{state_of, at_line, at_command, at_bytes, Moves, HaltFaults, Advances};
 ghost use Rattle.larch_main.specs.Progress.{Follows, IsStop, Never, PutsIn, Refuses};
 ghost use Rattle.larch_main.specs.Report.{report_of, report_text, is_good};
-ghost use Rattle.larch_main.specs.Session.{start, status_of, nothing, malformed, too_large};
+ghost use Rattle.larch_main.specs.Session.{start, status_of, nothing, malformed_reply, too_large};
 
 use crate::command::{Command, command_of};
 use crate::report::{is_good, report_on, report_text};
@@ -78,7 +78,7 @@ impl Progress {
 }
 
 // Ends the session where it isn't refused.
-fn ended(alloc: Global, progress: &Progress) -> Move
+fn end_session(alloc: Global, progress: &Progress) -> Move
     ensures { result ≡ Move.Stops [] (status_of (state_of progress.now)) }
 {
     let status = if progress.good {
@@ -90,8 +90,8 @@ fn ended(alloc: Global, progress: &Progress) -> Move
 }
 
 // Refuses what isn't in the grammar; the line at fault stands behind so many bytes.
-fn malformed(alloc: Global, before: u64) -> Result<Move, Halt>
-    ensures { IsStop (malformed before) Status.Malformed result }
+fn refuse_malformed(alloc: Global, before: u64) -> Result<Move, Halt>
+    ensures { IsStop (malformed_reply before) Status.Malformed result }
 {
     let mut text = Bytes::new(alloc);
     let said = format!(in alloc; "malformed at byte {before}\n")?;
@@ -136,12 +136,12 @@ fn without_line(
     refusal: TakeRefusal,
 ) -> Result<Move, Halt>
     ensures { Refuses refusal (IsStop nothing (status_of (state_of progress.now)))
-        (IsStop (malformed before) Status.Malformed) result }
+        (IsStop (malformed_reply before) Status.Malformed) result }
 {
     match refusal {
         TakeRefusal::ReadFault => Err(Halt::ReadFault),
-        TakeRefusal::End => Ok(ended(alloc, progress)),
-        TakeRefusal::TooLong => malformed(alloc, before),
+        TakeRefusal::End => Ok(end_session(alloc, progress)),
+        TakeRefusal::TooLong => refuse_malformed(alloc, before),
         TakeRefusal::Full => too_large(alloc),
         TakeRefusal::Memory => Err(Halt::Memory),
     }
@@ -163,10 +163,10 @@ fn carry_out<S: Source>(
     ensures faults { IfErr result (λ halt. HaltFaults halt (S.faults source.old) (S.faults source.new)) }
 {
     match command_of(alloc, line)? {
-        None => malformed(alloc, before),
+        None => refuse_malformed(alloc, before),
         Some(Command::Skip) => Ok(Move::Goes(Bytes::new(alloc))),
         Some(Command::Report) => answer_report(alloc, progress),
-        Some(Command::Quit) => Ok(ended(alloc, progress)),
+        Some(Command::Quit) => Ok(end_session(alloc, progress)),
         Some(Command::Drop(name)) => {
             progress.files.remove(&name);
             Ok(Move::Goes(Bytes::new(alloc)))
@@ -220,11 +220,11 @@ fn put<S: Source>(
 // What a session does where it could not take the bytes of a `put`.
 fn without_bytes(alloc: Global, before: u64, refusal: TakeRefusal) -> Result<Move, Halt>
     requires { refusal ≢ TakeRefusal.TooLong }
-    ensures { Refuses refusal (IsStop (malformed before) Status.Malformed) Never result }
+    ensures { Refuses refusal (IsStop (malformed_reply before) Status.Malformed) Never result }
 {
     match refusal {
         TakeRefusal::ReadFault => Err(Halt::ReadFault),
-        TakeRefusal::End => malformed(alloc, before),
+        TakeRefusal::End => refuse_malformed(alloc, before),
         TakeRefusal::TooLong => unreachable!(),
         TakeRefusal::Full => too_large(alloc),
         TakeRefusal::Memory => Err(Halt::Memory),

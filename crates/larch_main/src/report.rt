@@ -1,15 +1,15 @@
 ghost use Rattle.std.specs.Prelude.{◌≡◌, ◌<◌, ◌++◌, length, IfOk, OnOk};
-ghost use Rattle.larch_sources.specs.Sources.{name_at};
-ghost use Rattle.larch_flatten.specs.Known.{AreAllKnown, Knows};
+ghost use Rattle.larch_flat_sources.specs.Sources.{name_at};
+ghost use Rattle.larch_flat.specs.Known.{AreAllKnown, Knows};
 ghost use Rattle.larch_main.specs.Report.{IsLineOf, is_good, is_wrong, line_text, report_of, report_text};
 ghost use Rattle.larch_main.specs.Report.{error_count, fault_text, source_lines, total_text};
 
 use larch_base::{Bytes, Fault, Memory, Name, Sequence};
 use larch_duties::duties_of;
-use larch_flatten::{FlatTraits, flatten};
-use larch_items::TraitRefusal;
-use larch_sources::Sources;
+use larch_flat::{FlatTraits, flatten};
+use larch_flat_sources::Sources;
 use larch_traits::{Files, read_files};
+use larch_traits_items::TraitRefusal;
 use std::alloc::Global;
 
 /// A line of a report.

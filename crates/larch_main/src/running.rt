@@ -1,6 +1,6 @@
 ghost use Rattle.std.specs.Prelude.{◌≡◌, ◌≢◌, ℕ, List, Option, IfErr, IfOk, IfSome, OnOk, map, string_bytes, true};
 ghost use Rattle.std.specs.List.{list_all};
-ghost use Rattle.larch_base.specs.FileNames.{is_file_name};
+ghost use Rattle.larch_base.specs.FileName.{is_file_name};
 ghost use Rattle.larch_io.specs.Faults.{Rose};
 ghost use Rattle.larch_words.specs.Call.{call_of, files_named, is_certificate};
 ghost use Rattle.larch_words.specs.declared.call.Call.TheVariants.{Verify as call_verify};
@@ -82,7 +82,12 @@ pub fn run<F: Folder, S: Source, K: Sink, L: Ledger>(
 }
 
 // Carries out a call that names files.
-fn run_on_files<F: Folder, K: Sink>(alloc: Global, call: &Call, folder: &mut F, sink: &mut K) -> Status
+fn run_on_files<F: Folder, K: Sink>(
+    alloc: Global,
+    call: &Call,
+    folder: &mut F,
+    sink: &mut K,
+) -> Status
     requires reads { reads_folder call.now ≡ true }
     requires names { list_all is_file_name (files_named call.now) ≡ true }
     requires certificate { (asked : Verification) → call.now ≡ call_verify asked
@@ -117,11 +122,7 @@ fn answer<F: Folder>(alloc: Global, call: &Call, folder: &mut F) -> Result<Answe
 }
 
 // What comes of a call that names files.
-fn answer_of<F: Folder>(
-    alloc: Global,
-    call: &Call,
-    folder: &mut F,
-) -> Result<Answer, GatherRefusal>
+fn answer_of<F: Folder>(alloc: Global, call: &Call, folder: &mut F) -> Result<Answer, GatherRefusal>
     requires reads { reads_folder call.now ≡ true }
     requires names { list_all is_file_name (files_named call.now) ≡ true }
     requires certificate { (asked : Verification) → call.now ≡ call_verify asked

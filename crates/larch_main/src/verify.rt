@@ -1,15 +1,15 @@
 ghost use Rattle.std.specs.Prelude.{◌≡◌, List, None, Some, IfErr, IfOk, IfSome, OnOk, option_map, true};
 ghost use Rattle.std.specs.List.{list_all};
-ghost use Rattle.larch_base.specs.FileNames.{is_file_name};
-ghost use Rattle.larch_base.specs.Labels.{label_text};
+ghost use Rattle.larch_base.specs.FileName.{is_file_name};
+ghost use Rattle.larch_base.specs.Label.{label_text};
 ghost use Rattle.larch_certificate.specs.declared.line.Line.{Line};
-ghost use Rattle.larch_claims.specs.Duties.{all_duties};
+ghost use Rattle.larch_duties_meaning.specs.Duties.{all_duties};
 ghost use Rattle.larch_words.specs.Call.{is_certificate};
 ghost use Rattle.larch_words.specs.declared.call.Call.TheVariants.{Verify as call_verify};
 ghost use Rattle.larch_main.specs.Answer.{answer_of, said};
 ghost use Rattle.larch_main.specs.Running.{Answered};
 ghost use Rattle.larch_main.specs.Look.{GatherFaults};
-ghost use Rattle.larch_main.specs.Verify.{duty_in, duty_with, judged, malformed, verdict_told, verified};
+ghost use Rattle.larch_main.specs.Verify.{duty_in, duty_with, verdict_of, malformed_answer, verdict_told, verification_answer};
 ghost use Rattle.larch_verify.specs.Verdict.{refusal};
 
 use crate::answer::{Answer, said};
@@ -19,11 +19,11 @@ use larch_base::{Label, Memory, Name};
 use larch_certificate::Line;
 use larch_certificate_reader::{FormRefusal, read_certificate};
 use larch_duties::{Duties, duties_of, find_duty};
-use larch_flatten::flatten;
+use larch_flat::flatten;
 use larch_io::Folder;
-use larch_items::TraitRefusal;
 use larch_term::{Statement, Theory};
 use larch_traits::{Files, read_files};
+use larch_traits_items::TraitRefusal;
 use larch_verify::{Verdict, verify as check_certificate};
 use larch_words::Verification;
 use std::alloc::Global;
@@ -43,30 +43,35 @@ pub fn verify<F: Folder>(
     ensures faults { IfErr result (λ refusal. GatherFaults refusal (F.faults folder.old) (F.faults folder.new)) }
 {
     let evidence = gather_evidence(alloc, &asked.certificate, asked.files.as_slice(), folder)?;
-    let answer = verified(alloc, &asked.stem, asked.label, &evidence)?;
+    let answer = verification_answer(alloc, &asked.stem, asked.label, &evidence)?;
     Ok(answer)
 }
 
 // The verdict on a certificate and files. That the certificate is malformed comes first.
-fn verified(alloc: Global, stem: &Name, label: Label, evidence: &Evidence) -> Result<Answer, Memory>
-    ensures { IfOk result (λ answer. answer ≡ verified stem.now label evidence.now) }
+fn verification_answer(
+    alloc: Global,
+    stem: &Name,
+    label: Label,
+    evidence: &Evidence,
+) -> Result<Answer, Memory>
+    ensures { IfOk result (λ answer. answer ≡ verification_answer stem.now label evidence.now) }
 {
     match read_certificate(alloc, evidence.certificate.bytes()) {
-        Ok(lines) => judged(alloc, &evidence.files, stem, label, lines.as_slice()),
-        Err(FormRefusal::Form(number)) => malformed(alloc, number),
+        Ok(lines) => verdict_of(alloc, &evidence.files, stem, label, lines.as_slice()),
+        Err(FormRefusal::Form(number)) => malformed_answer(alloc, number),
         Err(FormRefusal::Memory) => Err(Memory),
     }
 }
 
 // The verdict on the lines of a certificate, for the duty of a trait with a label.
-fn judged(
+fn verdict_of(
     alloc: Global,
     files: &Files,
     stem: &Name,
     label: Label,
     lines: &[Line],
 ) -> Result<Answer, Memory>
-    ensures { IfOk result (λ answer. answer ≡ judged (duty_in files.now stem.now label) lines.now) }
+    ensures { IfOk result (λ answer. answer ≡ verdict_of (duty_in files.now stem.now label) lines.now) }
 {
     let sources = read_files(alloc, files)?;
     let flat_traits = flatten(alloc, &sources)?;
@@ -88,9 +93,9 @@ fn judged_among(
     lines: &[Line],
 ) -> Result<Answer, Memory>
     ensures { IfOk result (λ answer. answer
-        ≡ judged (duty_with (label_text label) (all_duties duties.now)) lines.now) }
+        ≡ verdict_of (duty_with (label_text label) (all_duties duties.now)) lines.now) }
 {
-    match labelled(alloc, duties, label)? {
+    match duty_labelled(alloc, duties, label)? {
         Some((theory, statement)) => {
             let verdict = check_certificate(alloc, &theory, &statement, lines)?;
             verdict_told(alloc, verdict)
@@ -100,7 +105,7 @@ fn judged_among(
 }
 
 // The theory and the statement of the duty with a label among these.
-fn labelled(
+fn duty_labelled(
     alloc: Global,
     duties: &Duties<'_>,
     label: Label,
@@ -115,7 +120,7 @@ fn labelled(
 
 // There is no such duty.
 fn no_duty(alloc: Global) -> Result<Answer, Memory>
-    ensures { (lines : List Line) → IfOk result (λ answer. answer ≡ judged None lines) }
+    ensures { (lines : List Line) → IfOk result (λ answer. answer ≡ verdict_of None lines) }
 {
     said(alloc, b"no duty\n", Status::Remains)
 }
@@ -126,12 +131,12 @@ fn verdict_told(alloc: Global, verdict: Verdict) -> Result<Answer, Memory>
 {
     match verdict {
         Verdict::Accepted => said(alloc, b"accepted\n", Status::Good),
-        Verdict::Refused(number) => refused(alloc, number),
+        Verdict::Refused(number) => refusal_answer(alloc, number),
     }
 }
 
 // A certificate is refused with this number.
-fn refused(alloc: Global, number: u64) -> Result<Answer, Memory>
+fn refusal_answer(alloc: Global, number: u64) -> Result<Answer, Memory>
     ensures { IfOk result (λ answer. answer ≡ verdict_told (Some number)) }
 {
     let text = format!(in alloc; "refused {number}\n")?;
@@ -139,8 +144,8 @@ fn refused(alloc: Global, number: u64) -> Result<Answer, Memory>
 }
 
 // A text is no certificate from this line on.
-fn malformed(alloc: Global, number: u64) -> Result<Answer, Memory>
-    ensures { IfOk result (λ answer. answer ≡ malformed number) }
+fn malformed_answer(alloc: Global, number: u64) -> Result<Answer, Memory>
+    ensures { IfOk result (λ answer. answer ≡ malformed_answer number) }
 {
     let text = format!(in alloc; "malformed at line {number}\n")?;
     said(alloc, text.as_bytes(), Status::Malformed)

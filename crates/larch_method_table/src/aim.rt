@@ -1,12 +1,12 @@
-use crate::clauses::{generated, partitioned};
+use crate::clauses::{generated_clause, partitioned_clause};
 use crate::desk::Desk;
 use crate::methods::prove;
 use crate::problem::Problem;
 use crate::stop::Stop;
 use larch_base::{Memory, Sequence};
-use larch_formulas::equation_line;
-use larch_methods::{Clause, freed_line, open_constants};
-use larch_plans::{Method, formula};
+use larch_derive_formulas::push_equation;
+use larch_methods::{Clause, open_constants, push_freed};
+use larch_prove_plans::{Method, formula};
 use larch_term::{Operators, Statement, Term, Variable, Variables, copy};
 use std::alloc::Global;
 
@@ -15,21 +15,21 @@ pub fn reach(desk: &mut Desk, problem: &Problem) -> Result<u64, Stop> {
     let methods = problem.methods.as_slice();
     match &problem.aim {
         Statement::Equation(left, right) => {
-            surrounded(desk, &problem.constants, left, right, methods)
+            surround(desk, &problem.constants, left, right, methods)
         }
         Statement::Generated(sort, operators) => {
             let operators = operators.as_slice();
-            generated(desk, &Clause { sort, operators }, methods)
+            generated_clause(desk, &Clause { sort, operators }, methods)
         }
         Statement::Partitioned(sort, operators) => {
             let operators = operators.as_slice();
-            partitioned(desk, &Clause { sort, operators }, methods)
+            partitioned_clause(desk, &Clause { sort, operators }, methods)
         }
     }
 }
 
 // An equation, in a box of constants where there are some, with variables in their places.
-fn surrounded(
+fn surround(
     desk: &mut Desk,
     constants: &Operators,
     left: &Term,
@@ -42,7 +42,7 @@ fn surrounded(
     let around = open_constants(desk.alloc, &mut desk.builder, constants)?;
     let line = equation(desk, left, right, methods)?;
     let variables = variables_for(desk.alloc, constants)?;
-    let line = freed_line(
+    let line = push_freed(
         desk.alloc,
         &mut desk.builder,
         around.number,
@@ -71,6 +71,6 @@ fn equation(desk: &mut Desk, left: &Term, right: &Term, methods: &[Method]) -> R
         copy(desk.alloc, right)?,
     )?;
     let line = prove(desk, &goal, methods)?;
-    let line = equation_line(desk.alloc, &mut desk.builder, left, right, line)?;
+    let line = push_equation(desk.alloc, &mut desk.builder, left, right, line)?;
     Ok(line)
 }

@@ -3,7 +3,7 @@ use crate::methods::prove;
 use crate::stop::Stop;
 use larch_base::{Memory, Sequence};
 use larch_methods::{Clause, finish_generated, finish_partitioned};
-use larch_plans::{Method, Plan, Subgoal, free_name, generation_goal, partition_goal};
+use larch_prove_plans::{Method, Plan, Subgoal, free_name, generation_goal, partition_goal};
 use std::alloc::Global;
 
 // What is shown of a clause: the number of its open box, and a line that says that its goal is true.
@@ -14,7 +14,11 @@ struct Shown {
 }
 
 /// A line that says that operators generate a sort: methods show that a new predicate holds of all.
-pub fn generated(desk: &mut Desk, clause: &Clause<'_>, methods: &[Method]) -> Result<u64, Stop> {
+pub fn generated_clause(
+    desk: &mut Desk,
+    clause: &Clause<'_>,
+    methods: &[Method],
+) -> Result<u64, Stop> {
     let name = free_name(desk.alloc, desk.names(), b"gen")?;
     let goal = generation_goal(desk.alloc, &name, clause.sort, clause.operators)?;
     let shown = in_clause(desk, goal, methods)?;
@@ -30,7 +34,11 @@ pub fn generated(desk: &mut Desk, clause: &Clause<'_>, methods: &[Method]) -> Re
 }
 
 /// A line that says that operators partition a sort: methods show that two new constants are equal.
-pub fn partitioned(desk: &mut Desk, clause: &Clause<'_>, methods: &[Method]) -> Result<u64, Stop> {
+pub fn partitioned_clause(
+    desk: &mut Desk,
+    clause: &Clause<'_>,
+    methods: &[Method],
+) -> Result<u64, Stop> {
     let first = free_name(desk.alloc, desk.names(), b"lc")?;
     let second = free_name(desk.alloc, desk.names(), b"rc")?;
     let goal = partition_goal(desk.alloc, &first, &second, clause.sort, clause.operators)?;

@@ -1,4 +1,4 @@
-use crate::given::{Given, Source, fact_of, first_instance, instance_line};
+use crate::given::{Given, Source, fact_of, first_instance, push_instance};
 use crate::problem::Problem;
 use crate::stop::Stop;
 use crate::told::{Told, refusal_word};
@@ -7,7 +7,7 @@ use larch_certificate_printer::print_certificate;
 use larch_derive::{Builder, OpenBox};
 use larch_derive_boxes::close_box;
 use larch_methods::open_subgoal;
-use larch_plans::{Method, Plan, Subgoal, plan};
+use larch_prove_plans::{Method, Plan, Subgoal, plan};
 use larch_term::{Operator, Statement, Term, Theory, copy_theory};
 use std::alloc::Global;
 
@@ -166,7 +166,7 @@ impl Desk {
         let Some(instance) = first_instance(self.alloc, self.given.as_slice(), goal)? else {
             return Err(Stop::Open);
         };
-        let line = instance_line(self.alloc, &mut self.builder, &instance)?;
+        let line = push_instance(self.alloc, &mut self.builder, &instance)?;
         Ok(line)
     }
 

@@ -1,10 +1,10 @@
 use larch_base::Memory;
 use larch_derive::Builder;
-use larch_derive_boxes::hyp_line;
-use larch_derive_lines::{axiom_line, inst_line};
-use larch_formulas::formula_line;
-use larch_plans::formula;
-use larch_redexes::{matching, written};
+use larch_derive_boxes::push_hyp;
+use larch_derive_formulas::push_formula;
+use larch_derive_lines::{push_axiom, push_inst};
+use larch_prove_plans::formula;
+use larch_rewrite_match::{matching, written_substitution};
 use larch_store::{Store, StoreRefusal};
 use larch_term::{Substitution, Term, copy, substitute};
 use std::alloc::Global;
@@ -83,7 +83,7 @@ pub fn first_instance(
     };
     for fact in given {
         if let Some(bound) = matching(alloc, &store, &fact.formula, &goal)? {
-            let by = written(alloc, &store, bound.as_slice())?;
+            let by = written_substitution(alloc, &store, bound.as_slice())?;
             let instance = instance_of(alloc, fact, by)?;
             return Ok(Some(instance));
         }
@@ -103,7 +103,7 @@ fn instance_of(alloc: Global, fact: &Given, by: Substitution) -> Result<Instance
 }
 
 /// A line that says that an instance's formula is true.
-pub fn instance_line(
+pub fn push_instance(
     alloc: Global,
     builder: &mut Builder,
     instance: &Instance,
@@ -112,14 +112,14 @@ pub fn instance_line(
     let line = if instance.by.as_slice().is_empty() {
         stated
     } else {
-        inst_line(alloc, builder, stated, &instance.by)?
+        push_inst(alloc, builder, stated, &instance.by)?
     };
-    formula_line(alloc, builder, &instance.left, &instance.right, line)
+    push_formula(alloc, builder, &instance.left, &instance.right, line)
 }
 
 fn source_line(builder: &mut Builder, source: Source) -> Result<u64, Memory> {
     match source {
-        Source::Axiom(number) => axiom_line(builder, number),
-        Source::Hypothesis(number, hypothesis) => hyp_line(builder, number, hypothesis),
+        Source::Axiom(number) => push_axiom(builder, number),
+        Source::Hypothesis(number, hypothesis) => push_hyp(builder, number, hypothesis),
     }
 }

@@ -3,15 +3,15 @@ use crate::stop::Stop;
 use larch_base::{Memory, Name, Sequence, let_go};
 use larch_certificate::Numbers;
 use larch_derive::{OpenBox, OpenBoxes};
-use larch_derive_lines::{argument_line, inst_line, refl_line, row_line, trans_line};
-use larch_formulas::{equation_line, formula_line};
+use larch_derive_formulas::{push_equation, push_formula};
+use larch_derive_lines::{push_argument, push_inst, push_refl, push_row, push_trans};
 use larch_methods::{
-    contradicted_line, finish_cases, finish_conjunction, finish_contradiction, finish_implication,
-    finish_induction, finish_partition, implied_line, open_constants,
+    finish_cases, finish_conjunction, finish_contradiction, finish_implication, finish_induction,
+    finish_partition, open_constants, push_contradicted, push_implied,
 };
-use larch_plans::{
-    Method, Pair, Plan, Subgoal, closed_by, closed_implication, equality_in, generating_clause,
-    induction_variable, partitioning_clause,
+use larch_prove_plans::{
+    BinaryTerm, Method, Plan, Subgoal, closed_by, closed_implication, equality_in,
+    generating_clause, induction_variable, partitioning_clause,
 };
 use larch_term::{Node, Sort, Substitution, Term, Variable, copy, sort_of};
 use std::alloc::Global;
@@ -64,10 +64,10 @@ fn carry_out(
 fn by_cases(desk: &mut Desk, formula: &Term, plan: &Plan, further: &[Method]) -> Result<u64, Stop> {
     let shared = open_shared(desk, plan)?;
     let boxes = in_boxes(desk, plan, further, &Ending::Shown)?;
-    cases_line(desk, formula, shared, boxes.as_slice())
+    push_cases(desk, formula, shared, boxes.as_slice())
 }
 
-fn cases_line(
+fn push_cases(
     desk: &mut Desk,
     formula: &Term,
     shared: u64,
@@ -253,15 +253,20 @@ fn by_partition(
 }
 
 // A line that says that an equality is true, by a line that says that its sides are equal.
-fn equality_line(desk: &mut Desk, goal: &Term, sides: &Pair<'_>, line: u64) -> Result<u64, Memory> {
+fn equality_line(
+    desk: &mut Desk,
+    goal: &Term,
+    sides: &BinaryTerm<'_>,
+    line: u64,
+) -> Result<u64, Memory> {
     if sort_of(sides.left).bytes() == b"Bool".as_slice() {
-        equal_line(desk, goal, sides.right, line)
+        push_equal(desk, goal, sides.right, line)
     } else {
-        formula_line(desk.alloc, &mut desk.builder, sides.left, sides.right, line)
+        push_formula(desk.alloc, &mut desk.builder, sides.left, sides.right, line)
     }
 }
 
-fn partition_line(desk: &mut Desk, sides: &Pair<'_>, boxes: &[OpenBox]) -> Result<u64, Stop> {
+fn partition_line(desk: &mut Desk, sides: &BinaryTerm<'_>, boxes: &[OpenBox]) -> Result<u64, Stop> {
     let statements = desk.theory.statements.as_slice();
     let Some(clause) = partitioning_clause(statements, sort_of(sides.left)) else {
         return Err(Stop::Open);
@@ -279,11 +284,11 @@ fn partition_line(desk: &mut Desk, sides: &Pair<'_>, boxes: &[OpenBox]) -> Resul
 
 // A line that says that an equality is true, by a line that says that its first argument equals its second one. Unlike
 // the formula of that line's equation, it is one at truth values too.
-fn equal_line(desk: &mut Desk, goal: &Term, second: &Term, line: u64) -> Result<u64, Memory> {
-    let same = refl_line(&mut desk.builder, goal)?;
-    let changed = argument_line(desk.alloc, &mut desk.builder, same, 1, line)?;
+fn push_equal(desk: &mut Desk, goal: &Term, second: &Term, line: u64) -> Result<u64, Memory> {
+    let same = push_refl(&mut desk.builder, goal)?;
+    let changed = push_argument(desk.alloc, &mut desk.builder, same, 1, line)?;
     let equal = itself_line(desk, second)?;
-    trans_line(desk.alloc, &mut desk.builder, changed, equal)
+    push_trans(desk.alloc, &mut desk.builder, changed, equal)
 }
 
 // The row that says that anything is equal to itself.
@@ -293,8 +298,8 @@ const EQUAL_TO_ITSELF: u64 = 24;
 fn itself_line(desk: &mut Desk, term: &Term) -> Result<u64, Memory> {
     let sort = sort_of(term);
     let by = for_a(desk.alloc, sort, term)?;
-    let stated = row_line(&mut desk.builder, EQUAL_TO_ITSELF, Some(sort.copy()?))?;
-    inst_line(desk.alloc, &mut desk.builder, stated, &by)
+    let stated = push_row(&mut desk.builder, EQUAL_TO_ITSELF, Some(sort.copy()?))?;
+    push_inst(desk.alloc, &mut desk.builder, stated, &by)
 }
 
 // A term for the variable a.
@@ -366,8 +371,8 @@ fn result_line(
 ) -> Result<u64, Stop> {
     let line = match ending {
         Ending::Shown => line,
-        Ending::Implied(whole) => implied_line(desk.alloc, &mut desk.builder, whole, line)?,
-        Ending::Contradicted => contradicted_line(desk.alloc, &mut desk.builder, number, line)?,
+        Ending::Implied(whole) => push_implied(desk.alloc, &mut desk.builder, whole, line)?,
+        Ending::Contradicted => push_contradicted(desk.alloc, &mut desk.builder, number, line)?,
         Ending::Equated => equated_sides(desk, &subgoal.goal, line)?,
     };
     Ok(line)
@@ -381,6 +386,6 @@ fn equated_sides(desk: &mut Desk, formula: &Term, line: u64) -> Result<u64, Stop
     let [left, right] = sides.as_slice() else {
         return Err(Stop::Open);
     };
-    let line = equation_line(desk.alloc, &mut desk.builder, left, right, line)?;
+    let line = push_equation(desk.alloc, &mut desk.builder, left, right, line)?;
     Ok(line)
 }

@@ -1,5 +1,5 @@
 use larch_base::{Memory, Name, Sequence, let_go};
-use larch_plans::Method;
+use larch_prove_plans::Method;
 use larch_term::{Operator, Operators, Statement, Theory, copy_operators, is_truth};
 use larch_theory_text::{read_operators, read_statements};
 use std::alloc::Global;
@@ -94,7 +94,7 @@ fn read_task(
     claims: &[u8],
     methods: &[u8],
 ) -> Result<Option<Task>, Memory> {
-    let all = joined(alloc, theory.operators.as_slice(), constants.as_slice())?;
+    let all = join_operators(alloc, theory.operators.as_slice(), constants.as_slice())?;
     match read_statements(alloc, &all, claims)? {
         Some(claims) => read_aim(alloc, claims, methods),
         None => Ok(None),
@@ -132,7 +132,11 @@ fn read_names(alloc: Global, text: &[u8]) -> Result<Vec<Name>, Memory> {
 }
 
 // Operators, and others behind them.
-fn joined(alloc: Global, operators: &[Operator], others: &[Operator]) -> Result<Operators, Memory> {
+fn join_operators(
+    alloc: Global,
+    operators: &[Operator],
+    others: &[Operator],
+) -> Result<Operators, Memory> {
     let mut all = copy_operators(alloc, operators)?;
     for operator in others {
         let operator = operator.copy()?;

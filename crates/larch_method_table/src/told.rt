@@ -2,7 +2,7 @@ use larch_base::{Bytes, Memory, Sequence};
 use larch_certificate::{Certificate, CodedEquation, CodedEquations, Line};
 use larch_certificate_printer::print_certificate;
 use larch_derive::Builder;
-use larch_plans::{Plan, PlanRefusal, Subgoal};
+use larch_prove_plans::{Plan, PlanRefusal, Subgoal};
 use larch_term::{Operator, Operators, Statement, Term, Theory, copy_operators};
 use std::alloc::Global;
 
@@ -90,7 +90,7 @@ impl Told {
 
     fn subgoal(&mut self, coder: &Builder, subgoal: &Subgoal) -> Result<(), Memory> {
         self.constants(subgoal.constants.as_slice())?;
-        let hypotheses = coded(self.alloc, coder, subgoal.hypotheses.as_slice())?;
+        let hypotheses = code_equations(self.alloc, coder, subgoal.hypotheses.as_slice())?;
         let goal = coder.code(&subgoal.goal)?;
         let parts = Sequence::new(self.alloc);
         self.lines.push(Line::BoxLine(parts, hypotheses))?;
@@ -99,7 +99,7 @@ impl Told {
 }
 
 // The equations among statements, as lines write them.
-fn coded(
+fn code_equations(
     alloc: Global,
     coder: &Builder,
     statements: &[Statement],

@@ -24,16 +24,21 @@ use Rattle.larch_derive.proofs.Growth.{known_stands}
 use Rattle.larch_derive_boxes.specs.Boxes.{AreOwnConstants, MaySuppose, Opens}
 use Rattle.larch_derive_boxes.proofs.Inside.{generation_supposed, induction_supposed, observations_supposed}
 use Rattle.larch_derive_boxes.proofs.Opening.{may_suppose}
-use Rattle.larch_plans.specs.ClauseGoals.{generation_goal, partition_goal, predicate_named}
-use Rattle.larch_plans.specs.Planning.{stated}
-use Rattle.larch_replay.specs.NewNames.{constant_named, new_constants}
-use Rattle.larch_replay.specs.Plans.{Cases, Contradiction, Implication, Induction, Partition, Plan, Setting, Subgoal, a_variable, argument_variables, closed_by, constants_of, fails, generators, goal_at, holds, induction_subgoals, names_of, observers, other_sorts, partition_subgoals, plan, shared, shown, supposed_of, taken_beside, two_arguments}
-use Rattle.larch_replay.proofs.PlanParts.{new_are_constants}
+use Rattle.larch_prove_plans.specs.ClauseGoals.{generation_goal, partition_goal, predicate_named}
+use Rattle.larch_prove_plans.specs.Planning.{equate}
+use Rattle.larch_prove_meaning.specs.NewNames.{constant_named, new_constants}
+use Rattle.larch_prove_meaning.specs.Plans.{Cases, Contradiction, Implication, Induction, Partition, Plan, Setting}
+use Rattle.larch_prove_meaning.specs.Plans.{Subgoal, a_variable, argument_variables, closed_by, constants_of, fails}
+use Rattle.larch_prove_meaning.specs.Plans.{generators, goal_at, holds, induction_subgoals, names_of, observers}
+use Rattle.larch_prove_meaning.specs.Plans.{other_sorts, partition_subgoals, plan, shared_subgoal, shown, supposed_of}
+use Rattle.larch_prove_meaning.specs.Plans.{taken_beside, two_arguments}
+use Rattle.larch_prove_meaning.proofs.PlanParts.{new_are_constants}
 use Rattle.larch_methods.specs.Inside.{IsInside, value_term}
 use Rattle.larch_methods.specs.Methods.{IsKnownFormula}
 use Rattle.larch_methods.specs.Opening.{HasOtherConstants, MayBegin, MayBeginAll, MayOpen}
 use Rattle.larch_methods.proofs.Opened.{begins_inside, closed_known, may_open_bare}
-use Rattle.larch_methods.proofs.Planned.{cases_planned, contradiction_planned, implication_planned, induction_planned, new_sorts, partition_planned, supposed_as}
+use Rattle.larch_methods.proofs.Planned.{cases_planned, contradiction_planned, implication_planned, induction_planned}
+use Rattle.larch_methods.proofs.Planned.{new_sorts, partition_planned, supposed_as}
 use Rattle.larch_methods.proofs.Connectives.{known_arguments}
 use Rattle.larch_methods.proofs.Sharing.{value_known, value_sort}
 
@@ -67,9 +72,10 @@ cases_begin a b x setting goal f made h e i k =
     let q : x.constants ≡ cs = e ∙ ap (λ (m : Plan). m.constants) p in
     let known = subst (λ ds. IsKnownFormula b (closed_by f ds f)) q (closed_known a b x (variables_of f) f i k) in
     subst (MayBeginAll b) (sym p)
-    (All-cons (MayBegin b) (shared (holds (closed_by f cs f) ∷ []) g) (shared (fails (closed_by f cs f) ∷ []) g ∷ [])
+    (All-cons (MayBegin b) (shared_subgoal (holds (closed_by f cs f) ∷ []) g)
+    (shared_subgoal (fails (closed_by f cs f) ∷ []) g ∷ [])
     (formula_opens b (closed_by f cs f) true known)
-    (one_begins b (shared (fails (closed_by f cs f) ∷ []) g) (formula_opens b (closed_by f cs f) false known)))
+    (one_begins b (shared_subgoal (fails (closed_by f cs f) ∷ []) g) (formula_opens b (closed_by f cs f) false known)))
 
 pub implication_begins : (a b : Builder) (x : OpenBox) (setting : Setting) (goal p q : Tree) (made : Plan)
     → goal ≡ implication p q → plan setting goal Implication ≡ Ok made → x.constants ≡ made.constants
@@ -78,10 +84,11 @@ implication_begins a b x setting goal p q made w h e i k =
     let m = implication_planned setting goal p q made w h in
     let cs = constants_of setting.taken goal p in
     let c : x.constants ≡ cs = e ∙ ap (λ (m : Plan). m.constants) m in
-    let premise = (known_arguments a (built_in Implies bool_sort) p q refl (subst (λ t. IsKnownFormula a t) w k).known).0 in
+    let premise =
+    (known_arguments a (built_in Implies bool_sort) p q refl (subst (λ t. IsKnownFormula a t) w k).known).0 in
     let known = subst (λ ds. IsKnownFormula b (closed_by p ds p)) c (closed_known a b x (variables_of p) p i premise) in
     subst (MayBeginAll b) (sym m)
-    (one_begins b (shared (holds (closed_by p cs p) ∷ []) (closed_by p cs q))
+    (one_begins b (shared_subgoal (holds (closed_by p cs p) ∷ []) (closed_by p cs q))
     (formula_opens b (closed_by p cs p) true known))
 
 pub contradiction_begins : (a b : Builder) (x : OpenBox) (setting : Setting) (goal : Tree) (made : Plan)
@@ -94,7 +101,7 @@ contradiction_begins a b x setting goal made h e i k =
     let known = subst (λ ds. IsKnownFormula b (closed_by goal ds goal)) c
     (closed_known a b x (variables_of goal) goal i k) in
     subst (MayBeginAll b) (sym m)
-    (one_begins b (shared (fails (closed_by goal cs goal) ∷ []) falsity)
+    (one_begins b (shared_subgoal (fails (closed_by goal cs goal) ∷ []) falsity)
     (formula_opens b (closed_by goal cs goal) false known))
 
 -- ---- shared boxes
@@ -126,7 +133,7 @@ contradiction_inside a b x setting goal made h o e own =
 -- ---- induction
 
 case_opens : (b : Builder) (v : Variable) (g : Tree) (cs : List PlainOperator) → IsKnownFormula b g
-    → AreOthers (theory_in b) cs → All (λ f. f.domain ≡ []) cs → MayOpen b cs (map stated (supposed_of v g cs))
+    → AreOthers (theory_in b) cs → All (λ f. f.domain ≡ []) cs → MayOpen b cs (map equate (supposed_of v g cs))
 case_opens b v g cs k o a =
     let st = known_stands b g k.known in
     record {
@@ -216,6 +223,7 @@ partition_goal_begins b n m s os st o w =
       stands = st;
       others = o;
       supposed = λ k. observations_supposed b (record { number = k; constants = c ∷ d ∷ [] }) c d s os st o
-          (All-cons (λ f. f.domain ≡ []) c (d ∷ []) refl (All-cons (λ f. f.domain ≡ []) d [] refl (All-nil (λ f. f.domain ≡ []))))
+          (All-cons (λ f. f.domain ≡ []) c (d ∷ []) refl
+          (All-cons (λ f. f.domain ≡ []) d [] refl (All-nil (λ f. f.domain ≡ []))))
           (contains_here c (d ∷ [])) (contains_later c d (d ∷ []) (contains_here d [])) refl refl w;
     }

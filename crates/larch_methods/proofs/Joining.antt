@@ -10,11 +10,11 @@ use Rattle.larch_term.specs.Truth.{truth}
 use Rattle.larch_term.specs.declared.built_in.BuiltIn.TheVariants.{And}
 use Rattle.larch_term.specs.declared.statement.Statement.TheVariants.{Equation}
 use Rattle.larch_tables.specs.Spelling.{x}
-use Rattle.larch_calculus.specs.Formula.{conjunction, joined}
+use Rattle.larch_calculus.specs.Formula.{conjunction, apply_two}
 use Rattle.larch_derive.specs.Predicates.{Extends, HasEquation, Known}
 use Rattle.larch_derive.specs.declared.builder.Builder.{Builder}
 use Rattle.larch_derive.proofs.Growth.{extends_trans, stays_said}
-use Rattle.larch_replay.specs.Plans.{conjuncts, conjuncts_in}
+use Rattle.larch_prove_meaning.specs.Plans.{conjuncts, conjuncts_in}
 use Rattle.larch_methods.specs.Conjuncts.{AreTrue, HasConjuncts, is_headed_by}
 use Rattle.larch_methods.specs.Methods.{IsKnownFormula}
 use Rattle.larch_methods.specs.Rows.{HasArguments, IsSettledBy}
@@ -39,16 +39,16 @@ parted b (t ∷ ts) us (n ∷ ns) P h go =
 
 -- its arguments, and its operator
 headed : (f : PlainOperator) (g first second : Tree) → is_headed_by f g ≡ true → HasArguments g first second
-    → g ≡ joined f first second
+    → g ≡ apply_two f first second
 headed f g first second e h =
-    h.whole_is ∙ ap (λ k. joined k first second)
+    h.whole_is ∙ ap (λ k. apply_two k first second)
     (sym ((operator_Decides f h.operator).0 (ap (is_headed_by f) (sym h.whole_is) ∙ e)))
 
 pub is_conjunction : (b : Builder) (f : PlainOperator) (g first second : Tree) (lines those behind : List ℕ)
     → is_headed_by f g ≡ true → HasArguments g first second → HasConjuncts b f g lines those behind
     → g ≡ conjunction first second
 is_conjunction b f g first second lines those behind e h c =
-    headed f g first second e h ∙ ap (λ k. joined k first second) c.operator_is
+    headed f g first second e h ∙ ap (λ k. apply_two k first second) c.operator_is
 
 both_of : (t u : Tree) → conjuncts (conjunction t u) ≡ conjuncts t ++ conjuncts u
 unfolding same_operator

@@ -1,5 +1,6 @@
 -- Closed boxes of a plan's subgoals, and lines in the boxes of clauses, show what the ends of methods take.
-use Rattle.std.specs.Prelude.{◌≡◌, ℕ, true, false, List, [], ◌∷◌, ◌++◌, map, bytes_eq, codes, find, All, Contains, None, Some, Ok, refl}
+use Rattle.std.specs.Prelude.{◌≡◌, ℕ, true, false, List, [], ◌∷◌, ◌++◌, map, bytes_eq, codes, find, All, Contains, None}
+use Rattle.std.specs.Prelude.{Some, Ok, refl}
 use Rattle.std.specs.List.{AllZip}
 use Rattle.std.proofs.Common.{ap, sym, subst, ◌∙◌}
 use Rattle.std.proofs.lemmas.List.Elements.{All-contains, All-head, All-tail, All-weaker}
@@ -16,7 +17,7 @@ use Rattle.larch_term.specs.declared.statement.Statement.TheVariants.{Equation, 
 use Rattle.larch_term.specs.declared.variable.Variable.{Variable}
 use Rattle.larch_calculus.specs.Formula.{falsity, formula, implication}
 use Rattle.larch_calculus.specs.Generation.{constant_terms, equation_at, induction_hypotheses}
-use Rattle.larch_calculus.specs.Observation.{Observation, observations_of, observed}
+use Rattle.larch_calculus.specs.Observation.{Observation, observations_of, observer_term}
 use Rattle.larch_calculus.proofs.Observed.{observation_is}
 use Rattle.larch_derive.specs.Builder.{boxes_in, theory_in}
 use Rattle.larch_derive.specs.OpenBox.{constant_of}
@@ -26,11 +27,15 @@ use Rattle.larch_derive.specs.declared.open_box.OpenBox.{OpenBox}
 use Rattle.larch_derive_boxes.specs.Boxes.{AreOwnConstants, HasResult}
 use Rattle.larch_derive_boxes.proofs.Closing.{grown_result}
 use Rattle.larch_derive_clauses.specs.Showing.{ShowCases, ShowsCase}
-use Rattle.larch_normal_forms.specs.Sides.{Sides}
-use Rattle.larch_plans.specs.ClauseGoals.{generation_goal, partition_goal, predicate_named}
-use Rattle.larch_plans.specs.Planning.{stated}
-use Rattle.larch_replay.specs.NewNames.{constant_named, new_constants}
-use Rattle.larch_replay.specs.Plans.{Cases, Conjunction, Contradiction, Implication, Induction, Partition, Plan, Setting, Subgoal, a_variable, argument_variables, closed_by, conjuncts, constants_of, fails, generators, goal_at, holds, induction_subgoals, names_of, observers, other_sorts, partition_subgoals, plan, shared, shown, supposed_of, taken_beside, two_arguments}
+use Rattle.larch_rewrite_meaning.specs.Sides.{Sides}
+use Rattle.larch_prove_plans.specs.ClauseGoals.{generation_goal, partition_goal, predicate_named}
+use Rattle.larch_prove_plans.specs.Planning.{equate}
+use Rattle.larch_prove_meaning.specs.NewNames.{constant_named, new_constants}
+use Rattle.larch_prove_meaning.specs.Plans.{Cases, Conjunction, Contradiction, Implication, Induction, Partition, Plan}
+use Rattle.larch_prove_meaning.specs.Plans.{Setting, Subgoal, a_variable, argument_variables, closed_by, conjuncts}
+use Rattle.larch_prove_meaning.specs.Plans.{constants_of, fails, generators, goal_at, holds, induction_subgoals}
+use Rattle.larch_prove_meaning.specs.Plans.{names_of, observers, other_sorts, partition_subgoals, plan, shared_subgoal}
+use Rattle.larch_prove_meaning.specs.Plans.{shown, supposed_of, taken_beside, two_arguments}
 use Rattle.larch_methods.specs.Clauses.{ByConstants, ByPredicate, IsSupposing}
 use Rattle.larch_methods.specs.Conjuncts.{AreTrue}
 use Rattle.larch_methods.specs.Inside.{IsInside, ShowsUnder, closed_in, written_variable}
@@ -38,21 +43,23 @@ use Rattle.larch_methods.specs.Methods.{ByCases, ByContradiction, ByImplication,
 use Rattle.larch_methods.specs.Observers.{ByObservers, ShowsObservation}
 use Rattle.larch_methods.specs.Opening.{HasOwnConstants, IsShownIn}
 use Rattle.larch_methods.proofs.Opened.{closed_known, observed_known}
-use Rattle.larch_methods.proofs.Planned.{argument_sorts, cases_planned, conjunction_planned, contradiction_planned, implication_planned, induction_planned, new_sorts, other_are, partition_planned, supposed_as}
+use Rattle.larch_methods.proofs.Planned.{argument_sorts, cases_planned, conjunction_planned, contradiction_planned}
+use Rattle.larch_methods.proofs.Planned.{implication_planned, induction_planned, new_sorts, other_are}
+use Rattle.larch_methods.proofs.Planned.{partition_planned, supposed_as}
 
 pub shown_stays : (a b : Builder) (s : Subgoal) (said : Sides) (x : OpenBox) → Grows a b → IsShownIn a s said x
     → IsShownIn b s said x
 shown_stays a b s said x g h =
     record {
       constants = h.constants;
-      result = grown_result a b x (map stated s.hypotheses) (stated said) g h.result;
+      result = grown_result a b x (map equate s.hypotheses) (equate said) g h.result;
     }
 
 -- ---- boxes that suppose one formula
 
 -- with the shared box's constants in place of the plan's
 shows_under : (b : Builder) (cs ds : List PlainOperator) (f g u : Tree) (x : OpenBox) → cs ≡ ds
-    → IsShownIn b (shared (holds (closed_by f ds f) ∷ []) u) (holds (closed_by f ds g)) x
+    → IsShownIn b (shared_subgoal (holds (closed_by f ds f) ∷ []) u) (holds (closed_by f ds g)) x
     → ShowsUnder b (closed_by f cs f) true (closed_by f cs g) x.number
 shows_under b cs ds f g u x e h =
     record {
@@ -64,14 +71,15 @@ shows_under b cs ds f g u x e h =
     }
 
 shows_denied : (b : Builder) (cs ds : List PlainOperator) (f g u : Tree) (x : OpenBox) → cs ≡ ds
-    → IsShownIn b (shared (fails (closed_by f ds f) ∷ []) u) (holds (closed_by f ds g)) x
+    → IsShownIn b (shared_subgoal (fails (closed_by f ds f) ∷ []) u) (holds (closed_by f ds g)) x
     → ShowsUnder b (closed_by f cs f) false (closed_by f cs g) x.number
 shows_denied b cs ds f g u x e h =
     record {
       box = x;
       number_is = refl;
       bare = h.constants;
-      result = subst (λ es. HasResult b x (Equation (closed_by f es f) falsity ∷ []) (Equation (closed_by f es g) truth))
+      result =
+          subst (λ es. HasResult b x (Equation (closed_by f es f) falsity ∷ []) (Equation (closed_by f es g) truth))
           (sym e) h.result;
     }
 
@@ -103,7 +111,7 @@ contradiction_left a b x y setting goal made h e i z k =
     let c : x.constants ≡ cs = e ∙ ap (λ (m : Plan). m.constants) p in
     let w = subst (λ (m : Plan). AllZip (λ s z. IsShownIn b s (holds (closed_by goal x.constants goal)) z) m.subgoals
     (y ∷ [])) p z in
-    let there = subst (λ ds. IsShownIn b (shared (fails (closed_by goal cs goal) ∷ []) falsity)
+    let there = subst (λ ds. IsShownIn b (shared_subgoal (fails (closed_by goal cs goal) ∷ []) falsity)
     (holds (closed_by goal ds goal)) y) c w.0 in
     record {
       box = x;
@@ -126,7 +134,7 @@ implication_left a b x y setting goal p q made g h e i z k =
     let c : x.constants ≡ cs = e ∙ ap (λ (m : Plan). m.constants) m in
     let w = subst (λ (m : Plan). AllZip (λ s z. IsShownIn b s (holds (closed_by p x.constants goal)) z) m.subgoals
     (y ∷ [])) m z in
-    let there = subst (λ ds. IsShownIn b (shared (holds (closed_by p cs p) ∷ []) (closed_by p cs q))
+    let there = subst (λ ds. IsShownIn b (shared_subgoal (holds (closed_by p cs p) ∷ []) (closed_by p cs q))
     (holds (closed_by p ds goal)) y) c w.0 in
     record {
       box = x;
@@ -141,7 +149,7 @@ implication_left a b x y setting goal p q made g h e i z k =
 -- ---- lines of conjuncts
 
 conjuncts_true : (b : Builder) (ts : List Tree) (ns : List ℕ)
-    → AllZip (λ (s : Subgoal) n. HasEquation b n s.goal truth) (map (shared []) ts) ns → AreTrue b ts ns
+    → AllZip (λ (s : Subgoal) n. HasEquation b n s.goal truth) (map (shared_subgoal []) ts) ns → AreTrue b ts ns
 conjuncts_true b [] [] h = tt
 conjuncts_true b [] (n ∷ ns) h = absurd h
 conjuncts_true b (t ∷ ts) [] h = absurd h
@@ -217,7 +225,7 @@ induction_left b setting goal n v fs clause made boxes h e g st own z k =
     let p = induction_planned setting goal n v fs made h e g in
     record {
       generators = fs;
-      stated = st;
+      equate = st;
       shown = cases_shown b v goal (taken_beside setting.taken goal) fs boxes (subst (All (Own b)) p own)
           (subst (λ ss. AllZip (λ (s : Subgoal) y. IsShownIn b s (holds s.goal) y) ss boxes) p z);
       formula = k;
@@ -234,7 +242,7 @@ abbrev ShowsEqual : Builder → Tree → Tree → Observation → OpenBox → Ty
 ShowsEqual b l r w x = HasResult b x [] (Equation (shown w x.constants l) (shown w x.constants r))
 
 observed_left : (b : Builder) (l r : Tree) (taken : List (List ℕ)) (ws : List Observation) (xs : List OpenBox)
-    → All (λ w. (names : ℕ → List ℕ) → Known b (observed names w l) × Known b (observed names w r)) ws
+    → All (λ w. (names : ℕ → List ℕ) → Known b (observer_term names w l) × Known b (observer_term names w r)) ws
     → All (Own b) (partition_subgoals taken l r ws) → HaveConstants (partition_subgoals taken l r ws) xs
     → AllZip (ShowsEqual b l r) ws xs → AllZip (ShowsObservation b l r) ws xs
 observed_left b l r taken [] [] k own c h = tt
@@ -249,7 +257,8 @@ observed_left b l r taken (w ∷ ws) (x ∷ xs) k own c h =
       goal = formula (shown w cs l) (shown w cs r);
     } in
     let rest = partition_subgoals (names_of cs ++ taken) l r ws in
-    let K : Observation → Type 0 = λ w. (names : ℕ → List ℕ) → Known b (observed names w l) × Known b (observed names w r) in (
+    let K : Observation → Type 0 =
+    λ w. (names : ℕ → List ℕ) → Known b (observer_term names w l) × Known b (observer_term names w r) in (
       record {
         own = own_as b x cs c.0 (All-head (Own b) first rest own);
         sorts = ap (map (λ f. f.range)) c.0 ∙ (new_sorts taken (map a_variable ss) ∙ other_are ss);
@@ -270,17 +279,20 @@ pub partition_left : (b : Builder) (setting : Setting) (goal l r : Tree) (os : L
 partition_left b setting goal l r os clause made boxes h e g st own c z kl kr q =
     let p = partition_planned setting goal l r os made h e g in
     let ws = observations_of (sort_of l) os in
-    let known = all_from (λ w. (names : ℕ → List ℕ) → Known b (observed names w l) × Known b (observed names w r)) ws
+    let known =
+    all_from (λ w. (names : ℕ → List ℕ) → Known b (observer_term names w l) × Known b (observer_term names w r)) ws
     (λ w i.
     let o = observation_is (sort_of l) os w i in
-    let f = (All-contains (λ f. IsKnown (theory_in b).operators f × Contains f.domain (sort_of l)) os w.observer st.over o.0).0 in
+    let f =
+    (All-contains (λ f. IsKnown (theory_in b).operators f × Contains f.domain (sort_of l)) os w.observer
+    st.over o.0).0 in
     λ names. (
       observed_known b names (sort_of l) w l f o.1 kl refl,
       observed_known b names (sort_of l) w r f o.1 kr (sym q),
     )) in
     record {
       observers = os;
-      stated = st;
+      equate = st;
       shown_by = observed_left b l r (taken_beside setting.taken goal) ws boxes known (subst (All (Own b)) p own)
           (subst (λ ss. HaveConstants ss boxes) p c) z;
       left = kl;

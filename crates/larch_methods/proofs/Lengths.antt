@@ -38,7 +38,8 @@ pub variables_next : (done : List CodedVar) (n m i : ℕ) (cs : List PlainOperat
     → (done ++ v ∷ []) ++ map written_variable (variables_for m (drop (i + 1) cs)) ≡ all
 variables_next done n m i cs c v all lt e name sort k h =
     append_assoc done (v ∷ []) (map written_variable (variables_for m (drop (i + 1) cs)))
-    ∙ (λ j. done ++ record { name = name j; sort = sort j } ∷ map written_variable (variables_for (k j) (drop (i + 1) cs)))
+    ∙ (λ j. done ++ record { name = name j; sort = sort j }
+    ∷ map written_variable (variables_for (k j) (drop (i + 1) cs)))
     ∙ ap (λ x. done ++ map written_variable (variables_for n (x ∷ drop (i + 1) cs))) e
     ∙ ap (λ xs. done ++ map written_variable (variables_for n xs)) (sym (drop_more cs i c lt))
     ∙ h

@@ -1,5 +1,6 @@
 -- Operators by their numbers.
-use Rattle.std.specs.Prelude.{◌≡◌, ◌<◌, ◌≤◌, ◌+◌, ◌-◌, ◌==◌, ℕ, true, false, cond, All, Contains, List, [], ◌∷◌, map, length, get_or, Option, None, Some, option_and_then, option_map, refl}
+use Rattle.std.specs.Prelude.{◌≡◌, ◌<◌, ◌≤◌, ◌+◌, ◌-◌, ◌==◌, ℕ, true, false, cond, All, Contains, List, [], ◌∷◌, map}
+use Rattle.std.specs.Prelude.{length, get_or, Option, None, Some, option_and_then, option_map, refl}
 use Rattle.std.specs.Bool.{Decides}
 use Rattle.std.specs.List.{slice_get}
 use Rattle.std.proofs.Common.{arith, ap, ap₂, sym, subst, ◌∙◌, take}
@@ -10,7 +11,7 @@ use Rattle.larch_base.specs.ByNumber.{numbered}
 use Rattle.larch_term.specs.Equality.{same_operator}
 use Rattle.larch_term.specs.Operator.{PlainOperator}
 use Rattle.larch_term.specs.OperatorKey.{operator_Decides}
-use Rattle.larch_lines.specs.Decoding.{each}
+use Rattle.larch_verify_meaning.specs.Decoding.{each}
 
 parts_same : {Y : Type 0} (o p : Option Y) (os ps : List (Option Y)) → o ∷ os ≡ p ∷ ps → (o ≡ p) × (os ≡ ps)
 parts_same o p os ps e = (cc, cc)

@@ -14,19 +14,20 @@ use Rattle.larch_term.specs.declared.statement.Statement.{Statement}
 use Rattle.larch_term.specs.declared.statement.Theory.{Theory}
 use Rattle.larch_term.specs.declared.statement.Statement.TheVariants.{Equation, Partitioned}
 use Rattle.larch_term.specs.declared.variable.Variable.{Variable}
-use Rattle.larch_term_laws.proofs.Occurring.{listed_occurs}
-use Rattle.larch_calculus.specs.Observation.{Observation, observations_of, observed}
+use Rattle.larch_term_law.proofs.Occurring.{listed_occurs}
+use Rattle.larch_calculus.specs.Observation.{Observation, observations_of, observer_term}
 use Rattle.larch_certificate.specs.declared.line.CodedVar.{CodedVar}
-use Rattle.larch_lines.specs.Matching.{are_apart, variable_of}
+use Rattle.larch_verify_meaning.specs.Matching.{are_apart, variable_of}
 use Rattle.larch_derive.specs.Predicates.{Extends, Grows, HasEquation, HasStatement, Known, HasNoBadLine}
 use Rattle.larch_derive.specs.declared.builder.Builder.{Builder}
 use Rattle.larch_derive.specs.declared.open_box.OpenBox.{OpenBox}
-use Rattle.larch_derive.proofs.Growth.{extends_grows, extends_refl, extends_trans, grown_stands, grows_alike, known_stands, stays_known}
+use Rattle.larch_derive.proofs.Growth.{extends_grows, extends_refl, extends_trans, grown_stands, grows_alike}
+use Rattle.larch_derive.proofs.Growth.{known_stands, stays_known}
 use Rattle.larch_derive_boxes.specs.Boxes.{HasResult, with_constants}
 use Rattle.larch_derive_boxes.proofs.Closing.{grown_result}
 use Rattle.larch_derive_clauses.specs.Showing.{ShowSame, ShowsSame}
 use Rattle.larch_derive_clauses.proofs.Staying.{all_same_stay}
-use Rattle.larch_replay.specs.Plans.{other_sorts, shown}
+use Rattle.larch_prove_meaning.specs.Plans.{other_sorts, shown}
 use Rattle.larch_methods.specs.Inside.{closed_in, written_variable}
 use Rattle.larch_methods.specs.Methods.{IsStated}
 use Rattle.larch_methods.specs.Observers.{ByObservers, HasShorterNames, ShowsObservation, variables_for}
@@ -38,25 +39,27 @@ use Rattle.larch_methods.proofs.Words.{words_apart}
 pub shorter_names : (t : Tree) (n m : ℕ) → All (λ v. length v.name < n) (variables_of t) → n ≤ m → HasShorterNames m t
 shorter_names t n m h le =
     all_from (λ v. length v.name < m) (occurrences t)
-    (λ v c. let lt = All-contains (λ (w : Variable). length w.name < n) (variables_of t) v h ((listed_occurs t v).1 c) in
+    (λ v c. let lt =
+    All-contains (λ (w : Variable). length w.name < n) (variables_of t) v h ((listed_occurs t v).1 c) in
     omega (arith, lt, le))
 
 -- what the line takes, and what it then shows
 pub observes : (a : Builder) (letters : ℕ) (vs : List CodedVar) (l r : Tree) (w : Observation) (x : OpenBox)
     (P : Type 0) → HasShorterNames letters l → HasShorterNames letters r → ShowsObservation a l r w x
     → vs ≡ map written_variable (variables_for letters x.constants)
-    → (HasResult a x [] (Equation (with_constants vs x (observed (word_at letters w.place) w l))
-    (with_constants vs x (observed (word_at letters w.place) w r)))
+    → (HasResult a x [] (Equation (with_constants vs x (observer_term (word_at letters w.place) w l))
+    (with_constants vs x (observer_term (word_at letters w.place) w r)))
     → map (λ c. c.range) x.constants ≡ map (λ v. v.sort) (map variable_of vs)
-    → Known a (observed (word_at letters w.place) w l) → Known a (observed (word_at letters w.place) w r) → P)
+    → Known a (observer_term (word_at letters w.place) w l) → Known a (observer_term (word_at letters w.place) w r) → P)
     → P
 observes a letters vs l r w x P g h o e go =
     let q : map variable_of vs ≡ variables_for letters x.constants =
     ap (map variable_of) e ∙ written_back (variables_for letters x.constants) in
     let names = word_at letters w.place in
-    let at : (t : Tree) → HasShorterNames letters t → with_constants vs x (observed names w t) ≡ shown w x.constants t =
-    λ t s. ap (λ us. closed_in us x (observed names w t)) q ∙ closed_observed letters w x.constants t o.sorts s in
-    go (subst (λ t. HasResult a x [] (Equation t (with_constants vs x (observed names w r)))) (sym (at l g))
+    let at : (t : Tree) → HasShorterNames letters t
+    → with_constants vs x (observer_term names w t) ≡ shown w x.constants t =
+    λ t s. ap (λ us. closed_in us x (observer_term names w t)) q ∙ closed_observed letters w x.constants t o.sorts s in
+    go (subst (λ t. HasResult a x [] (Equation t (with_constants vs x (observer_term names w r)))) (sym (at l g))
     (subst (λ t. HasResult a x [] (Equation (shown w x.constants l) t)) (sym (at r h)) o.result))
     (ranges letters x.constants ∙ ap (map (λ v. v.sort)) (sym q)) (o.known names).0 (o.known names).1
   where
@@ -67,7 +70,7 @@ observes a letters vs l r w x P g h o e go =
 pub shows_same : (b : Builder) (letters n : ℕ) (l r : Tree) (w : Observation) (cs : List PlainOperator)
     → HasShorterNames letters l → HasShorterNames letters r
     → map (λ c. c.range) cs ≡ other_sorts w.place 1 w.observer.domain
-    → HasEquation b n (observed (word_at letters w.place) w l) (observed (word_at letters w.place) w r)
+    → HasEquation b n (observer_term (word_at letters w.place) w l) (observer_term (word_at letters w.place) w r)
     → ShowsSame b l r w n
 shows_same b letters n l r w cs g h q e =
     record {
@@ -79,7 +82,8 @@ shows_same b letters n l r w cs g h q e =
 -- ---- one box after the other
 
 -- of some observations in order the first have their lines, and boxes wait for the others
-pub record ObservedSoFar (a b : Builder) (l r : Tree) (ws : List Observation) (xs : List OpenBox) (ns : List ℕ) : Type 0 where
+pub record ObservedSoFar (a b : Builder) (l r : Tree) (ws : List Observation) (xs : List OpenBox) (ns : List ℕ)
+    : Type 0 where
   pub done : List Observation
   pub rest : List Observation
   pub all : ws ≡ done ++ rest
@@ -108,8 +112,8 @@ observations_stay a b l r w x e o =
       sorts = o.sorts;
       result = grown_result a b x [] (Equation (shown w x.constants l) (shown w x.constants r)) g o.result;
       known = λ names. (
-        stays_known a b (observed names w l) e (o.known names).0,
-        stays_known a b (observed names w r) e (o.known names).1,
+        stays_known a b (observer_term names w l) e (o.known names).0,
+        stays_known a b (observer_term names w r) e (o.known names).1,
       );
     }
 
@@ -137,7 +141,8 @@ observed_next a b c l r ws x xs ns n h says extends = next h.rest h.all h.waitin
           done = h.done ++ w ∷ [];
           rest = rest;
           all = e ∙ sym (append_assoc h.done (w ∷ []) rest);
-          same = same_push c l r h.done ns w n (all_same_stay b c l r h.done ns (extends_grows b c k) h.same) (says w o.0);
+          same =
+              same_push c l r h.done ns w n (all_same_stay b c l r h.done ns (extends_grows b c k) h.same) (says w o.0);
           waiting = waiting_stay b c l r rest xs k o.1;
           extends = extends_trans a b c h.extends k;
         }
@@ -177,7 +182,8 @@ pub observed_last : (a b : Builder) (l r : Tree) (ws : List Observation) (ns : L
     → ObservedSoFar a b l r ws [] ns → ShowSame b l r ws ns
 observed_last a b l r ws ns h = last h.rest h.all h.waiting
   where
-    last : (rest : List Observation) → ws ≡ h.done ++ rest → AllZip (ShowsObservation b l r) rest [] → ShowSame b l r ws ns
+    last : (rest : List Observation) → ws ≡ h.done ++ rest → AllZip (ShowsObservation b l r) rest []
+        → ShowSame b l r ws ns
     last [] e o = subst (λ us. ShowSame b l r us ns) (sym (append-nil h.done) ∙ sym e) h.same
     last (w ∷ rest) e o = absurd o
 
@@ -192,7 +198,8 @@ stated_still a b k s g h =
     }
 
 -- what the line takes, where the clause is said
-pub partitioned_by : (a b c : Builder) (letters clause said : ℕ) (l r : Tree) (boxes : List OpenBox) (ns : List ℕ) (P : Type 0)
+pub partitioned_by : (a b c : Builder) (letters clause said : ℕ) (l r : Tree) (boxes : List OpenBox) (ns : List ℕ)
+    (P : Type 0)
     → ByObservers a clause l r boxes → HasShorterNames letters l → HasShorterNames letters r
     → ((u v : Tree) (ws : List Observation) → HasShorterNames letters u → HasShorterNames letters v
     → AllZip (ShowsObservation a u v) ws boxes → ShowSame b u v ws ns)

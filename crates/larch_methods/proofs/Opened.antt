@@ -9,16 +9,16 @@ use Rattle.larch_term.specs.Sorts.{sort_of, IsKnown, IsTermOver}
 use Rattle.larch_term.specs.Tree.{Tree}
 use Rattle.larch_term.specs.declared.statement.Statement.{Statement}
 use Rattle.larch_term.specs.declared.variable.Variable.{Variable}
-use Rattle.larch_term_laws.proofs.Substitutions.{substituted_sort}
+use Rattle.larch_term_law.proofs.Substitutions.{substituted_sort}
 use Rattle.larch_calculus.specs.Formula.{constant}
 use Rattle.larch_calculus.specs.Freed.{constants_for}
-use Rattle.larch_calculus.specs.Observation.{Observation, observed, places_of_sort}
+use Rattle.larch_calculus.specs.Observation.{Observation, observer_term, places_of_sort}
 use Rattle.larch_calculus.proofs.Freeing.{constants_fit}
 use Rattle.larch_calculus.proofs.Observed.{observed_over}
 use Rattle.larch_calculus.proofs.RenamedHypotheses.{observed_renamed}
 use Rattle.larch_derive.specs.Builder.{IsOpened, boxes_in, theory_in}
 use Rattle.larch_derive.specs.OpenBox.{naming}
-use Rattle.larch_derive.specs.Predicates.{Known, HasNoBadLine, operators_at, written}
+use Rattle.larch_derive.specs.Predicates.{Known, HasNoBadLine, operators_at, written_term}
 use Rattle.larch_derive.specs.declared.builder.Builder.{Builder}
 use Rattle.larch_derive.specs.declared.open_box.OpenBox.{OpenBox}
 use Rattle.larch_derive.proofs.Growth.{extends_grows, extends_refl, grown_known, grows_alike, known_stands}
@@ -72,7 +72,8 @@ closed_known a b x vs g i k =
     let there = grown_known i.opened b g i.grows (opened_known a i.opened x [] g i.opens k.known) in
     let alike = grows_alike i.opened b i.grows in
     let boxes : boxes_in b ≡ boxes_in a ++ x ∷ [] = alike.1 ∙ (opened_boxes a i.opened x [] i.opens).1 in
-    let within = subst (λ bs. Contains bs x) (sym boxes) (contains_right (boxes_in a) (x ∷ []) x (contains_here x [])) in
+    let within =
+    subst (λ bs. Contains bs x) (sym boxes) (contains_right (boxes_in a) (x ∷ []) x (contains_here x [])) in
     let fit = constants_fit vs x.constants i.own.constants i.sorts in
     record {
       known = known_substituted b (constants_for vs x.constants) g there
@@ -87,19 +88,20 @@ closed_known a b x vs g i k =
 -- what an observer of the theory shows of a known term is known
 pub observed_known : (b : Builder) (names : ℕ → List ℕ) (s : List ℕ) (w : Observation) (t : Tree)
     → IsKnown (theory_in b).operators w.observer → Contains (places_of_sort s 1 w.observer.domain) w.place → Known b t
-    → sort_of t ≡ s → Known b (observed names w t)
+    → sort_of t ≡ s → Known b (observer_term names w t)
 unfolding Known
 observed_known b names s w t k c (st, h) e =
     let bs = b.boxes in
     let fs = operators_at b.theory st in
     let fits = (naming_faithful b.theory bs h.stand.plain h.stand.others).signatures in
     let same = own_in_lines b.theory bs w.observer h.stand.plain h.stand.others k in
-    let there = observed_over fs names s w (written bs t) (known_in_boxes b.theory st.history w.observer k) c h.over
+    let there =
+    observed_over fs names s w (written_term bs t) (known_in_boxes b.theory st.history w.observer k) c h.over
     (sort_written bs t ∙ e) in (
       st,
       record {
         stand = h.stand;
         over = subst (IsTermOver fs) (sym (observed_renamed (naming bs) fits names w t
-            ∙ ap (λ f. observed names (record { observer = f; place = w.place }) (written bs t)) same)) there;
+            ∙ ap (λ f. observer_term names (record { observer = f; place = w.place }) (written_term bs t)) same)) there;
       },
     )

@@ -1,15 +1,17 @@
 -- The places of an observer's arguments, and the words at them.
-use Rattle.std.specs.Prelude.{◌≡◌, ◌<◌, ◌+◌, ◌-◌, ◌==◌, ℕ, zero, suc, nat_lt, true, false, cond, List, [], ◌∷◌, map, refl}
+use Rattle.std.specs.Prelude.{◌≡◌, ◌<◌, ◌+◌, ◌-◌, ◌==◌, ℕ, zero, suc, nat_lt, true, false, cond, List, [], ◌∷◌, map}
+use Rattle.std.specs.Prelude.{refl}
 use Rattle.std.proofs.Common.{arith, ap, ap₂, sym, ◌∙◌}
 use Rattle.larch_term.specs.Operator.{PlainOperator}
-use Rattle.larch_term.specs.Substitution.{image, substituted, substituted_all}
+use Rattle.larch_term.specs.Substitution.{image, instance_of, substituted_all}
 use Rattle.larch_term.specs.Tree.{Tree, Forest, app, var, none, more}
 use Rattle.larch_term.specs.declared.substitution.Entry.{Entry}
 use Rattle.larch_term.specs.declared.variable.Variable.{Variable}
 use Rattle.larch_calculus.specs.Formula.{constant}
 use Rattle.larch_calculus.specs.Freed.{constants_for}
-use Rattle.larch_calculus.specs.Observation.{Observation, arguments_with, observed, other_variables, variables_beside}
-use Rattle.larch_replay.specs.Plans.{arguments_around, other_sorts, shown}
+use Rattle.larch_calculus.specs.Observation.{Observation, arguments_with, observer_term, other_variables}
+use Rattle.larch_calculus.specs.Observation.{variables_beside}
+use Rattle.larch_prove_meaning.specs.Plans.{arguments_around, other_sorts, shown}
 use Rattle.larch_methods.specs.Observers.{HasShorterNames, variables_for, word_of}
 use Rattle.larch_methods.proofs.Words.{AreImages, constants_are_images, term_stays}
 
@@ -90,7 +92,7 @@ variables_are n p k m (s ∷ ss) (c ∷ cs) pos e q =
 -- ---- the arguments
 
 pub closed_arguments : (es : List Entry) (n p k m : ℕ) (ss : List (List ℕ)) (cs : List PlainOperator) (t u : Tree)
-    → 0 < k → m ≡ n + before p k → map (λ c. c.range) cs ≡ other_sorts p k ss → substituted es t ≡ u
+    → 0 < k → m ≡ n + before p k → map (λ c. c.range) cs ≡ other_sorts p k ss → instance_of es t ≡ u
     → AreImages es m cs
     → substituted_all es (arguments_with (word_at n p) p t k ss) ≡ arguments_around p u k ss cs
 closed_arguments es n p k m [] cs t u pos e q f i = refl
@@ -99,9 +101,10 @@ closed_arguments es n p k m (s ∷ ss) [] t u pos e q f i =
     let others = arguments_around p u (suc k) ss [] in
     elim (k == p) as (λ b. (k == p) ≡ b
     → substituted_all es (arguments_with (word_at n p) p t k (s ∷ ss)) ≡ arguments_around p u k (s ∷ ss) []) [
-      | true ↦ λ h. ap (λ b. more (substituted es (cond b t (var (word_at n p k) s))) (substituted_all es rest)) h
-          ∙ (two (substituted es t) u (substituted_all es rest) others f
-          (closed_arguments es n p (suc k) m ss [] t u (omega arith) (next_at n m p k pos h e) (q ∙ sorts_at p k s ss h) f i)
+      | true ↦ λ h. ap (λ b. more (instance_of es (cond b t (var (word_at n p k) s))) (substituted_all es rest)) h
+          ∙ (two (instance_of es t) u (substituted_all es rest) others f
+          (closed_arguments es n p (suc k) m ss [] t u (omega arith) (next_at n m p k pos h e)
+          (q ∙ sorts_at p k s ss h) f i)
           ∙ sym (ap (λ b. elim b [ true ↦ more u others | false ↦ none ]) h))
       | false ↦ λ h. absurd (nothing s (other_sorts p (suc k) ss) (q ∙ sorts_beside p k s ss h))
     ] refl
@@ -114,13 +117,14 @@ closed_arguments es n p k m (s ∷ ss) (c ∷ cs) t u pos e q f i =
     let behind = arguments_around p u (suc k) ss cs in
     elim (k == p) as (λ b. (k == p) ≡ b
     → substituted_all es (arguments_with (word_at n p) p t k (s ∷ ss)) ≡ arguments_around p u k (s ∷ ss) (c ∷ cs)) [
-      | true ↦ λ h. ap (λ b. more (substituted es (cond b t (var (word_at n p k) s))) (substituted_all es rest)) h
+      | true ↦ λ h. ap (λ b. more (instance_of es (cond b t (var (word_at n p k) s))) (substituted_all es rest)) h
           ∙ (ap₂ more f
-          (closed_arguments es n p (suc k) m ss (c ∷ cs) t u (omega arith) (next_at n m p k pos h e) (q ∙ sorts_at p k s ss h) f i)
+          (closed_arguments es n p (suc k) m ss (c ∷ cs) t u (omega arith) (next_at n m p k pos h e)
+          (q ∙ sorts_at p k s ss h) f i)
           ∙ sym (ap (λ b. elim b [ true ↦ more u here | false ↦ more (constant c) behind ]) h))
       | false ↦ λ h.
           let r = heads c.range s (map (λ d. d.range) cs) (other_sorts p (suc k) ss) (q ∙ sorts_beside p k s ss h) in
-          ap (λ b. more (substituted es (cond b t (var (word_at n p k) s))) (substituted_all es rest)) h
+          ap (λ b. more (instance_of es (cond b t (var (word_at n p k) s))) (substituted_all es rest)) h
           ∙ (ap₂ more (ap₂ (λ a z. image es (word_of a) z) (sym e) (sym r.0) ∙ i.0)
           (closed_arguments es n p (suc k) (suc m) ss cs t u (omega arith) (next_beside n m p k pos h e) r.1 f i.1)
           ∙ sym (ap (λ b. elim b [ true ↦ more u here | false ↦ more (constant c) behind ]) h))
@@ -137,7 +141,7 @@ others_are n w cs q =
 
 pub closed_observed : (n : ℕ) (w : Observation) (cs : List PlainOperator) (t : Tree)
     → map (λ c. c.range) cs ≡ other_sorts w.place 1 w.observer.domain → HasShorterNames n t
-    → substituted (constants_for (variables_for n cs) cs) (observed (word_at n w.place) w t) ≡ shown w cs t
+    → instance_of (constants_for (variables_for n cs) cs) (observer_term (word_at n w.place) w t) ≡ shown w cs t
 closed_observed n w cs t q h =
     let z = first_before w.place in
     ap (app w.observer)

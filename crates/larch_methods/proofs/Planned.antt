@@ -1,5 +1,6 @@
 -- What each method plans, and the sorts of its constants.
-use Rattle.std.specs.Prelude.{◌≡◌, ℕ, Bool, true, false, cond, List, [], ◌∷◌, map, bytes_eq, find, Option, Some, None, option_map, Result, Ok, refl}
+use Rattle.std.specs.Prelude.{◌≡◌, ℕ, Bool, true, false, cond, List, [], ◌∷◌, map, bytes_eq, find, Option, Some, None}
+use Rattle.std.specs.Prelude.{option_map, Result, Ok, refl}
 use Rattle.std.proofs.Common.{ap, ap₂, sym, ◌∙◌}
 use Rattle.std.proofs.lemmas.Slice.Eq.{bytes_eq-Decides}
 use Rattle.larch_base.specs.declared.code.Code.{Code}
@@ -17,10 +18,14 @@ use Rattle.larch_term.specs.declared.variable.Variable.{Variable}
 use Rattle.larch_calculus.specs.Formula.{constant, implication}
 use Rattle.larch_calculus.specs.Generation.{equation_at, induction_hypotheses}
 use Rattle.larch_calculus.specs.Observation.{observations_of}
-use Rattle.larch_plans.specs.Planning.{stated}
-use Rattle.larch_replay.specs.NewNames.{free_name, new_constants}
-use Rattle.larch_replay.specs.Plans.{Cases, Conjunction, Contradiction, Implication, Induction, Partition, Plan, Setting, a_variable, argument_variables, cases_plan, conjuncts, contradiction_plan, found_or, generators, goal_at, holds, implication_of, induction_subgoals, observers, partition_subgoals, plan, shared, supposed_of, taken_beside, two_arguments, with_found}
-use Rattle.larch_replay.proofs.LevelSorts.{ok_inj}
+use Rattle.larch_prove_plans.specs.Planning.{equate}
+use Rattle.larch_prove_meaning.specs.NewNames.{free_name, new_constants}
+use Rattle.larch_prove_meaning.specs.Plans.{Cases, Conjunction, Contradiction, Implication, Induction, Partition, Plan}
+use Rattle.larch_prove_meaning.specs.Plans.{Setting, a_variable, argument_variables, cases_plan, conjuncts}
+use Rattle.larch_prove_meaning.specs.Plans.{contradiction_plan, found_or, generators, goal_at, holds, implication_of}
+use Rattle.larch_prove_meaning.specs.Plans.{induction_subgoals, observers, partition_subgoals, plan, shared_subgoal}
+use Rattle.larch_prove_meaning.specs.Plans.{supposed_of, taken_beside, two_arguments, with_found}
+use Rattle.larch_prove_meaning.proofs.LevelSorts.{ok_inj}
 
 -- ---- plans
 
@@ -49,13 +54,14 @@ implication_planned setting goal p q made e h =
     (implication_found goal p q e)) ∙ h))
 
 conjuncts_by : (goal : Tree) (made : Plan) (o : Option (Tree × Tree))
-    → found_or refusal.Shape (option_map (λ p. record { constants = []; subgoals = map (shared []) (conjuncts goal) }) o)
-    ≡ Ok made → made.subgoals ≡ map (shared []) (conjuncts goal)
+    → found_or refusal.Shape (option_map
+    (λ p. record { constants = []; subgoals = map (shared_subgoal []) (conjuncts goal) }) o)
+    ≡ Ok made → made.subgoals ≡ map (shared_subgoal []) (conjuncts goal)
 conjuncts_by goal made None h = cc
 conjuncts_by goal made (Some p) h = ap (λ (m : Plan). m.subgoals) (sym (ok_inj h))
 
 pub conjunction_planned : (setting : Setting) (goal : Tree) (made : Plan) → plan setting goal Conjunction ≡ Ok made
-    → made.subgoals ≡ map (shared []) (conjuncts goal)
+    → made.subgoals ≡ map (shared_subgoal []) (conjuncts goal)
 unfolding plan
 conjunction_planned setting goal made h =
     conjuncts_by goal made (two_arguments (same_operator (built_in And bool_sort)) goal) h
@@ -70,7 +76,8 @@ by_generators setting goal x =
     with_found refusal.Generated (generators x.sort setting.clauses) (λ fs. Ok (induction_made setting goal x fs))
 
 pub induction_planned : (setting : Setting) (goal : Tree) (n : List ℕ) (v : Variable) (fs : List PlainOperator)
-    (made : Plan) → plan setting goal (Induction n) ≡ Ok made → find (λ v. bytes_eq v.name n) (variables_of goal) ≡ Some v
+    (made : Plan) → plan setting goal (Induction n) ≡ Ok made
+    → find (λ v. bytes_eq v.name n) (variables_of goal) ≡ Some v
     → generators v.sort setting.clauses ≡ Some fs
     → made.subgoals ≡ induction_subgoals (taken_beside setting.taken goal) v goal fs
 unfolding plan
@@ -88,7 +95,8 @@ partition_made setting goal p os = record {
 
 abbrev by_observers : Setting → Tree → Tree × Tree → Result Plan Code
 by_observers setting goal p =
-    with_found refusal.Partitioned (observers (sort_of p.0) setting.clauses) (λ os. Ok (partition_made setting goal p os))
+    with_found refusal.Partitioned (observers (sort_of p.0) setting.clauses)
+    (λ os. Ok (partition_made setting goal p os))
 
 pub partition_planned : (setting : Setting) (goal l r : Tree) (os : List PlainOperator) (made : Plan)
     → plan setting goal Partition ≡ Ok made → two_arguments (λ f. is_built_in_as f Equal) goal ≡ Some (l, r)
@@ -122,13 +130,13 @@ other_are (s ∷ ss) = ap (λ rs. s ∷ rs) (other_are ss)
 
 -- the hypotheses of a generator's subgoal are those of its case
 pub supposed_as : (v : Variable) (g : Tree) (cs : List PlainOperator)
-    → map stated (supposed_of v g cs) ≡ induction_hypotheses v.name v.sort g truth cs
+    → map equate (supposed_of v g cs) ≡ induction_hypotheses v.name v.sort g truth cs
 supposed_as v g [] = refl
 supposed_as v g (c ∷ cs) = chosen (bytes_eq c.range v.sort) (supposed_as v g cs)
   where
     chosen : (b : Bool)
-        → map stated (supposed_of v g cs) ≡ induction_hypotheses v.name v.sort g truth cs
-        → map stated (cond b (holds (goal_at v g (constant c)) ∷ supposed_of v g cs) (supposed_of v g cs))
+        → map equate (supposed_of v g cs) ≡ induction_hypotheses v.name v.sort g truth cs
+        → map equate (cond b (holds (goal_at v g (constant c)) ∷ supposed_of v g cs) (supposed_of v g cs))
         ≡ cond b (equation_at v.name v.sort g truth (constant c) ∷ induction_hypotheses v.name v.sort g truth cs)
         (induction_hypotheses v.name v.sort g truth cs)
     chosen true e = ap (λ hs. equation_at v.name v.sort g truth (constant c) ∷ hs) e

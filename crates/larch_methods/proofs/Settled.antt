@@ -5,7 +5,7 @@ use Rattle.std.proofs.lemmas.List.Elements.{All-cons, All-nil}
 use Rattle.larch_term.specs.BuiltIn.{bool_sort, built_in}
 use Rattle.larch_term.specs.Operator.{PlainOperator}
 use Rattle.larch_term.specs.Sorts.{sort_of}
-use Rattle.larch_term.specs.Substitution.{substituted}
+use Rattle.larch_term.specs.Substitution.{instance_of}
 use Rattle.larch_term.specs.Tree.{Tree, app, forest_of}
 use Rattle.larch_term.specs.Truth.{truth}
 use Rattle.larch_term.specs.declared.built_in.BuiltIn.TheVariants.{Implies}
@@ -13,8 +13,8 @@ use Rattle.larch_term.specs.declared.statement.Statement.TheVariants.{Equation}
 use Rattle.larch_term.specs.declared.substitution.Entry.{Entry}
 use Rattle.larch_calculus.specs.Formula.{falsity, implication}
 use Rattle.larch_calculus.specs.Generation.{only}
-use Rattle.larch_lines.specs.Matching.{all_different}
-use Rattle.larch_lines.specs.Rules.{row_says}
+use Rattle.larch_verify_meaning.specs.Matching.{all_different}
+use Rattle.larch_verify_meaning.specs.Rules.{row_says}
 use Rattle.larch_tables.specs.Spelling.{x}
 use Rattle.std.specs.Prelude.{None, Some}
 use Rattle.larch_derive.specs.Predicates.{Extends, HasEquation, Known}
@@ -48,10 +48,10 @@ row_of_formula b m es f l r P e k h go =
 pub row_said : (b c : Builder) (m n : ℕ) (es : List Entry) (f l r : Tree) → es ≡ only (codes "x") bool_sort f
     → IsKnownFormula b f → HasEquation b m l r
     → ((l r : Tree) → HasEquation b m l r → AreKnownEntries b es → all_different (map variable_in es) ≡ true
-    → HasEquation c n (substituted es l) (substituted es r))
+    → HasEquation c n (instance_of es l) (instance_of es r))
     → HasEquation c n (of_formula f l) (of_formula f r)
 row_said b c m n es f l r e k h go =
-    row_of_formula b m es f l r (λ ds. HasEquation c n (substituted ds l) (substituted ds r)) e k h
+    row_of_formula b m es f l r (λ ds. HasEquation c n (instance_of ds l) (instance_of ds r)) e k h
     (λ u v w j d. go l r h j d)
 
 pub row_extends : (b c : Builder) (m : ℕ) (es : List Entry) (f l r : Tree) → es ≡ only (codes "x") bool_sort f

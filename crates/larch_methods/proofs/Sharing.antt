@@ -6,7 +6,7 @@ use Rattle.larch_base.proofs.Lists.{all_from}
 use Rattle.larch_term.specs.BuiltIn.{bool_sort}
 use Rattle.larch_term.specs.Operator.{PlainOperator}
 use Rattle.larch_term.specs.Sorts.{sort_of, IsKnown}
-use Rattle.larch_term.specs.Substitution.{substituted}
+use Rattle.larch_term.specs.Substitution.{instance_of}
 use Rattle.larch_term.specs.Tree.{Tree}
 use Rattle.larch_term.specs.Truth.{truth}
 use Rattle.larch_term.specs.Variable.{occurrences, variables_of}
@@ -14,12 +14,12 @@ use Rattle.larch_term.specs.declared.built_in.BuiltIn.TheVariants.{True, False}
 use Rattle.larch_term.specs.declared.statement.Statement.{Statement}
 use Rattle.larch_term.specs.declared.statement.Statement.TheVariants.{Equation}
 use Rattle.larch_term.specs.declared.variable.Variable.{Variable}
-use Rattle.larch_term_laws.proofs.Occurring.{listed_occurs}
+use Rattle.larch_term_law.proofs.Occurring.{listed_occurs}
 use Rattle.larch_calculus.specs.Formula.{falsity}
 use Rattle.larch_calculus.specs.Freed.{constants_for}
 use Rattle.larch_calculus.proofs.Freeing.{constants_close}
 use Rattle.larch_certificate.specs.declared.line.CodedVar.{CodedVar}
-use Rattle.larch_lines.specs.Matching.{variable_of}
+use Rattle.larch_verify_meaning.specs.Matching.{variable_of}
 use Rattle.larch_derive.specs.Builder.{IsOpened, boxes_in}
 use Rattle.larch_derive.specs.Predicates.{Extends, Grows, HasEquation, Known, HasNoBadLine}
 use Rattle.larch_derive.specs.declared.builder.Builder.{Builder}
@@ -72,7 +72,7 @@ result_for b ws vs x l r e h =
 
 -- a formula has no variables when there are constants in their places
 pub closed_up : (cs : List PlainOperator) (f : Tree) → map (λ c. c.range) cs ≡ map (λ v. v.sort) (variables_of f)
-    → occurrences (substituted (constants_for (variables_of f) cs) f) ≡ []
+    → occurrences (instance_of (constants_for (variables_of f) cs) f) ≡ []
 closed_up cs f e =
     constants_close cs (variables_of f) f e
     (all_from (Contains (variables_of f)) (occurrences f) (λ v c. (listed_occurs f v).1 c))

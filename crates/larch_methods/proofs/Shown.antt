@@ -7,10 +7,10 @@ use Rattle.larch_term.specs.Tree.{var}
 use Rattle.larch_term.specs.Truth.{truth}
 use Rattle.larch_term.specs.declared.statement.Statement.TheVariants.{Equation, Generated, Partitioned}
 use Rattle.larch_term.specs.declared.statement.Theory.{Theory}
-use Rattle.larch_calculus.specs.Formula.{applied, constant}
+use Rattle.larch_calculus.specs.Formula.{apply_one, constant}
 use Rattle.larch_calculus.specs.Generation.{generation_hypotheses, place_name}
 use Rattle.larch_calculus.specs.Observation.{observations}
-use Rattle.larch_lines.specs.ClauseRules.{own_operators}
+use Rattle.larch_verify_meaning.specs.ClauseRules.{own_operators}
 use Rattle.larch_derive.specs.Builder.{theory_in}
 use Rattle.larch_derive.specs.OpenBox.{constant_of}
 use Rattle.larch_derive.specs.Predicates.{Grows, HasStatement}
@@ -60,7 +60,7 @@ partitioned_for b n z s os e h = subst (λ y. HasStatement b n (Partitioned y os
 pub shows_generated : (a b c : Builder) (s : List ℕ) (fs : List PlainOperator) (number line : ℕ)
     (h : ByPredicate a b s fs number line) → Grows a c
     → HasResult c h.box (generation_hypotheses h.predicate s fs)
-    (Equation (applied h.predicate (var h.variable s)) truth)
+    (Equation (apply_one h.predicate (var h.variable s)) truth)
     → ShowsGenerated c s fs number
 shows_generated a b c s fs number line h g r =
     record {

@@ -1,20 +1,21 @@
 -- Words of different lengths as names of variables.
-use Rattle.std.specs.Prelude.{◌≡◌, ◌<◌, ◌≤◌, ◌&&◌, ◌||◌, ℕ, zero, suc, Bool, true, false, not, cond, All, List, [], ◌∷◌, length, bytes_eq, refl}
+use Rattle.std.specs.Prelude.{◌≡◌, ◌<◌, ◌≤◌, ◌&&◌, ◌||◌, ℕ, zero, suc, Bool, true, false, not, cond, All, List, [], ◌∷◌}
+use Rattle.std.specs.Prelude.{length, bytes_eq, refl}
 use Rattle.std.specs.List.{list_all, list_any}
 use Rattle.std.proofs.Common.{arith, ap, ap₂, sym, ◌∙◌}
 use Rattle.std.proofs.lemmas.List.Elements.{All-head, All-tail, All-weaker}
 use Rattle.std.proofs.lemmas.Slice.Eq.{bytes_eq-Decides}
 use Rattle.larch_term.specs.Operator.{PlainOperator}
-use Rattle.larch_term.specs.Substitution.{image, substituted}
+use Rattle.larch_term.specs.Substitution.{image, instance_of}
 use Rattle.larch_term.specs.Tree.{Tree, var}
 use Rattle.larch_term.specs.Variable.{occurrences, same_variable}
 use Rattle.larch_term.specs.declared.substitution.Entry.{Entry}
 use Rattle.larch_term.specs.declared.variable.Variable.{Variable}
-use Rattle.larch_term_laws.proofs.Agreement.{AgreeOn, same_by_agreement}
-use Rattle.larch_term_laws.proofs.Substitutions.{substituted_nil}
+use Rattle.larch_term_law.proofs.Agreement.{AgreeOn, same_by_agreement}
+use Rattle.larch_term_law.proofs.Substitutions.{substituted_nil}
 use Rattle.larch_calculus.specs.Formula.{constant}
 use Rattle.larch_calculus.specs.Freed.{constants_for}
-use Rattle.larch_lines.specs.Matching.{all_different, are_apart, occurs_in}
+use Rattle.larch_verify_meaning.specs.Matching.{all_different, are_apart, occurs_in}
 use Rattle.larch_methods.specs.Observers.{HasShorterNames, variables_for, word_of}
 
 -- ---- words
@@ -31,7 +32,8 @@ other_lengths : (n m : List ℕ) (a b : ℕ) → length n ≡ a → length m ≡
 other_lengths n m a b p q lt e = let k : length n ≡ length m = ap length e in absurd (omega (arith, p, q, lt, k))
 
 shorter_differs : (n m : List ℕ) (a b : ℕ) → length n ≡ a → length m ≡ b → a < b → bytes_eq n m ≡ false
-shorter_differs n m a b p q lt = not_true (bytes_eq n m) (λ e. other_lengths n m a b p q lt ((bytes_eq-Decides n m).0 e))
+shorter_differs n m a b p q lt =
+    not_true (bytes_eq n m) (λ e. other_lengths n m a b p q lt ((bytes_eq-Decides n m).0 e))
 
 longer_differs : (n m : List ℕ) (a b : ℕ) → length n ≡ a → length m ≡ b → b < a → bytes_eq n m ≡ false
 longer_differs n m a b p q lt =
@@ -119,9 +121,10 @@ shorter_stays n (c ∷ cs) m s lt =
 
 -- a term of shorter names stays as it is
 pub term_stays : (n : ℕ) (cs : List PlainOperator) (t : Tree) → HasShorterNames n t
-    → substituted (constants_for (variables_for n cs) cs) t ≡ t
+    → instance_of (constants_for (variables_for n cs) cs) t ≡ t
 term_stays n cs t h =
     let es = constants_for (variables_for n cs) cs in
     same_by_agreement es [] t
-    (All-weaker (λ v. length v.name < n) (AgreeOn es []) (λ v lt. shorter_stays n cs v.name v.sort lt) (occurrences t) h)
+    (All-weaker (λ v. length v.name < n) (AgreeOn es []) (λ v lt. shorter_stays n cs v.name v.sort lt)
+    (occurrences t) h)
     ∙ substituted_nil t

@@ -5,7 +5,7 @@ use Rattle.larch_term.specs.Operator.{PlainOperator}
 use Rattle.larch_term.specs.Tree.{var}
 use Rattle.larch_term.specs.Truth.{truth}
 use Rattle.larch_term.specs.declared.statement.Statement.{Statement}
-use Rattle.larch_calculus.specs.Formula.{applied, constant, equality}
+use Rattle.larch_calculus.specs.Formula.{apply_one, constant, equality}
 use Rattle.larch_calculus.specs.Generation.{generation_hypotheses, place_name}
 use Rattle.larch_calculus.specs.Observation.{observations}
 use Rattle.larch_derive.specs.Builder.{boxes_in}
@@ -34,7 +34,7 @@ pub record ByPredicate (a b : Builder) (s : List ℕ) (fs : List PlainOperator) 
   pub range : predicate.range ≡ bool_sort
   pub outer : constant_of (boxes_in a) predicate ≡ None
   pub ranges : All (λ f. f.range ≡ s) fs
-  pub says : HasEquation b line (applied predicate (var variable s)) truth
+  pub says : HasEquation b line (apply_one predicate (var variable s)) truth
 
 -- that operators partition a sort: in the box of two new constants, which supposes that observers show the same of
 -- them, a line says that they are equal

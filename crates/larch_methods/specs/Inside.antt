@@ -1,6 +1,6 @@
 -- Lines in a box that all subgoals of a method share, and closed boxes in it.
 use Rattle.std.specs.Prelude.{◌≡◌, ℕ, Bool, true, false, List, [], ◌∷◌, map}
-use Rattle.larch_term.specs.Substitution.{substituted}
+use Rattle.larch_term.specs.Substitution.{instance_of}
 use Rattle.larch_term.specs.Tree.{Tree}
 use Rattle.larch_term.specs.Truth.{truth}
 use Rattle.larch_term.specs.declared.statement.Statement.TheVariants.{Equation}
@@ -16,7 +16,7 @@ use Rattle.larch_derive_boxes.specs.Boxes.{Opens, HasResult, AreOwnConstants}
 
 -- a term with the constants of a box in the places of variables, in order
 abbrev pub closed_in : List Variable → OpenBox → Tree → Tree
-closed_in vs x t = substituted (constants_for vs x.constants) t
+closed_in vs x t = instance_of (constants_for vs x.constants) t
 
 -- a variable as lines write it
 abbrev pub written_variable : Variable → CodedVar

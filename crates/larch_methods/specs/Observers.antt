@@ -7,13 +7,13 @@ use Rattle.larch_term.specs.Tree.{Tree}
 use Rattle.larch_term.specs.Variable.{occurrences}
 use Rattle.larch_term.specs.declared.statement.Statement.TheVariants.{Equation, Partitioned}
 use Rattle.larch_term.specs.declared.variable.Variable.{Variable}
-use Rattle.larch_calculus.specs.Observation.{Observation, observations_of, observed}
+use Rattle.larch_calculus.specs.Observation.{Observation, observations_of, observer_term}
 use Rattle.larch_derive.specs.Builder.{boxes_in}
 use Rattle.larch_derive.specs.Predicates.{Known}
 use Rattle.larch_derive.specs.declared.builder.Builder.{Builder}
 use Rattle.larch_derive.specs.declared.open_box.OpenBox.{OpenBox}
 use Rattle.larch_derive_boxes.specs.Boxes.{HasResult, AreOwnConstants}
-use Rattle.larch_replay.specs.Plans.{other_sorts, shown}
+use Rattle.larch_prove_meaning.specs.Plans.{other_sorts, shown}
 use Rattle.larch_methods.specs.Methods.{IsStated}
 
 -- a word of so many letters x
@@ -35,7 +35,7 @@ pub record ShowsObservation (b : Builder) (l r : Tree) (w : Observation) (x : Op
   pub own : AreOwnConstants (boxes_in b) x
   pub sorts : map (λ c. c.range) x.constants ≡ other_sorts w.place 1 w.observer.domain
   pub result : HasResult b x [] (Equation (shown w x.constants l) (shown w x.constants r))
-  pub known : (names : ℕ → List ℕ) → Known b (observed names w l) × Known b (observed names w r)
+  pub known : (names : ℕ → List ℕ) → Known b (observer_term names w l) × Known b (observer_term names w r)
 
 -- by the observers of a sort: a clause says that they partition it, and closed boxes show that they show the same of
 -- two terms

@@ -7,9 +7,9 @@ use Rattle.larch_derive.specs.Predicates.{AreOthers, HasNoBadLine}
 use Rattle.larch_derive.specs.declared.builder.Builder.{Builder}
 use Rattle.larch_derive.specs.declared.open_box.OpenBox.{OpenBox}
 use Rattle.larch_derive_boxes.specs.Boxes.{AreOwnConstants, HasResult, MaySuppose}
-use Rattle.larch_normal_forms.specs.Sides.{Sides}
-use Rattle.larch_plans.specs.Planning.{stated}
-use Rattle.larch_replay.specs.Plans.{Plan, Subgoal}
+use Rattle.larch_rewrite_meaning.specs.Sides.{Sides}
+use Rattle.larch_prove_plans.specs.Planning.{equate}
+use Rattle.larch_prove_meaning.specs.Plans.{Plan, Subgoal}
 
 -- a box with these constants and hypotheses may be opened: the constants are neither the theory's nor built in, and
 -- each hypothesis may be supposed, whatever number the box gets
@@ -20,7 +20,7 @@ pub record MayOpen (b : Builder) (cs : List PlainOperator) (hs : List Statement)
 
 -- so may the box of a subgoal, and the boxes of all subgoals of a plan
 abbrev pub MayBegin : Builder → Subgoal → Type 0
-MayBegin b s = MayOpen b s.constants (map stated s.hypotheses)
+MayBegin b s = MayOpen b s.constants (map equate s.hypotheses)
 
 abbrev pub MayBeginAll : Builder → Plan → Type 0
 MayBeginAll b made = All (MayBegin b) made.subgoals
@@ -37,4 +37,4 @@ HasOwnConstants b made =
 -- the box has a subgoal's constants, and is closed with what must be said of the subgoal as its result
 pub record IsShownIn (b : Builder) (s : Subgoal) (said : Sides) (x : OpenBox) : Type 0 where
   pub constants : x.constants ≡ s.constants
-  pub result : HasResult b x (map stated s.hypotheses) (stated said)
+  pub result : HasResult b x (map equate s.hypotheses) (equate said)

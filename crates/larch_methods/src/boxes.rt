@@ -13,13 +13,13 @@ use crate::refusals::undo_refused;
 use larch_base::{Memory, Sequence};
 use larch_certificate::{CodedVar, CodedVars};
 use larch_derive::Builder;
-use larch_derive_boxes::{close_box, fresh_line, hyp_line};
+use larch_derive_boxes::{close_box, push_fresh, push_hyp};
 use larch_term::{BuiltIn, Statement, Statements, Term, Variable, copy};
 use std::alloc::Global;
 
 /// Closes the innermost box, which supposes nothing, with the equation that a line says, and says it with variables in
 /// the places of the box's constants. A refused call changes nothing, so the box is open still.
-pub fn freed_line(
+pub fn push_freed(
     alloc: Global,
     builder: &mut Builder,
     number: u64,
@@ -61,7 +61,7 @@ pub(crate) fn write_freed(
 {
     let variables = coded_variables(alloc, variables)?;
     close_box(alloc, builder, line)?;
-    let freed = fresh_line(builder, number, variables)?;
+    let freed = push_fresh(builder, number, variables)?;
     Ok(freed)
 }
 
@@ -136,7 +136,7 @@ pub(crate) fn trivial_box(
     ensures grows { OnOk result (IsKnownFormula builder.old formula.now → Grows builder.old builder.new) }
 {
     let number = supposing_box(alloc, builder, formula, true)?;
-    let line = hyp_line(builder, number, 1)?;
+    let line = push_hyp(builder, number, 1)?;
     close_box(alloc, builder, line)?;
     Ok(number)
 }

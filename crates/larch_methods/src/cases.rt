@@ -9,7 +9,7 @@ use crate::boxes::write_freed;
 use crate::refusals::undo_refused;
 use larch_base::Memory;
 use larch_derive::Builder;
-use larch_derive_boxes::cases_line;
+use larch_derive_boxes::push_cases;
 use larch_term::{Term, variables};
 use std::alloc::Global;
 
@@ -51,7 +51,7 @@ fn write_cases(
         → Grows a builder.new) }
 {
     let variables = variables(alloc, formula)?;
-    let line = cases_line(builder, first, second)?;
+    let line = push_cases(builder, first, second)?;
     let freed = write_freed(alloc, builder, shared, line, variables.as_slice())?;
     Ok(freed)
 }

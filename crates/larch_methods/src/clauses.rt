@@ -2,7 +2,7 @@ ghost use Rattle.std.specs.Prelude.{◌≡◌, List, Some, All, Contains, IfOk, 
 ghost use Rattle.larch_derive.specs.Builder.{theory_in};
 ghost use Rattle.larch_derive.specs.Predicates.{Grows, HasStatement};
 ghost use Rattle.larch_derive.specs.declared.builder.Builder.{Builder as Built};
-ghost use Rattle.larch_lines.specs.ClauseRules.{own_operators};
+ghost use Rattle.larch_verify_meaning.specs.ClauseRules.{own_operators};
 ghost use Rattle.larch_methods.specs.Clauses.{ByConstants, ByPredicate};
 ghost use Rattle.larch_term.specs.Operator.{PlainOperator};
 ghost use Rattle.larch_term.specs.declared.statement.Statement.TheVariants.{Generated, Partitioned};
@@ -13,8 +13,8 @@ use larch_base::Memory;
 use larch_certificate::Numbers;
 use larch_derive::Builder;
 use larch_derive_boxes::close_box;
-use larch_derive_clauses::{generated_line, partitioned_line};
-use larch_derive_lines::equal_line;
+use larch_derive_clauses::{push_generated, push_partitioned};
+use larch_derive_lines::push_equal;
 use larch_term::{Operator, Sort, Theory};
 use std::alloc::Global;
 
@@ -73,7 +73,7 @@ fn write_generated(
         → Grows a builder.new) }
 {
     close_box(alloc, builder, line)?;
-    let said = generated_line(builder, number, sort, operators)?;
+    let said = push_generated(builder, number, sort, operators)?;
     Ok(said)
 }
 
@@ -124,8 +124,8 @@ fn write_partitioned(
         → own_operators (theory_in a) operators ≡ Some os → ByConstants a builder.old sort os number line
         → Grows a builder.new) }
 {
-    let same = equal_line(builder, line)?;
+    let same = push_equal(builder, line)?;
     close_box(alloc, builder, same)?;
-    let said = partitioned_line(builder, number, sort, operators)?;
+    let said = push_partitioned(builder, number, sort, operators)?;
     Ok(said)
 }

@@ -4,15 +4,15 @@ ghost use Rattle.larch_derive.specs.Predicates.{Extends, HasEquation};
 ghost use Rattle.larch_methods.specs.Conjuncts.{AreTrue, HasConjuncts, is_headed_by};
 ghost use Rattle.larch_methods.specs.Methods.{IsKnownFormula};
 ghost use Rattle.larch_methods.specs.Rows.{HasArguments};
-ghost use Rattle.larch_replay.specs.Plans.{conjuncts};
+ghost use Rattle.larch_prove_meaning.specs.Plans.{conjuncts};
 ghost use Rattle.larch_term.specs.Tree.{Tree, nodes};
 ghost use Rattle.larch_term.specs.Truth.{truth};
 
 use crate::arguments::{Two, arguments_of};
-use crate::rows::{SaidArgument, settled_line};
+use crate::rows::{SaidArgument, push_settled};
 use larch_base::Memory;
 use larch_derive::Builder;
-use larch_derive_lines::trans_line;
+use larch_derive_lines::push_trans;
 use larch_term::{BuiltIn, Node, Operator, Term, bool_sort};
 use std::alloc::Global;
 
@@ -107,7 +107,7 @@ fn join_both<'a>(
     let two = parts_of(goal)?;
     let first = join(alloc, builder, operator, two.first, lines)?;
     let second = join(alloc, builder, operator, two.second, first.behind)?;
-    let line = both_line(alloc, builder, goal, two.first, first.line, second.line)?;
+    let line = push_both(alloc, builder, goal, two.first, first.line, second.line)?;
     Ok(Joined {
         line,
         behind: second.behind,
@@ -137,7 +137,7 @@ fn is_headed_by(operator: &Operator, term: &Term) -> bool
 
 // A line that says that a conjunction is true, by lines that say that both of its arguments are.
 #[tactic(auto, using(larch_derive::proofs::Growth::extends_same))]
-fn both_line(
+fn push_both(
     alloc: Global,
     builder: &mut Builder,
     whole: &Term,
@@ -156,7 +156,7 @@ fn both_line(
         argument: 2,
         line: further,
     };
-    let same = settled_line(alloc, builder, whole, said, AND_TRUE, first)?;
-    let shown = trans_line(alloc, builder, same, line)?;
+    let same = push_settled(alloc, builder, whole, said, AND_TRUE, first)?;
+    let shown = push_trans(alloc, builder, same, line)?;
     Ok(shown)
 }

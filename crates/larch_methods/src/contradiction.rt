@@ -13,15 +13,15 @@ use crate::boxes::{trivial_box, write_freed};
 use crate::refusals::undo_refused;
 use larch_base::Memory;
 use larch_derive::Builder;
-use larch_derive_boxes::{cases_line, hyp_line};
-use larch_derive_lines::trans_line;
+use larch_derive_boxes::{push_cases, push_hyp};
+use larch_derive_lines::push_trans;
 use larch_term::{Term, variables};
 use std::alloc::Global;
 
 /// A line that says that the formula is true of which an open box supposes that it is false, by a line that says that
 /// false is true. A refused call may leave a line behind that isn't bad.
 #[tactic(auto, using(larch_derive::proofs::Growth::extends_same))]
-pub fn contradicted_line(
+pub fn push_contradicted(
     alloc: Global,
     builder: &mut Builder,
     number: u64,
@@ -34,8 +34,8 @@ pub fn contradicted_line(
         → IsOpen builder.old x (equation g falsity ∷ []) → HasEquation builder.old line falsity truth
         → Extends builder.old builder.new }
 {
-    let supposed = hyp_line(builder, number, 1)?;
-    let shown = trans_line(alloc, builder, supposed, line)?;
+    let supposed = push_hyp(builder, number, 1)?;
+    let shown = push_trans(alloc, builder, supposed, line)?;
     Ok(shown)
 }
 
@@ -78,7 +78,7 @@ fn write_contradiction(
 {
     let variables = variables(alloc, goal)?;
     let supposed = trivial_box(alloc, builder, closed)?;
-    let line = cases_line(builder, supposed, number)?;
+    let line = push_cases(builder, supposed, number)?;
     let freed = write_freed(alloc, builder, shared, line, variables.as_slice())?;
     Ok(freed)
 }

@@ -11,10 +11,10 @@ ghost use Rattle.larch_term.specs.Variable.{variables_of};
 use crate::arguments::arguments_of;
 use crate::boxes::{supposing_box, write_freed};
 use crate::refusals::undo_refused;
-use crate::rows::{SaidArgument, settled_line};
+use crate::rows::{SaidArgument, push_settled};
 use larch_base::Memory;
 use larch_derive::Builder;
-use larch_derive_boxes::{cases_line, close_box, hyp_line};
+use larch_derive_boxes::{close_box, push_cases, push_hyp};
 use larch_term::{Term, Variables, variables};
 use std::alloc::Global;
 
@@ -26,7 +26,7 @@ const TO_TRUE: u64 = 16;
 /// A line that says that an implication is true, by a line that says that its conclusion is. A refused call may leave
 /// lines behind, none of them bad.
 #[tactic(auto, using(larch_derive::proofs::Growth::extends_same))]
-pub fn implied_line(
+pub fn push_implied(
     alloc: Global,
     builder: &mut Builder,
     whole: &Term,
@@ -41,7 +41,7 @@ pub fn implied_line(
 {
     let two = arguments_of(whole)?;
     let said = SaidArgument { argument: 2, line };
-    let implied = settled_line(alloc, builder, whole, said, TO_TRUE, two.first)?;
+    let implied = push_settled(alloc, builder, whole, said, TO_TRUE, two.first)?;
     Ok(implied)
 }
 
@@ -55,12 +55,12 @@ fn vacuous_box(alloc: Global, builder: &mut Builder, whole: &Term) -> Result<u64
 {
     let two = arguments_of(whole)?;
     let number = supposing_box(alloc, builder, two.first, false)?;
-    let denied = hyp_line(builder, number, 1)?;
+    let denied = push_hyp(builder, number, 1)?;
     let said = SaidArgument {
         argument: 1,
         line: denied,
     };
-    let line = settled_line(alloc, builder, whole, said, FROM_FALSE, two.second)?;
+    let line = push_settled(alloc, builder, whole, said, FROM_FALSE, two.second)?;
     close_box(alloc, builder, line)?;
     Ok(number)
 }
@@ -104,7 +104,7 @@ fn write_implication(
 {
     let variables = premise_variables(alloc, goal)?;
     let otherwise = vacuous_box(alloc, builder, closed)?;
-    let line = cases_line(builder, number, otherwise)?;
+    let line = push_cases(builder, number, otherwise)?;
     let freed = write_freed(alloc, builder, shared, line, variables.as_slice())?;
     Ok(freed)
 }

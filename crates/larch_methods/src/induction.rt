@@ -7,8 +7,8 @@ use crate::boxes::{coded_variable, value_term};
 use larch_base::Memory;
 use larch_certificate::Numbers;
 use larch_derive::Builder;
-use larch_derive_clauses::induct_line;
-use larch_derive_lines::axiom_line;
+use larch_derive_clauses::push_induct;
+use larch_derive_lines::push_axiom;
 use larch_term::{Term, Variable};
 use std::alloc::Global;
 
@@ -30,7 +30,7 @@ pub fn finish_induction(
 {
     let variable = coded_variable(variable)?;
     let truth = value_term(alloc, true)?;
-    let stated = axiom_line(builder, clause)?;
-    let line = induct_line(builder, stated, variable, goal, &truth, boxes)?;
+    let stated = push_axiom(builder, clause)?;
+    let line = push_induct(builder, stated, variable, goal, &truth, boxes)?;
     Ok(line)
 }

@@ -16,12 +16,12 @@ ghost use Rattle.larch_methods.specs.Methods.{ByCases, ByContradiction, ByImplic
 ghost use Rattle.larch_methods.specs.Methods.{IsKnownFormula, IsStated};
 ghost use Rattle.larch_methods.specs.Observers.{ByObservers};
 ghost use Rattle.larch_methods.specs.Opening.{HasOtherConstants, HasOwnConstants, IsShownIn, MayBeginAll, MayOpen};
-ghost use Rattle.larch_normal_forms.specs.Sides.{Sides};
-ghost use Rattle.larch_plans.specs.ClauseGoals.{generation_goal, partition_goal, predicate_named};
-ghost use Rattle.larch_replay.specs.NewNames.{constant_named};
-ghost use Rattle.larch_replay.specs.Plans.{Cases, Conjunction, Contradiction, Implication, Induction, Partition};
-ghost use Rattle.larch_replay.specs.Plans.{Plan, Setting, closed_by, conjuncts, generators, holds, observers, plan};
-ghost use Rattle.larch_replay.specs.Plans.{Subgoal, shown, two_arguments};
+ghost use Rattle.larch_rewrite_meaning.specs.Sides.{Sides};
+ghost use Rattle.larch_prove_plans.specs.ClauseGoals.{generation_goal, partition_goal, predicate_named};
+ghost use Rattle.larch_prove_meaning.specs.NewNames.{constant_named};
+ghost use Rattle.larch_prove_meaning.specs.Plans.{Cases, Conjunction, Contradiction, Implication, Induction, Partition};
+ghost use Rattle.larch_prove_meaning.specs.Plans.{Plan, Setting, closed_by, conjuncts, generators, holds, observers, plan};
+ghost use Rattle.larch_prove_meaning.specs.Plans.{Subgoal, shown, two_arguments};
 ghost use Rattle.larch_term.specs.BuiltIn.{is_built_in_as};
 ghost use Rattle.larch_term.specs.Operator.{PlainOperator};
 ghost use Rattle.larch_term.specs.Sorts.{sort_of};

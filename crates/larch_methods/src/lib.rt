@@ -18,12 +18,12 @@ mod partition;
 mod refusals;
 mod rows;
 
-pub use boxes::{freed_line, supposing_box};
+pub use boxes::{push_freed, supposing_box};
 pub use cases::finish_cases;
 pub use clauses::{Clause, finish_generated, finish_partitioned};
 pub use conjunction::finish_conjunction;
-pub use contradiction::{contradicted_line, finish_contradiction};
-pub use implication::{finish_implication, implied_line};
+pub use contradiction::{finish_contradiction, push_contradicted};
+pub use implication::{finish_implication, push_implied};
 pub use induction::finish_induction;
 pub use opening::{open_constants, open_subgoal};
 pub use partition::finish_partition;

@@ -7,7 +7,7 @@ ghost use Rattle.larch_term.specs.declared.variable.Variable.{Variable};
 
 use larch_base::{Memory, Sequence};
 use larch_derive::{Builder, OpenBox};
-use larch_plans::Subgoal;
+use larch_prove_plans::Subgoal;
 use larch_term::{Operators, Statements, copy_operators};
 use std::alloc::Global;
 

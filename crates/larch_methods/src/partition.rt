@@ -10,9 +10,9 @@ use crate::naming::{letters_above, variables_for};
 use larch_base::{Memory, Sequence};
 use larch_certificate::Numbers;
 use larch_derive::{Builder, OpenBox};
-use larch_derive_boxes::fresh_line;
-use larch_derive_clauses::observe_line;
-use larch_derive_lines::axiom_line;
+use larch_derive_boxes::push_fresh;
+use larch_derive_clauses::push_observe;
+use larch_derive_lines::push_axiom;
 use larch_term::Term;
 use std::alloc::Global;
 
@@ -34,16 +34,16 @@ pub fn finish_partition(
         → Extends builder.old builder.new }
 {
     let letters = letters_above(alloc, left, right)?;
-    let lines = observed_lines(alloc, builder, letters, boxes)?;
-    let stated = axiom_line(builder, clause)?;
-    let line = observe_line(builder, stated, left, right, lines)?;
+    let lines = push_all_observed(alloc, builder, letters, boxes)?;
+    let stated = push_axiom(builder, clause)?;
+    let line = push_observe(builder, stated, left, right, lines)?;
     Ok(line)
 }
 
 // A line for each of the boxes. In the places of its constants stand variables whose names have at least so many
 // letters.
 #[tactic(auto, using(larch_derive::proofs::Growth::extends_same))]
-fn observed_lines(
+fn push_all_observed(
     alloc: Global,
     builder: &mut Builder,
     letters: usize,
@@ -58,7 +58,7 @@ fn observed_lines(
 {
     let mut lines = Sequence::new(alloc);
     for observed in boxes {
-        let line = observed_line(alloc, builder, letters, observed)?;
+        let line = push_observed(alloc, builder, letters, observed)?;
         lines.push(line)?;
     }
     Ok(lines)
@@ -66,7 +66,7 @@ fn observed_lines(
 
 // The line of one box.
 #[tactic(auto, using(larch_derive::proofs::Growth::extends_same))]
-fn observed_line(
+fn push_observed(
     alloc: Global,
     builder: &mut Builder,
     letters: usize,
@@ -80,6 +80,6 @@ fn observed_line(
         → Extends builder.old builder.new }
 {
     let variables = variables_for(alloc, letters, observed.constants.as_slice())?;
-    let line = fresh_line(builder, observed.number, variables)?;
+    let line = push_fresh(builder, observed.number, variables)?;
     Ok(line)
 }

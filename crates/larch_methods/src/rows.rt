@@ -1,7 +1,7 @@
 ghost use Rattle.std.specs.Prelude.{◌≡◌, None, Some, codes, IfOk};
 ghost use Rattle.larch_calculus.specs.Generation.{only};
 ghost use Rattle.larch_derive.specs.Predicates.{Extends, HasEquation, Known};
-ghost use Rattle.larch_lines.specs.Rules.{row_says};
+ghost use Rattle.larch_verify_meaning.specs.Rules.{row_says};
 ghost use Rattle.larch_methods.specs.Methods.{IsKnownFormula};
 ghost use Rattle.larch_methods.specs.Rows.{IsSettledBy, of_formula};
 ghost use Rattle.larch_term.specs.BuiltIn.{bool_sort};
@@ -10,7 +10,7 @@ ghost use Rattle.larch_term.specs.declared.statement.Statement.TheVariants.{Equa
 
 use larch_base::{Memory, Name};
 use larch_derive::Builder;
-use larch_derive_lines::{argument_line, inst_line, refl_line, row_line, trans_line};
+use larch_derive_lines::{push_argument, push_inst, push_refl, push_row, push_trans};
 use larch_term::{Substitution, Term, bool_sort, copy};
 use std::alloc::Global;
 
@@ -24,8 +24,8 @@ fn row_at(alloc: Global, builder: &mut Builder, row: u64, formula: &Term) -> Res
         → IsKnownFormula builder.old formula.now → Extends builder.old builder.new }
 {
     let by = for_x(alloc, formula)?;
-    let stated = row_line(builder, row, None)?;
-    let line = inst_line(alloc, builder, stated, &by)?;
+    let stated = push_row(builder, row, None)?;
+    let line = push_inst(alloc, builder, stated, &by)?;
     Ok(line)
 }
 
@@ -51,7 +51,7 @@ pub(crate) struct SaidArgument {
 // A line that says what a connective comes to, one argument of which is a truth value by a line: by a row, with a
 // formula in the place of its variable.
 #[tactic(auto, using(larch_derive::proofs::Growth::extends_same))]
-pub(crate) fn settled_line(
+pub(crate) fn push_settled(
     alloc: Global,
     builder: &mut Builder,
     whole: &Term,
@@ -65,9 +65,9 @@ pub(crate) fn settled_line(
     ensures extends { (v : Tree) → IsSettledBy builder.old whole.now said.argument said.line row formula.now v
         → Extends builder.old builder.new }
 {
-    let same = refl_line(builder, whole)?;
-    let changed = argument_line(alloc, builder, same, said.argument, said.line)?;
+    let same = push_refl(builder, whole)?;
+    let changed = push_argument(alloc, builder, same, said.argument, said.line)?;
     let settled = row_at(alloc, builder, row, formula)?;
-    let number = trans_line(alloc, builder, changed, settled)?;
+    let number = push_trans(alloc, builder, changed, settled)?;
     Ok(number)
 }

@@ -24,14 +24,14 @@ all_arguments last [] p = p []
 all_arguments last (r ∷ rs) p = all_up_to (last r) (λ v. all_arguments last rs (λ vs. p (v ∷ vs)))
 
 -- the assignment with this value for a variable
-abbrev pub updated : List ℕ → List ℕ → ℕ → Assignment → Assignment
-updated x s v a = λ n r. if (bytes_eq x n && bytes_eq s r) then v else a n r
+abbrev pub update : List ℕ → List ℕ → ℕ → Assignment → Assignment
+update x s v a = λ n r. if (bytes_eq x n && bytes_eq s r) then v else a n r
 
 -- all assignments that differ from one at these variables alone have the property
 abbrev pub all_assignments : (List ℕ → ℕ) → List Variable → Assignment → (Assignment → Bool) → Bool
 all_assignments last [] a p = p a
 all_assignments last (w ∷ ws) a p =
-    all_up_to (last w.sort) (λ v. all_assignments last ws (updated w.name w.sort v a) p)
+    all_up_to (last w.sort) (λ v. all_assignments last ws (update w.name w.sort v a) p)
 
 -- the assignment of 0 to each variable
 abbrev pub zeros : Assignment

@@ -6,7 +6,7 @@ use Rattle.larch_term.specs.BuiltIn.{bool_sort}
 use Rattle.larch_term.specs.declared.statement.Statement.{Statement}
 use Rattle.larch_term.specs.declared.statement.Statement.TheVariants.{Equation, Generated, Partitioned}
 use Rattle.larch_calculus.specs.Example.{number_sort, nought, successor, plus, x_number, y_number}
-use Rattle.larch_calculus.specs.Formula.{applied, joined, negation, conjunction, disjunction, implication, choice}
+use Rattle.larch_calculus.specs.Formula.{apply_one, apply_two, negation, conjunction, disjunction, implication, choice}
 use Rattle.larch_models.specs.Interpretation.{Interpretation, first, others}
 use Rattle.larch_models.specs.Standard.{standard, is_named}
 
@@ -46,7 +46,8 @@ wrong_modulo_two = standard two_values (bits wrong_sum_of_bits)
 -- s(x) + y == s(x + y)
 abbrev pub sum_from_successor : Statement
 sum_from_successor =
-    Equation (joined plus (applied successor x_number) y_number) (applied successor (joined plus x_number y_number))
+    Equation (apply_two plus (apply_one successor x_number) y_number)
+    (apply_one successor (apply_two plus x_number y_number))
 
 -- three values, of which 0 is the first and s makes the next one
 abbrev pub up_to_two : Interpretation
@@ -55,8 +56,8 @@ up_to_two = standard (λ s. 2) (λ f vs. if is_named f (codes "s") then suc (fir
 -- s(s(s(x))) == s(s(x))
 abbrev pub two_steps_are_all : Statement
 two_steps_are_all =
-    Equation (applied successor (applied successor (applied successor x_number)))
-    (applied successor (applied successor x_number))
+    Equation (apply_one successor (apply_one successor (apply_one successor x_number)))
+    (apply_one successor (apply_one successor x_number))
 
 -- + takes its second argument
 abbrev pub second_tables : PlainOperator → List ℕ → ℕ

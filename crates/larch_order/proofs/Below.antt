@@ -28,7 +28,8 @@ below_not_above ranks t u h =
     false_from_ne_true (greater ranks u t) (λ e. false≢true (sym (irreflexive ranks t) ∙ transitive ranks t u t h e))
 
 -- a greater term is greater than all that is below
-pub all_below : (ranks : List Ranked) (s t : Tree) (us : List Tree) → greater ranks s t ≡ true → list_all (greater ranks t) us ≡ true → list_all (greater ranks s) us ≡ true
+pub all_below : (ranks : List Ranked) (s t : Tree) (us : List Tree) → greater ranks s t ≡ true
+    → list_all (greater ranks t) us ≡ true → list_all (greater ranks s) us ≡ true
 all_below ranks s t [] e h = refl
 all_below ranks s t (u ∷ us) e h =
     and_both (greater ranks s u) (list_all (greater ranks s) us)
@@ -42,18 +43,22 @@ each_reached ranks f ss [] h = refl
 each_reached ranks f ss (u ∷ us) h =
     and_both (greater ranks (app f (forest_of ss)) u) (list_all (greater ranks (app f (forest_of ss))) us)
     (reached_by ranks f (forest_of ss) u (h u (rw (same_refl u) refl)))
-    (each_reached ranks f ss us (λ v e. h v (or_right (same_tree u v || greater ranks u v) (some_reaches ranks (forest_of us) v) e)))
+    (each_reached ranks f ss us (λ v e.
+    h v (or_right (same_tree u v || greater ranks u v) (some_reaches ranks (forest_of us) v) e)))
 
 -- an application is greater than each of its arguments
-pub arguments_below : (ranks : List Ranked) (f : PlainOperator) (ss : List Tree) → list_all (greater ranks (app f (forest_of ss))) ss ≡ true
+pub arguments_below : (ranks : List Ranked) (f : PlainOperator) (ss : List Tree)
+    → list_all (greater ranks (app f (forest_of ss))) ss ≡ true
 arguments_below ranks f ss = each_reached ranks f ss ss (λ u e. e)
 
 -- what is greater than an application is greater than each of its arguments
-pub above_arguments : (ranks : List Ranked) (s : Tree) (g : PlainOperator) (ts : List Tree) → greater ranks s (app g (forest_of ts)) ≡ true → list_all (greater ranks s) ts ≡ true
+pub above_arguments : (ranks : List Ranked) (s : Tree) (g : PlainOperator) (ts : List Tree)
+    → greater ranks s (app g (forest_of ts)) ≡ true → list_all (greater ranks s) ts ≡ true
 above_arguments ranks s g ts e = all_below ranks s (app g (forest_of ts)) ts e (arguments_below ranks g ts)
 
 -- what is below a term doesn't reach it
-pub none_reaches : (ranks : List Ranked) (t : Tree) (us : List Tree) → list_all (greater ranks t) us ≡ true → some_reaches ranks (forest_of us) t ≡ false
+pub none_reaches : (ranks : List Ranked) (t : Tree) (us : List Tree) → list_all (greater ranks t) us ≡ true
+    → some_reaches ranks (forest_of us) t ≡ false
 none_reaches ranks t [] h = refl
 none_reaches ranks t (u ∷ us) h =
     let e : greater ranks t u ≡ true = and_left (greater ranks t u) (list_all (greater ranks t) us) h in
@@ -61,10 +66,12 @@ none_reaches ranks t (u ∷ us) h =
     (or_both (same_tree u t) (greater ranks u t) (below_is_other ranks t u e) (below_not_above ranks t u e))
     (none_reaches ranks t us (and_right (greater ranks t u) (list_all (greater ranks t) us) h))
 
-reacher_by : (ranks : List Ranked) (s t : Tree) (us : List Tree) (b : Bool) → same_tree s t ≡ b → (b || greater ranks s t) ≡ true → list_all (greater ranks t) us ≡ true → list_all (greater ranks s) us ≡ true
+reacher_by : (ranks : List Ranked) (s t : Tree) (us : List Tree) (b : Bool) → same_tree s t ≡ b
+    → (b || greater ranks s t) ≡ true → list_all (greater ranks t) us ≡ true → list_all (greater ranks s) us ≡ true
 reacher_by ranks s t us true e h below = ap (λ v. list_all (greater ranks v) us) ((tree_Decides s t).0 e) ∙ below
 reacher_by ranks s t us false e h below = all_below ranks s t us h below
 
 -- what reaches a term is greater than all that is below it
-pub reacher_above : (ranks : List Ranked) (s t : Tree) (us : List Tree) → (same_tree s t || greater ranks s t) ≡ true → list_all (greater ranks t) us ≡ true → list_all (greater ranks s) us ≡ true
+pub reacher_above : (ranks : List Ranked) (s t : Tree) (us : List Tree) → (same_tree s t || greater ranks s t) ≡ true
+    → list_all (greater ranks t) us ≡ true → list_all (greater ranks s) us ≡ true
 reacher_above ranks s t us h below = reacher_by ranks s t us (same_tree s t) refl h below

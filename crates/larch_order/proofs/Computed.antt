@@ -1,5 +1,6 @@
 -- The function computes the relation.
-use Rattle.std.proofs.Common.{◌≡◌, ℕ, zero, suc, ◌+◌, ◌<◌, ◌⊎◌, IsTrue, ◌↔◌, true, List, [], ◌∷◌, Contains, refl, sym, ◌∙◌, ap, subst, inl, inr, ⊎_elim, arith, Bool}
+use Rattle.std.proofs.Common.{◌≡◌, ℕ, zero, suc, ◌+◌, ◌<◌, ◌⊎◌, IsTrue, ◌↔◌, true, List, [], ◌∷◌, Contains, refl, sym}
+use Rattle.std.proofs.Common.{◌∙◌, ap, subst, inl, inr, ⊎_elim, arith, Bool}
 use Rattle.std.proofs.lemmas.Bool.{true≢false}
 use Rattle.larch_base.proofs.Members.{contains_here, contains_later, contains_cases, contains_none}
 use Rattle.larch_base.specs.declared.way.Way.{Way}
@@ -8,10 +9,14 @@ use Rattle.larch_term.specs.Operator.{PlainOperator}
 use Rattle.larch_term.specs.Tree.{Tree, Forest, var, app, none, more, list_of, nodes}
 use Rattle.larch_order.specs.declared.precedence.Ranked.{Ranked}
 use Rattle.larch_order.specs.Precedence.{above, status_of}
-use Rattle.larch_order.specs.Greater.{Greater, AtLeast, ListsGreater, Beaten, by_argument, by_precedence, by_status, same, higher, first_higher, first_equal, rest_equal, rest_higher, as_multisets, beaten, greater, first_greater, last_greater}
+use Rattle.larch_order.specs.Greater.{Greater, AtLeast, ListsGreater, Beaten, by_argument, by_precedence, by_status}
+use Rattle.larch_order.specs.Greater.{same, higher, first_higher, first_equal, rest_equal, rest_higher, as_multisets}
+use Rattle.larch_order.specs.Greater.{beaten, greater, first_greater, last_greater}
 use Rattle.larch_order.proofs.Multisets.{In, Remains, remains_in}
-use Rattle.larch_order.proofs.Above.{HeadCases, ListsAbove, above_by_argument, above_by_heads, above_cases, heads_cases, heads_from, argument_nodes, remains_told, remains_from}
-use Rattle.larch_order.proofs.Transitive.{not_above, same_forests, first_cases, first_same, first_other, last_cases, last_here, last_before, last_irreflexive}
+use Rattle.larch_order.proofs.Above.{HeadCases, ListsAbove, above_by_argument, above_by_heads, above_cases, heads_cases}
+use Rattle.larch_order.proofs.Above.{heads_from, argument_nodes, remains_told, remains_from}
+use Rattle.larch_order.proofs.Transitive.{not_above, same_forests, first_cases, first_same, first_other, last_cases}
+use Rattle.larch_order.proofs.Transitive.{last_here, last_before, last_irreflexive}
 use Rattle.larch_order.proofs.Irreflexive.{apart}
 
 in_contained : (xs : List Tree) (x : Tree) → Contains xs x → In xs x
@@ -26,10 +31,12 @@ contained_in (y ∷ ys) x (inr i) = contains_later y x ys (contained_in ys x i)
 mutual
   -- what is greater is computed to be
   pub computed : {ranks : List Ranked} {s t : Tree} → Greater ranks s t → greater ranks s t ≡ true
-  computed (by_argument {ranks} {f} {ss} {s} {t} c r) = above_by_argument ranks f ss t (s, in_contained (list_of ss) s c, at_least r)
+  computed (by_argument {ranks} {f} {ss} {s} {t} c r) =
+      above_by_argument ranks f ss t (s, in_contained (list_of ss) s c, at_least r)
   computed (by_precedence {ranks} {f} {g} {ss} {ts} a h) =
       above_by_heads ranks f ss g ts
-      (heads_from ranks f ss g (list_of ts) (inl (λ e. not_above ranks f (subst (λ x. above ranks f x ≡ true) (sym e) a), a)))
+      (heads_from ranks f ss g (list_of ts)
+      (inl (λ e. not_above ranks f (subst (λ x. above ranks f x ≡ true) (sym e) a), a)))
       (λ u i. computed (h u (contained_in (list_of ts) u i)))
   computed (by_status {ranks} {f} {ss} {ts} l h) =
       above_by_heads ranks f ss f ts (heads_from ranks f ss f (list_of ts) (inr (refl, lists_computed l)))
@@ -39,7 +46,8 @@ mutual
   at_least same = inl refl
   at_least (higher g) = inr (computed g)
 
-  lists_computed : {ranks : List Ranked} {w : Way} {ss ts : Forest} → ListsGreater ranks w ss ts → ListsAbove ranks w ss (list_of ts)
+  lists_computed : {ranks : List Ranked} {w : Way} {ss ts : Forest} → ListsGreater ranks w ss ts
+      → ListsAbove ranks w ss (list_of ts)
   lists_computed (first_higher {ranks} {s} {t} {ss} {ts} g) =
       first_other ranks s t ss (list_of ts) (apart ranks s t (computed g)) (computed g)
   lists_computed (first_equal {ranks} {s} {ss} {ts} l) = first_same ranks s s ss (list_of ts) refl (lists_computed l)
@@ -54,15 +62,18 @@ mutual
     λ t lt. beaten_computed (h t (remains_from ranks (list_of ts) (list_of ss) t lt)),
   )
 
-  beaten_computed : {ranks : List Ranked} {ss ts : Forest} {t : Tree} → Beaten ranks ss ts t → (x : Tree) × Remains (list_of ss) (list_of ts) x × (greater ranks x t ≡ true)
-  beaten_computed (beaten {ranks} {s} {t} {ss} {ts} r g) = (s, remains_told ranks (list_of ss) (list_of ts) s r, computed g)
+  beaten_computed : {ranks : List Ranked} {ss ts : Forest} {t : Tree} → Beaten ranks ss ts t
+      → (x : Tree) × Remains (list_of ss) (list_of ts) x × (greater ranks x t ≡ true)
+  beaten_computed (beaten {ranks} {s} {t} {ss} {ts} r g) =
+      (s, remains_told ranks (list_of ss) (list_of ts) s r, computed g)
 
 module _ (ranks : List Ranked) where
   -- what is computed holds between the terms of two lists
   abbrev Shown : Forest → Forest → Type 0
   Shown ss ts = (s t : Tree) → In (list_of ss) s → In (list_of ts) t → greater ranks s t ≡ true → Greater ranks s t
 
-  first_shown : (ss ts : Forest) → Shown ss ts → first_greater ranks ss (list_of ts) ≡ true → ListsGreater ranks LeftToRight ss ts
+  first_shown : (ss ts : Forest) → Shown ss ts → first_greater ranks ss (list_of ts) ≡ true
+      → ListsGreater ranks LeftToRight ss ts
   first_shown none ts k e = absurd (true≢false (sym e))
   first_shown (more s ss) none k e = absurd (true≢false (sym e))
   first_shown (more s ss) (more t ts) k e =
@@ -72,7 +83,8 @@ module _ (ranks : List Ranked) where
       (λ p. first_higher (k s t (inl refl) (inl refl) p.1))
       (first_cases ranks s t ss (list_of ts) e)
 
-  last_shown : (ss ts : Forest) → Shown ss ts → last_greater ranks ss (list_of ts) ≡ true → ListsGreater ranks RightToLeft ss ts
+  last_shown : (ss ts : Forest) → Shown ss ts → last_greater ranks ss (list_of ts) ≡ true
+      → ListsGreater ranks RightToLeft ss ts
   last_shown none ts k e = absurd (true≢false (sym e))
   last_shown (more s ss) none k e = absurd (true≢false (sym e))
   last_shown (more s ss) (more t ts) k e =
@@ -82,7 +94,8 @@ module _ (ranks : List Ranked) where
       (λ p. rest_higher (last_shown ss ts (λ x y i j. k x y (inr i) (inr j)) p.1))
       (last_cases ranks s t ss (list_of ts) e)
 
-  lists_shown : (w : Way) (ss ts : Forest) → Shown ss ts → ListsAbove ranks w ss (list_of ts) → ListsGreater ranks w ss ts
+  lists_shown : (w : Way) (ss ts : Forest) → Shown ss ts → ListsAbove ranks w ss (list_of ts)
+      → ListsGreater ranks w ss ts
   lists_shown LeftToRight ss ts k a = first_shown ss ts k a
   lists_shown RightToLeft ss ts k a = last_shown ss ts k a
   lists_shown Multiset ss ts k m =

@@ -1,5 +1,6 @@
 -- Lists of terms compared as multisets.
-use Rattle.std.proofs.Common.{◌≡◌, ℕ, zero, suc, ◌+◌, ◌<◌, ◌≤◌, ◌⊎◌, Bool, true, false, cond, List, [], ◌∷◌, map, refl, sym, ◌∙◌, ap, subst, inl, inr, ⊎_elim, arith}
+use Rattle.std.proofs.Common.{◌≡◌, ℕ, zero, suc, ◌+◌, ◌<◌, ◌≤◌, ◌⊎◌, Bool, true, false, cond, List, [], ◌∷◌, map, refl}
+use Rattle.std.proofs.Common.{sym, ◌∙◌, ap, subst, inl, inr, ⊎_elim, arith}
 use Rattle.std.proofs.lemmas.Bool.{cond-true, cond-false, cases_Bool, cases_lt, false_from_ne_true}
 use Rattle.std.proofs.lemmas.Bool.Decides.{not_from_Decides}
 use Rattle.std.proofs.lemmas.List.Recursion.{is_sum_by}
@@ -34,7 +35,8 @@ count_is t us = sym (is_sum_by (total (tally t)) (tally t) refl (λ _ _. refl) u
 
 pub tree_cases : (t u : Tree) → (t ≡ u) ⊎ (t ≡ u → ⊥)
 tree_cases t u =
-    ⊎_elim (λ e. inl ((tree_Decides t u).0 e)) (λ e. inr (not_from_Decides (same_tree t u) (tree_Decides t u) e)) (cases_Bool (same_tree t u))
+    ⊎_elim (λ e. inl ((tree_Decides t u).0 e)) (λ e. inr (not_from_Decides (same_tree t u) (tree_Decides t u) e))
+    (cases_Bool (same_tree t u))
 
 pub tally_same : (t u : Tree) → u ≡ t → tally t u ≡ 1
 tally_same t u e = ap one_if ((tree_Decides u t).1 e)
@@ -48,7 +50,8 @@ tally_is t u p = ⊎_elim (λ e. e) (λ n. absurd (omega (arith, p, tally_other 
 -- what occurs stands in the list
 pub in_from_count : (t : Tree) (us : List Tree) → 0 < count t us → In us t
 in_from_count t [] p = absurd (omega (arith, p))
-in_from_count t (u ∷ us) p = ⊎_elim (λ e. inl e) (λ n. inr (in_from_count t us (omega (arith, p, tally_other t u n)))) (tree_cases u t)
+in_from_count t (u ∷ us) p =
+    ⊎_elim (λ e. inl e) (λ n. inr (in_from_count t us (omega (arith, p, tally_other t u n)))) (tree_cases u t)
 
 -- how many terms of a list pass a test
 abbrev how_many : (Tree → Bool) → List Tree → ℕ
@@ -59,12 +62,14 @@ one_each : (a b : Bool) → (a ≡ true → b ≡ true) → one_if a ≤ one_if 
 one_each true b h = omega (arith, ap one_if (h refl))
 one_each false b h = omega arith
 
-no_more : (p q : Tree → Bool) (xs : List Tree) → ((z : Tree) → In xs z → p z ≡ true → q z ≡ true) → how_many p xs ≤ how_many q xs
+no_more : (p q : Tree → Bool) (xs : List Tree) → ((z : Tree) → In xs z → p z ≡ true → q z ≡ true)
+    → how_many p xs ≤ how_many q xs
 no_more p q [] h = omega arith
 no_more p q (x ∷ xs) h = omega (arith, one_each (p x) (q x) (h x (inl refl)), no_more p q xs (λ z i. h z (inr i)))
 
 -- fewer terms pass a test that is as hard for all and harder for one
-fewer : (p q : Tree → Bool) (xs : List Tree) (x : Tree) → ((z : Tree) → In xs z → p z ≡ true → q z ≡ true) → In xs x → p x ≡ false → q x ≡ true
+fewer : (p q : Tree → Bool) (xs : List Tree) (x : Tree) → ((z : Tree) → In xs z → p z ≡ true → q z ≡ true) → In xs x
+    → p x ≡ false → q x ≡ true
     → how_many p xs < how_many q xs
 fewer p q [] x h i a b = absurd i
 fewer p q (y ∷ ys) x h (inl e) a b =
@@ -74,7 +79,8 @@ fewer p q (y ∷ ys) x h (inl e) a b =
       ap one_if (ap q e ∙ b),
       no_more p q ys (λ z i. h z (inr i)),
     )
-fewer p q (y ∷ ys) x h (inr i) a b = omega (arith, one_each (p y) (q y) (h y (inl refl)), fewer p q ys x (λ z j. h z (inr j)) i a b)
+fewer p q (y ∷ ys) x h (inr i) a b =
+    omega (arith, one_each (p y) (q y) (h y (inl refl)), fewer p q ys x (λ z j. h z (inr j)) i a b)
 
 -- a step of a climb: a term of the list above another one; the climb ends there if the term is good, and goes on from
 -- it if it is open and what is above it is above the other one
@@ -83,18 +89,22 @@ Climbs R xs Good Open y =
     (x : Tree) × In xs x × (R x y ≡ true) × (Good x ⊎ (Open x × ((z : Tree) → In xs z → R z x ≡ true → R z y ≡ true)))
 
 -- a climb within a list ends: by induction on how many terms of the list are above the present one
-climb : (R : Tree → Tree → Bool) (xs : List Tree) (Good Open : Tree → Type 0) → ((x : Tree) → In xs x → R x x ≡ false) → ((y : Tree) → Open y → Climbs R xs Good Open y)
+climb : (R : Tree → Tree → Bool) (xs : List Tree) (Good Open : Tree → Type 0) → ((x : Tree) → In xs x → R x x ≡ false)
+    → ((y : Tree) → Open y → Climbs R xs Good Open y)
     → (n : ℕ) (y : Tree) → Open y → how_many (λ z. R z y) xs < n → (x : Tree) × In xs x × Good x × (R x y ≡ true)
 climb R xs Good Open irr step zero y o lt = absurd (omega (arith, lt))
 climb R xs Good Open irr step (suc n) y o lt =
     let s = step y o in
     ⊎_elim (λ g. (s.0, s.1, g, s.2))
-    (λ w. let r = climb R xs Good Open irr step n s.0 w.0 (omega (arith, lt, fewer (λ z. R z s.0) (λ z. R z y) xs s.0 w.1 s.1 (irr s.0 s.1) s.2)) in
+    (λ w. let r =
+    climb R xs Good Open irr step n s.0 w.0
+    (omega (arith, lt, fewer (λ z. R z s.0) (λ z. R z y) xs s.0 w.1 s.1 (irr s.0 s.1) s.2)) in
     (r.0, r.1, r.2, w.1 r.0 r.1 r.3))
     s.3
 
 -- from an open term one comes to a good one above it
-climbed : (R : Tree → Tree → Bool) (xs : List Tree) (Good Open : Tree → Type 0) → ((x : Tree) → In xs x → R x x ≡ false) → ((y : Tree) → Open y → Climbs R xs Good Open y)
+climbed : (R : Tree → Tree → Bool) (xs : List Tree) (Good Open : Tree → Type 0) → ((x : Tree) → In xs x → R x x ≡ false)
+    → ((y : Tree) → Open y → Climbs R xs Good Open y)
     → (y : Tree) → Open y → (x : Tree) × In xs x × Good x × (R x y ≡ true)
 climbed R xs Good Open irr step y o = climb R xs Good Open irr step (suc (how_many (λ z. R z y) xs)) y o (omega arith)
 
@@ -117,7 +127,8 @@ module _ (R : Tree → Tree → Bool) (ms ns ps : List Tree)
     (irr : (x : Tree) → In ms x → R x x ≡ false)
     (down : (x y z : Tree) → In ms x → In ns y → In ps z → R x y ≡ true → R y z ≡ true → R x z ≡ true)
     (across : (x y z : Tree) → In ms x → In ps y → In ns z → R x y ≡ true → R y z ≡ true → R x z ≡ true) where
-  -- a term occurs more often in the third list than in the first, or at least as often and more often than in the second
+  -- a term occurs more often in the third list than in the first, or at least as often and more often than in the
+  -- second
   abbrev Wanted : Tree → Type 0
   Wanted y = (count y ms < count y ps) ⊎ ((count y ms ≤ count y ps) × (count y ns < count y ps))
 
@@ -126,7 +137,8 @@ module _ (R : Tree → Tree → Bool) (ms ns ps : List Tree)
   wanted_in y (inr h) = in_from_count y ps (omega (arith, h.1))
 
   -- from a term that remains of the last list beside the middle one
-  from_middle : MultisetAbove R ms ns → MultisetAbove R ns ps → (y : Tree) → In ps y → count y ns < count y ps → Climbs R ms (Remains ms ps) Wanted y
+  from_middle : MultisetAbove R ms ns → MultisetAbove R ns ps → (y : Tree) → In ps y → count y ns < count y ps
+      → Climbs R ms (Remains ms ps) Wanted y
   from_middle f g y i lt =
       let b = g.1 y lt in
       let x : Tree = b.0 in
@@ -150,7 +162,8 @@ module _ (R : Tree → Tree → Bool) (ms ns ps : List Tree)
       (cases_lt (count x ps) (count x ms))
 
   -- from one that doesn't
-  from_first : MultisetAbove R ms ns → (y : Tree) → count y ms < count y ps → count y ps ≤ count y ns → Climbs R ms (Remains ms ps) Wanted y
+  from_first : MultisetAbove R ms ns → (y : Tree) → count y ms < count y ps → count y ps ≤ count y ns
+      → Climbs R ms (Remains ms ps) Wanted y
   from_first f y lt le =
       let a = f.1 y (omega (arith, lt, le)) in
       let w : Tree = a.0 in
@@ -162,7 +175,8 @@ module _ (R : Tree → Tree → Bool) (ms ns ps : List Tree)
         a.2,
         inr (
           inr (ge, omega (arith, ge, a.1)),
-          λ z zm r. across z w y zm (in_from_count w ps (omega (arith, ge, a.1))) (in_from_count y ns (omega (arith, lt, le))) r a.2,
+          λ z zm r. across z w y zm (in_from_count w ps (omega (arith, ge, a.1)))
+              (in_from_count y ns (omega (arith, lt, le))) r a.2,
         ),
       ))
       (cases_lt (count w ps) (count w ms))
@@ -170,7 +184,8 @@ module _ (R : Tree → Tree → Bool) (ms ns ps : List Tree)
   step : MultisetAbove R ms ns → MultisetAbove R ns ps → (y : Tree) → Wanted y → Climbs R ms (Remains ms ps) Wanted y
   step f g y (inr h) = from_middle f g y (wanted_in y (inr h)) h.1
   step f g y (inl lt) =
-      ⊎_elim (λ low. from_middle f g y (wanted_in y (inl lt)) low) (λ high. from_first f y lt high) (cases_lt (count y ns) (count y ps))
+      ⊎_elim (λ low. from_middle f g y (wanted_in y (inl lt)) low) (λ high. from_first f y lt high)
+      (cases_lt (count y ns) (count y ps))
 
   reached : MultisetAbove R ms ns → MultisetAbove R ns ps → (y : Tree) → Wanted y → Beaten R ms ps y
   reached f g y o = let r = climbed R ms (Remains ms ps) Wanted irr (step f g) y o in (r.0, r.2, r.3)
@@ -178,12 +193,14 @@ module _ (R : Tree → Tree → Bool) (ms ns ps : List Tree)
   -- above a list that is above a third is above the third
   pub multiset_transitive : MultisetAbove R ms ns → MultisetAbove R ns ps → MultisetAbove R ms ps
   multiset_transitive f g = (
-    ⊎_elim (λ good. (f.0.0, good)) (λ ge. let r = reached f g f.0.0 (inr (ge, omega (arith, ge, f.0.1))) in (r.0, r.1)) (cases_lt (count f.0.0 ps) (count f.0.0 ms)),
+    ⊎_elim (λ good. (f.0.0, good)) (λ ge. let r = reached f g f.0.0 (inr (ge, omega (arith, ge, f.0.1))) in (r.0, r.1))
+        (cases_lt (count f.0.0 ps) (count f.0.0 ms)),
     λ y lt. reached f g y (inl lt),
   )
 
 -- one term in the stead of a lower one makes a list that is above
-pub multiset_replaced : (R : Tree → Tree → Bool) (ms ns : List Tree) (x y : Tree) → (x ≡ y → ⊥) → R x y ≡ true → ((t : Tree) → count t ms + tally t y ≡ count t ns + tally t x)
+pub multiset_replaced : (R : Tree → Tree → Bool) (ms ns : List Tree) (x y : Tree) → (x ≡ y → ⊥) → R x y ≡ true
+    → ((t : Tree) → count t ms + tally t y ≡ count t ns + tally t x)
     → MultisetAbove R ms ns
 multiset_replaced R ms ns x y apart above same = (
   (x, omega (arith, same x, tally_same x x refl, tally_other x y (λ e. apart (sym e)))),
@@ -207,7 +224,10 @@ total_without g t (u ∷ us) i =
     let a : without t (u ∷ us) ≡ us = cond-true (same_tree u t) us (u ∷ without t us) ((tree_Decides u t).1 e) in
     omega (arith, ap g e, ap (total g) a))
     (λ n.
-    let a : without t (u ∷ us) ≡ u ∷ without t us = cond-false (same_tree u t) us (u ∷ without t us) (false_from_ne_true (same_tree u t) (λ e. n ((tree_Decides u t).0 e))) in
+    let a : without t (u ∷ us) ≡ u
+    ∷ without t us =
+    cond-false (same_tree u t) us (u ∷ without t us)
+    (false_from_ne_true (same_tree u t) (λ e. n ((tree_Decides u t).0 e))) in
     let j : In us t = ⊎_elim (λ e. absurd (n e)) (λ j. j) i in
     omega (arith, ap (total g) a, total_without g t us j))
     (tree_cases u t)
@@ -264,7 +284,8 @@ others_split g x (u ∷ us) e =
 
 others_below : (g : Tree → ℕ) (x u : Tree) → 0 < others g x u → 0 < g u
 others_below g x u lt =
-    ⊎_elim (λ e. absurd (omega (arith, lt, cond-true (same_tree u x) 0 (g u) e))) (λ e. omega (arith, lt, cond-false (same_tree u x) 0 (g u) e)) (cases_Bool (same_tree u x))
+    ⊎_elim (λ e. absurd (omega (arith, lt, cond-true (same_tree u x) 0 (g u) e)))
+    (λ e. omega (arith, lt, cond-false (same_tree u x) 0 (g u) e)) (cases_Bool (same_tree u x))
 
 module _ (R : Tree → Tree → Bool) (h : Tree → Tree) (ms ns : List Tree)
     (irr : (x : Tree) → R x x ≡ false)
@@ -279,7 +300,8 @@ module _ (R : Tree → Tree → Bool) (h : Tree → Tree) (ms ns : List Tree)
       let r = surplus (λ u. tally z (h u)) ms ns (omega (arith, lt, count_mapped h z ms, count_mapped h z ns)) in
       (r.0, r.1, tally_is z (h r.0) r.2)
 
-  -- a term that remains of the first list has an image that remains, or that is one of a term that remains of the second
+  -- a term that remains of the first list has an image that remains, or that is one of a term that remains of the
+  -- second
   image_of : (x : Tree) → Remains ms ns x → Remains (map h ms) (map h ns) (h x) ⊎ Image (h x)
   image_of x lt =
       let g : Tree → ℕ = λ u. tally (h x) (h u) in
@@ -287,19 +309,34 @@ module _ (R : Tree → Tree → Bool) (h : Tree → Tree) (ms ns : List Tree)
       ⊎_elim (λ good. inl good)
       (λ le.
       let r = surplus (others g x) ms ns
-      (omega (arith, lt, le, count_mapped h (h x) ms, count_mapped h (h x) ns, others_split g x ms one, others_split g x ns one)) in
+      (omega (
+        arith,
+        lt,
+        le,
+        count_mapped h (h x) ms,
+        count_mapped h (h x) ns,
+        others_split g x ms one,
+        others_split g x ns one,
+      )) in
       inr (r.0, r.1, tally_is (h x) (h r.0) (others_below g x r.0 r.2)))
       (cases_lt (count (h x) (map h ns)) (count (h x) (map h ms)))
 
-  image_step : MultisetAbove R ms ns → (z : Tree) → Image z → Climbs R (map h ms) (Remains (map h ms) (map h ns)) Image z
+  image_step : MultisetAbove R ms ns → (z : Tree) → Image z
+      → Climbs R (map h ms) (Remains (map h ms) (map h ns)) Image z
   image_step f z o =
       let b = f.1 o.0 o.1 in
       let i : In ms b.0 = remains_in ms ns b.0 b.1 in
-      let r : R (h b.0) z ≡ true = subst (λ y. R (h b.0) y ≡ true) o.2 (keeps b.0 o.0 i (remains_in ns ms o.0 o.1) b.2) in
-      (h b.0, in_mapped h b.0 ms i, r, ⊎_elim (λ good. inl good) (λ w. inr (w, λ y j s. transitive y (h b.0) z s r)) (image_of b.0 b.1))
+      let r : R (h b.0) z ≡ true =
+      subst (λ y. R (h b.0) y ≡ true) o.2 (keeps b.0 o.0 i (remains_in ns ms o.0 o.1) b.2) in (
+        h b.0,
+        in_mapped h b.0 ms i,
+        r,
+        ⊎_elim (λ good. inl good) (λ w. inr (w, λ y j s. transitive y (h b.0) z s r)) (image_of b.0 b.1),
+      )
 
   image_reached : MultisetAbove R ms ns → (z : Tree) → Image z → Beaten R (map h ms) (map h ns) z
-  image_reached f z o = let r = climbed R (map h ms) (Remains (map h ms) (map h ns)) Image (λ x i. irr x) (image_step f) z o in (r.0, r.2, r.3)
+  image_reached f z o = let r =
+      climbed R (map h ms) (Remains (map h ms) (map h ns)) Image (λ x i. irr x) (image_step f) z o in (r.0, r.2, r.3)
 
   -- a map that keeps the relation keeps it on lists
   pub multiset_mapped : MultisetAbove R ms ns → MultisetAbove R (map h ms) (map h ns)

@@ -3,7 +3,7 @@ ghost use Rattle.std.specs.Prelude.{◌≡◌, ◌↔◌, IsTrue, ℕ, Bool, tru
 ghost use Rattle.std.specs.List.{list_any, list_all};
 ghost use Rattle.larch_term.specs.Operator.{PlainOperator};
 ghost use Rattle.larch_term.specs.Place.{at, put};
-ghost use Rattle.larch_term.specs.Substitution.{substituted};
+ghost use Rattle.larch_term.specs.Substitution.{instance_of};
 ghost use Rattle.larch_term.specs.Tree.{Tree, Forest, var, app, list_of};
 ghost use Rattle.larch_term.specs.declared.substitution.Entry.{Entry};
 ghost use Rattle.larch_order.specs.Greater.{Greater, greater, heads_beat};
@@ -47,7 +47,7 @@ pub fn greater_is_irreflexive()
 /// A term stays greater than another one where both have their variables replaced.
 pub fn greater_is_stable()
     ensures { (ranks : List Ranked) (es : List Entry) (t u : Tree) → Greater ranks t u →
-        Greater ranks (substituted es t) (substituted es u) }
+        Greater ranks (instance_of es t) (instance_of es u) }
 {}
 
 /// A term grows where a greater one is put in the stead of a subterm.

@@ -1,9 +1,9 @@
 ghost use Rattle.std.specs.Prelude.{◌≡◌, ◌++◌, ◌∷◌, [], map, IfOk, OnOk};
-ghost use Rattle.larch_order.specs.Precedence.{unranked, precedence_of};
+ghost use Rattle.larch_order.specs.Precedence.{new_rank, precedence_of};
 
 use crate::precedence::{Precedence, Ranked};
 use larch_base::{Memory, Sequence, Way};
-use larch_operators::{existing_sorts, push_built_ins};
+use larch_sorts_known::{existing_sorts, push_built_ins};
 use larch_term::{Operator, Theory};
 use std::alloc::Global;
 
@@ -25,7 +25,7 @@ impl Precedence {
 }
 
 fn push_operators(ranks: &mut Vec<Ranked>, operators: &[Operator]) -> Result<(), Memory>
-    ensures { OnOk result (ranks.new.items ≡ ranks.old.items ++ map unranked operators.now) }
+    ensures { OnOk result (ranks.new.items ≡ ranks.old.items ++ map new_rank operators.now) }
 {
     for operator in operators {
         let operator = operator.copy()?;
@@ -36,7 +36,7 @@ fn push_operators(ranks: &mut Vec<Ranked>, operators: &[Operator]) -> Result<(),
 
 // Puts an operator above the others.
 fn push(ranks: &mut Vec<Ranked>, operator: Operator) -> Result<(), Memory>
-    ensures { OnOk result (ranks.new.items ≡ ranks.old.items ++ unranked operator ∷ []) }
+    ensures { OnOk result (ranks.new.items ≡ ranks.old.items ++ new_rank operator ∷ []) }
 {
     ranks.push(Ranked {
         operator,

@@ -2,7 +2,7 @@ ghost use Rattle.std.specs.Prelude.{◌≡◌, ◌↔◌, ◌⊎◌, ◌≤◌, 
 ghost use Rattle.std.specs.List.{insert, remove};
 ghost use Rattle.larch_order.specs.declared.precedence.Ranked.{Ranked};
 ghost use Rattle.larch_order.specs.Precedence.{IsIndex, has, height_of, status_of, above, above_built_ins};
-ghost use Rattle.larch_order.specs.Precedence.{with_constant, raised, with_status};
+ghost use Rattle.larch_order.specs.Precedence.{with_constant, raise, with_status};
 ghost use Rattle.larch_order.specs.declared.precedence.OrderRefusal.TheVariants.{Memory as wants_memory};
 
 use indexmap::IndexMap;
@@ -110,7 +110,7 @@ impl Precedence {
         upper: &Operator,
         lower: &Operator,
     ) -> Result<(), OrderRefusal>
-        ensures ok { OnOk result (self.new ≡ raised self.old upper.now lower.now) }
+        ensures ok { OnOk result (self.new ≡ raise self.old upper.now lower.now) }
         ensures err { OnErr result (self.new ≡ self.old) }
         ensures unknown { IsErrOf result OrderRefusal.Unknown ↔
             ((has self.old upper.now ≡ false) ⊎ (has self.old lower.now ≡ false)) }

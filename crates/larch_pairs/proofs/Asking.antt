@@ -7,8 +7,8 @@ use Rattle.larch_term.proofs.TreeLists.{list_of-forest_of}
 use Rattle.larch_term.specs.Equality.{same_operator}
 use Rattle.larch_term.specs.Tree.{Tree, Forest, var, app, none, more, forest_of, list_of}
 use Rattle.larch_term.specs.declared.variable.Variable.{Variable}
-use Rattle.larch_term_laws.proofs.Occurring.{variable_Decides}
-use Rattle.larch_pairs.specs.Demand.{demand, demand_all, or_next, paired}
+use Rattle.larch_term_law.proofs.Occurring.{variable_Decides}
+use Rattle.larch_pairs.specs.Demand.{demand, demand_all, or_next, pairs_of}
 use Rattle.larch_pairs.specs.declared.demand.Demand.{Demand}
 use Rattle.larch_pairs.specs.declared.demand.Demand.TheVariants.{Nothing, Bind, Clash}
 
@@ -23,7 +23,8 @@ mutual
   -- equal terms ask for nothing
   pub dropped : (t : Tree) → demand t t ≡ Nothing
   dropped (var n s) =
-      let v : Variable = record { name = n; sort = s } in chosen _ Nothing (Bind v (var n s) []) ((variable_Decides v v).1 refl)
+      let v : Variable = record { name = n; sort = s } in
+      chosen _ Nothing (Bind v (var n s) []) ((variable_Decides v v).1 refl)
   dropped (app f ts) =
       chosen _ (demand_all ts ts) Clash
       (and_both (same_operator f f) (length (list_of ts) == length (list_of ts)) ((operator_Decides f f).1 refl)
@@ -32,4 +33,4 @@ mutual
 
   all_dropped : (ts : Forest) → demand_all ts ts ≡ Nothing
   all_dropped none = refl
-  all_dropped (more t ts) = ap (λ d. or_next d (paired ts ts) (demand_all ts ts)) (dropped t) ∙ all_dropped ts
+  all_dropped (more t ts) = ap (λ d. or_next d (pairs_of ts ts) (demand_all ts ts)) (dropped t) ∙ all_dropped ts

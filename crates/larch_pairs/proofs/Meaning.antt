@@ -1,5 +1,6 @@
 -- What a demand means: it is met by exactly the substitutions that make the sides of its equations one.
-use Rattle.std.proofs.Common.{◌≡◌, ◌↔◌, suc, ◌==◌, ◌&&◌, ◌||◌, ◌≤◌, inl, inr, cond, Bool, true, false, List, [], ◌∷◌, ◌++◌, length, All, arith, refl, sym, ◌∙◌, ap, ap₂}
+use Rattle.std.proofs.Common.{◌≡◌, ◌↔◌, suc, ◌==◌, ◌&&◌, ◌||◌, ◌≤◌, inl, inr, cond, Bool, true, false, List, [], ◌∷◌}
+use Rattle.std.proofs.Common.{◌++◌, length, All, arith, refl, sym, ◌∙◌, ap, ap₂}
 use Rattle.std.specs.Bool.{Decides}
 use Rattle.std.specs.List.{list_any}
 use Rattle.std.proofs.lemmas.Bool.Decides.{Decides-and, Decides-eqb}
@@ -9,20 +10,20 @@ use Rattle.larch_base.proofs.Bools.{true_or_false}
 use Rattle.larch_term.proofs.Decided.{operator_Decides}
 use Rattle.larch_term.specs.Equality.{same_operator}
 use Rattle.larch_term.specs.Operator.{PlainOperator}
-use Rattle.larch_term.specs.Substitution.{image, substituted, substituted_all}
+use Rattle.larch_term.specs.Substitution.{image, instance_of, substituted_all}
 use Rattle.larch_term.specs.Tree.{Tree, Forest, var, app, none, more, nodes, nodes_all, list_of}
 use Rattle.larch_term.specs.Variable.{occurrences_in, same_variable}
 use Rattle.larch_term.specs.declared.substitution.Entry.{Entry}
 use Rattle.larch_term.specs.declared.variable.Variable.{Variable}
-use Rattle.larch_term_laws.proofs.Occurring.{variable_Decides}
-use Rattle.larch_pairs.specs.Demand.{demand, demand_all, first_demand, occurs, or_next, paired}
+use Rattle.larch_term_law.proofs.Occurring.{variable_Decides}
+use Rattle.larch_pairs.specs.Demand.{demand, demand_all, first_demand, occurs, or_next, pairs_of}
 use Rattle.larch_pairs.specs.declared.demand.Demand.{Demand}
 use Rattle.larch_pairs.specs.declared.demand.Demand.TheVariants.{Nothing, Bind, Clash}
 use Rattle.larch_pairs.specs.declared.demand.Sides.{Sides}
 
 -- a substitution makes both sides one
 abbrev pub Unifies : List Entry → Tree → Tree → Type 0
-Unifies es t u = substituted es t ≡ substituted es u
+Unifies es t u = instance_of es t ≡ instance_of es u
 
 abbrev pub Solves : List Entry → List Sides → Type 0
 Solves es = All (λ e. Unifies es e.left e.right)
@@ -30,7 +31,7 @@ Solves es = All (λ e. Unifies es e.left e.right)
 -- a substitution meets a demand
 abbrev pub Meets : List Entry → Demand → Type 0
 Meets es Nothing = Unit {0}
-Meets es (Bind v t rest) = (image es v.name v.sort ≡ substituted es t) × Solves es rest
+Meets es (Bind v t rest) = (image es v.name v.sort ≡ instance_of es t) × Solves es rest
 Meets es Clash = ⊥
 
 front : {X : Type 0} (P : X → Type 0) (xs ys : List X) → All P (xs ++ ys) → All P xs
@@ -57,9 +58,11 @@ only_here false h = h
 
 mutual
   -- a term has no fewer nodes than what takes the place of a variable in it
-  grown : (es : List Entry) (v : Variable) (t : Tree) → occurs v t ≡ true → nodes (image es v.name v.sort) ≤ nodes (substituted es t)
+  grown : (es : List Entry) (v : Variable) (t : Tree) → occurs v t ≡ true
+      → nodes (image es v.name v.sort) ≤ nodes (instance_of es t)
   grown es v (var m r) h =
-      let i = (variable_Decides v (record { name = m; sort = r })).0 (only_here (same_variable v (record { name = m; sort = r })) h) in
+      let i = (variable_Decides v (record { name = m; sort = r })).0
+      (only_here (same_variable v (record { name = m; sort = r })) h) in
       let j = ap (λ w. nodes (image es w.name w.sort)) i in
       omega (arith, j)
   grown es v (app g us) h = let i = grown_in es v us h in omega arith
@@ -76,11 +79,11 @@ mutual
 
 -- a variable never becomes what an application in which it occurs becomes
 never_within : (es : List Entry) (v : Variable) (f : PlainOperator) (ts : Forest) → occurs v (app f ts) ≡ true
-    → image es v.name v.sort ≡ substituted es (app f ts) → ⊥
+    → image es v.name v.sort ≡ instance_of es (app f ts) → ⊥
 never_within es v f ts h e = let i = grown_in es v ts h in let j = ap nodes e in absurd (omega (arith, i, j))
 
 binding_met : (es : List Entry) (v : Variable) (f : PlainOperator) (ts : Forest) (b : Bool) → occurs v (app f ts) ≡ b
-    → (image es v.name v.sort ≡ substituted es (app f ts)) ↔ Meets es (cond b Clash (Bind v (app f ts) []))
+    → (image es v.name v.sort ≡ instance_of es (app f ts)) ↔ Meets es (cond b Clash (Bind v (app f ts) []))
 binding_met es v f ts true e = (λ h. never_within es v f ts e h, λ m. absurd m)
 binding_met es v f ts false e = (λ h. (h, All-nil (λ d. Unifies es d.left d.right)), λ m. m.0)
 
@@ -90,25 +93,27 @@ variables_met es v w true e =
     let i = (variable_Decides v w).0 e in (λ h. tt, λ m j. image es (i j).name (i j).sort)
 variables_met es v w false e = (λ h. (h, All-nil (λ d. Unifies es d.left d.right)), λ m. m.0)
 
-same_length : (es : List Entry) (ts us : Forest) → substituted_all es ts ≡ substituted_all es us → length (list_of ts) ≡ length (list_of us)
+same_length : (es : List Entry) (ts us : Forest) → substituted_all es ts ≡ substituted_all es us
+    → length (list_of ts) ≡ length (list_of us)
 same_length es none none e = refl
 same_length es none (more u us) e = cc
 same_length es (more t ts) none e = cc
-same_length es (more t ts) (more u us) e = let i : substituted_all es ts ≡ substituted_all es us = cc in ap suc (same_length es ts us i)
+same_length es (more t ts) (more u us) e = let i : substituted_all es ts ≡ substituted_all es us = cc in
+    ap suc (same_length es ts us i)
 
 paired_solved : (es : List Entry) (ts us : Forest) → length (list_of ts) ≡ length (list_of us)
-    → (substituted_all es ts ≡ substituted_all es us) ↔ Solves es (paired ts us)
+    → (substituted_all es ts ≡ substituted_all es us) ↔ Solves es (pairs_of ts us)
 paired_solved es none none n = (λ e. All-nil (λ d. Unifies es d.left d.right), λ h. refl)
 paired_solved es none (more u us) n = absurd (omega (arith, n))
 paired_solved es (more t ts) none n = absurd (omega (arith, n))
 paired_solved es (more t ts) (more u us) n =
     let m : length (list_of ts) ≡ length (list_of us) = omega (arith, n) in
     let r = paired_solved es ts us m in (
-      λ e. let i : substituted es t ≡ substituted es u = cc in
+      λ e. let i : instance_of es t ≡ instance_of es u = cc in
           let j : substituted_all es ts ≡ substituted_all es us = cc in
-          All-cons (λ d. Unifies es d.left d.right) (record { left = t; right = u }) (paired ts us) i (r.0 j),
-      λ h. let i = All-head (λ d. Unifies es d.left d.right) (record { left = t; right = u }) (paired ts us) h in
-          let j = r.1 (All-tail (λ d. Unifies es d.left d.right) (record { left = t; right = u }) (paired ts us) h) in
+          All-cons (λ d. Unifies es d.left d.right) (record { left = t; right = u }) (pairs_of ts us) i (r.0 j),
+      λ h. let i = All-head (λ d. Unifies es d.left d.right) (record { left = t; right = u }) (pairs_of ts us) h in
+          let j = r.1 (All-tail (λ d. Unifies es d.left d.right) (record { left = t; right = u }) (pairs_of ts us) h) in
           λ k. more (i k) (j k),
     )
 
@@ -122,14 +127,16 @@ flipped : {X : Type 0} {x y : X} {B : Type 0} → (x ≡ y) ↔ B → (y ≡ x) 
 flipped f = (λ e. f.0 (sym e), λ b. sym (f.1 b))
 
 told_alike : (f g : PlainOperator) (ts us : Forest)
-    → Decides (same_operator f g && length (list_of ts) == length (list_of us)) ((f ≡ g) × (length (list_of ts) ≡ length (list_of us)))
+    → Decides (same_operator f g && length (list_of ts) == length (list_of us))
+    ((f ≡ g) × (length (list_of ts) ≡ length (list_of us)))
 told_alike f g ts us =
     Decides-and (same_operator f g) (length (list_of ts) == length (list_of us)) (operator_Decides f g)
     (Decides-eqb (length (list_of ts)) (length (list_of us)))
 
 applications_met : (es : List Entry) (f g : PlainOperator) (ts us : Forest) (b : Bool)
     → (same_operator f g && length (list_of ts) == length (list_of us)) ≡ b
-    → (length (list_of ts) ≡ length (list_of us) → (substituted_all es ts ≡ substituted_all es us) ↔ Meets es (demand_all ts us))
+    → (length (list_of ts) ≡ length (list_of us)
+    → (substituted_all es ts ≡ substituted_all es us) ↔ Meets es (demand_all ts us))
     → (app f (substituted_all es ts) ≡ app g (substituted_all es us)) ↔ Meets es (cond b (demand_all ts us) Clash)
 applications_met es f g ts us true e h =
     let p = (told_alike f g ts us).0 e in
@@ -137,7 +144,8 @@ applications_met es f g ts us true e h =
 applications_met es f g ts us false e h = (
   λ q. let i : f ≡ g = cc in
       let j : substituted_all es ts ≡ substituted_all es us = cc in
-      let k : (same_operator f g && length (list_of ts) == length (list_of us)) ≡ true = (told_alike f g ts us).1 (i, same_length es ts us j) in
+      let k : (same_operator f g && length (list_of ts) == length (list_of us)) ≡ true =
+      (told_alike f g ts us).1 (i, same_length es ts us j) in
       let x : true ≡ false = sym k ∙ e in
       cc,
   λ m. absurd m,
@@ -149,11 +157,14 @@ mutual
   demand_met es (var n s) (var m r) =
       variables_met es (record { name = n; sort = s }) (record { name = m; sort = r })
       (same_variable (record { name = n; sort = s }) (record { name = m; sort = r })) refl
-  demand_met es (var n s) (app g us) = binding_met es (record { name = n; sort = s }) g us (occurs (record { name = n; sort = s }) (app g us)) refl
+  demand_met es (var n s) (app g us) =
+      binding_met es (record { name = n; sort = s }) g us (occurs (record { name = n; sort = s }) (app g us)) refl
   demand_met es (app f ts) (var m r) =
-      flipped (binding_met es (record { name = m; sort = r }) f ts (occurs (record { name = m; sort = r }) (app f ts)) refl)
+      flipped (binding_met es (record { name = m; sort = r }) f ts
+      (occurs (record { name = m; sort = r }) (app f ts)) refl)
   demand_met es (app f ts) (app g us) =
-      applications_met es f g ts us (same_operator f g && length (list_of ts) == length (list_of us)) refl (λ n. arguments_met es ts us n)
+      applications_met es f g ts us (same_operator f g && length (list_of ts) == length (list_of us)) refl
+      (λ n. arguments_met es ts us n)
 
   arguments_met : (es : List Entry) (ts us : Forest) → length (list_of ts) ≡ length (list_of us)
       → (substituted_all es ts ≡ substituted_all es us) ↔ Meets es (demand_all ts us)
@@ -164,8 +175,9 @@ mutual
       let m : length (list_of ts) ≡ length (list_of us) = omega (arith, n) in
       let first = demand_met es t u in
       let rest = paired_solved es ts us m in
-      let next = next_met es (demand t u) (paired ts us) (demand_all ts us) (both (turned rest) (arguments_met es ts us m)) in (
-        λ e. let i : substituted es t ≡ substituted es u = cc in
+      let next = next_met es (demand t u) (pairs_of ts us) (demand_all ts us)
+      (both (turned rest) (arguments_met es ts us m)) in (
+        λ e. let i : instance_of es t ≡ instance_of es u = cc in
             let j : substituted_all es ts ≡ substituted_all es us = cc in
             next.0 (first.0 i, rest.0 j),
         λ h. let p = next.1 h in
@@ -180,6 +192,9 @@ first_met es [] = (λ h. tt, λ m. All-nil (λ d. Unifies es d.left d.right))
 first_met es (d ∷ ds) =
     let first = demand_met es d.left d.right in
     let next = next_met es (demand d.left d.right) ds (first_demand ds) (first_met es ds) in (
-      λ h. next.0 (first.0 (All-head (λ e. Unifies es e.left e.right) d ds h), All-tail (λ e. Unifies es e.left e.right) d ds h),
+      λ h. next.0 (
+        first.0 (All-head (λ e. Unifies es e.left e.right) d ds h),
+        All-tail (λ e. Unifies es e.left e.right) d ds h,
+      ),
       λ m. let p = next.1 m in All-cons (λ e. Unifies es e.left e.right) d ds (first.1 p.0) p.1,
     )

@@ -5,15 +5,15 @@ use Rattle.std.proofs.lemmas.List.Elements.{All-nil, All-cons, All-head, All-tai
 use Rattle.larch_term.specs.Equality.{same_operator}
 use Rattle.larch_term.specs.Operator.{PlainOperator}
 use Rattle.larch_term.specs.Sorts.{IsOver, AllOver}
-use Rattle.larch_term.specs.Substitution.{substituted}
+use Rattle.larch_term.specs.Substitution.{instance_of}
 use Rattle.larch_term.specs.Tree.{Tree, Forest, var, app, none, more, list_of}
 use Rattle.larch_term.specs.Variable.{same_variable}
 use Rattle.larch_term.specs.declared.substitution.Entry.{Entry}
 use Rattle.larch_term.specs.declared.variable.Variable.{Variable}
-use Rattle.larch_term_laws.proofs.Substitutions.{substituted_over}
+use Rattle.larch_term_law.proofs.Substitutions.{substituted_over}
 use Rattle.larch_pairs.proofs.Solving.{Steps, at_end}
 use Rattle.larch_pairs.proofs.Unifying.{unify_is}
-use Rattle.larch_pairs.specs.Demand.{demand, demand_all, first_demand, occurs, or_next, paired}
+use Rattle.larch_pairs.specs.Demand.{demand, demand_all, first_demand, occurs, or_next, pairs_of}
 use Rattle.larch_pairs.specs.Unify.{entries_under, entry, sides_under, unify, variables_of_both}
 use Rattle.larch_pairs.specs.declared.demand.Demand.{Demand}
 use Rattle.larch_pairs.specs.declared.demand.Demand.TheVariants.{Nothing, Bind, Clash}
@@ -53,11 +53,11 @@ chosen_over fs true d h = h
 chosen_over fs false d h = tt
 
 paired_over : (fs : List PlainOperator) (ts us : Forest) → AllOver fs ts → AllOver fs us
-    → All (BothOver fs) (paired ts us)
+    → All (BothOver fs) (pairs_of ts us)
 paired_over fs none us a b = All-nil (BothOver fs)
 paired_over fs (more t ts) none a b = All-nil (BothOver fs)
 paired_over fs (more t ts) (more u us) a b =
-    All-cons (BothOver fs) (record { left = t; right = u }) (paired ts us) (a.0, b.0) (paired_over fs ts us a.1 b.1)
+    All-cons (BothOver fs) (record { left = t; right = u }) (pairs_of ts us) (a.0, b.0) (paired_over fs ts us a.1 b.1)
 
 mutual
   demand_over : (fs : List PlainOperator) (t u : Tree) → IsOver fs t → IsOver fs u → DemandOver fs (demand t u)
@@ -77,7 +77,7 @@ mutual
   arguments_over fs none us a b = tt
   arguments_over fs (more t ts) none a b = tt
   arguments_over fs (more t ts) (more u us) a b =
-      next_over fs (demand t u) (paired ts us) (demand_all ts us) (demand_over fs t u a.0 b.0)
+      next_over fs (demand t u) (pairs_of ts us) (demand_all ts us) (demand_over fs t u a.0 b.0)
       (paired_over fs ts us a.1 b.1) (arguments_over fs ts us a.1 b.1)
 
 first_over : (fs : List PlainOperator) (es : List Sides) → All (BothOver fs) es → DemandOver fs (first_demand es)
@@ -93,7 +93,7 @@ sides_over : (fs : List PlainOperator) (os : List Entry) (es : List Sides) → A
 sides_over fs os [] k h = All-nil (BothOver fs)
 sides_over fs os (e ∷ es) k h =
     let p = All-head (BothOver fs) e es h in
-    All-cons (BothOver fs) (record { left = substituted os e.left; right = substituted os e.right }) (sides_under os es)
+    All-cons (BothOver fs) (record { left = instance_of os e.left; right = instance_of os e.right }) (sides_under os es)
     (substituted_over fs os e.left k p.0, substituted_over fs os e.right k p.1)
     (sides_over fs os es k (All-tail (BothOver fs) e es h))
 
@@ -101,7 +101,7 @@ entries_over : (fs : List PlainOperator) (os bs : List Entry) → All (EntryOver
     → All (EntryOver fs) (entries_under os bs)
 entries_over fs os [] k h = All-nil (EntryOver fs)
 entries_over fs os (b ∷ bs) k h =
-    All-cons (EntryOver fs) (record { name = b.name; sort = b.sort; term = substituted os b.term })
+    All-cons (EntryOver fs) (record { name = b.name; sort = b.sort; term = instance_of os b.term })
     (entries_under os bs)
     (substituted_over fs os b.term k (All-head (EntryOver fs) b bs h))
     (entries_over fs os bs k (All-tail (EntryOver fs) b bs h))

@@ -1,5 +1,6 @@
 -- The steps of a unification.
-use Rattle.std.proofs.Common.{◌≡◌, ℕ, zero, suc, ◌<◌, ◌-◌, cond, false, List, [], ◌∷◌, ◌++◌, length, Some, None, Ok, Err, All, AllPairs, arith, refl, ◌∙◌, ap, subst}
+use Rattle.std.proofs.Common.{◌≡◌, ℕ, zero, suc, ◌<◌, ◌-◌, cond, false, List, [], ◌∷◌, ◌++◌, length, Some, None, Ok}
+use Rattle.std.proofs.Common.{Err, All, AllPairs, arith, refl, ◌∙◌, ap, subst}
 use Rattle.std.specs.List.{list_any}
 use Rattle.std.proofs.lemmas.List.Elements.{All-head, All-tail}
 use Rattle.larch_base.proofs.Bools.{or_both}
@@ -9,7 +10,8 @@ use Rattle.larch_term.specs.Tree.{Tree}
 use Rattle.larch_term.specs.declared.substitution.Entry.{Entry}
 use Rattle.larch_term.specs.declared.variable.Variable.{Variable}
 use Rattle.larch_pairs.specs.Demand.{demand, first_demand}
-use Rattle.larch_pairs.specs.Unify.{a_term_is_too_large, entry, extended, sides_under, some_large, unify, unify_from, variables_of_both}
+use Rattle.larch_pairs.specs.Unify.{a_term_is_too_large, entry, extend, sides_under, some_large, unify, unify_from}
+use Rattle.larch_pairs.specs.Unify.{variables_of_both}
 use Rattle.larch_pairs.specs.declared.demand.Demand.TheVariants.{Nothing, Bind, Clash}
 use Rattle.larch_pairs.specs.declared.demand.Sides.{Sides}
 
@@ -23,14 +25,15 @@ unfolding unify_from
 from_clash zero bs = refl
 from_clash (suc n) bs = refl
 
-pub from_zero : (v : Variable) (t : Tree) (es : List Sides) (bs : List Entry) → unify_from 0 (Bind v t es) bs ≡ Err a_term_is_too_large
+pub from_zero : (v : Variable) (t : Tree) (es : List Sides) (bs : List Entry)
+    → unify_from 0 (Bind v t es) bs ≡ Err a_term_is_too_large
 unfolding unify_from
 from_zero v t es bs = refl
 
 pub from_bind : (n : ℕ) (v : Variable) (t : Tree) (es : List Sides) (bs : List Entry) → 0 < n
     → unify_from n (Bind v t es) bs
-    ≡ cond (some_large (sides_under (entry v t ∷ []) es) (extended v t bs)) (Err a_term_is_too_large)
-    (unify_from (n - 1) (first_demand (sides_under (entry v t ∷ []) es)) (extended v t bs))
+    ≡ cond (some_large (sides_under (entry v t ∷ []) es) (extend v t bs)) (Err a_term_is_too_large)
+    (unify_from (n - 1) (first_demand (sides_under (entry v t ∷ []) es)) (extend v t bs))
 unfolding unify_from
 from_bind zero v t es bs h = absurd (omega arith)
 from_bind (suc n) v t es bs h = let e : suc n - 1 ≡ n = omega arith in rw e refl
@@ -49,10 +52,12 @@ none_in_front : (ys zs : List Entry) (e : Entry) → AllPairs (λ d e. is_entry_
 none_in_front [] zs e h = refl
 none_in_front (y ∷ ys) zs e h =
     or_both (is_entry_of e.name e.sort y) (list_any (is_entry_of e.name e.sort) ys)
-    (All-middle (λ d. is_entry_of d.name d.sort y ≡ false) ys zs e (pairs_head (λ d e. is_entry_of e.name e.sort d ≡ false) y (ys ++ e ∷ zs) h))
+    (All-middle (λ d. is_entry_of d.name d.sort y ≡ false) ys zs e
+    (pairs_head (λ d e. is_entry_of e.name e.sort d ≡ false) y (ys ++ e ∷ zs) h))
     (none_in_front ys zs e (pairs_tail (λ d e. is_entry_of e.name e.sort d ≡ false) y (ys ++ e ∷ zs) h))
 
-pub none_before : (es ys rs zs : List Entry) (e : Entry) → AllPairs (λ d e. is_entry_of e.name e.sort d ≡ false) es → es ≡ ys ++ rs → rs ≡ e ∷ zs
+pub none_before : (es ys rs zs : List Entry) (e : Entry) → AllPairs (λ d e. is_entry_of e.name e.sort d ≡ false) es
+    → es ≡ ys ++ rs → rs ≡ e ∷ zs
     → list_any (is_entry_of e.name e.sort) ys ≡ false
 none_before es ys rs zs e h a b =
     none_in_front ys zs e (subst (AllPairs (λ d e. is_entry_of e.name e.sort d ≡ false)) (a ∙ ap (λ xs. ys ++ xs) b) h)

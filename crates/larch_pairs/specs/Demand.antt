@@ -18,10 +18,10 @@ abbrev pub binding : Variable → Tree → Demand
 binding v t = if occurs v t then Clash else Bind v t []
 
 -- the equations of two lists of arguments, one by one
-abbrev pub paired : Forest → Forest → List Sides
-paired none us = []
-paired (more t ts) none = []
-paired (more t ts) (more u us) = record { left = t; right = u } ∷ paired ts us
+abbrev pub pairs_of : Forest → Forest → List Sides
+pairs_of none us = []
+pairs_of (more t ts) none = []
+pairs_of (more t ts) (more u us) = record { left = t; right = u } ∷ pairs_of ts us
 
 -- what an equation asks for, with equations behind it; where it asks for nothing, what those ask for
 abbrev pub or_next : Demand → List Sides → Demand → Demand
@@ -45,7 +45,7 @@ abbrev mutual
   pub demand_all : Forest → Forest → Demand
   demand_all none us = Nothing
   demand_all (more t ts) none = Nothing
-  demand_all (more t ts) (more u us) = or_next (demand t u) (paired ts us) (demand_all ts us)
+  demand_all (more t ts) (more u us) = or_next (demand t u) (pairs_of ts us) (demand_all ts us)
 
 -- what a list of equations asks for, the first one that asks; those before it are dropped
 abbrev pub first_demand : List Sides → Demand

@@ -1,5 +1,5 @@
 pub mod Clashes
 pub mod Demand
-pub mod Refusals
+pub mod Refusal
 pub mod Resolved
 pub mod Unify

@@ -3,7 +3,7 @@ use Rattle.std.specs.Prelude.{if◌then◌else◌, ℕ, zero, suc, nat_lt, ◌||
 use Rattle.std.specs.Prelude.{Option, Some, None, Result, Ok, Err}
 use Rattle.std.specs.List.{list_any}
 use Rattle.larch_base.specs.declared.limits.TheConstants.{MAX_TERM_NODES}
-use Rattle.larch_term.specs.Substitution.{substituted}
+use Rattle.larch_term.specs.Substitution.{instance_of}
 use Rattle.larch_term.specs.Tree.{Tree, nodes}
 use Rattle.larch_term.specs.Variable.{occurrences, with_variable, variables_of}
 use Rattle.larch_term.specs.declared.substitution.Entry.{Entry}
@@ -23,15 +23,15 @@ entry v t = record { name = v.name; sort = v.sort; term = t }
 
 -- equations with all variables replaced at once
 abbrev pub sides_under : List Entry → List Sides → List Sides
-sides_under es = map (λ e. record { left = substituted es e.left; right = substituted es e.right })
+sides_under es = map (λ e. record { left = instance_of es e.left; right = instance_of es e.right })
 
 -- entries in whose terms all variables are replaced at once
 abbrev pub entries_under : List Entry → List Entry → List Entry
-entries_under es = map (λ d. record { name = d.name; sort = d.sort; term = substituted es d.term })
+entries_under es = map (λ d. record { name = d.name; sort = d.sort; term = instance_of es d.term })
 
 -- the bindings with one more, which is put into those before
-abbrev pub extended : Variable → Tree → List Entry → List Entry
-extended v t bs = entries_under (entry v t ∷ []) bs ++ entry v t ∷ []
+abbrev pub extend : Variable → Tree → List Entry → List Entry
+extend v t bs = entries_under (entry v t ∷ []) bs ++ entry v t ∷ []
 
 -- whether a term has more than 5,000 nodes
 abbrev pub is_large : Tree → Bool
@@ -53,7 +53,7 @@ unify_from n Clash bs = Ok None
 unify_from zero (Bind v t es) bs = Err a_term_is_too_large
 unify_from (suc n) (Bind v t es) bs =
     let left = sides_under (entry v t ∷ []) es in
-    let bound = extended v t bs in
+    let bound = extend v t bs in
     if some_large left bound then Err a_term_is_too_large else unify_from n (first_demand left) bound
 
 -- the different variables of two terms, those of the first one first

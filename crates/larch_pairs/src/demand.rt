@@ -2,7 +2,7 @@ ghost use Rattle.std.specs.Prelude.{◌≡◌, ◌≤◌, ◌++◌, [], drop, le
 ghost use Rattle.std.specs.List.{list_any};
 ghost use Rattle.larch_term.specs.Variable.{occurrences_in, same_variable};
 ghost use Rattle.larch_term.specs.Tree.{forest_of};
-ghost use Rattle.larch_pairs.specs.Demand.{occurs, binding, demand, demand_all, first_demand, paired};
+ghost use Rattle.larch_pairs.specs.Demand.{occurs, binding, demand, demand_all, first_demand, pairs_of};
 
 use larch_base::{Memory, Name, Sequence};
 use larch_term::{Node, Sort, Term, Variable, copy};
@@ -169,7 +169,7 @@ fn push_pairs(
     equations: &mut Equations,
 ) -> Result<(), Memory>
     requires { length terms.now ≡ length others.now }
-    ensures { OnOk result (equations.new ≡ equations.old ++ paired (forest_of terms.now) (forest_of others.now)) }
+    ensures { OnOk result (equations.new ≡ equations.old ++ pairs_of (forest_of terms.now) (forest_of others.now)) }
 {
     for i in 0..terms.len() {
         let left = copy(alloc, &terms[i])?;

@@ -2,7 +2,7 @@
 ghost use Rattle.std.specs.Prelude.{◌≡◌, ◌≤◌, ℕ, List, [], length, All, AllPairs, Ok, Some, None, false};
 ghost use Rattle.larch_term.specs.Operator.{PlainOperator};
 ghost use Rattle.larch_term.specs.Sorts.{sort_of, IsOver, WellSorted};
-ghost use Rattle.larch_term.specs.Substitution.{is_entry_of, substituted, Fits};
+ghost use Rattle.larch_term.specs.Substitution.{is_entry_of, instance_of, Fits};
 ghost use Rattle.larch_term.specs.Tree.{Tree, Forest, app};
 ghost use Rattle.larch_term.specs.declared.substitution.Entry.{Entry};
 ghost use Rattle.larch_pairs.specs.Demand.{demand};
@@ -11,22 +11,22 @@ ghost use Rattle.larch_pairs.specs.declared.demand.Demand.TheVariants.{Nothing};
 
 /// A unifier that is answered makes both terms one, done once or twice, and binds no variable twice.
 pub fn unifiers_unify()
-    ensures unifies { (t u : Tree) (r : List Entry) → unify t u ≡ Ok (Some r) → substituted r t ≡ substituted r u }
+    ensures unifies { (t u : Tree) (r : List Entry) → unify t u ≡ Ok (Some r) → instance_of r t ≡ instance_of r u }
     ensures once { (t u : Tree) (r : List Entry) → unify t u ≡ Ok (Some r) → (x : Tree)
-        → substituted r (substituted r x) ≡ substituted r x }
+        → instance_of r (instance_of r x) ≡ instance_of r x }
     ensures different { (t u : Tree) (r : List Entry) → unify t u ≡ Ok (Some r)
         → AllPairs (λ d e. is_entry_of e.name e.sort d ≡ false) r }
 {}
 
 /// Each other substitution that makes both terms one is an instance of the answered one.
 pub fn unifiers_are_most_general()
-    ensures { (t u : Tree) (r es : List Entry) → unify t u ≡ Ok (Some r) → substituted es t ≡ substituted es u
-        → (x : Tree) → substituted es (substituted r x) ≡ substituted es x }
+    ensures { (t u : Tree) (r es : List Entry) → unify t u ≡ Ok (Some r) → instance_of es t ≡ instance_of es u
+        → (x : Tree) → instance_of es (instance_of r x) ≡ instance_of es x }
 {}
 
 /// Where no unifier is answered, no substitution makes both terms one.
 pub fn no_unifier_exists()
-    ensures { (t u : Tree) (es : List Entry) → unify t u ≡ Ok None → substituted es t ≡ substituted es u → ⊥ }
+    ensures { (t u : Tree) (es : List Entry) → unify t u ≡ Ok None → instance_of es t ≡ instance_of es u → ⊥ }
 {}
 
 /// Equal terms ask for nothing: their equation is dropped.

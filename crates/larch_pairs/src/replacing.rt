@@ -1,8 +1,8 @@
 ghost use Rattle.std.specs.Prelude.{◌≡◌, ◌+◌, ◌-◌, ◌<◌, ◌^◌, map, min, IfOk, IfSome, None};
 ghost use Rattle.larch_base.specs.Answering.{Answers};
-ghost use Rattle.larch_pairs.specs.Refusals.{told};
+ghost use Rattle.larch_pairs.specs.Refusal.{cause};
 ghost use Rattle.larch_pairs.specs.Unify.{is_large, within};
-ghost use Rattle.larch_term.specs.Substitution.{image, substituted, substituted_all};
+ghost use Rattle.larch_term.specs.Substitution.{image, instance_of, substituted_all};
 ghost use Rattle.larch_term.specs.Tree.{app, forest_of, nodes, nodes_all, var};
 
 use crate::refusal::PairRefusal;
@@ -14,7 +14,7 @@ use std::alloc::Global;
 /// The term under a substitution; `TooLarge` where it then has more than 5,000 nodes, which are counted first. It takes
 /// time by the size of the term and of what it becomes, and for each variable by the number of entries.
 pub fn substitute_within(alloc: Global, term: &Term, by: &Substitution) -> Result<Term, PairRefusal>
-    ensures { Answers told result (within (substituted by.now term.now)) }
+    ensures { Answers cause result (within (instance_of by.now term.now)) }
 {
     let under = replaced_within(alloc, term, by.as_slice())?;
     Ok(under)
@@ -22,7 +22,7 @@ pub fn substitute_within(alloc: Global, term: &Term, by: &Substitution) -> Resul
 
 // The like for entries.
 pub(crate) fn replaced_within(alloc: Global, term: &Term, by: &[Entry]) -> Result<Term, PairRefusal>
-    ensures { Answers told result (within (substituted by.now term.now)) }
+    ensures { Answers cause result (within (instance_of by.now term.now)) }
 {
     if is_large_under(term, by) {
         return Err(PairRefusal::TooLarge);
@@ -33,7 +33,7 @@ pub(crate) fn replaced_within(alloc: Global, term: &Term, by: &[Entry]) -> Resul
 
 // Whether a term under entries has more than 5,000 nodes.
 pub(crate) fn is_large_under(term: &Term, by: &[Entry]) -> bool
-    ensures { result ≡ is_large (substituted by.now term.now) }
+    ensures { result ≡ is_large (instance_of by.now term.now) }
 {
     room_behind(term, by, u64::from(MAX_TERM_NODES)).is_none()
 }
@@ -44,8 +44,8 @@ pub(crate) fn is_large_under(term: &Term, by: &[Entry]) -> bool
 #[tactic(auto, using(larch_term::specs::Tree::nodes_all_is_sum))]
 fn room_behind(term: &Term, by: &[Entry], room: u64) -> Option<u64>
     requires { room < 2 ^ 64 - 1 }
-    ensures fits { IfSome result (λ left. left + nodes (substituted by.now term.now) ≡ room) }
-    ensures exceeds { result ≡ None → room < nodes (substituted by.now term.now) }
+    ensures fits { IfSome result (λ left. left + nodes (instance_of by.now term.now) ≡ room) }
+    ensures exceeds { result ≡ None → room < nodes (instance_of by.now term.now) }
 {
     match term.node() {
         Node::Var(name, sort) => room.checked_sub(image_size(by, name, sort)),
@@ -91,7 +91,7 @@ fn image_size(by: &[Entry], name: &Name, sort: &Sort) -> u64
 #[cycle(replaced)]
 #[tactic(auto, using(larch_term::proofs::TreeLists::substituted_all_forest, larch_term::specs::Tree::nodes_all_is_sum))]
 pub(crate) fn replaced(alloc: Global, term: &Term, by: &[Entry]) -> Result<Term, Memory>
-    ensures { IfOk result (λ t. t ≡ substituted by.now term.now) }
+    ensures { IfOk result (λ t. t ≡ instance_of by.now term.now) }
 {
     match term.node() {
         Node::Var(name, sort) => image(alloc, by, name, sort),
@@ -105,7 +105,7 @@ pub(crate) fn replaced(alloc: Global, term: &Term, by: &[Entry]) -> Result<Term,
 #[cycle(replaced)]
 #[tactic(auto, using(larch_term::specs::Tree::nodes_all_is_sum))]
 fn replaced_all(alloc: Global, terms: &[Term], by: &[Entry]) -> Result<Terms, Memory>
-    ensures { IfOk result (λ ts. ts ≡ map (substituted by.now) terms.now) }
+    ensures { IfOk result (λ ts. ts ≡ map (instance_of by.now) terms.now) }
 {
     let mut items = Vec::with_capacity(alloc, terms.len())?;
     for term in terms {

@@ -1,10 +1,10 @@
 ghost use Rattle.std.specs.Prelude.{◌≡◌, ◌+◌, ◌∷◌, [], ◌||◌, AllPairs, IfOk, Ok, Err, if◌then◌else◌, false};
 ghost use Rattle.std.specs.List.{list_any};
 ghost use Rattle.larch_base.specs.Answering.{Answers};
-ghost use Rattle.larch_term.specs.Substitution.{is_entry_of, substituted};
-ghost use Rattle.larch_pairs.specs.Refusals.{told};
+ghost use Rattle.larch_term.specs.Substitution.{is_entry_of, instance_of};
+ghost use Rattle.larch_pairs.specs.Refusal.{cause};
 ghost use Rattle.larch_pairs.specs.Clashes.{unless_clash};
-ghost use Rattle.larch_pairs.specs.Resolved.{resolved};
+ghost use Rattle.larch_pairs.specs.Resolved.{resolve};
 ghost use Rattle.larch_pairs.specs.Unify.{a_term_is_too_large, is_large, sides_under, variables_of_both};
 ghost use Rattle.larch_pairs.specs.Unify.{unify, unify_from};
 ghost use Rattle.larch_term.specs.Tree.{nodes};
@@ -27,7 +27,7 @@ pub type Entries = Sequence<Entry>;
 /// copied that have its variable; bound terms are made once, at the end.
 #[tactic(auto, using(crate::proofs::Unifying::from_clash, crate::proofs::Rounds::unify_by_nodes, crate::proofs::Rounds::different_answer))]
 pub fn unify(alloc: Global, left: &Term, right: &Term) -> Result<Option<Substitution>, PairRefusal>
-    ensures { Answers told result (unify left.now right.now) }
+    ensures { Answers cause result (unify left.now right.now) }
 {
     let demand = demand_of(alloc, left, right)?;
     if let Demand::Clash = demand {
@@ -57,7 +57,7 @@ fn nodes_of_both(left: &Term, right: &Term) -> Result<u64, Memory>
 // is too large shows there too.
 #[tactic(auto, using(crate::proofs::Later::round_made, crate::proofs::Later::round_refused, crate::proofs::Later::no_round, crate::proofs::Later::ended, crate::proofs::Later::clashed))]
 fn unify_from(alloc: Global, count: u64, demand: Demand) -> Result<Option<Entries>, PairRefusal>
-    ensures { Answers told result (unify_from count demand []) }
+    ensures { Answers cause result (unify_from count demand []) }
 {
     let mut left = count;
     let mut asked = demand;
@@ -90,7 +90,7 @@ fn unify_from(alloc: Global, count: u64, demand: Demand) -> Result<Option<Entrie
             Err(memory) => return Err(let_go(PairRefusal::from(memory), bound)),
         };
     }
-    match resolved(alloc, bound) {
+    match resolve(alloc, bound) {
         Ok(bound) => Ok(unless_clash(asked, bound)),
         Err(refusal) => Err(let_go(refusal, asked)),
     }
@@ -138,7 +138,7 @@ fn sides_under(alloc: Global, equations: Equations, entry: &Entry) -> Result<Equ
 
 #[tactic(auto, using(crate::proofs::Later::same_without))]
 fn side_under(alloc: Global, side: Term, entry: &Entry) -> Result<Term, Memory>
-    ensures { IfOk result (λ t. t ≡ substituted (entry.now ∷ []) side) }
+    ensures { IfOk result (λ t. t ≡ instance_of (entry.now ∷ []) side) }
 {
     if occurs(&side, &entry.name, &entry.sort) {
         let under = replaced(alloc, &side, slice::from_ref(entry))?;
@@ -148,9 +148,9 @@ fn side_under(alloc: Global, side: Term, entry: &Entry) -> Result<Term, Memory>
 }
 
 // The bindings, the later ones put into each.
-fn resolved(alloc: Global, bound: Entries) -> Result<Entries, PairRefusal>
-    ensures { Answers told result (if list_any (λ b. is_large b.term) (resolved bound)
-        then Err a_term_is_too_large else Ok (resolved bound)) }
+fn resolve(alloc: Global, bound: Entries) -> Result<Entries, PairRefusal>
+    ensures { Answers cause result (if list_any (λ b. is_large b.term) (resolve bound)
+        then Err a_term_is_too_large else Ok (resolve bound)) }
 {
     let mut bound = bound.into_vec();
     let mut left = bound.len();

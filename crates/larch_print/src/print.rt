@@ -2,8 +2,8 @@ ghost use Rattle.std.specs.Prelude.{◌≡◌, ◌++◌, ◌<◌, IfOk, OnOk, le
 ghost use Rattle.std.specs.List.{join_by};
 ghost use Rattle.larch_term.specs.Operator.{name_bytes};
 ghost use Rattle.larch_term.specs.Tree.{forest_of};
-ghost use Rattle.larch_print.specs.Print.{printed, printed_statement, operator_line, signature_text, domain_text};
-ghost use Rattle.larch_print.specs.Print.{filled, first_placed, pieces_of, argument_list, stands_alone};
+ghost use Rattle.larch_print.specs.Print.{printing_of, printed_statement, operator_line, signature_text, domain_text};
+ghost use Rattle.larch_print.specs.Print.{fill_name, first_placed, pieces_of, argument_list, stands_alone};
 ghost use Rattle.larch_print.specs.Print.{begins_with_bracket, begins_with_marker, inside_after, opens_bracket};
 ghost use Rattle.larch_print.specs.Print.{closes_bracket};
 
@@ -13,7 +13,7 @@ use std::alloc::Global;
 
 /// The text of a term.
 pub fn print_term(alloc: Global, term: &Term) -> Result<Bytes, Memory>
-    ensures { IfOk result (λ text. text ≡ printed term.now) }
+    ensures { IfOk result (λ text. text ≡ printing_of term.now) }
 {
     let mut text = Bytes::new(alloc);
     write_term(&mut text, term)?;
@@ -24,7 +24,7 @@ pub fn print_term(alloc: Global, term: &Term) -> Result<Bytes, Memory>
 #[cycle(write)]
 #[tactic(auto, using(larch_term::specs::Tree::nodes_all_is_sum))]
 pub fn write_term(text: &mut Bytes, term: &Term) -> Result<(), Memory>
-    ensures { OnOk result (text.new ≡ text.old ++ printed term.now) }
+    ensures { OnOk result (text.new ≡ text.old ++ printing_of term.now) }
 {
     match term.node() {
         Node::Var(name, _) => {
@@ -67,7 +67,7 @@ fn write_list(text: &mut Bytes, arguments: &Terms) -> Result<(), Memory>
 #[cycle(write)]
 #[tactic(auto, using(crate::proofs::Printing::marker_step, crate::proofs::Printing::marker_within, crate::proofs::Printing::byte_step, larch_term::specs::Tree::nodes_all_is_sum))]
 fn write_filled(text: &mut Bytes, name: &[u8], arguments: &Terms) -> Result<(), Memory>
-    ensures { OnOk result (text.new ≡ text.old ++ filled false name.now (pieces_of (forest_of arguments.now))) }
+    ensures { OnOk result (text.new ≡ text.old ++ fill_name false name.now (pieces_of (forest_of arguments.now))) }
 {
     let mut at = 0;
     let mut next = 0;

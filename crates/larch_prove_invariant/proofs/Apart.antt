@@ -1,12 +1,14 @@
 -- Constants of different boxes are apart.
-use Rattle.std.specs.Prelude.{◌≡◌, ◌≢◌, ℕ, suc, Bool, true, false, cond, List, [], ◌∷◌, ◌++◌, AllPairs, Contains, None, Some, option_map, refl}
+use Rattle.std.specs.Prelude.{◌≡◌, ◌≢◌, ℕ, suc, Bool, true, false, cond, List, [], ◌∷◌, ◌++◌, AllPairs, Contains, None}
+use Rattle.std.specs.Prelude.{Some, option_map, refl}
 use Rattle.std.specs.List.{flat_map}
 use Rattle.std.specs.Option.{option_or}
 use Rattle.std.proofs.Common.{ap, ap₂, inl, inr, subst, sym, ◌∙◌}
 use Rattle.std.proofs.lemmas.List.{append_assoc, append-nil}
 use Rattle.std.proofs.lemmas.List.Elements.{All-contains}
 use Rattle.larch_base.proofs.Lists.{all_from, pairs_head, pairs_tail}
-use Rattle.larch_base.proofs.Members.{contains_here, contains_later, contains_left, contains_right, contains_cases, contains_none}
+use Rattle.larch_base.proofs.Members.{contains_here, contains_later, contains_left, contains_right, contains_cases}
+use Rattle.larch_base.proofs.Members.{contains_none}
 use Rattle.larch_term.specs.Operator.{PlainOperator}
 use Rattle.larch_term.specs.OperatorKey.{operator_Decides, same_operator}
 use Rattle.larch_calculus.specs.Theories.{AreConstants}
@@ -28,7 +30,8 @@ not_placed k (g ∷ gs) f h =
     (not_placed (suc k) gs f (λ c. h (contains_later g f gs c)))
 
 -- so it stands for no constant of boxes that don't make it
-pub not_constant : (bs : List OpenBox) (f : PlainOperator) → (Contains (flat_map (λ (y : OpenBox). y.constants) bs) f → ⊥)
+pub not_constant : (bs : List OpenBox) (f : PlainOperator)
+    → (Contains (flat_map (λ (y : OpenBox). y.constants) bs) f → ⊥)
     → constant_of bs f ≡ None
 not_constant [] f h = refl
 not_constant (b ∷ bs) f h =

@@ -10,7 +10,7 @@ use Rattle.larch_term.specs.declared.statement.Statement.{Statement}
 use Rattle.larch_term.specs.declared.statement.Statement.TheVariants.{Equation, Generated, Partitioned}
 use Rattle.larch_term.specs.declared.statement.Theory.{Theory}
 use Rattle.larch_calculus.specs.Formula.{falsity}
-use Rattle.larch_lines.specs.Acceptance.{Accepts}
+use Rattle.larch_verify_meaning.specs.Acceptance.{Accepts}
 use Rattle.larch_derive.specs.Builder.{boxes_in, lines_in, theory_in}
 use Rattle.larch_derive.specs.Predicates.{Grows, HasEquation, HasStatement}
 use Rattle.larch_derive.specs.declared.builder.Builder.{Builder}
@@ -18,13 +18,17 @@ use Rattle.larch_derive.proofs.Accepting.{accepted}
 use Rattle.larch_derive.proofs.Growth.{grown_said, grows_alike}
 use Rattle.larch_derive_boxes.specs.Boxes.{AreOwnConstants, HasResult}
 use Rattle.larch_derive_boxes.proofs.Closing.{grown_result}
-use Rattle.larch_replay.specs.Facts.{Fact}
-use Rattle.larch_replay.specs.Levels.{Level, OfDuty, OfProof, OfSubgoal, Purpose}
-use Rattle.larch_replay.specs.Plans.{Method, Plan, Setting, Subgoal, plan}
-use Rattle.larch_prove_invariant.specs.Book.{AtLine, Book, Done, all_boxes, InBox, Kept, Left, Running, SupposingBox, boxes_of, next_running, shared_boxes, with_extra, with_method, with_next}
-use Rattle.larch_prove_invariant.specs.Holding.{Begins, Enters, EntersProof, EntersSubgoal, HasAbsurd, HasFacts, HasLeft, HasOwnConstants, Holds, HoldsOf, IsForSubgoal, IsThere, Runs, RunsIfAny, Through, as_statements, said_of, shape_of, shared_shapes}
+use Rattle.larch_prove_meaning.specs.Facts.{Fact}
+use Rattle.larch_prove_meaning.specs.Levels.{Level, OfDuty, OfProof, OfSubgoal, Purpose}
+use Rattle.larch_prove_meaning.specs.Plans.{Method, Plan, Setting, Subgoal, plan}
+use Rattle.larch_prove_invariant.specs.Book.{AtLine, Book, Done, all_boxes, InBox, Kept, Left, Running, SupposingBox}
+use Rattle.larch_prove_invariant.specs.Book.{boxes_of, next_running, shared_boxes, with_extra, with_method, with_next}
+use Rattle.larch_prove_invariant.specs.Holding.{Begins, Enters, EntersProof, EntersSubgoal, HasAbsurd, HasFacts}
+use Rattle.larch_prove_invariant.specs.Holding.{HasLeft, HasOwnConstants, Holds, HoldsOf, IsForSubgoal, IsThere, Runs}
+use Rattle.larch_prove_invariant.specs.Holding.{RunsIfAny, Through, as_statements, said_of, shape_of, shared_shapes}
 use Rattle.larch_prove_invariant.specs.Leaving.{IsClosedWith, Leaving}
-use Rattle.larch_prove_invariant.proofs.Boxes.{all_open, closed_innermost, open_through, said_through, through_append, through_boxes, through_grows}
+use Rattle.larch_prove_invariant.proofs.Boxes.{all_open, closed_innermost, open_through, said_through, through_append}
+use Rattle.larch_prove_invariant.proofs.Boxes.{through_boxes, through_grows}
 
 -- ---- a level while the builder grows
 

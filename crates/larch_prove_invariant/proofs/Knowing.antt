@@ -11,8 +11,8 @@ use Rattle.larch_term.specs.declared.statement.Theory.{Theory}
 use Rattle.larch_renaming.specs.Renaming.{Carries}
 use Rattle.larch_renaming.proofs.Renamed.{renamed_term_over}
 use Rattle.larch_calculus.specs.Renaming.{HasPlainNames}
-use Rattle.larch_lines.specs.Context.{theory_of}
-use Rattle.larch_lines.specs.Events.{Event}
+use Rattle.larch_verify_meaning.specs.Context.{theory_of}
+use Rattle.larch_verify_meaning.specs.Events.{Event}
 use Rattle.larch_derive.specs.Builder.{shape_of}
 use Rattle.larch_derive.specs.OpenBox.{naming}
 use Rattle.larch_derive.specs.Predicates.{AreOthers, Known, HasNoBadLine, operators_at, shapes_of}

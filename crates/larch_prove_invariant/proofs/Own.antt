@@ -6,19 +6,22 @@ use Rattle.std.proofs.lemmas.List.{append_assoc}
 use Rattle.std.proofs.lemmas.List.Elements.{All-contains}
 use Rattle.std.proofs.lemmas.List.Kept.{AllPairs-cons}
 use Rattle.larch_base.proofs.Lists.{all_from, pairs_head, pairs_tail}
-use Rattle.larch_base.proofs.Members.{contains_cases, contains_either, contains_flat_map, contains_left, contains_none, contains_right}
+use Rattle.larch_base.proofs.Members.{contains_cases, contains_either, contains_flat_map, contains_left, contains_none}
+use Rattle.larch_base.proofs.Members.{contains_right}
 use Rattle.larch_term.specs.Operator.{PlainOperator, name_bytes}
 use Rattle.larch_term.specs.declared.statement.Statement.{Statement}
 use Rattle.larch_derive.specs.Builder.{boxes_in}
 use Rattle.larch_derive.specs.OpenBox.{constant_of}
 use Rattle.larch_derive.specs.declared.builder.Builder.{Builder}
 use Rattle.larch_derive.specs.declared.open_box.OpenBox.{OpenBox}
-use Rattle.larch_replay.specs.Levels.{Proof, all_constants}
-use Rattle.larch_replay.specs.Plans.{Cases, Conjunction, Contradiction, Implication, Induction, Method, Partition, Plan, Subgoal, plan}
-use Rattle.larch_replay.specs.Steps.{setting_of, taken_names}
-use Rattle.larch_replay.proofs.NewConstants.{own_taken, plan_constants, plan_names_differ, plan_names_free}
+use Rattle.larch_prove_meaning.specs.Levels.{Proof, all_constants}
+use Rattle.larch_prove_meaning.specs.Plans.{Cases, Conjunction, Contradiction, Implication, Induction, Method}
+use Rattle.larch_prove_meaning.specs.Plans.{Partition, Plan, Subgoal, plan}
+use Rattle.larch_prove_meaning.specs.Steps.{setting_of, taken_names}
+use Rattle.larch_prove_meaning.proofs.NewConstants.{own_taken, plan_constants, plan_names_differ, plan_names_free}
 use Rattle.larch_prove_invariant.specs.Book.{Kept, SupposingBox}
-use Rattle.larch_prove_invariant.specs.Holding.{HasOwnConstants, HoldsProof, Shape, open_constants, shape_of, shared_shapes}
+use Rattle.larch_prove_invariant.specs.Holding.{HasOwnConstants, HoldsProof, Shape, open_constants, shape_of}
+use Rattle.larch_prove_invariant.specs.Holding.{shared_shapes}
 use Rattle.larch_prove_invariant.proofs.Apart.{not_constant, pairs_across, pairs_second}
 
 -- ---- lists
@@ -97,12 +100,14 @@ own_constants s b c p ks method made shared h e x y =
           (ap (λ (z : PlainOperator). z.name) q);
       outer = all_from (λ f. constant_of (boxes_in c) f ≡ None) g.constants (λ f d.
           not_constant (boxes_in c) f (λ o. not_open f g i d
-          (subst (λ fs. Contains fs f) (flat_append (λ (z : OpenBox). z.constants) (boxes_in b) (map (λ (z : SupposingBox). z.box) shared))
+          (subst (λ fs. Contains fs f) (flat_append (λ (z : OpenBox). z.constants) (boxes_in b)
+          (map (λ (z : SupposingBox). z.box) shared))
           (subst (λ bs. Contains (flat_map (λ (z : OpenBox). z.constants) bs) f) x o))));
     })
   where
     not_open : (f : PlainOperator) (g : Subgoal) → Contains made.subgoals g → Contains g.constants f
-        → Contains (open_constants b ++ flat_map (λ (z : OpenBox). z.constants) (map (λ (z : SupposingBox). z.box) shared)) f
+        → Contains (open_constants b ++ flat_map (λ (z : OpenBox). z.constants)
+        (map (λ (z : SupposingBox). z.box) shared)) f
         → ⊥
     not_open f g i d o =
         let there = subgoal_constant made g f i d in

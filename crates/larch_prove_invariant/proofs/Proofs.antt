@@ -12,7 +12,7 @@ use Rattle.larch_derive.specs.declared.builder.Builder.{Builder}
 use Rattle.larch_derive.specs.declared.open_box.OpenBox.{OpenBox}
 use Rattle.larch_derive.proofs.Growth.{grows_alike, said_stands}
 use Rattle.larch_derive_boxes.specs.Boxes.{IsPart}
-use Rattle.larch_replay.specs.Levels.{Proof}
+use Rattle.larch_prove_meaning.specs.Levels.{Proof}
 use Rattle.larch_prove_invariant.specs.Book.{Kept}
 use Rattle.larch_prove_invariant.specs.Holding.{Holds, HoldsProof, open_constants, theory_for}
 use Rattle.larch_prove_invariant.proofs.Held.{boxes_held, current_held, holds_grows}

@@ -8,21 +8,22 @@ use Rattle.larch_term.specs.Truth.{truth}
 use Rattle.larch_term.specs.declared.statement.Statement.{Statement}
 use Rattle.larch_term.specs.declared.statement.Statement.TheVariants.{Equation, Generated, Partitioned}
 use Rattle.larch_term.specs.declared.statement.Theory.{Theory}
-use Rattle.larch_calculus.specs.Formula.{applied, constant, equality, falsity, formula, implication}
+use Rattle.larch_calculus.specs.Formula.{apply_one, constant, equality, falsity, formula, implication}
 use Rattle.larch_calculus.specs.Generation.{generation_hypotheses, place_name}
 use Rattle.larch_calculus.specs.Observation.{observations}
 use Rattle.larch_calculus.specs.Theories.{with_statements}
-use Rattle.larch_lines.specs.Acceptance.{Accepts}
+use Rattle.larch_verify_meaning.specs.Acceptance.{Accepts}
 use Rattle.larch_derive.specs.Builder.{boxes_in, lines_in, theory_in}
 use Rattle.larch_derive.specs.Predicates.{Grows, HasEquation, HasNoBadLine}
 use Rattle.larch_derive.specs.declared.builder.Builder.{Builder}
 use Rattle.larch_derive.specs.declared.open_box.OpenBox.{OpenBox}
 use Rattle.larch_derive_boxes.specs.Boxes.{AreOwnConstants, HasResult, IsOpen, IsPart, Opens}
-use Rattle.larch_normal_forms.specs.Sides.{Sides}
-use Rattle.larch_replay.specs.Facts.{Fact}
-use Rattle.larch_replay.specs.Levels.{Level, OfDuty, OfProof, OfSubgoal, Proof, Purpose}
-use Rattle.larch_replay.specs.Plans.{Cases, Conjunction, Contradiction, Implication, Induction, Method, Partition}
-use Rattle.larch_replay.specs.Plans.{Plan, Subgoal, holds, plan}
+use Rattle.larch_rewrite_meaning.specs.Sides.{Sides}
+use Rattle.larch_prove_meaning.specs.Facts.{Fact}
+use Rattle.larch_prove_meaning.specs.Levels.{Level, OfDuty, OfProof, OfSubgoal, Proof, Purpose}
+use Rattle.larch_prove_meaning.specs.Plans.{Cases, Conjunction, Contradiction, Implication, Induction, Method}
+use Rattle.larch_prove_meaning.specs.Plans.{Partition}
+use Rattle.larch_prove_meaning.specs.Plans.{Plan, Subgoal, holds, plan}
 use Rattle.larch_prove_invariant.specs.Book.{AtLine, Book, InBox, Kept, Left, Running, SupposingBox, boxes_of}
 
 -- ---- boxes
@@ -177,7 +178,7 @@ Enters (OfProof f) below k = EntersProof f below k
 abbrev pub Begins : Statement → Book → Type 0
 Begins (Equation l r) k = (k.first ≡ formula l r) × (k.entrance ≡ [])
 Begins (Generated s fs) k =
-    (g : PlainOperator) × ((k.first ≡ applied g (var (codes "x") s))
+    (g : PlainOperator) × ((k.first ≡ apply_one g (var (codes "x") s))
     × (map shape_of k.entrance ≡ record { constants = g ∷ []; hypotheses = generation_hypotheses g s fs } ∷ []))
 Begins (Partitioned s os) k =
     (c : PlainOperator) × ((d : PlainOperator) × ((k.first ≡ equality s (constant c) (constant d))

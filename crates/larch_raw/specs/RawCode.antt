@@ -14,7 +14,9 @@ abbrev position : Coded Pos
 position = pos_row.the_row.coded
 
 abbrev word : Coded RawWord
-word = code_by (List ℕ × Pos) (coded× text position) (λ w. (w.name, w.pos)) (λ p. record { name = p.0; pos = p.1 }) (λ _. refl)
+word =
+    code_by (List ℕ × Pos) (coded× text position) (λ w. (w.name, w.pos))
+    (λ p. record { name = p.0; pos = p.1 }) (λ _. refl)
 
 abbrev mutual
   pub raw_code : RawTree → Gv

@@ -87,7 +87,7 @@ impl RawTerm {
     }
 
     /// A term that is said to have this sort; the `:` stands there.
-    pub fn qualified(term: Box<RawTerm>, sort: RawWord, pos: Pos) -> RawTerm
+    pub fn qualify(term: Box<RawTerm>, sort: RawWord, pos: Pos) -> RawTerm
         ensures { result ≡ qualified term.value sort pos }
     {
         RawTerm {

@@ -17,8 +17,8 @@ pub record Renaming : Type 0 where
   pub operator : PlainOperator → PlainOperator
 
 -- the renaming that changes nothing
-abbrev pub unchanged : Renaming
-unchanged = record { sort = λ s. s; operator = λ f. f }
+abbrev pub no_renaming : Renaming
+no_renaming = record { sort = λ s. s; operator = λ f. f }
 
 -- the renaming that does what the second does and then what the first does
 abbrev pub after : Renaming → Renaming → Renaming
@@ -30,13 +30,13 @@ by_name new = record { sort = λ s. s; operator = λ f. record { name = new f.na
 
 abbrev mutual
   -- the term with other sorts and operators; a variable keeps its name
-  pub renamed : Renaming → Tree → Tree
-  renamed r (var n s) = var n (r.sort s)
-  renamed r (app f ts) = app (r.operator f) (renamed_all r ts)
+  pub rename_tree : Renaming → Tree → Tree
+  rename_tree r (var n s) = var n (r.sort s)
+  rename_tree r (app f ts) = app (r.operator f) (renamed_all r ts)
 
   pub renamed_all : Renaming → Forest → Forest
   renamed_all r none = none
-  renamed_all r (more t ts) = more (renamed r t) (renamed_all r ts)
+  renamed_all r (more t ts) = more (rename_tree r t) (renamed_all r ts)
 
 -- the variable at its other sort
 abbrev pub renamed_variable : Renaming → Variable → Variable
@@ -44,10 +44,10 @@ renamed_variable r v = record { name = v.name; sort = r.sort v.sort }
 
 -- the entry for the variable at its other sort
 abbrev pub renamed_entry : Renaming → Entry → Entry
-renamed_entry r e = record { name = e.name; sort = r.sort e.sort; term = renamed r e.term }
+renamed_entry r e = record { name = e.name; sort = r.sort e.sort; term = rename_tree r e.term }
 
 abbrev pub renamed_statement : Renaming → Statement → Statement
-renamed_statement r (Equation left right) = Equation (renamed r left) (renamed r right)
+renamed_statement r (Equation left right) = Equation (rename_tree r left) (rename_tree r right)
 renamed_statement r (Generated s fs) = Generated (r.sort s) (map r.operator fs)
 renamed_statement r (Partitioned s fs) = Partitioned (r.sort s) (map r.operator fs)
 

@@ -3,28 +3,29 @@ use Rattle.std.specs.Prelude.{◌≡◌, ◌+◌, ◌-◌, ◌≤◌, ℕ, List,
 use Rattle.std.proofs.Common.{arith, ap, ap₂, sym, subst, ◌∙◌}
 use Rattle.std.proofs.lemmas.List.Elements.{All-append, All-contains, All-weaker}
 use Rattle.larch_term.specs.Tree.{Tree, nodes}
-use Rattle.larch_applying.specs.Applying.{MayRefuse as MayRefuseApplication}
-use Rattle.larch_applying.specs.Holding.{RuleHolds, RulesHold, ReasonSays}
-use Rattle.larch_applying.specs.declared.refusal.ApplyRefusal.{ApplyRefusal}
-use Rattle.larch_applying.specs.declared.refusal.ApplyRefusal.TheVariants.{TooLarge as application_too_large, Memory as application_memory}
+use Rattle.larch_rewrite_step.specs.Applying.{MayRefuse as MayRefuseApplication}
+use Rattle.larch_rewrite_step.specs.Holding.{RuleHolds, RulesHold, ReasonSays}
+use Rattle.larch_rewrite_step.specs.declared.refusal.ApplyRefusal.{ApplyRefusal}
+use Rattle.larch_rewrite_step.specs.declared.refusal.ApplyRefusal.TheVariants.{TooLarge as application_too_large}
+use Rattle.larch_rewrite_step.specs.declared.refusal.ApplyRefusal.TheVariants.{Memory as application_memory}
 use Rattle.larch_derive.specs.declared.builder.Builder.{Builder}
 use Rattle.larch_derive.specs.Predicates.{HasEquation}
-use Rattle.larch_normal_forms.specs.NormalForm.{normal}
-use Rattle.larch_normal_forms.specs.Rewriting.{rewritten_once}
-use Rattle.larch_normal_forms.specs.Sides.{Sides}
-use Rattle.larch_normal_forms.specs.Work.{Made, OverLimit, OverSize, is_large}
-use Rattle.larch_normal_laws.specs.Level.{root_work}
-use Rattle.larch_normal_laws.proofs.Charging.{cost_made}
-use Rattle.larch_normal_laws.proofs.Turns.{begins_large, root_normal, root_limit, root_made}
-use Rattle.larch_redexes.specs.Rule.{IsSaidByRow, RowSays, left_of, right_of, reason_of}
-use Rattle.larch_redexes.specs.declared.rule.Reason.{Reason}
-use Rattle.larch_redexes.specs.declared.rule.Reason.TheVariants.{Row, Line}
-use Rattle.larch_redexes.specs.declared.rule.Rule.{Rule}
+use Rattle.larch_rewrite_meaning.specs.NormalForm.{normal}
+use Rattle.larch_rewrite_meaning.specs.Rewriting.{rewritten_once}
+use Rattle.larch_rewrite_meaning.specs.Sides.{Sides}
+use Rattle.larch_rewrite_meaning.specs.Work.{Made, OverLimit, OverSize, is_large}
+use Rattle.larch_rewrite_law.specs.Levels.{root_work}
+use Rattle.larch_rewrite_law.proofs.Charging.{cost_made}
+use Rattle.larch_rewrite_law.proofs.Turns.{begins_large, root_normal, root_limit, root_made}
+use Rattle.larch_rewrite_match.specs.Rule.{IsSaidByRow, RowSays, left_of, right_of, reason_of}
+use Rattle.larch_rewrite_match.specs.declared.rule.Reason.{Reason}
+use Rattle.larch_rewrite_match.specs.declared.rule.Reason.TheVariants.{Row, Line}
+use Rattle.larch_rewrite_match.specs.declared.rule.RewriteRule.{RewriteRule}
 use Rattle.larch_store.specs.Numbered.{Numbered, term_of}
 use Rattle.larch_store.specs.Stored.{most_nodes}
 use Rattle.larch_derive_lines.specs.Way.{Leads}
 use Rattle.larch_rewrite.specs.Kept.{IsForm}
-use Rattle.larch_rewrite.specs.Refusals.{TellsEvent, from_application}
+use Rattle.larch_rewrite.specs.Refusal.{TellsEvent, from_application}
 use Rattle.larch_rewrite.specs.declared.kept.KeptForm.{KeptForm}
 use Rattle.larch_rewrite.specs.declared.refusal.RewriteRefusal.{RewriteRefusal}
 use Rattle.larch_rewrite.proofs.Levels.{small_is}
@@ -46,7 +47,8 @@ row_says : (b : Builder) (w : Reason) (l r : Tree) → RowSays w l r → ReasonS
 row_says b (Row k z) l r h = h
 row_says b (Line n) l r h = absurd h
 
-pub found_holds : (b : Builder) (rows rules : List Rule) (r : Rule) → Contains (rows ++ rules) r → All IsSaidByRow rows
+pub found_holds : (b : Builder) (rows rules : List RewriteRule) (r : RewriteRule) → Contains (rows ++ rules) r
+    → All IsSaidByRow rows
     → RulesHold b rules → RuleHolds b r
 found_holds b rows rules r m s h =
     All-contains (RuleHolds b) (rows ++ rules) r
@@ -70,13 +72,15 @@ root_is_made rules x t u v b c h e n p q =
 
 pub root_tells : (rules : List Sides) (x : Numbered) (t u : Tree) (b : ℕ) (e : RewriteRefusal)
     → nodes (term_of x) ≤ most_nodes → t ≡ term_of x → rewritten_once rules t ≡ Some u
-    → ((rs : List Sides) (y : Tree) → is_large y ≡ false → rewritten_once rs y ≡ Some u → TellsEvent (root_work rs y b) e)
+    → ((rs : List Sides) (y : Tree) → is_large y ≡ false → rewritten_once rs y ≡ Some u
+    → TellsEvent (root_work rs y b) e)
     → TellsEvent (root_work rules (term_of x) b) e
 root_tells rules x t u b e h p n go =
     go rules (term_of x) (small_is (term_of x) h) (ap (rewritten_once rules) (sym p) ∙ n)
 
 -- nothing is left of the budget
-pub nothing_left : (rules : List Sides) (t u : Tree) (b : ℕ) → b ≡ 0 → is_large t ≡ false → rewritten_once rules t ≡ Some u
+pub nothing_left : (rules : List Sides) (t u : Tree) (b : ℕ) → b ≡ 0 → is_large t ≡ false
+    → rewritten_once rules t ≡ Some u
     → root_work rules t b ≡ OverLimit
 nothing_left rules t u b z h n = ap (root_work rules t) z ∙ root_limit rules t u h n
 

@@ -3,21 +3,22 @@ use Rattle.std.specs.Prelude.{◌≡◌, ℕ, List, [], ◌∷◌, ◌++◌, All
 use Rattle.std.proofs.Common.{ap, sym, subst, inl, inr, ◌∙◌}
 use Rattle.std.proofs.lemmas.List.{append_assoc, append-nil}
 use Rattle.std.proofs.lemmas.List.Elements.{All-contains, All-nil, All-push, All-weaker}
-use Rattle.larch_applying.specs.Encodings.{AreOfStore}
-use Rattle.larch_applying.specs.declared.encoding.Encoding.{Encoding}
+use Rattle.larch_rewrite_step.specs.Encoding.{AreOfStore}
+use Rattle.larch_rewrite_step.specs.declared.encoding.Encoding.{Encoding}
 use Rattle.larch_base.proofs.Members.{got_contains}
 use Rattle.larch_store.specs.Numbered.{Numbered}
 use Rattle.larch_store.specs.Stored.{Belongs, AllBelong, Grows}
 use Rattle.larch_store.proofs.Growth.{belongs_stays, all_belong_stay}
 use Rattle.larch_rewrite.specs.Kept.{IsFront, IsKeptAt, IsKeptBehind, IsOfStore, kept_of}
-use Rattle.larch_rewrite.specs.Levels.{IsFrameOf, IsTurnOf}
+use Rattle.larch_rewrite.specs.Level.{IsFrameOf, IsTurnOf}
 use Rattle.larch_rewrite.specs.declared.kept.KeptForm.{KeptForm}
 use Rattle.larch_rewrite.specs.declared.level.Frame.{Frame}
 use Rattle.larch_rewrite.specs.declared.level.Means.{Means}
 use Rattle.larch_rewrite.specs.declared.level.Turn.{Turn}
 use Rattle.larch_rewrite.specs.declared.level.Turn.TheVariants.{Begin, Arguments, Root, Finish}
 
-pub kept_stay : (s u : List Numbered) (kept : List KeptForm) → Grows s u → All (IsOfStore s) kept → All (IsOfStore u) kept
+pub kept_stay : (s u : List Numbered) (kept : List KeptForm) → Grows s u → All (IsOfStore s) kept
+    → All (IsOfStore u) kept
 kept_stay s u kept g h =
     All-weaker (IsOfStore s) (IsOfStore u)
     (λ k p. (belongs_stays s u k.start g p.0, belongs_stays s u k.form g p.1)) kept h
@@ -74,5 +75,6 @@ front_at kept new (Finish l) n (inl e) = front_same kept new e
 front_at kept new (Finish l) n (inr e) = (kept_of l n ∷ [], e)
 
 -- an argument of a shared term belongs to the store
-pub child_belongs : (s xs : List Numbered) (i : ℕ) (x : Numbered) → AllBelong s xs → slice_get xs i ≡ Some x → Belongs s x
+pub child_belongs : (s xs : List Numbered) (i : ℕ) (x : Numbered) → AllBelong s xs → slice_get xs i ≡ Some x
+    → Belongs s x
 child_belongs s xs i x h e = All-contains (Belongs s) xs x h (got_contains xs i x e)

@@ -4,17 +4,18 @@ use Rattle.std.proofs.Common.{arith, ap, ap₂, sym, subst, inl, inr, ◌∙◌}
 use Rattle.std.proofs.lemmas.List.{reverse-append}
 use Rattle.std.proofs.lemmas.List.Elements.{All-push}
 use Rattle.larch_term.specs.Tree.{Tree}
-use Rattle.larch_normal_forms.specs.NormalForm.{normal}
-use Rattle.larch_normal_forms.specs.Sides.{Sides}
-use Rattle.larch_normal_forms.specs.Work.{Work, Made}
-use Rattle.larch_normal_laws.specs.Level.{arguments_work}
-use Rattle.larch_normal_laws.proofs.Charging.{made_costs}
-use Rattle.larch_normal_laws.proofs.Rising.{waiting_limit, waiting_size, waiting_argument, waiting_form}
-use Rattle.larch_normal_laws.specs.Stacked.{Wait}
+use Rattle.larch_rewrite_meaning.specs.NormalForm.{normal}
+use Rattle.larch_rewrite_meaning.specs.Sides.{Sides}
+use Rattle.larch_rewrite_meaning.specs.Work.{Work, Made}
+use Rattle.larch_rewrite_law.specs.Levels.{arguments_work}
+use Rattle.larch_rewrite_law.proofs.Charging.{made_costs}
+use Rattle.larch_rewrite_law.proofs.Rising.{waiting_limit, waiting_size, waiting_argument, waiting_form}
+use Rattle.larch_rewrite_law.specs.Stacked.{Wait}
 use Rattle.larch_store.specs.Numbered.{Numbered, term_of}
 use Rattle.larch_rewrite.specs.Kept.{IsForm, IsKeptAt, IsKeptBehind, kept_of}
-use Rattle.larch_rewrite.specs.Levels.{HaveOneStart, IsApplication, IsArgument, IsLast, Works, arguments_left, begun_of, further_of, level_of, operator_of, start_of, waiting_of, work_at}
-use Rattle.larch_rewrite.specs.Refusals.{IsMade, TellsEvent}
+use Rattle.larch_rewrite.specs.Level.{HaveOneStart, IsApplication, IsArgument, IsLast, Works, arguments_left, begun_of}
+use Rattle.larch_rewrite.specs.Level.{further_of, level_of, operator_of, start_of, waiting_of, work_at}
+use Rattle.larch_rewrite.specs.Refusal.{IsMade, TellsEvent}
 use Rattle.larch_rewrite.specs.declared.kept.KeptForm.{KeptForm}
 use Rattle.larch_rewrite.specs.declared.level.Level.{Level}
 use Rattle.larch_rewrite.specs.declared.level.Frame.{Frame}
@@ -25,7 +26,8 @@ use Rattle.larch_rewrite.specs.declared.refusal.RewriteRefusal.TheVariants.{Limi
 use Rattle.larch_rewrite.proofs.Levels.{arguments_next, arguments_behind}
 
 -- the frames that wait, where a start is the same
-waits_same : (rules : List Sides) (whole : Tree) (budget : ℕ) (frames : List Frame) (x y : Tree) (j k : ℕ) → x ≡ y → j ≡ k
+waits_same : (rules : List Sides) (whole : Tree) (budget : ℕ) (frames : List Frame) (x y : Tree) (j k : ℕ)
+    → x ≡ y → j ≡ k
     → Wait rules whole budget (map waiting_of (reverse frames)) y k
     → Wait rules whole budget (map waiting_of (reverse frames)) x j
 waits_same rules whole budget frames x y j k p q h =
@@ -52,9 +54,11 @@ pub tells_whole : (rules : List Sides) (whole : Tree) (budget : ℕ) (kept : Lis
     (turn : Turn) (b : ℕ) (e : RewriteRefusal) → Works rules whole budget kept frames turn b
     → TellsEvent (work_at rules turn b) e → TellsEvent (normal rules whole budget) e
 tells_whole rules whole budget kept frames turn b Limit h t =
-    waiting_limit rules whole (start_of turn) budget (begun_of turn) (map waiting_of (reverse frames)) h.wait (h.work ∙ t)
+    waiting_limit rules whole (start_of turn) budget (begun_of turn) (map waiting_of (reverse frames)) h.wait
+    (h.work ∙ t)
 tells_whole rules whole budget kept frames turn b TooLarge h t =
-    waiting_size rules whole (start_of turn) budget (begun_of turn) (map waiting_of (reverse frames)) h.wait (h.work ∙ t)
+    waiting_size rules whole (start_of turn) budget (begun_of turn) (map waiting_of (reverse frames)) h.wait
+    (h.work ∙ t)
 tells_whole rules whole budget kept frames turn b Memory h t = tt
 
 kept_forms : (rules : List Sides) (kept new : List KeptForm) (k : KeptForm) → All (IsForm rules) kept → IsForm rules k
@@ -63,7 +67,8 @@ kept_forms rules kept new k h f (inl e) = subst (All (IsForm rules)) (sym e) h
 kept_forms rules kept new k h f (inr e) = subst (All (IsForm rules)) (sym e) (All-push (IsForm rules) kept k h f)
 
 -- what is kept of a normal form is one
-all_forms : (rules : List Sides) (whole : Tree) (budget : ℕ) (kept new : List KeptForm) (frames : List Frame) (turn : Turn)
+all_forms : (rules : List Sides) (whole : Tree) (budget : ℕ) (kept new : List KeptForm) (frames : List Frame)
+    (turn : Turn)
     (b : ℕ) → IsKeptAt kept turn b new → Works rules whole budget kept frames turn b → All (IsForm rules) new
 all_forms rules whole budget kept new frames (Begin l) b e h = subst (All (IsForm rules)) (sym e) h.forms
 all_forms rules whole budget kept new frames (Arguments f) b e h = subst (All (IsForm rules)) (sym e) h.forms
@@ -91,7 +96,8 @@ works_deeper rules whole budget kept frames pushed f l b p (a, g, n, w, t) h = r
   wait = subst (λ fs. Wait rules whole budget (map waiting_of fs) (term_of l.start) l.begun)
       (sym (ap reverse p ∙ pushed_first frames f)) (
         h.work ∙ arguments_next rules f.level.term f.done b l.start a g
-            ∙ ap (arguments_work rules (operator_of f.level.term) (map term_of f.done) (term_of l.start ∷ further_of f)) (sym n),
+            ∙ ap (arguments_work rules (operator_of f.level.term) (map term_of f.done) (term_of l.start ∷ further_of f))
+            (sym n),
         h.wait,
       );
 }
@@ -113,12 +119,15 @@ works_up rules whole budget kept frames popped f g l b p a (s, n, t) d h =
           (map waiting_of (reverse popped)) w h.work
           ∙ arguments_behind rules f.level.term f.done l.term b a
           ∙ ap₂ (λ x ds. arguments_left rules x ds b) (sym t) (sym d);
-      wait = waits_same rules whole budget popped (term_of g.level.start) (term_of f.level.start) g.level.begun f.level.begun
+      wait =
+          waits_same rules whole budget popped (term_of g.level.start)
+          (term_of f.level.start) g.level.begun f.level.begun
           (ap term_of s) n w.1;
     }
 
 -- the first turn
-pub works_first : (rules : List Sides) (x : Numbered) (budget : ℕ) (kept : List KeptForm) (frames : List Frame) (l : Level)
+pub works_first : (rules : List Sides) (x : Numbered) (budget : ℕ) (kept : List KeptForm)
+    (frames : List Frame) (l : Level)
     → frames ≡ [] → (l.start ≡ x) × (l.begun ≡ budget) × (l.term ≡ x) → All (IsForm rules) kept
     → Works rules (term_of x) budget kept frames (Begin l) budget
 works_first rules x budget kept frames l e (s, n, t) h = record {
@@ -132,7 +141,8 @@ spends : (budget b : ℕ) → b ≤ budget → b ≡ budget - (budget - b)
 spends budget b h = omega (arith, h)
 
 -- the last turn
-pub works_last : (rules : List Sides) (whole : Tree) (budget : ℕ) (kept : List KeptForm) (frames : List Frame) (turn : Turn)
+pub works_last : (rules : List Sides) (whole : Tree) (budget : ℕ) (kept : List KeptForm) (frames : List Frame)
+    (turn : Turn)
     (b k : ℕ) → IsLast frames turn → k ≡ budget - b → Works rules whole budget kept frames turn b
     → IsMade budget k (term_of (level_of turn).term) (normal rules whole budget)
 works_last rules whole budget kept frames (Begin l) b k e n h = absurd e
@@ -148,7 +158,8 @@ works_last rules whole budget kept frames (Finish l) b k e n h =
     )
 
 -- the last turn's start is the whole
-pub last_start : (rules : List Sides) (whole : Tree) (budget : ℕ) (kept : List KeptForm) (frames : List Frame) (turn : Turn)
+pub last_start : (rules : List Sides) (whole : Tree) (budget : ℕ) (kept : List KeptForm) (frames : List Frame)
+    (turn : Turn)
     (b : ℕ) → IsLast frames turn → Works rules whole budget kept frames turn b → start_of turn ≡ whole
 last_start rules whole budget kept frames (Begin l) b e h = absurd e
 last_start rules whole budget kept frames (Arguments f) b e h = absurd e
@@ -157,7 +168,8 @@ last_start rules whole budget kept frames (Finish l) b e h =
     (subst (λ fs. Wait rules whole budget (map waiting_of (reverse fs)) (term_of l.start) l.begun) e h.wait).0
 
 -- the last turn's form, by another name
-pub last_made : (rules : List Sides) (whole : Tree) (budget : ℕ) (kept : List KeptForm) (frames : List Frame) (turn : Turn)
+pub last_made : (rules : List Sides) (whole : Tree) (budget : ℕ) (kept : List KeptForm) (frames : List Frame)
+    (turn : Turn)
     (b k : ℕ) (form : Numbered) → IsLast frames turn → k ≡ budget - b → form ≡ (level_of turn).term
     → Works rules whole budget kept frames turn b → IsMade budget k (term_of form) (normal rules whole budget)
 last_made rules whole budget kept frames turn b k form e n f h =

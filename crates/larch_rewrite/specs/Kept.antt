@@ -1,8 +1,8 @@
 -- Normal forms that are kept.
 use Rattle.std.specs.Prelude.{◌≡◌, ◌⊎◌, ◌-◌, ◌++◌, ◌∷◌, [], ℕ, List, All}
 use Rattle.larch_derive.specs.declared.builder.Builder.{Builder}
-use Rattle.larch_normal_forms.specs.Sides.{Sides}
-use Rattle.larch_normal_laws.specs.Cost.{HasCost}
+use Rattle.larch_rewrite_meaning.specs.Sides.{Sides}
+use Rattle.larch_rewrite_law.specs.Costs.{HasCost}
 use Rattle.larch_store.specs.Numbered.{Numbered, term_of}
 use Rattle.larch_store.specs.Stored.{Belongs}
 use Rattle.larch_derive_lines.specs.Way.{Leads}

@@ -1,6 +1,6 @@
-pub mod Refusals
 pub mod Kept
-pub mod Levels
-pub mod Ways
+pub mod Level
+pub mod Refusal
 pub mod RuleSet
 pub mod RuleSetCode
+pub mod Ways

@@ -1,13 +1,14 @@
 -- Rules with their names and lines, and what is kept for them.
-use Rattle.std.specs.Prelude.{◌≡◌, ◌+◌, ◌++◌, ◌∷◌, [], ℕ, Bool, true, false, List, All, Some, map, length, take, drop, slice_get}
+use Rattle.std.specs.Prelude.{◌≡◌, ◌+◌, ◌++◌, ◌∷◌, [], ℕ, Bool, true, false, List, All, Some, map, length, take, drop}
+use Rattle.std.specs.Prelude.{slice_get}
 use Rattle.larch_base.specs.declared.fact_name.FactName.{FactName}
 use Rattle.larch_derive.specs.Predicates.{HasEquation}
 use Rattle.larch_derive.specs.declared.builder.Builder.{Builder}
-use Rattle.larch_normal_forms.specs.Sides.{Sides}
-use Rattle.larch_redexes.specs.Rule.{IsRule, all_sides, left_of, right_of, reason_of}
-use Rattle.larch_redexes.specs.declared.rule.Reason.{Reason}
-use Rattle.larch_redexes.specs.declared.rule.Reason.TheVariants.{Row, Line}
-use Rattle.larch_redexes.specs.declared.rule.Rule.{Rule}
+use Rattle.larch_rewrite_meaning.specs.Sides.{Sides}
+use Rattle.larch_rewrite_match.specs.Rule.{IsRule, all_sides, left_of, right_of, reason_of}
+use Rattle.larch_rewrite_match.specs.declared.rule.Reason.{Reason}
+use Rattle.larch_rewrite_match.specs.declared.rule.Reason.TheVariants.{Row, Line}
+use Rattle.larch_rewrite_match.specs.declared.rule.RewriteRule.{RewriteRule}
 use Rattle.larch_store.specs.Numbered.{Numbered}
 use Rattle.larch_term.specs.Tree.{Tree}
 use Rattle.larch_rewrite.specs.Kept.{IsForm, IsLed, IsOfStore}
@@ -76,7 +77,7 @@ abbrev pub line_of : Reason → ℕ
 line_of (Line n) = n
 line_of (Row k z) = 0
 
-abbrev pub lined : Rule → Lined
+abbrev pub lined : RewriteRule → Lined
 lined r = record { left = left_of r; right = right_of r; line = line_of (reason_of r) }
 
 -- a rule is said by a line
@@ -84,10 +85,10 @@ abbrev pub IsByLine : Reason → Type 0
 IsByLine (Line n) = Unit {0}
 IsByLine (Row k z) = ⊥
 
-abbrev pub IsLineRule : Rule → Type 0
+abbrev pub IsLineRule : RewriteRule → Type 0
 IsLineRule r = IsRule r × IsByLine (reason_of r)
 
 -- there is a name for each rule, each is said by a line, and what is kept are normal forms by them
-abbrev pub AreRules : List FactName → List Rule → List KeptForm → Type 0
+abbrev pub AreRules : List FactName → List RewriteRule → List KeptForm → Type 0
 AreRules names rules kept =
     (length names ≡ length rules) × All IsLineRule rules × All (IsForm (all_sides rules)) kept

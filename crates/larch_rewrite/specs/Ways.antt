@@ -1,34 +1,35 @@
 -- What the lines say in the midst of the work.
 use Rattle.std.specs.Prelude.{List, ◌∷◌, [], ◌++◌, All, map, drop, length, reverse}
 use Rattle.larch_term.specs.Tree.{Tree, var, app, forest_of}
-use Rattle.larch_applying.specs.Holding.{RulesHold}
+use Rattle.larch_rewrite_step.specs.Holding.{RulesHold}
 use Rattle.larch_derive.specs.Predicates.{Known}
 use Rattle.larch_derive.specs.declared.builder.Builder.{Builder}
-use Rattle.larch_redexes.specs.declared.rule.Rule.{Rule}
-use Rattle.larch_store.specs.Numbered.{Numbered, leaf, branch, term_of, listed}
+use Rattle.larch_rewrite_match.specs.declared.rule.RewriteRule.{RewriteRule}
+use Rattle.larch_store.specs.Numbered.{Numbered, leaf, branch, term_of, list_of_several}
 use Rattle.larch_derive_lines.specs.Way.{Leads}
 use Rattle.larch_rewrite.specs.declared.kept.KeptForm.{KeptForm}
 use Rattle.larch_rewrite.specs.declared.level.Frame.{Frame}
 use Rattle.larch_rewrite.specs.declared.level.Turn.{Turn}
 use Rattle.larch_rewrite.specs.declared.level.Turn.TheVariants.{Begin, Arguments, Root, Finish}
 use Rattle.larch_rewrite.specs.Kept.{IsLed}
-use Rattle.larch_rewrite.specs.Levels.{level_of, start_of, operator_of, further_of}
+use Rattle.larch_rewrite.specs.Level.{level_of, start_of, operator_of, further_of}
 
 -- a term with its first arguments changed
 abbrev pub with_done : Numbered → List Numbered → Tree
 with_done (leaf k z n s) done = var n s
-with_done (branch k z f xs) done = app f (forest_of (map term_of done ++ map term_of (drop (length done) (listed xs))))
+with_done (branch k z f xs) done =
+    app f (forest_of (map term_of done ++ map term_of (drop (length done) (list_of_several xs))))
 
 -- the term that a turn's level has come to
-abbrev pub reached : Turn → Tree
-reached (Begin l) = term_of l.term
-reached (Arguments f) = with_done f.level.term f.done
-reached (Root l) = term_of l.term
-reached (Finish l) = term_of l.term
+abbrev pub term_reached : Turn → Tree
+term_reached (Begin l) = term_of l.term
+term_reached (Arguments f) = with_done f.level.term f.done
+term_reached (Root l) = term_of l.term
+term_reached (Finish l) = term_of l.term
 
 -- a turn's way leads to it from a known start
 abbrev pub IsWayTo : Builder → Tree → Turn → Type 0
-IsWayTo b start turn = Known b start × Leads b (level_of turn).way start (reached turn)
+IsWayTo b start turn = Known b start × Leads b (level_of turn).way start (term_reached turn)
 
 -- the term of a frame, where a term stands for the argument that is waited for
 abbrev pub with_argument : Frame → Tree → Tree
@@ -42,12 +43,13 @@ AreWaysTo b start (f ∷ fs) =
     × AreWaysTo b (term_of f.level.start) fs
 
 -- all lines of the machine say what they should
-pub record Says (b : Builder) (rules : List Rule) (kept : List KeptForm) (frames : List Frame) (turn : Turn) : Type 0 where
+pub record Says (b : Builder) (rules : List RewriteRule) (kept : List KeptForm) (frames : List Frame) (turn : Turn)
+    : Type 0 where
   pub rules_hold : RulesHold b rules
   pub kept_led : All (IsLed b) kept
   pub way : IsWayTo b (start_of turn) turn
   pub ways : AreWaysTo b (start_of turn) (reverse frames)
 
 -- with a known term, rules that hold and ways to what is kept, the machine may begin
-abbrev pub MayBegin : Builder → List Rule → List KeptForm → Tree → Type 0
+abbrev pub MayBegin : Builder → List RewriteRule → List KeptForm → Tree → Type 0
 MayBegin b rules kept t = Known b t × RulesHold b rules × All (IsLed b) kept

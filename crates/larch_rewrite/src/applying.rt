@@ -1,31 +1,31 @@
 ghost use Rattle.std.specs.Prelude.{◌≡◌, ◌+◌, List, All, Some, false, IfOk, IfErr, OnOk};
-ghost use Rattle.larch_applying.specs.Encodings.{AreEncodings, AreOfStore};
-ghost use Rattle.larch_applying.specs.Holding.{RuleHolds, RulesHold};
+ghost use Rattle.larch_rewrite_step.specs.Encoding.{AreEncodings, AreOfStore};
+ghost use Rattle.larch_rewrite_step.specs.Holding.{RuleHolds, RulesHold};
 ghost use Rattle.larch_derive.specs.Predicates.{Extends, Known};
-ghost use Rattle.larch_normal_forms.specs.Rewriting.{rewritten_once};
-ghost use Rattle.larch_normal_forms.specs.Sides.{Sides};
-ghost use Rattle.larch_normal_forms.specs.Work.{is_large};
-ghost use Rattle.larch_normal_laws.specs.Level.{root_work};
-ghost use Rattle.larch_redexes.specs.Rule.{IsRule, all_sides, right_of};
-ghost use Rattle.larch_redexes.specs.Bound.{entries_of};
-ghost use Rattle.larch_redexes.specs.Search.{IsFoundIn, IsBy};
-ghost use Rattle.larch_rewrite.specs.Levels.{HaveOneStart, IsTurnOf, work_at};
-ghost use Rattle.larch_rewrite.specs.Refusals.{TellsEvent};
+ghost use Rattle.larch_rewrite_meaning.specs.Rewriting.{rewritten_once};
+ghost use Rattle.larch_rewrite_meaning.specs.Sides.{Sides};
+ghost use Rattle.larch_rewrite_meaning.specs.Work.{is_large};
+ghost use Rattle.larch_rewrite_law.specs.Levels.{root_work};
+ghost use Rattle.larch_rewrite_match.specs.Rule.{IsRule, all_sides, right_of};
+ghost use Rattle.larch_rewrite_match.specs.Bound.{entries_of};
+ghost use Rattle.larch_rewrite_match.specs.Search.{IsFoundIn, IsBy};
+ghost use Rattle.larch_rewrite.specs.Level.{HaveOneStart, IsTurnOf, work_at};
+ghost use Rattle.larch_rewrite.specs.Refusal.{TellsEvent};
 ghost use Rattle.larch_rewrite.specs.Ways.{IsWayTo};
 ghost use Rattle.larch_rewrite.specs.declared.level.Turn.TheVariants.{Root as at_root};
 ghost use Rattle.larch_store.specs.Numbered.{term_of};
 ghost use Rattle.larch_store.specs.Stored.{Belongs, Grows};
-ghost use Rattle.larch_term.specs.Substitution.{substituted};
+ghost use Rattle.larch_term.specs.Substitution.{instance_of};
 ghost use Rattle.larch_term.specs.Tree.{Tree};
 ghost use Rattle.larch_derive_lines.specs.Way.{Leads};
 
 use crate::kept::Kept;
 use crate::level::{Level, Means, Turn};
 use crate::refusal::RewriteRefusal;
-use larch_applying::{Applied, apply_match};
 use larch_derive::Builder;
-use larch_derive_lines::further_line;
-use larch_redexes::{Match, RuleTable, first_redex};
+use larch_derive_lines::push_further;
+use larch_rewrite_match::{Match, RuleTable, first_redex};
+use larch_rewrite_step::{Applied, apply_match};
 use larch_store::Store;
 use std::alloc::Global;
 
@@ -84,11 +84,11 @@ fn apply<'a>(
     requires encodings { AreOfStore store.old means.old.encodings }
     ensures level { IfOk result (λ l. (l.start ≡ level.start) × (l.begun ≡ level.begun)) }
     ensures term { IfOk result (λ l. term_of l.term
-        ≡ substituted (entries_of found.now.by) (right_of found.now.rule.now)) }
+        ≡ instance_of (entries_of found.now.by) (right_of found.now.rule.now)) }
     ensures belongs { IfOk result (λ l. Belongs store.new l.term) }
     ensures spent { OnOk result (means.old.left ≡ means.new.left + 1) }
     ensures refused { IfErr result (λ e. (rs : List Sides) (t : Tree) → is_large t ≡ false
-        → rewritten_once rs t ≡ Some (substituted (entries_of found.now.by) (right_of found.now.rule.now))
+        → rewritten_once rs t ≡ Some (instance_of (entries_of found.now.by) (right_of found.now.rule.now))
         → TellsEvent (root_work rs t means.old.left) e) }
     ensures says { IfOk result (λ l. (s t : Tree) → Known builder.old t → RuleHolds builder.old found.now.rule.now
         → IsBy found.now.rule.now found.now.exchanged t (entries_of found.now.by)
@@ -106,7 +106,7 @@ fn apply<'a>(
         return Err(RewriteRefusal::Limit);
     }
     let Applied { term, line } = apply_match(alloc, store, builder, &mut means.encodings, found)?;
-    let line = further_line(alloc, builder, level.way, line)?;
+    let line = push_further(alloc, builder, level.way, line)?;
     means.left -= 1;
     Ok(Level {
         start: level.start,

@@ -1,7 +1,7 @@
 ghost use Rattle.std.specs.Prelude.{◌≡◌, ◌+◌, ◌∷◌, ◌++◌, [], List, All, IfOk, OnOk, OnErr, length};
 ghost use Rattle.larch_derive.specs.Predicates.{Extends, HasEquation, Known};
 ghost use Rattle.larch_rewrite.specs.Kept.{IsKeptAt, IsOfStore, kept_of};
-ghost use Rattle.larch_rewrite.specs.Levels.{IsTurnOf};
+ghost use Rattle.larch_rewrite.specs.Level.{IsTurnOf};
 ghost use Rattle.larch_rewrite.specs.Ways.{with_argument};
 ghost use Rattle.larch_store.specs.Numbered.{term_of};
 ghost use Rattle.larch_term.specs.Operator.{PlainOperator};
@@ -12,7 +12,7 @@ use crate::kept::{Kept, KeptForm};
 use crate::level::{Frame, Level, Turn};
 use larch_base::Memory;
 use larch_derive::Builder;
-use larch_derive_lines::{argument_line, way_line};
+use larch_derive_lines::{push_argument, push_way};
 use larch_store::{Shared, Store};
 use std::alloc::Global;
 
@@ -108,14 +108,14 @@ fn argument_way(
     let Some(by) = by else {
         return Ok(outer.way);
     };
-    let line = whole_line(store, builder, &outer.start, outer.way)?;
-    let changed = argument_line(alloc, builder, line, number, by)?;
+    let line = push_whole(store, builder, &outer.start, outer.way)?;
+    let changed = push_argument(alloc, builder, line, number, by)?;
     Ok(Some(changed))
 }
 
 /// A line that says where a way leads from a shared term.
 #[tactic(auto, using(larch_derive::proofs::Growth::extends_same))]
-pub(crate) fn whole_line(
+pub(crate) fn push_whole(
     store: &Store,
     builder: &mut Builder,
     start: &Shared,
@@ -130,6 +130,6 @@ pub(crate) fn whole_line(
         return Ok(line);
     }
     let term = store.to_term(start)?;
-    let line = way_line(builder, &term, way)?;
+    let line = push_way(builder, &term, way)?;
     Ok(line)
 }

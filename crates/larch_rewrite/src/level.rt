@@ -1,7 +1,7 @@
 ghost use Rattle.std.specs.Prelude.{◌≡◌};
-ghost use Rattle.larch_rewrite.specs.Levels.{level_of};
+ghost use Rattle.larch_rewrite.specs.Level.{level_of};
 
-use larch_applying::Encodings;
+use larch_rewrite_step::Encodings;
 use larch_store::{Shared, SharedList};
 
 /// The work on one term: the term whose normal form is sought, the budget with which that began, and the term that it

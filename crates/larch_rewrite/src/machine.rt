@@ -1,14 +1,14 @@
 ghost use Rattle.std.specs.Prelude.{◌≡◌, ℕ, List, All, true, IfOk, IfErr, OnOk};
-ghost use Rattle.larch_applying.specs.Encodings.{AreEncodings, AreOfStore};
+ghost use Rattle.larch_rewrite_step.specs.Encoding.{AreEncodings, AreOfStore};
 ghost use Rattle.larch_derive.specs.Predicates.{Extends, HasEquation, Known};
 ghost use Rattle.larch_derive.specs.declared.builder.Builder.{Builder as is_builder};
-ghost use Rattle.larch_normal_forms.specs.NormalForm.{normal};
-ghost use Rattle.larch_normal_forms.specs.Sides.{Sides};
-ghost use Rattle.larch_redexes.specs.Rule.{IsRule, all_sides};
-ghost use Rattle.larch_redexes.specs.declared.rule.Rule.{Rule as is_rule};
+ghost use Rattle.larch_rewrite_meaning.specs.NormalForm.{normal};
+ghost use Rattle.larch_rewrite_meaning.specs.Sides.{Sides};
+ghost use Rattle.larch_rewrite_match.specs.Rule.{IsRule, all_sides};
+ghost use Rattle.larch_rewrite_match.specs.declared.rule.RewriteRule.{RewriteRule as is_rule};
 ghost use Rattle.larch_rewrite.specs.Kept.{IsForm, IsFront, IsLed, IsOfStore};
-ghost use Rattle.larch_rewrite.specs.Levels.{IsFrameOf, IsLast, IsStored, IsTurnOf, Works, level_of, start_of};
-ghost use Rattle.larch_rewrite.specs.Refusals.{IsMade, TellsEvent};
+ghost use Rattle.larch_rewrite.specs.Level.{IsFrameOf, IsLast, IsStored, IsTurnOf, Works, level_of, start_of};
+ghost use Rattle.larch_rewrite.specs.Refusal.{IsMade, TellsEvent};
 ghost use Rattle.larch_rewrite.specs.Ways.{MayBegin, Says};
 ghost use Rattle.larch_rewrite.specs.declared.kept.KeptForm.{KeptForm};
 ghost use Rattle.larch_rewrite.specs.declared.level.Turn.TheVariants.{Arguments as among_arguments, Finish as finished};
@@ -18,15 +18,15 @@ ghost use Rattle.larch_term.specs.Tree.{Tree};
 ghost use Rattle.larch_derive_lines.specs.Way.{Leads};
 
 use crate::applying::rewrite;
-use crate::finishing::{keep, resume, whole_line};
+use crate::finishing::{keep, push_whole, resume};
 use crate::kept::Kept;
 use crate::level::{Frame, Level, Means, Turn};
 use crate::refusal::RewriteRefusal;
 use crate::turning::{argument, begin, first_level, form};
-use larch_applying::Encodings;
 use larch_base::Memory;
 use larch_derive::Builder;
-use larch_redexes::RuleTable;
+use larch_rewrite_match::RuleTable;
+use larch_rewrite_step::Encodings;
 use larch_store::{Shared, Store};
 use std::alloc::Global;
 
@@ -182,7 +182,7 @@ fn normal_of(store: &Store, builder: &mut Builder, turn: Turn, cost: u32) -> Res
         → Leads builder.old (level_of turn).way (start_of turn) t → Extends builder.old builder.new }
 {
     let level = turn.into_level();
-    let line = whole_line(store, builder, &level.start, level.way)?;
+    let line = push_whole(store, builder, &level.start, level.way)?;
     Ok(Normal {
         form: level.term,
         cost,

@@ -1,11 +1,11 @@
 ghost use Rattle.std.specs.Prelude.{◌≡◌, if◌then◌else◌};
-ghost use Rattle.larch_applying.specs.declared.refusal.ApplyRefusal.{ApplyRefusal};
+ghost use Rattle.larch_rewrite_step.specs.declared.refusal.ApplyRefusal.{ApplyRefusal};
 ghost use Rattle.larch_store.specs.declared.refusal.StoreRefusal.{StoreRefusal};
-ghost use Rattle.larch_rewrite.specs.Refusals.{from_application, from_store};
+ghost use Rattle.larch_rewrite.specs.Refusal.{from_application, from_store};
 ghost use Rattle.larch_rewrite.specs.declared.refusal.RewriteRefusal.TheVariants.{Memory as wants_memory};
 
-use larch_applying::ApplyRefusal;
 use larch_base::Memory;
+use larch_rewrite_step::ApplyRefusal;
 use larch_store::StoreRefusal;
 use std::alloc::AllocFailed;
 use thiserror::Error;

@@ -1,9 +1,9 @@
 ghost use Rattle.std.specs.Prelude.{◌≡◌, ◌≤◌, All, Some, map, slice_get, IfOk, IfErr, IfSome, IfNone, OnOk, OnErr};
 ghost use Rattle.larch_derive.specs.Predicates.{Extends, HasEquation, Known};
-ghost use Rattle.larch_normal_forms.specs.NormalForm.{normal};
+ghost use Rattle.larch_rewrite_meaning.specs.NormalForm.{normal};
 ghost use Rattle.larch_rewrite.specs.RuleSet.{BelongsTo, Carries, IsLineRule, IsRemoved, empty, line_of, lined, sides_in, with_rule, without_kept};
-ghost use Rattle.larch_redexes.specs.Rule.{left_of, reason_of, right_of};
-ghost use Rattle.larch_rewrite.specs.Refusals.{IsMade, MayRefuse, TellsEvent};
+ghost use Rattle.larch_rewrite_match.specs.Rule.{left_of, reason_of, right_of};
+ghost use Rattle.larch_rewrite.specs.Refusal.{IsMade, MayRefuse, TellsEvent};
 ghost use Rattle.larch_store.specs.Numbered.{term_of};
 ghost use Rattle.larch_store.specs.Stored.{Belongs, Grows, most_nodes};
 ghost use Rattle.larch_term.specs.Tree.{nodes};
@@ -13,7 +13,7 @@ use crate::machine::{Normal, run};
 use crate::refusal::RewriteRefusal;
 use larch_base::{FactName, Memory};
 use larch_derive::Builder;
-use larch_redexes::{Reason, Rule, RuleTable, SharedRule};
+use larch_rewrite_match::{Reason, RewriteRule, RuleTable, SharedRule};
 use larch_store::{Shared, Store, StoreRefusal};
 use larch_term::{Term, copy};
 use std::alloc::Global;
@@ -186,7 +186,7 @@ fn rule_by_line(alloc: Global, left: &Term, right: &Term, line: u64) -> Result<S
 {
     let left = copy(alloc, left)?;
     let right = copy(alloc, right)?;
-    let rule = Rule::new(alloc, left, right, Reason::Line(line))?;
+    let rule = RewriteRule::new(alloc, left, right, Reason::Line(line))?;
     let shared = SharedRule::new(alloc, rule)?;
     Ok(shared)
 }

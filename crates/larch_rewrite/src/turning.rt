@@ -1,11 +1,11 @@
 ghost use Rattle.std.specs.Prelude.{◌≡◌, ◌+◌, ◌≤◌, ℕ, List, All, None, IfOk, IfErr, IfSome, IfNone, OnOk, length};
 ghost use Rattle.larch_derive.specs.Predicates.{Extends};
-ghost use Rattle.larch_normal_forms.specs.NormalForm.{normal};
-ghost use Rattle.larch_normal_forms.specs.Sides.{Sides};
+ghost use Rattle.larch_rewrite_meaning.specs.NormalForm.{normal};
+ghost use Rattle.larch_rewrite_meaning.specs.Sides.{Sides};
 ghost use Rattle.larch_rewrite.specs.Kept.{IsForm, IsLed, IsOfStore};
-ghost use Rattle.larch_rewrite.specs.Levels.{HaveOneStart, IsArgument, IsTurnOf, level_of, work_at};
-ghost use Rattle.larch_rewrite.specs.Refusals.{TellsEvent};
-ghost use Rattle.larch_rewrite.specs.Ways.{IsWayTo, reached};
+ghost use Rattle.larch_rewrite.specs.Level.{HaveOneStart, IsArgument, IsTurnOf, level_of, work_at};
+ghost use Rattle.larch_rewrite.specs.Refusal.{TellsEvent};
+ghost use Rattle.larch_rewrite.specs.Ways.{IsWayTo, term_reached};
 ghost use Rattle.larch_rewrite.specs.declared.level.Turn.TheVariants.{Begin, Arguments as among_arguments};
 ghost use Rattle.larch_store.specs.Numbered.{children_of, term_of};
 ghost use Rattle.larch_store.specs.Stored.{Grows};
@@ -17,7 +17,7 @@ use crate::level::{Frame, Level, Turn};
 use crate::refusal::RewriteRefusal;
 use larch_base::Memory;
 use larch_derive::Builder;
-use larch_derive_lines::further_line;
+use larch_derive_lines::push_further;
 use larch_store::{Shared, SharedList, SharedNode, Store};
 use std::alloc::Global;
 
@@ -71,7 +71,7 @@ pub(crate) fn begin(
 }
 
 // A level with what is kept of its term.
-#[tactic(auto, using(larch_derive::proofs::Growth::extends_same, larch_normal_laws::proofs::Charging::cost_used_up))]
+#[tactic(auto, using(larch_derive::proofs::Growth::extends_same, larch_rewrite_law::proofs::Charging::cost_used_up))]
 fn charge(
     alloc: Global,
     builder: &mut Builder,
@@ -118,7 +118,7 @@ fn further_way(
     match further {
         None => Ok(way),
         Some(line) => {
-            let number = further_line(alloc, builder, way, line)?;
+            let number = push_further(alloc, builder, way, line)?;
             Ok(Some(number))
         }
     }
@@ -154,7 +154,7 @@ pub(crate) fn form(store: &mut Store, frame: Frame) -> Result<Turn, RewriteRefus
         → work_at rs (among_arguments frame) b ≡ work_at rs t b) }
     ensures refused { IfErr result (λ e. (rs : List Sides) (b : ℕ)
         → TellsEvent (work_at rs (among_arguments frame) b) e) }
-    ensures reached { IfOk result (λ t. reached t ≡ reached (among_arguments frame)) }
+    ensures reached { IfOk result (λ t. term_reached t ≡ term_reached (among_arguments frame)) }
     ensures grows { Grows store.old store.new }
 {
     let Frame { level, done } = frame;

@@ -7,7 +7,7 @@ use larch_base::{Bytes, FactLetter, FactName, Memory, Sequence};
 use larch_certificate::{Certificate, Line};
 use larch_certificate_printer::print_certificate;
 use larch_derive::Builder;
-use larch_derive_lines::axiom_line;
+use larch_derive_lines::push_axiom;
 use larch_rewrite::{Normal, RewriteRefusal, Rules};
 use larch_store::{Shared, Store, StoreRefusal};
 use larch_term::{Statement, Term, Theory};
@@ -105,7 +105,7 @@ impl Desk {
         let Some(Statement::Equation(left, right)) = statement else {
             return Ok(());
         };
-        let line = axiom_line(&mut self.builder, u64::from(number))?;
+        let line = push_axiom(&mut self.builder, u64::from(number))?;
         let name = name_of(number);
         match self
             .rules

@@ -8,12 +8,13 @@ use Rattle.larch_base.specs.declared.limits.TheConstants.{MAX_REWRITING_LIMIT}
 use Rattle.larch_base.specs.declared.way.Way.{Way}
 use Rattle.larch_base.specs.declared.way.Way.TheVariants.{LeftToRight, RightToLeft, Multiset}
 use Rattle.larch_base.specs.declared.fact_name.FactName.{FactName}
-use Rattle.larch_commands.specs.declared.command.CommandKind.{CommandKind}
-use Rattle.larch_commands.specs.declared.command.CommandKind.TheVariants.{Declare, Limit, BoxChecking, Height, Status}
-use Rattle.larch_commands.specs.declared.command.CommandKind.TheVariants.{Prove, Cases, Implication, Conjunction}
-use Rattle.larch_commands.specs.declared.command.CommandKind.TheVariants.{Contradiction, Induction, Partition}
-use Rattle.larch_commands.specs.declared.command.CommandKind.TheVariants.{CriticalPairs, Normalize, Qed}
-use Rattle.larch_grammar.specs.Terminals.{terminal_of}
+use Rattle.larch_script_commands.specs.declared.command.CommandKind.{CommandKind}
+use Rattle.larch_script_commands.specs.declared.command.CommandKind.TheVariants.{Declare, Limit, BoxChecking, Height}
+use Rattle.larch_script_commands.specs.declared.command.CommandKind.TheVariants.{Status}
+use Rattle.larch_script_commands.specs.declared.command.CommandKind.TheVariants.{Prove, Cases, Implication, Conjunction}
+use Rattle.larch_script_commands.specs.declared.command.CommandKind.TheVariants.{Contradiction, Induction, Partition}
+use Rattle.larch_script_commands.specs.declared.command.CommandKind.TheVariants.{CriticalPairs, Normalize, Qed}
+use Rattle.larch_grammar.specs.Terminal.{terminal_of}
 use Rattle.larch_lexer.specs.TokenList.{TokenList}
 use Rattle.larch_lexer.specs.declared.token.Token.{Token}
 use Rattle.larch_raw.specs.declared.declared.RawOpRef.{RawOpRef}
@@ -27,8 +28,8 @@ use Rattle.larch_script.specs.declared.commands.Verb.{Verb}
 use Rattle.larch_script.specs.declared.commands.Verb.TheVariants as verb
 
 -- the label of this kind with a number
-abbrev pub labelled : List ℕ → ℕ → Option Label
-labelled kind number =
+abbrev pub label_from : List ℕ → ℕ → Option Label
+label_from kind number =
     if bytes_eq kind (codes "assume") then Some (Assume number)
     else if bytes_eq kind (codes "imply") then Some (Imply number)
     else if bytes_eq kind (codes "convert") then Some (Convert number)
@@ -36,7 +37,7 @@ labelled kind number =
 
 -- a label, whose number is from 1
 abbrev pub label_of : List ℕ → ℕ → Option Label
-label_of kind number = if nat_le 1 number then labelled kind number else None
+label_of kind number = if nat_le 1 number then label_from kind number else None
 
 -- `duty LABEL`
 abbrev pub duty : List Token → Option Label
@@ -59,21 +60,21 @@ abbrev pub of_sort : RawWord → RawWord → List RawWord × RawWord
 of_sort name sort = (name ∷ [], sort)
 
 -- names between commas, then `:`, a sort and no more
-abbrev pub declared : List Token → Option (List RawWord × RawWord)
-declared (first ∷ sign ∷ rest) =
+abbrev pub declaration_of : List Token → Option (List RawWord × RawWord)
+declaration_of (first ∷ sign ∷ rest) =
     option_and_then
     (λ name.
-    if bytes_eq sign.text (codes ",") then behind_names (name ∷ []) (declared rest)
+    if bytes_eq sign.text (codes ",") then behind_names (name ∷ []) (declaration_of rest)
     else if bytes_eq sign.text (codes ":") then option_map (of_sort name) (lone_word rest)
     else None)
     (plain (terminal_of false first))
-declared _ = None
+declaration_of _ = None
 
 -- `declare variables x, y: S`; `variable` is right too
 abbrev pub declaration : List Token → Option CommandKind
 declaration tokens =
     if says tokens 1 (codes "variables") || says tokens 1 (codes "variable")
-    then option_map (λ found. Declare found.0 found.1) (declared (drop 2 tokens)) else None
+    then option_map (λ found. Declare found.0 found.1) (declaration_of (drop 2 tokens)) else None
 
 -- a rewriting limit, from 1 on
 abbrev pub limit_of : ℕ → Option CommandKind

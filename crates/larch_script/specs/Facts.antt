@@ -18,9 +18,9 @@ letter_of byte =
     else None
 
 -- the first part of a fact, by its letter and its number
-abbrev pub named : List ℕ → Option FactName
-named [] = None
-named (byte ∷ digits) =
+abbrev pub fact_name : List ℕ → Option FactName
+fact_name [] = None
+fact_name (byte ∷ digits) =
     option_and_then
     (λ letter. option_map (λ number. record { letter = letter; number = number; part = 1 }) (number_of digits))
     (letter_of byte)
@@ -39,7 +39,7 @@ with_part tokens index fact =
 
 -- the fact that is named at an index, with the index after it
 abbrev pub fact_at : List Token → ℕ → Option (FactName × ℕ)
-fact_at tokens index = option_and_then (with_part tokens index) (named (text_at tokens index))
+fact_at tokens index = option_and_then (with_part tokens index) (fact_name (text_at tokens index))
 
 -- the fact with which the line ends
 abbrev pub at_end : List Token → FactName × ℕ → Option FactName

@@ -1,9 +1,9 @@
 -- What `instantiate` puts in the places of variables.
 use Rattle.std.specs.Prelude.{ℕ, zero, suc, ◌+◌, List, [], ◌∷◌, ◌++◌, length, Option, Some, None, option_map}
 use Rattle.std.specs.Prelude.{option_and_then, if◌then◌else◌, codes}
-use Rattle.larch_commands.specs.declared.command.CommandKind.{CommandKind}
-use Rattle.larch_commands.specs.declared.command.CommandKind.TheVariants.{Instantiate}
-use Rattle.larch_commands.specs.declared.command.RawInstance.{RawInstance}
+use Rattle.larch_script_commands.specs.declared.command.CommandKind.{CommandKind}
+use Rattle.larch_script_commands.specs.declared.command.CommandKind.TheVariants.{Instantiate}
+use Rattle.larch_script_commands.specs.declared.command.RawInstance.{RawInstance}
 use Rattle.larch_lexer.specs.TokenList.{TokenList}
 use Rattle.larch_raw.specs.declared.declared.RawWord.{RawWord}
 use Rattle.larch_raw.specs.declared.equation.RawEquation.{RawEquation}

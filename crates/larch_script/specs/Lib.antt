@@ -1,8 +1,8 @@
 pub mod Commands
-pub mod Drafts
+pub mod Draft
 pub mod Facts
 pub mod Instances
-pub mod Lines
+pub mod Line
 pub mod Numbers
 pub mod Scripts
 pub mod Terms

@@ -2,11 +2,11 @@
 use Rattle.std.specs.Prelude.{◌≡◌, ◌≢◌, ℕ, suc, ◌+◌, ◌<◌, ◌==◌, if◌then◌else◌, All, List, [], ◌∷◌, length}
 use Rattle.std.specs.List.{slice_split}
 use Rattle.larch_base.specs.declared.label.Label.{Label}
-use Rattle.larch_commands.specs.declared.command.CommandKind.{CommandKind}
-use Rattle.larch_commands.specs.declared.command.RawCommand.{RawCommand}
-use Rattle.larch_commands.specs.declared.script.Block.{Block}
-use Rattle.larch_commands.specs.declared.script.Script.{Script}
-use Rattle.larch_script.specs.Lines.{line_of}
+use Rattle.larch_script_commands.specs.declared.command.CommandKind.{CommandKind}
+use Rattle.larch_script_commands.specs.declared.command.RawCommand.{RawCommand}
+use Rattle.larch_script_commands.specs.declared.script.Block.{Block}
+use Rattle.larch_script_commands.specs.declared.script.Script.{Script}
+use Rattle.larch_script.specs.Line.{line_of}
 use Rattle.larch_script.specs.declared.line.Line.{Line}
 use Rattle.larch_script.specs.declared.line.Line.TheVariants.{Nothing, Duty, Command}
 

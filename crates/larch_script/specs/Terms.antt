@@ -8,9 +8,9 @@ use Rattle.larch_raw.specs.declared.equation.RawEquation.{RawEquation}
 use Rattle.larch_syntax.specs.Read.{reference_of, term_of}
 
 -- what was read, unless it is refused
-abbrev pub read : {Value : Type 0} → Result Value Fault → Option Value
-read (Ok value) = Some value
-read (Err fault) = None
+abbrev pub read_value : {Value : Type 0} → Result Value Fault → Option Value
+read_value (Ok value) = Some value
+read_value (Err fault) = None
 
 -- what was read, where it goes to the end of the line
 abbrev pub whole : {Value : Type 0} → ℕ → Value × ℕ → Option Value
@@ -18,7 +18,7 @@ whole end found = if found.1 == end then Some found.0 else None
 
 -- the equation at the front of the tokens from an index on, with the index after it
 abbrev pub equation_at : TokenList → ℕ → Option (RawEquation × ℕ)
-equation_at all index = if nat_le index (length all.tokens) then read (term_of all index) else None
+equation_at all index = if nat_le index (length all.tokens) then read_value (term_of all index) else None
 
 -- the equation that all tokens from an index on are
 abbrev pub whole_equation_at : TokenList → ℕ → Option RawEquation
@@ -39,7 +39,7 @@ term_at all index =
 
 -- the reference to operators at the front of the tokens from an index on, with the index after it
 abbrev pub reference_at : TokenList → ℕ → Option (RawOpRef × ℕ)
-reference_at all index = if nat_le index (length all.tokens) then read (reference_of all index) else None
+reference_at all index = if nat_le index (length all.tokens) then read_value (reference_of all index) else None
 
 -- the reference that all tokens from an index on are
 abbrev pub whole_reference_at : TokenList → ℕ → Option RawOpRef

@@ -1,7 +1,7 @@
 ghost use Rattle.std.specs.Prelude.{◌≡◌, ◌≤◌, IfOk, option_map};
-ghost use Rattle.larch_commands.specs.declared.command.CommandKind.TheVariants.{Cases, Normalize, Prove};
-ghost use Rattle.larch_script.specs.Commands.{box_checking, by_verb, command_of, critical, declaration, declared};
-ghost use Rattle.larch_script.specs.Commands.{duty, induction, label_of, labelled, limit, limit_of, lone_word};
+ghost use Rattle.larch_script_commands.specs.declared.command.CommandKind.TheVariants.{Cases, Normalize, Prove};
+ghost use Rattle.larch_script.specs.Commands.{box_checking, by_verb, command_of, critical, declaration, declaration_of};
+ghost use Rattle.larch_script.specs.Commands.{duty, induction, label_of, label_from, limit, limit_of, lone_word};
 ghost use Rattle.larch_script.specs.Commands.{method, method_of, resumption, setting, switch_of, verb_of};
 ghost use Rattle.larch_script.specs.Commands.{with_second};
 ghost use Rattle.larch_script.specs.Facts.{whole_fact_at};
@@ -15,9 +15,9 @@ use crate::terms::{whole_equation_at, whole_term_at};
 use crate::tokens::{ends, plain_word, says, says_dashed, text_at, word_at};
 use larch_base::limits::MAX_REWRITING_LIMIT;
 use larch_base::{FactName, Label, Memory, Sequence};
-use larch_commands::CommandKind;
 use larch_lexer::{Token, Tokens};
 use larch_raw::{RawWord, RawWords};
+use larch_script_commands::CommandKind;
 use std::alloc::Global;
 
 /// The first words of commands.
@@ -50,14 +50,14 @@ fn label_of(kind: &[u8], number: u32) -> Option<Label>
     ensures { result ≡ label_of kind.now number }
 {
     if 1 <= number {
-        labelled(kind, number)
+        label_from(kind, number)
     } else {
         None
     }
 }
 
-fn labelled(kind: &[u8], number: u32) -> Option<Label>
-    ensures { result ≡ labelled kind.now number }
+fn label_from(kind: &[u8], number: u32) -> Option<Label>
+    ensures { result ≡ label_from kind.now number }
 {
     if kind == b"assume".as_slice() {
         Some(Label::Assume(number))
@@ -137,15 +137,15 @@ fn declaration(alloc: Global, tokens: &[Token]) -> Result<Option<CommandKind>, M
     if !says(tokens, 1, b"variables") && !says(tokens, 1, b"variable") {
         return Ok(None);
     }
-    match declared(alloc, rest)? {
+    match declaration_of(alloc, rest)? {
         Some((names, sort)) => Ok(Some(CommandKind::Declare(names, sort))),
         None => Ok(None),
     }
 }
 
 // Names between commas, then `:`, a sort and no more.
-fn declared(alloc: Global, tokens: &[Token]) -> Result<Option<(RawWords, RawWord)>, Memory>
-    ensures { IfOk result (λ found. found ≡ declared tokens.now) }
+fn declaration_of(alloc: Global, tokens: &[Token]) -> Result<Option<(RawWords, RawWord)>, Memory>
+    ensures { IfOk result (λ found. found ≡ declaration_of tokens.now) }
 {
     let mut names = Sequence::new(alloc);
     let mut rest = tokens;

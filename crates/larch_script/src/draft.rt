@@ -1,12 +1,12 @@
 ghost use Rattle.std.specs.Prelude.{◌≡◌, IfOk, None, OnOk};
-ghost use Rattle.larch_commands.specs.declared.script.Script.{Script as Whole};
-ghost use Rattle.larch_script.specs.Drafts.{all_blocks, whole};
+ghost use Rattle.larch_script_commands.specs.declared.script.Script.{Script as Whole};
+ghost use Rattle.larch_script.specs.Draft.{all_blocks, whole};
 ghost use Rattle.larch_script.specs.Scripts.{empty_script, with_line};
 ghost use Rattle.larch_script.specs.declared.line.Line.TheVariants.{Command, Duty};
 
 use crate::line::Line;
 use larch_base::{Label, Memory, Sequence};
-use larch_commands::{Block, Blocks, Commands, RawCommand, Script};
+use larch_script_commands::{Block, Blocks, Commands, RawCommand, Script};
 use std::alloc::Global;
 
 /// A script of which the first lines are read: its preamble, its closed blocks, and the block that is open.

@@ -1,5 +1,5 @@
 ghost use Rattle.std.specs.Prelude.{◌≡◌, ◌+◌, ◌≤◌, ◌<◌, ◌^◌, IfSome};
-ghost use Rattle.larch_script.specs.Facts.{fact_at, letter_of, named, part_of, whole_fact_at, with_part};
+ghost use Rattle.larch_script.specs.Facts.{fact_at, letter_of, fact_name, part_of, whole_fact_at, with_part};
 
 use crate::numbers::number_of;
 use crate::tokens::{ends, says, text_at};
@@ -12,7 +12,7 @@ pub(crate) fn fact_at(tokens: &[Token], index: usize) -> Option<(FactName, usize
     ensures fact { result ≡ fact_at tokens.now index }
     ensures near { IfSome result (λ found. found.1 ≤ index + 3) }
 {
-    let fact = named(text_at(tokens, index))?;
+    let fact = fact_name(text_at(tokens, index))?;
     with_part(tokens, index, fact)
 }
 
@@ -53,8 +53,8 @@ fn part_of(fact: FactName, part: u32) -> FactName
 }
 
 // The first part of a fact, by its letter and its number.
-fn named(text: &[u8]) -> Option<FactName>
-    ensures { result ≡ named text.now }
+fn fact_name(text: &[u8]) -> Option<FactName>
+    ensures { result ≡ fact_name text.now }
 {
     let [byte, digits @ ..] = text else {
         return None;

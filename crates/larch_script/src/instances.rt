@@ -6,9 +6,9 @@ use crate::facts::whole_fact_at;
 use crate::terms::term_at;
 use crate::tokens::{says, word_at};
 use larch_base::{Memory, Sequence};
-use larch_commands::{CommandKind, RawInstance, RawInstances};
 use larch_lexer::Tokens;
 use larch_raw::RawWord;
+use larch_script_commands::{CommandKind, RawInstance, RawInstances};
 use std::alloc::Global;
 
 /// `instantiate x by T, y by U in FACT`.

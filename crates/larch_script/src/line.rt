@@ -2,13 +2,13 @@ ghost use Rattle.std.specs.Prelude.{◌≡◌, ◌≢◌, ◌≤◌, All, IfOk, 
 ghost use Rattle.larch_base.specs.declared.limits.TheConstants.{MAX_FILE_BYTES};
 ghost use Rattle.larch_lexer.specs.Lexing.{lexed_line};
 ghost use Rattle.larch_lexer.specs.TokenTable.{is_blank};
-ghost use Rattle.larch_script.specs.Lines.{line_of, mark_at, mark_of, said, spoken};
+ghost use Rattle.larch_script.specs.Line.{line_of, mark_at, mark_of, said, line_from};
 
 use crate::commands::{command_of, duty};
 use crate::tokens::says;
 use larch_base::{Code, Label, Memory};
-use larch_commands::CommandKind;
 use larch_lexer::{LexRefusal, Tokens, lex_lp};
+use larch_script_commands::CommandKind;
 use std::alloc::Global;
 
 /// What a line of a script is.
@@ -30,15 +30,15 @@ pub(crate) fn read_line(alloc: Global, line: &[u8], number: u32) -> Result<Line,
 {
     match mark_of(line) {
         Some(proved) => Ok(Line::Command(CommandKind::Mark(proved))),
-        None => spoken(alloc, line, number),
+        None => line_from(alloc, line, number),
     }
 }
 
 // What the tokens of a line are.
-fn spoken(alloc: Global, line: &[u8], number: u32) -> Result<Line, Memory>
+fn line_from(alloc: Global, line: &[u8], number: u32) -> Result<Line, Memory>
     requires short { length line.now ≤ MAX_FILE_BYTES }
     requires one_line { All (λ byte. byte ≢ 10) line.now }
-    ensures { IfOk result (λ read. read ≡ spoken (lexed_line number line.now)) }
+    ensures { IfOk result (λ read. read ≡ line_from (lexed_line number line.now)) }
 {
     match lex_lp(alloc, line, number) {
         Ok(tokens) => {

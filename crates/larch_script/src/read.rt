@@ -1,14 +1,14 @@
 ghost use Rattle.std.specs.Prelude.{◌≡◌, ◌≢◌, ◌≤◌, All, IfOk, MatchOption, OnOk, length};
 ghost use Rattle.larch_base.specs.declared.limits.TheConstants.{MAX_FILE_BYTES};
-ghost use Rattle.larch_commands.specs.declared.script.Script.{Script as Whole};
-ghost use Rattle.larch_script.specs.Drafts.{whole};
-ghost use Rattle.larch_script.specs.Lines.{line_of};
+ghost use Rattle.larch_script_commands.specs.declared.script.Script.{Script as Whole};
+ghost use Rattle.larch_script.specs.Draft.{whole};
+ghost use Rattle.larch_script.specs.Line.{line_of};
 ghost use Rattle.larch_script.specs.Scripts.{IsCut, IsLastLine, line_length, script_of, with_line};
 
 use crate::draft::Draft;
 use crate::line::read_line;
 use larch_base::Memory;
-use larch_commands::Script;
+use larch_script_commands::Script;
 use std::alloc::Global;
 
 /// The script that a text is: each line that isn't blank is a command, a mark, the beginning of a block, or a bad line

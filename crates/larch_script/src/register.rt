@@ -4,9 +4,9 @@ ghost use Rattle.larch_script.specs.Commands.{above, height, of_status, registra
 use crate::terms::{reference_at, whole_reference_at};
 use crate::tokens::{says, says_dashed};
 use larch_base::{Memory, Way};
-use larch_commands::CommandKind;
 use larch_lexer::{Token, Tokens};
 use larch_raw::RawOpRef;
+use larch_script_commands::CommandKind;
 use std::alloc::Global;
 
 /// `register` and what it registers.

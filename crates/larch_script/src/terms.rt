@@ -2,9 +2,9 @@ ghost use Rattle.std.specs.Prelude.{◌≡◌, ◌≤◌, ◌<◌, ◌^◌, ℕ,
 ghost use Rattle.std.specs.Prelude.{option_and_then};
 ghost use Rattle.larch_base.specs.Answering.{Answers};
 ghost use Rattle.larch_base.specs.declared.fault.Fault.{Fault};
-ghost use Rattle.larch_script.specs.Terms.{equation_at, read, reference_at, term_alone, term_at, whole, whole_equation_at};
+ghost use Rattle.larch_script.specs.Terms.{equation_at, read_value, reference_at, term_alone, term_at, whole, whole_equation_at};
 ghost use Rattle.larch_script.specs.Terms.{whole_reference_at, whole_term_at};
-ghost use Rattle.larch_syntax.specs.Refusals.{told};
+ghost use Rattle.larch_syntax.specs.Refusal.{cause};
 
 use larch_base::Memory;
 use larch_lexer::Tokens;
@@ -17,8 +17,8 @@ type Found<T> = Result<Option<(T, usize)>, Memory>;
 
 // What was read, unless it is refused.
 fn unless_refused<T: Drop>(reading: Result<(T, u32), SyntaxRefusal>) -> Found<T>
-    ensures found { (answer : Result (T × ℕ) Fault) → Answers told reading answer
-        → IfOk result (λ found. found ≡ read answer) }
+    ensures found { (answer : Result (T × ℕ) Fault) → Answers cause reading answer
+        → IfOk result (λ found. found ≡ read_value answer) }
     ensures small { IfOk result (λ found. IfSome found (λ tree. tree.1 < 2 ^ 32)) }
 {
     match reading {

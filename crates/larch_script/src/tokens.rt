@@ -1,5 +1,5 @@
 ghost use Rattle.std.specs.Prelude.{◌≡◌, ◌+◌, ◌<◌, ◌^◌, false, IfOk};
-ghost use Rattle.larch_grammar.specs.Terminals.{terminal_of};
+ghost use Rattle.larch_grammar.specs.Terminal.{terminal_of};
 ghost use Rattle.larch_script.specs.Texts.{ends, plain, says, says_dashed, text_at, word_at};
 
 use larch_base::Memory;

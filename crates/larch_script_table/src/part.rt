@@ -1,6 +1,6 @@
 use larch_base::{Bytes, FactLetter, FactName, Memory, Name, Pos};
-use larch_commands::RawInstance;
 use larch_raw::{RawEquation, RawNode, RawOpRef, RawSig, RawTerm, RawWord};
+use larch_script_commands::RawInstance;
 use std::alloc::Global;
 
 /// Puts a number behind a blank.

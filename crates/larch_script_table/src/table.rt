@@ -1,7 +1,7 @@
 use crate::part::{put_equation, put_fact, put_instances, put_number, put_reference, put_text};
 use larch_base::{Bytes, Memory, Way};
-use larch_commands::{CommandKind, RawCommand, Script};
 use larch_script::read_script;
+use larch_script_commands::{CommandKind, RawCommand, Script};
 use std::alloc::Global;
 
 /// What is printed of the scripts, between which there are bytes 0.

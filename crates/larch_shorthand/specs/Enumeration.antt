@@ -31,13 +31,13 @@ all_differ unequal [] = []
 all_differ unequal (a ∷ bs) = map (differ unequal a) bs ++ all_differ unequal bs
 
 -- an element is followed by another one
-abbrev pub followed : PlainOperator → PlainOperator → PlainOperator → Statement
-followed succ a b = Equation (on succ (constant a)) (constant b)
+abbrev pub following_statement : PlainOperator → PlainOperator → PlainOperator → Statement
+following_statement succ a b = Equation (on succ (constant a)) (constant b)
 
 -- an element is followed by the first of those behind it, that by the next, and so on
 abbrev pub followed_from : PlainOperator → PlainOperator → List PlainOperator → List Statement
 followed_from succ a [] = []
-followed_from succ a (b ∷ bs) = followed succ a b ∷ followed_from succ b bs
+followed_from succ a (b ∷ bs) = following_statement succ a b ∷ followed_from succ b bs
 
 -- each element but the last is followed by the next
 abbrev pub all_followed : PlainOperator → List PlainOperator → List Statement
@@ -45,8 +45,8 @@ all_followed succ [] = []
 all_followed succ (a ∷ bs) = followed_from succ a bs
 
 -- what is stated of the elements of a sort: they generate it, differ, and follow one another
-abbrev pub enumerated : List ℕ → List PlainOperator → List Statement
-enumerated sort fs =
+abbrev pub enumeration_statements : List ℕ → List PlainOperator → List Statement
+enumeration_statements sort fs =
     Generated sort fs ∷ (all_differ (built_in Unequal sort) fs ++ all_followed (successor sort) fs)
 
 -- an enumeration of a sort with these names
@@ -54,5 +54,5 @@ abbrev pub enumeration : List ℕ → List (List ℕ) → Expansion
 enumeration sort names =
     record {
       operators = enumeration_operators sort names;
-      statements = enumerated sort (elements sort names);
+      statements = enumeration_statements sort (elements sort names);
     }

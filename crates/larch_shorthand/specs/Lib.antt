@@ -1,7 +1,7 @@
 pub mod Enumeration
 pub mod Expansion
 pub mod Operators
-pub mod Refusals
+pub mod Refusal
 pub mod Shorthand
 pub mod Tuple
 pub mod Union

@@ -63,8 +63,8 @@ abbrev pub tuple_of : PlainOperator → List Component → Tree
 tuple_of make cs = app make (forest_of (map (λ c. c.value) cs))
 
 -- what is stated of a tuple: it is generated and partitioned, and what is got and set
-abbrev pub tupled : List ℕ → PlainOperator → List Component → List Statement
-tupled sort make cs =
+abbrev pub tuple_statements : List ℕ → PlainOperator → List Component → List Statement
+tuple_statements sort make cs =
     Generated sort (make ∷ []) ∷ Partitioned sort (map (λ c. c.getter) cs)
     ∷ (map (is_got (tuple_of make cs)) cs ++ all_set make (tuple_of make cs) [] cs)
 
@@ -73,5 +73,5 @@ abbrev pub tuple : List ℕ → List RawField → Expansion
 tuple sort fields =
     record {
       operators = tuple_operators sort fields;
-      statements = tupled sort (maker sort fields) (components_of sort 1 fields);
+      statements = tuple_statements sort (maker sort fields) (components_of sort 1 fields);
     }

@@ -52,8 +52,8 @@ abbrev pub is_tagged : PlainOperator → Case → Statement
 is_tagged tag c = Equation (on tag (on c.injection c.value)) (constant c.tag)
 
 -- what is stated of a union: it is generated and partitioned, what is got back, and what is tagged
-abbrev pub united : List ℕ → List Case → List Statement
-united sort cs =
+abbrev pub union_statements : List ℕ → List Case → List Statement
+union_statements sort cs =
     Generated sort (map (λ c. c.injection) cs) ∷ Partitioned sort (map (λ c. c.getter) cs ++ tag sort ∷ [])
     ∷ (map is_back cs ++ map (is_tagged (tag sort)) cs)
 
@@ -67,5 +67,5 @@ union_ sort fields =
     followed_by (enumeration (tag_sort sort) (names_of fields))
     (record {
       operators = union_operators sort fields;
-      statements = united sort (map (case_of sort) fields);
+      statements = union_statements sort (map (case_of sort) fields);
     })

@@ -1,7 +1,7 @@
 ghost use Rattle.std.specs.Prelude.{◌≡◌, ◌∷◌, [], map, IfOk};
 ghost use Rattle.larch_term.specs.declared.statement.Statement.TheVariants.{Generated};
-ghost use Rattle.larch_shorthand.specs.Enumeration.{all_differ, all_followed, differ, elements, enumerated};
-ghost use Rattle.larch_shorthand.specs.Enumeration.{enumeration, enumeration_operators, followed, followed_from};
+ghost use Rattle.larch_shorthand.specs.Enumeration.{all_differ, all_followed, differ, elements, enumeration_statements};
+ghost use Rattle.larch_shorthand.specs.Enumeration.{enumeration, enumeration_operators, following_statement, followed_from};
 ghost use Rattle.larch_shorthand.specs.Enumeration.{successor};
 
 use crate::append::append;
@@ -17,7 +17,7 @@ pub(crate) fn enumeration(alloc: Global, sort: &Sort, names: &[Name]) -> Result<
 {
     let elements = elements(alloc, sort, names)?;
     let successor = successor(alloc, sort)?;
-    let statements = enumerated(alloc, sort, elements.as_slice(), &successor)?;
+    let statements = enumeration_statements(alloc, sort, elements.as_slice(), &successor)?;
     let mut operators = elements;
     operators.push(successor)?;
     Ok(Expansion {
@@ -62,14 +62,14 @@ fn successor(alloc: Global, sort: &Sort) -> Result<Operator, Memory>
 }
 
 // What is stated of the elements of a sort.
-fn enumerated(
+fn enumeration_statements(
     alloc: Global,
     sort: &Sort,
     elements: &[Operator],
     succ: &Operator,
 ) -> Result<Statements, Memory>
     requires { succ.now ≡ successor sort.now }
-    ensures { IfOk result (λ ss. ss ≡ enumerated sort.now elements.now) }
+    ensures { IfOk result (λ ss. ss ≡ enumeration_statements sort.now elements.now) }
 {
     let unequal = BuiltIn::Unequal.operator(alloc, sort)?;
     let generated = generated(alloc, sort, elements)?;
@@ -168,7 +168,7 @@ fn followed_from(
     let mut statements = Sequence::new(alloc);
     let mut last = first;
     for next in others {
-        let statement = followed(alloc, successor, last, next)?;
+        let statement = following_statement(alloc, successor, last, next)?;
         statements.push(statement)?;
         last = next;
     }
@@ -176,13 +176,13 @@ fn followed_from(
 }
 
 // That an element is followed by another one.
-fn followed(
+fn following_statement(
     alloc: Global,
     successor: &Operator,
     first: &Operator,
     second: &Operator,
 ) -> Result<Statement, Memory>
-    ensures { IfOk result (λ s. s ≡ followed successor.now first.now second.now) }
+    ensures { IfOk result (λ s. s ≡ following_statement successor.now first.now second.now) }
 {
     let first = constant(alloc, first)?;
     let next = on(alloc, successor, first)?;

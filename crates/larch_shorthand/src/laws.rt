@@ -5,7 +5,7 @@ ghost use Rattle.larch_raw.specs.declared.shorthand.RawShorthand.{RawShorthand};
 ghost use Rattle.larch_term.specs.BuiltIn.{IsBuiltIn};
 ghost use Rattle.larch_term.specs.Statement.{IsStatementOver};
 ghost use Rattle.larch_sorts_meaning.specs.Laws.{IsSortOf, StatementSorts};
-ghost use Rattle.larch_items.specs.Laws.{NamesOwn};
+ghost use Rattle.larch_traits_items.specs.Laws.{NamesOwn};
 ghost use Rattle.larch_shorthand.specs.Shorthand.{expand};
 ghost use Rattle.larch_shorthand.specs.declared.expansion.Expansion.{Expansion};
 

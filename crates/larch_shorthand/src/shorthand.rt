@@ -5,7 +5,7 @@ ghost use Rattle.larch_base.specs.declared.code.Code.TheVariants.{FieldTwice};
 ghost use Rattle.larch_sorts_meaning.specs.Faults.{fault_at, unless};
 ghost use Rattle.larch_shorthand.specs.Shorthand.{expand, expand_operators, field_twice, names_in, names_truth};
 ghost use Rattle.larch_shorthand.specs.Shorthand.{truth_among, twice, wrong_elements, wrong_in};
-ghost use Rattle.larch_shorthand.specs.Refusals.{told};
+ghost use Rattle.larch_shorthand.specs.Refusal.{cause};
 
 use crate::enumeration::{enumeration, enumeration_operators};
 use crate::expansion::Expansion;
@@ -23,7 +23,7 @@ use std::alloc::Global;
 /// of Bool that is named `true` or `false`. It takes as long as what it makes is large: an enumeration of n elements
 /// states n(n-1)/2 inequalities, and a tuple of n fields has about 2n² nodes.
 pub fn expand(alloc: Global, shorthand: &RawShorthand) -> Result<Expansion, ExpandRefusal>
-    ensures { Answers told result (expand shorthand.now) }
+    ensures { Answers cause result (expand shorthand.now) }
 {
     check(alloc, shorthand)?;
     match shorthand {
@@ -46,7 +46,7 @@ pub fn expand(alloc: Global, shorthand: &RawShorthand) -> Result<Expansion, Expa
 /// The operators that a shorthand stands for, with the refusals of `expand`. It takes as long as they and the
 /// shorthand are large.
 pub fn expand_operators(alloc: Global, shorthand: &RawShorthand) -> Result<Operators, ExpandRefusal>
-    ensures { Answers told result (expand_operators shorthand.now) }
+    ensures { Answers cause result (expand_operators shorthand.now) }
 {
     check(alloc, shorthand)?;
     match shorthand {
@@ -68,7 +68,7 @@ pub fn expand_operators(alloc: Global, shorthand: &RawShorthand) -> Result<Opera
 
 // Answers where nothing is wrong with a shorthand.
 fn check(alloc: Global, shorthand: &RawShorthand) -> Result<(), ExpandRefusal>
-    ensures { Answers told result (unless (wrong_in shorthand.now) (Ok tt)) }
+    ensures { Answers cause result (unless (wrong_in shorthand.now) (Ok tt)) }
 {
     match shorthand {
         RawShorthand::Enumeration(sort, words) => check_elements(
@@ -83,7 +83,7 @@ fn check(alloc: Global, shorthand: &RawShorthand) -> Result<(), ExpandRefusal>
 
 // Answers where nothing is wrong with words as elements of a sort.
 fn check_elements(alloc: Global, sort: &Sort, words: &[RawWord]) -> Result<(), ExpandRefusal>
-    ensures { Answers told result (unless (wrong_elements sort.now words.now) (Ok tt)) }
+    ensures { Answers cause result (unless (wrong_elements sort.now words.now) (Ok tt)) }
 {
     if let Some(pos) = element_twice(alloc, words)? {
         return Err(ExpandRefusal::FieldTwice(pos));
@@ -96,7 +96,7 @@ fn check_elements(alloc: Global, sort: &Sort, words: &[RawWord]) -> Result<(), E
 
 // Answers where no field has the name of one before it.
 fn check_fields(alloc: Global, fields: &[RawField]) -> Result<(), ExpandRefusal>
-    ensures { Answers told result (unless (fault_at FieldTwice (field_twice fields.now)) (Ok tt)) }
+    ensures { Answers cause result (unless (fault_at FieldTwice (field_twice fields.now)) (Ok tt)) }
 {
     if let Some(pos) = field_twice(alloc, fields)? {
         return Err(ExpandRefusal::FieldTwice(pos));

@@ -3,7 +3,7 @@ ghost use Rattle.std.specs.List.{join_by};
 ghost use Rattle.larch_term.specs.Tree.{app, forest_of, var};
 ghost use Rattle.larch_term.specs.declared.statement.Statement.TheVariants.{Generated, Partitioned};
 ghost use Rattle.larch_shorthand.specs.Tuple.{all_set, component_of, components_of, getter, is_got, is_set, maker};
-ghost use Rattle.larch_shorthand.specs.Tuple.{setter, tuple, tuple_of, tuple_operators, tupled};
+ghost use Rattle.larch_shorthand.specs.Tuple.{setter, tuple, tuple_of, tuple_operators, tuple_statements};
 
 use crate::append::append;
 use crate::expansion::Expansion;
@@ -39,7 +39,7 @@ pub(crate) fn tuple(alloc: Global, sort: &Sort, fields: &[RawField]) -> Result<E
 {
     let make = maker(alloc, sort, fields)?;
     let components = components_of(alloc, sort, fields)?;
-    let statements = tupled(alloc, sort, &make, components.as_slice())?;
+    let statements = tuple_statements(alloc, sort, &make, components.as_slice())?;
     let operators = tuple_operators(alloc, sort, fields)?;
     Ok(Expansion {
         operators,
@@ -211,13 +211,13 @@ fn other_of(alloc: Global, sort: &Sort) -> Result<Term, Memory>
 }
 
 // What is stated of a tuple.
-fn tupled(
+fn tuple_statements(
     alloc: Global,
     sort: &Sort,
     make: &Operator,
     components: &[Component],
 ) -> Result<Statements, Memory>
-    ensures { IfOk result (λ ss. ss ≡ tupled sort.now make.now components.now) }
+    ensures { IfOk result (λ ss. ss ≡ tuple_statements sort.now make.now components.now) }
 {
     let clauses = clauses(alloc, sort, make, components)?;
     let whole = tuple_of(alloc, make, components)?;

@@ -6,7 +6,7 @@ ghost use Rattle.larch_shorthand.specs.Expansion.{followed_by};
 ghost use Rattle.larch_shorthand.specs.Operators.{on};
 ghost use Rattle.larch_shorthand.specs.Tuple.{getter};
 ghost use Rattle.larch_shorthand.specs.Union.{case_of, injection, is_back, is_tagged, names_of, tag, tag_of};
-ghost use Rattle.larch_shorthand.specs.Union.{tag_sort, union_, union_operators, united};
+ghost use Rattle.larch_shorthand.specs.Union.{tag_sort, union_, union_operators, union_statements};
 
 use crate::append::append;
 use crate::enumeration::{enumeration, enumeration_operators};
@@ -43,7 +43,7 @@ pub(crate) fn union_(alloc: Global, sort: &Sort, fields: &[RawField]) -> Result<
     ensures { IfOk result (λ e. e ≡ union_ sort.now fields.now) }
 {
     let tags = tags(alloc, sort, fields)?;
-    let statements = united(alloc, sort, fields)?;
+    let statements = union_statements(alloc, sort, fields)?;
     let operators = own_operators(alloc, sort, fields)?;
     followed_by(
         tags,
@@ -155,8 +155,8 @@ fn tag(alloc: Global, sort: &Sort) -> Result<Operator, Memory>
 }
 
 // What is stated of a union beside its tags.
-fn united(alloc: Global, sort: &Sort, fields: &[RawField]) -> Result<Statements, Memory>
-    ensures { IfOk result (λ ss. ss ≡ united sort.now (map (case_of sort.now) fields.now)) }
+fn union_statements(alloc: Global, sort: &Sort, fields: &[RawField]) -> Result<Statements, Memory>
+    ensures { IfOk result (λ ss. ss ≡ union_statements sort.now (map (case_of sort.now) fields.now)) }
 {
     let cases = cases(alloc, sort, fields)?;
     let tag = tag(alloc, sort)?;

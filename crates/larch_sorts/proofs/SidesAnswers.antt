@@ -22,12 +22,15 @@ as_statement None = None
 as_statement (Some (One p)) = Some (One (Equation p.left p.right))
 as_statement (Some Several) = Some Several
 
-other_equation : (fs : List PlainOperator) (vs : Variables) (raw : RawEquation) (p : Sides) → ((q : Sides) → ReadsSides fs vs raw q → q ≡ p) → (s : Statement) → ReadsEquation fs vs raw s → s ≡ Equation p.left p.right
+other_equation : (fs : List PlainOperator) (vs : Variables) (raw : RawEquation) (p : Sides)
+    → ((q : Sides) → ReadsSides fs vs raw q → q ≡ p) → (s : Statement) → ReadsEquation fs vs raw s
+    → s ≡ Equation p.left p.right
 other_equation fs vs raw p h (Equation l r) q = ap (λ x. Equation x.left x.right) (h (record { left = l; right = r }) q)
 other_equation fs vs raw p h (Generated z gs) q = absurd q
 other_equation fs vs raw p h (Partitioned z gs) q = absurd q
 
-no_equation : (fs : List PlainOperator) (vs : Variables) (raw : RawEquation) → IsNone (ReadsSides fs vs raw) → (s : Statement) → ReadsEquation fs vs raw s → ⊥
+no_equation : (fs : List PlainOperator) (vs : Variables) (raw : RawEquation) → IsNone (ReadsSides fs vs raw)
+    → (s : Statement) → ReadsEquation fs vs raw s → ⊥
 no_equation fs vs raw h (Equation l r) q = h (record { left = l; right = r }) q
 no_equation fs vs raw h (Generated z gs) q = q
 no_equation fs vs raw h (Partitioned z gs) q = q
@@ -38,10 +41,12 @@ equal_parts p q e =
     let r : p.right ≡ q.right = cc in
     λ i. record { left = l i; right = r i }
 
-equations_tell : (fs : List PlainOperator) (vs : Variables) (raw : RawEquation) (found : Option (Found Sides)) → Tells found (ReadsSides fs vs raw) → Tells (as_statement found) (ReadsEquation fs vs raw)
+equations_tell : (fs : List PlainOperator) (vs : Variables) (raw : RawEquation) (found : Option (Found Sides))
+    → Tells found (ReadsSides fs vs raw) → Tells (as_statement found) (ReadsEquation fs vs raw)
 equations_tell fs vs raw None h = no_equation fs vs raw h
 equations_tell fs vs raw (Some (One p)) h = (h.0, other_equation fs vs raw p h.1)
-equations_tell fs vs raw (Some Several) h = (Equation h.0.left h.0.right, Equation h.1.left h.1.right, h.2, h.3, λ e. h.4 (equal_parts h.0 h.1 e))
+equations_tell fs vs raw (Some Several) h =
+    (Equation h.0.left h.0.right, Equation h.1.left h.1.right, h.2, h.3, λ e. h.4 (equal_parts h.0 h.1 e))
 
 -- what was found of the sides is what is answered
 pub equation_found : (fs : List PlainOperator) (vs : Variables) (raw : RawEquation) (found : Option (Found Sides))

@@ -27,17 +27,17 @@ abbrev pub same_sides : Sides → Sides → Bool
 same_sides a b = same_tree a.left b.left && same_tree a.right b.right
 
 -- a left side together with a right side
-abbrev pub paired : Option (Found Tree) → Option (Found Tree) → Option (Found Sides)
-paired None right = None
-paired (Some left) None = None
-paired (Some Several) (Some right) = Some Several
-paired (Some (One l)) (Some Several) = Some Several
-paired (Some (One l)) (Some (One r)) = Some (One (record { left = l; right = r }))
+abbrev pub pair_sides : Option (Found Tree) → Option (Found Tree) → Option (Found Sides)
+pair_sides None right = None
+pair_sides (Some left) None = None
+pair_sides (Some Several) (Some right) = Some Several
+pair_sides (Some (One l)) (Some Several) = Some Several
+pair_sides (Some (One l)) (Some (One r)) = Some (One (record { left = l; right = r }))
 
 -- the sides of one of these sorts
 abbrev pub sides_found : Entries → Entries → List (List ℕ) → Option (Found Sides)
 sides_found left right ss =
-    fold (λ before s. with_found same_sides before (paired (reading_at left s) (reading_at right s))) None ss
+    fold (λ before s. with_found same_sides before (pair_sides (reading_at left s) (reading_at right s))) None ss
 
 -- the sides that are found at the sorts of the left, or of the right
 abbrev pub AreFound : Entries → Entries → Option (Found Sides) → Type 0

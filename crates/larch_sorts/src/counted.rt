@@ -6,7 +6,7 @@ ghost use Rattle.larch_sorts_meaning.specs.Readings.{ReadsAt, Reads};
 ghost use Rattle.larch_sorts_meaning.specs.Parts.{parts};
 ghost use Rattle.larch_sorts_meaning.specs.Read.{first_unread, unread_in};
 ghost use Rattle.larch_sorts.specs.Sides.{ReadBoth, ReadsFormula, ReadsSides};
-ghost use Rattle.larch_sorts_meaning.specs.Refusals.{Unread};
+ghost use Rattle.larch_sorts_meaning.specs.Refusal.{Unread};
 
 use crate::found::Sides;
 use crate::pick::picked_at;

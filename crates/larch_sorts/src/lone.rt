@@ -3,7 +3,7 @@ ghost use Rattle.std.specs.Option.{option_copied};
 ghost use Rattle.larch_term.specs.Sorts.{WellSorted, IsOver};
 ghost use Rattle.larch_sorts_meaning.specs.Read.{read_term, first_unread};
 ghost use Rattle.larch_base.specs.Answering.{Answers};
-ghost use Rattle.larch_sorts_meaning.specs.Refusals.{told, Unread};
+ghost use Rattle.larch_sorts_meaning.specs.Refusal.{told, Unread};
 ghost use Rattle.larch_sorts_meaning.specs.Scope.{HasVariablesOf};
 ghost use Rattle.larch_sorts_meaning.specs.Unknown.{unknown_sort};
 ghost use Rattle.larch_sorts_meaning.specs.Stands.{Stands};

@@ -48,7 +48,7 @@ pub(crate) fn only_at(
                         arguments,
                         operator.domain(),
                     )?;
-                    let found = applied(alloc, operator, found)?;
+                    let found = apply_found(alloc, operator, found)?;
                     Ok(found)
                 }
             }
@@ -109,7 +109,7 @@ pub(crate) fn variable_at(
 }
 
 // An operator with the arguments that were found.
-fn applied(
+fn apply_found(
     alloc: Global,
     operator: Operator,
     found: Option<Sequence<Reading>>,

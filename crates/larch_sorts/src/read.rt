@@ -3,7 +3,7 @@ ghost use Rattle.larch_term.specs.Statement.{IsStatementOver};
 ghost use Rattle.larch_term.specs.declared.statement.Statement.TheVariants.{Equation};
 ghost use Rattle.larch_sorts_meaning.specs.Read.{read_equation, first_unread};
 ghost use Rattle.larch_base.specs.Answering.{Answers};
-ghost use Rattle.larch_sorts_meaning.specs.Refusals.{told, Unread};
+ghost use Rattle.larch_sorts_meaning.specs.Refusal.{told, Unread};
 ghost use Rattle.larch_sorts_meaning.specs.Scope.{IsInScope};
 ghost use Rattle.larch_sorts_meaning.specs.Unknown.{unknown_sort};
 ghost use Rattle.larch_sorts_meaning.specs.Stands.{Stands};

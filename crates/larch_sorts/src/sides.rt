@@ -4,7 +4,7 @@ ghost use Rattle.larch_term.specs.Truth.{truth};
 ghost use Rattle.larch_term.specs.Equality.{same_tree};
 ghost use Rattle.larch_sorts_signature.specs.Table.{reading_at, sorts_in};
 ghost use Rattle.larch_sorts_meaning.specs.Found.{merged_by, with_found};
-ghost use Rattle.larch_sorts.specs.Sides.{AreFound, found_anywhere, paired, same_sides, sides_found, formula_found};
+ghost use Rattle.larch_sorts.specs.Sides.{AreFound, found_anywhere, pair_sides, same_sides, sides_found, formula_found};
 ghost use Rattle.larch_sorts_meaning.specs.declared.found.Found.TheVariants.{One, Several};
 
 use crate::found::Sides;
@@ -68,7 +68,7 @@ fn are_several(found: &Option<Found<Sides>>) -> bool
 // The sides of a sort.
 fn sides_at(left: &Table, right: &Table, sort: &Sort) -> Result<Option<Found<Sides>>, Memory>
     ensures { IfOk result (λ found. found
-        ≡ paired (reading_at left.now.found.value.entries sort.now)
+        ≡ pair_sides (reading_at left.now.found.value.entries sort.now)
         (reading_at right.now.found.value.entries sort.now)) }
 {
     match (at(left, sort), at(right, sort)) {

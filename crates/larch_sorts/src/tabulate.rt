@@ -6,7 +6,7 @@ ghost use Rattle.larch_sorts_meaning.specs.Readings.{Reads, variable_sort};
 ghost use Rattle.larch_sorts_meaning.specs.declared.found.Found.TheVariants.{One};
 ghost use Rattle.larch_term.specs.Tree.{var};
 ghost use Rattle.larch_sorts.specs.Tabulate.{AllTell, TableTells};
-ghost use Rattle.larch_sorts_meaning.specs.Refusals.{Unread};
+ghost use Rattle.larch_sorts_meaning.specs.Refusal.{Unread};
 ghost use Rattle.larch_sorts_signature.specs.Table.{reading_at};
 
 use larch_base::{Memory, Name, Sequence};

@@ -9,7 +9,7 @@ use Rattle.larch_sorts_meaning.specs.Read.{unread_in}
 use Rattle.larch_sorts_meaning.specs.Readings.{Reads}
 use Rattle.larch_sorts_meaning.specs.Scope.{Variables}
 use Rattle.larch_sorts_meaning.specs.Signature.{taking_part}
-use Rattle.larch_sorts_meaning.specs.Refusals.{Unread}
+use Rattle.larch_sorts_meaning.specs.Refusal.{Unread}
 use Rattle.larch_sorts_counts.specs.declared.count.Count.{Count}
 use Rattle.larch_sorts_counts.specs.declared.count.Count.TheVariants.{Never}
 use Rattle.larch_sorts_counts.specs.declared.numbers.Numbers.{Numbers}

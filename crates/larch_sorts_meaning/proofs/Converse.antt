@@ -22,18 +22,24 @@ use Rattle.larch_term.specs.Equality.{same_statement}
 use Rattle.larch_term.proofs.Decided.{statement_Decides}
 use Rattle.larch_sorts_meaning.proofs.Answers.{decided, answer_found}
 use Rattle.larch_sorts_meaning.proofs.Listed.{equation_listed, equation_reads}
-use Rattle.larch_sorts_meaning.proofs.ReadAnswers.{equation_unknown, equation_unread, term_unknown, term_unread, term_found}
+use Rattle.larch_sorts_meaning.proofs.ReadAnswers.{equation_unknown, equation_unread, term_unknown, term_unread}
+use Rattle.larch_sorts_meaning.proofs.ReadAnswers.{term_found}
 
 -- the answer by what was found of an equation
-pub equation_decided : (fs : List PlainOperator) (vs : Variables) (raw : RawEquation) (found : Option (Found Statement)) → unknown_sort fs raw ≡ None → first_unread fs vs raw ≡ None → Tells found (ReadsEquation fs vs raw)
+pub equation_decided : (fs : List PlainOperator) (vs : Variables) (raw : RawEquation) (found : Option (Found Statement))
+    → unknown_sort fs raw ≡ None → first_unread fs vs raw ≡ None → Tells found (ReadsEquation fs vs raw)
     → read_equation fs vs raw ≡ decided raw found
 unfolding read_equation
 equation_decided fs vs raw found e u h =
-    answer_found same_statement statement_Decides (ReadsEquation fs vs raw) fs vs raw (equation_readings fs vs raw) (equation_reads fs vs raw) (equation_listed fs vs raw) found e u h
+    answer_found same_statement statement_Decides (ReadsEquation fs vs raw) fs vs raw (equation_readings fs vs raw)
+    (equation_reads fs vs raw) (equation_listed fs vs raw) found e u h
 
 -- the only reading of an equation is answered
-pub equation_answered : (fs : List PlainOperator) (vs : Variables) (raw : RawEquation) (s : Statement) → unknown_sort fs raw ≡ None → IsOnly (ReadsEquation fs vs raw) s → read_equation fs vs raw ≡ Ok s
-equation_answered fs vs raw s u h = equation_decided fs vs raw (Some (One s)) u (all_parts_have fs vs (in_sides parts (sides raw)) (equation_parts fs vs raw s h.0)) h
+pub equation_answered : (fs : List PlainOperator) (vs : Variables) (raw : RawEquation) (s : Statement)
+    → unknown_sort fs raw ≡ None → IsOnly (ReadsEquation fs vs raw) s → read_equation fs vs raw ≡ Ok s
+equation_answered fs vs raw s u h =
+    equation_decided fs vs raw (Some (One s)) u
+    (all_parts_have fs vs (in_sides parts (sides raw)) (equation_parts fs vs raw s h.0)) h
 
 -- a fault of an equation that stands is answered
 pub equation_refused : (fs : List PlainOperator) (vs : Variables) (raw : RawEquation) (f : Fault)
@@ -51,11 +57,16 @@ equation_refused fs vs raw f (several_stand {pos} u several p) =
     ∙ ap (λ q. Err (fault Ambiguous q)) (sym p)
 
 -- the only reading of a lone term is answered
-pub term_answered : (fs : List PlainOperator) (vs : Variables) (wanted : Option (List ℕ)) (raw : RawEquation) (t : Tree) → raw.right ≡ None → unknown_sort fs raw ≡ None → IsOnly (ReadsLone fs vs wanted raw) t → read_term fs vs wanted raw ≡ Ok t
-term_answered fs vs wanted raw t e u h = term_found fs vs wanted raw (Some (One t)) u (all_parts_have fs vs (in_sides parts (sides raw)) (lone_parts fs vs wanted raw t e h.0)) h
+pub term_answered : (fs : List PlainOperator) (vs : Variables) (wanted : Option (List ℕ)) (raw : RawEquation) (t : Tree)
+    → raw.right ≡ None → unknown_sort fs raw ≡ None → IsOnly (ReadsLone fs vs wanted raw) t
+    → read_term fs vs wanted raw ≡ Ok t
+term_answered fs vs wanted raw t e u h =
+    term_found fs vs wanted raw (Some (One t)) u
+    (all_parts_have fs vs (in_sides parts (sides raw)) (lone_parts fs vs wanted raw t e h.0)) h
 
 -- a fault of a lone term that stands is answered
-pub term_refused : (fs : List PlainOperator) (vs : Variables) (wanted : Option (List ℕ)) (raw : RawEquation) (f : Fault) → raw.right ≡ None
+pub term_refused : (fs : List PlainOperator) (vs : Variables) (wanted : Option (List ℕ)) (raw : RawEquation) (f : Fault)
+    → raw.right ≡ None
     → Stands fs vs raw (ReadsLone fs vs wanted raw) f → read_term fs vs wanted raw ≡ Err f
 term_refused fs vs wanted raw f e (unknown_stands {pos} h) = term_unknown fs vs wanted raw pos h
 term_refused fs vs wanted raw f e (unread_stands {pos} u (inl first)) =

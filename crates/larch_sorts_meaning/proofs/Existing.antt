@@ -1,16 +1,20 @@
 -- Which sorts exist beside operators.
-use Rattle.std.proofs.Common.{◌≡◌, ℕ, ◌⊎◌, inl, inr, Bool, true, false, cond, ◌||◌, List, [], ◌∷◌, ◌++◌, Contains, bytes_eq, refl, sym, subst}
+use Rattle.std.proofs.Common.{◌≡◌, ℕ, ◌⊎◌, inl, inr, Bool, true, false, cond, ◌||◌, List, [], ◌∷◌, ◌++◌, Contains}
+use Rattle.std.proofs.Common.{bytes_eq, refl, sym, subst}
 use Rattle.std.specs.Bool.{Decides}
 use Rattle.std.specs.List.{list_any, flat_map, fold}
 use Rattle.std.proofs.lemmas.Slice.Eq.{bytes_eq-Decides}
 use Rattle.larch_base.proofs.Bools.{or_left, or_right}
-use Rattle.larch_base.proofs.Members.{contains_here, contains_later, contains_cases, contains_none, contains_one, contains_left, contains_right, contains_either, contains_flat_map, contained_in_flat_map}
+use Rattle.larch_base.proofs.Members.{contains_here, contains_later, contains_cases, contains_none, contains_one}
+use Rattle.larch_base.proofs.Members.{contains_left, contains_right, contains_either, contains_flat_map}
+use Rattle.larch_base.proofs.Members.{contained_in_flat_map}
 use Rattle.larch_term.specs.BuiltIn.{bool_sort}
 use Rattle.larch_term.specs.Operator.{PlainOperator}
-use Rattle.larch_operators.specs.Sorts.{with_sort, existing_sorts, exists_sort}
+use Rattle.larch_sorts_known.specs.Sorts.{with_sort, existing_sorts, exists_sort}
 use Rattle.larch_sorts_meaning.specs.Laws.{IsSortOf, sorts_of_operator}
 
-here_or_later : (s x : List ℕ) (xs : List (List ℕ)) (b : Bool) → bytes_eq s x ≡ b → (list_any (bytes_eq s) xs ≡ true → Contains xs s)
+here_or_later : (s x : List ℕ) (xs : List (List ℕ)) (b : Bool) → bytes_eq s x ≡ b
+    → (list_any (bytes_eq s) xs ≡ true → Contains xs s)
     → (b || list_any (bytes_eq s) xs) ≡ true → Contains (x ∷ xs) s
 here_or_later s x xs true q later h = subst (Contains (x ∷ xs)) (sym ((bytes_eq-Decides s x).0 q)) (contains_here x xs)
 here_or_later s x xs false q later h = contains_later x s xs (later h)
@@ -28,7 +32,8 @@ contained_any s (x ∷ xs) c =
       | inr d ↦ or_right (bytes_eq s x) (list_any (bytes_eq s) xs) (contained_any s xs d)
     ]
 
-put_in : (xs : List (List ℕ)) (s z : List ℕ) (b : Bool) → Contains (cond b xs (xs ++ s ∷ [])) z → Contains xs z ⊎ (s ≡ z)
+put_in : (xs : List (List ℕ)) (s z : List ℕ) (b : Bool) → Contains (cond b xs (xs ++ s ∷ [])) z
+    → Contains xs z ⊎ (s ≡ z)
 put_in xs s z true c = inl c
 put_in xs s z false c = elim (contains_either xs (s ∷ []) z c) [ inl d ↦ inl d | inr d ↦ inr (contains_one s z d) ]
 
@@ -36,7 +41,8 @@ kept_in : (xs : List (List ℕ)) (s z : List ℕ) (b : Bool) → Contains xs z �
 kept_in xs s z true c = c
 kept_in xs s z false c = contains_left xs (s ∷ []) z c
 
-new_in : (xs : List (List ℕ)) (s : List ℕ) (b : Bool) → list_any (bytes_eq s) xs ≡ b → Contains (cond b xs (xs ++ s ∷ [])) s
+new_in : (xs : List (List ℕ)) (s : List ℕ) (b : Bool) → list_any (bytes_eq s) xs ≡ b
+    → Contains (cond b xs (xs ++ s ∷ [])) s
 new_in xs s true e = any_contained s xs e
 new_in xs s false e = contains_right xs (s ∷ []) s (contains_here s [])
 
@@ -82,5 +88,7 @@ standing_exists fs s (inr (f, c, d)) =
 
 -- the test for existing sorts tells exactly that
 pub exists_Decides : (fs : List PlainOperator) (s : List ℕ) → Decides (exists_sort fs s) (IsSortOf fs s)
-exists_Decides fs s =
-    (λ e. existing_stands fs s (any_contained s (existing_sorts fs) e), λ h. contained_any s (existing_sorts fs) (standing_exists fs s h))
+exists_Decides fs s = (
+  λ e. existing_stands fs s (any_contained s (existing_sorts fs) e),
+  λ h. contained_any s (existing_sorts fs) (standing_exists fs s h),
+)

@@ -13,7 +13,7 @@ use Rattle.larch_term.specs.declared.statement.Statement.{Statement}
 use Rattle.larch_term.specs.Equality.{same_tree, same_statement}
 use Rattle.larch_term.proofs.Decided.{tree_Decides, statement_Decides}
 use Rattle.larch_sorts_meaning.specs.Faults.{fault, fault_at}
-use Rattle.larch_sorts_meaning.specs.Refusals.{told, Unread}
+use Rattle.larch_sorts_meaning.specs.Refusal.{told, Unread}
 use Rattle.larch_sorts_meaning.proofs.Refusals.{told_weaker}
 use Rattle.larch_sorts_meaning.specs.Read.{first_unread, read_equation, read_term}
 use Rattle.larch_sorts_meaning.specs.Scope.{HasVariablesOf, IsInScope, Variables}
@@ -24,12 +24,14 @@ use Rattle.larch_sorts_meaning.specs.ReadingLists.{equation_readings, lone_readi
 use Rattle.larch_sorts_meaning.specs.Found.{Tells}
 use Rattle.larch_sorts_meaning.specs.declared.found.Found.{Found}
 use Rattle.larch_sorts_meaning.specs.declared.refusal.ReadRefusal.{ReadRefusal}
-use Rattle.larch_sorts_meaning.proofs.Answers.{decided, answer_unknown, answer_unread, answer_found, answer_ok, answer_err}
+use Rattle.larch_sorts_meaning.proofs.Answers.{decided, answer_unknown, answer_unread, answer_found, answer_ok}
+use Rattle.larch_sorts_meaning.proofs.Answers.{answer_err}
 use Rattle.larch_sorts_meaning.proofs.Listed.{equation_listed, equation_reads, lone_listed, lone_reads}
 use Rattle.larch_sorts_meaning.proofs.Sorted.{well_sorted, in_scope, statement_over, statement_in_scope}
 
 module _ (fs : List PlainOperator) (vs : Variables) (raw : RawEquation) where
-  pub equation_unknown : (pos : Pos) → unknown_sort fs raw ≡ Some pos → read_equation fs vs raw ≡ Err (fault UnknownSort pos)
+  pub equation_unknown : (pos : Pos) → unknown_sort fs raw ≡ Some pos
+      → read_equation fs vs raw ≡ Err (fault UnknownSort pos)
   unfolding read_equation
   equation_unknown pos e =
       answer_unknown same_statement statement_Decides (ReadsEquation fs vs raw) fs vs raw
@@ -43,13 +45,16 @@ module _ (fs : List PlainOperator) (vs : Variables) (raw : RawEquation) where
       (equation_readings fs vs raw) (equation_reads fs vs raw) (equation_listed fs vs raw) f e u
 
   -- what a refusal tells of the parts is what is wrong with the whole
-  pub equation_unread_told : (refusal : ReadRefusal) → unknown_sort fs raw ≡ None → Unread refusal (first_unread fs vs raw)
+  pub equation_unread_told : (refusal : ReadRefusal) → unknown_sort fs raw ≡ None
+      → Unread refusal (first_unread fs vs raw)
       → IfSome (told refusal) (λ f. read_equation fs vs raw ≡ Err f)
   equation_unread_told refusal e u =
-      told_weaker refusal (λ f. fault_at NoReading (first_unread fs vs raw) ≡ Some f) (λ f. read_equation fs vs raw ≡ Err f)
+      told_weaker refusal (λ f. fault_at NoReading (first_unread fs vs raw) ≡ Some f)
+      (λ f. read_equation fs vs raw ≡ Err f)
       (λ f h. equation_unread f e h) u
 
-  pub equation_ok : (s : Statement) → read_equation fs vs raw ≡ Ok s → (unknown_sort fs raw ≡ None) × IsOnly (ReadsEquation fs vs raw) s
+  pub equation_ok : (s : Statement) → read_equation fs vs raw ≡ Ok s
+      → (unknown_sort fs raw ≡ None) × IsOnly (ReadsEquation fs vs raw) s
   unfolding read_equation
   equation_ok s e =
       answer_ok same_statement statement_Decides (ReadsEquation fs vs raw) fs vs raw
@@ -62,11 +67,13 @@ module _ (fs : List PlainOperator) (vs : Variables) (raw : RawEquation) where
       (equation_readings fs vs raw) (equation_reads fs vs raw) (equation_listed fs vs raw) f e
 
   -- the clauses of a result
-  pub result_known : (r : Result Statement ReadRefusal) → Answers told r (read_equation fs vs raw) → IfOk r (λ _. unknown_sort fs raw ≡ None)
+  pub result_known : (r : Result Statement ReadRefusal) → Answers told r (read_equation fs vs raw)
+      → IfOk r (λ _. unknown_sort fs raw ≡ None)
   result_known (Ok s) h = (equation_ok s h).0
   result_known (Err e) h = tt
 
-  pub result_only : (r : Result Statement ReadRefusal) → Answers told r (read_equation fs vs raw) → IfOk r (IsOnly (ReadsEquation fs vs raw))
+  pub result_only : (r : Result Statement ReadRefusal) → Answers told r (read_equation fs vs raw)
+      → IfOk r (IsOnly (ReadsEquation fs vs raw))
   result_only (Ok s) h = (equation_ok s h).1
   result_only (Err e) h = tt
 
@@ -76,16 +83,19 @@ module _ (fs : List PlainOperator) (vs : Variables) (raw : RawEquation) where
   result_stands (Err e) h =
       told_weaker e (λ f. read_equation fs vs raw ≡ Err f) (Stands fs vs raw (ReadsEquation fs vs raw)) equation_err h
 
-  pub result_over : (r : Result Statement ReadRefusal) → Answers told r (read_equation fs vs raw) → IfOk r (IsStatementOver fs)
+  pub result_over : (r : Result Statement ReadRefusal) → Answers told r (read_equation fs vs raw)
+      → IfOk r (IsStatementOver fs)
   result_over (Ok s) h = statement_over fs vs raw s (equation_ok s h).1.0
   result_over (Err e) h = tt
 
-  pub result_in_scope : (r : Result Statement ReadRefusal) → Answers told r (read_equation fs vs raw) → IfOk r (IsInScope vs)
+  pub result_in_scope : (r : Result Statement ReadRefusal) → Answers told r (read_equation fs vs raw)
+      → IfOk r (IsInScope vs)
   result_in_scope (Ok s) h = statement_in_scope fs vs raw s (equation_ok s h).1.0
   result_in_scope (Err e) h = tt
 
 module _ (fs : List PlainOperator) (vs : Variables) (wanted : Option (List ℕ)) (raw : RawEquation) where
-  pub term_unknown : (pos : Pos) → unknown_sort fs raw ≡ Some pos → read_term fs vs wanted raw ≡ Err (fault UnknownSort pos)
+  pub term_unknown : (pos : Pos) → unknown_sort fs raw ≡ Some pos
+      → read_term fs vs wanted raw ≡ Err (fault UnknownSort pos)
   unfolding read_term
   term_unknown pos e =
       answer_unknown same_tree tree_Decides (ReadsLone fs vs wanted raw) fs vs raw
@@ -102,7 +112,8 @@ module _ (fs : List PlainOperator) (vs : Variables) (wanted : Option (List ℕ))
   pub term_unread_told : (refusal : ReadRefusal) → unknown_sort fs raw ≡ None → Unread refusal (first_unread fs vs raw)
       → IfSome (told refusal) (λ f. read_term fs vs wanted raw ≡ Err f)
   term_unread_told refusal e u =
-      told_weaker refusal (λ f. fault_at NoReading (first_unread fs vs raw) ≡ Some f) (λ f. read_term fs vs wanted raw ≡ Err f)
+      told_weaker refusal (λ f. fault_at NoReading (first_unread fs vs raw) ≡ Some f)
+      (λ f. read_term fs vs wanted raw ≡ Err f)
       (λ f h. term_unread f e h) u
 
   pub term_found : (found : Option (Found Tree)) → unknown_sort fs raw ≡ None → first_unread fs vs raw ≡ None
@@ -112,7 +123,8 @@ module _ (fs : List PlainOperator) (vs : Variables) (wanted : Option (List ℕ))
       answer_found same_tree tree_Decides (ReadsLone fs vs wanted raw) fs vs raw
       (lone_readings fs vs wanted raw) (lone_reads fs vs wanted raw) (lone_listed fs vs wanted raw) found e u h
 
-  pub term_ok : (s : Tree) → read_term fs vs wanted raw ≡ Ok s → (unknown_sort fs raw ≡ None) × IsOnly (ReadsLone fs vs wanted raw) s
+  pub term_ok : (s : Tree) → read_term fs vs wanted raw ≡ Ok s
+      → (unknown_sort fs raw ≡ None) × IsOnly (ReadsLone fs vs wanted raw) s
   unfolding read_term
   term_ok s e =
       answer_ok same_tree tree_Decides (ReadsLone fs vs wanted raw) fs vs raw
@@ -125,11 +137,13 @@ module _ (fs : List PlainOperator) (vs : Variables) (wanted : Option (List ℕ))
       (lone_readings fs vs wanted raw) (lone_reads fs vs wanted raw) (lone_listed fs vs wanted raw) f e
 
   -- the clauses of a result
-  pub lone_known : (r : Result Tree ReadRefusal) → Answers told r (read_term fs vs wanted raw) → IfOk r (λ _. unknown_sort fs raw ≡ None)
+  pub lone_known : (r : Result Tree ReadRefusal) → Answers told r (read_term fs vs wanted raw)
+      → IfOk r (λ _. unknown_sort fs raw ≡ None)
   lone_known (Ok s) h = (term_ok s h).0
   lone_known (Err e) h = tt
 
-  pub lone_only : (r : Result Tree ReadRefusal) → Answers told r (read_term fs vs wanted raw) → IfOk r (IsOnly (ReadsLone fs vs wanted raw))
+  pub lone_only : (r : Result Tree ReadRefusal) → Answers told r (read_term fs vs wanted raw)
+      → IfOk r (IsOnly (ReadsLone fs vs wanted raw))
   lone_only (Ok s) h = (term_ok s h).1
   lone_only (Err e) h = tt
 
@@ -139,10 +153,12 @@ module _ (fs : List PlainOperator) (vs : Variables) (wanted : Option (List ℕ))
   lone_stands (Err e) h =
       told_weaker e (λ f. read_term fs vs wanted raw ≡ Err f) (Stands fs vs raw (ReadsLone fs vs wanted raw)) term_err h
 
-  pub lone_over : (r : Result Tree ReadRefusal) → Answers told r (read_term fs vs wanted raw) → IfOk r (λ t. WellSorted t × IsOver fs t)
+  pub lone_over : (r : Result Tree ReadRefusal) → Answers told r (read_term fs vs wanted raw)
+      → IfOk r (λ t. WellSorted t × IsOver fs t)
   lone_over (Ok s) h = well_sorted fs vs raw.left s (term_ok s h).1.0.0
   lone_over (Err e) h = tt
 
-  pub lone_in_scope : (r : Result Tree ReadRefusal) → Answers told r (read_term fs vs wanted raw) → IfOk r (HasVariablesOf vs)
+  pub lone_in_scope : (r : Result Tree ReadRefusal) → Answers told r (read_term fs vs wanted raw)
+      → IfOk r (HasVariablesOf vs)
   lone_in_scope (Ok s) h = in_scope fs vs raw.left s (term_ok s h).1.0.0
   lone_in_scope (Err e) h = tt

@@ -1,5 +1,6 @@
 -- The sorts and the variables in what is read.
-use Rattle.std.proofs.Common.{◌≡◌, ℕ, inl, inr, Bool, true, false, cond, List, [], ◌∷◌, All, Contains, Option, Some, None, bytes_eq, refl, sym, subst}
+use Rattle.std.proofs.Common.{◌≡◌, ℕ, inl, inr, Bool, true, false, cond, List, [], ◌∷◌, All, Contains, Option, Some}
+use Rattle.std.proofs.Common.{None, bytes_eq, refl, sym, subst}
 use Rattle.std.proofs.lemmas.List.Elements.{All-nil, All-cons, All-contains}
 use Rattle.std.proofs.lemmas.Slice.Eq.{bytes_eq-Decides}
 use Rattle.larch_base.proofs.Lists.{all_from}
@@ -13,19 +14,23 @@ use Rattle.larch_term.specs.Operator.{PlainOperator}
 use Rattle.larch_term.specs.Tree.{Tree, Forest, var, app, none, more}
 use Rattle.larch_term.specs.Variable.{occurrences}
 use Rattle.larch_term.specs.declared.built_in.BuiltIn.{BuiltIn}
-use Rattle.larch_term.specs.declared.built_in.BuiltIn.TheVariants.{True, False, Not, And, Or, Implies, Iff, Equal, Unequal, If}
+use Rattle.larch_term.specs.declared.built_in.BuiltIn.TheVariants.{True, False, Not, And, Or, Implies, Iff, Equal}
+use Rattle.larch_term.specs.declared.built_in.BuiltIn.TheVariants.{Unequal, If}
 use Rattle.larch_term.specs.declared.statement.Statement.{Statement}
 use Rattle.larch_term.specs.declared.statement.Statement.TheVariants.{Equation, Generated, Partitioned}
-use Rattle.larch_operators.specs.BuiltIns.{built_ins_at}
-use Rattle.larch_operators.specs.Sorts.{existing_sorts}
-use Rattle.larch_sorts_meaning.specs.Laws.{ForestSorts, IsSortOf, OperatorSorts, StatementSorts, StatementVariables, TermSorts, sorts_of_operator}
-use Rattle.larch_sorts_meaning.specs.Readings.{variable_sort, Reads, a_variable, an_operator, of_sort, AllRead, all_read, one_read, ReadsRight, ReadsEquation}
+use Rattle.larch_sorts_known.specs.BuiltIns.{built_ins_at}
+use Rattle.larch_sorts_known.specs.Sorts.{existing_sorts}
+use Rattle.larch_sorts_meaning.specs.Laws.{ForestSorts, IsSortOf, OperatorSorts, StatementSorts, StatementVariables}
+use Rattle.larch_sorts_meaning.specs.Laws.{TermSorts, sorts_of_operator}
+use Rattle.larch_sorts_meaning.specs.Readings.{variable_sort, Reads, a_variable, an_operator, of_sort, AllRead}
+use Rattle.larch_sorts_meaning.specs.Readings.{all_read, one_read, ReadsRight, ReadsEquation}
 use Rattle.larch_sorts_meaning.specs.Scope.{HasVariablesOf, IsInScope, Variables, sort_in}
 use Rattle.larch_sorts_meaning.specs.Signature.{taking_part}
 use Rattle.larch_sorts_meaning.proofs.Existing.{existing_stands}
 use Rattle.larch_sorts_meaning.proofs.Sorted.{among_built_ins}
 
-variable_here : (v : List ℕ × List ℕ) (vs : Variables) (n s : List ℕ) (b : Bool) → bytes_eq n v.0 ≡ b → (sort_in vs n ≡ Some s → Contains vs (n, s))
+variable_here : (v : List ℕ × List ℕ) (vs : Variables) (n s : List ℕ) (b : Bool) → bytes_eq n v.0 ≡ b
+    → (sort_in vs n ≡ Some s → Contains vs (n, s))
     → cond b (Some v.1) (sort_in vs n) ≡ Some s → Contains (v ∷ vs) (n, s)
 variable_here v vs n s true q later h =
     let name : v.0 ≡ n = sym ((bytes_eq-Decides n v.0).0 q) in
@@ -59,7 +64,8 @@ module _ (P : List ℕ → Type 0) where
   built_in_sorts If s p q = All-cons P bool_sort (s ∷ s ∷ s ∷ []) p (three q q q)
 
 -- a property of sorts that Bool, the sorts of operators and those of variables have
-module _ (P : List ℕ → Type 0) (fs : List PlainOperator) (vs : Variables) (bool : P bool_sort) (own : (f : PlainOperator) → Contains fs f → OperatorSorts P f)
+module _ (P : List ℕ → Type 0) (fs : List PlainOperator) (vs : Variables) (bool : P bool_sort)
+    (own : (f : PlainOperator) → Contains fs f → OperatorSorts P f)
     (scope : All (λ v. P v.1) vs) where
   exists_so : (s : List ℕ) → IsSortOf fs s → P s
   exists_so s (inl e) = subst P (sym e) bool
@@ -106,22 +112,27 @@ pub own_sorts : (fs : List PlainOperator) (f : PlainOperator) → Contains fs f 
 own_sorts fs f c = all_from (IsSortOf fs) (sorts_of_operator f) (λ s d. inr (f, c, d))
 
 -- each sort in what is read exists, where those of the variables do
-pub statement_sorts_exist : (fs : List PlainOperator) (vs : Variables) (raw : RawEquation) (s : Statement) → All (λ v. IsSortOf fs v.1) vs → ReadsEquation fs vs raw s
+pub statement_sorts_exist : (fs : List PlainOperator) (vs : Variables) (raw : RawEquation) (s : Statement)
+    → All (λ v. IsSortOf fs v.1) vs → ReadsEquation fs vs raw s
     → StatementSorts (IsSortOf fs) s
 statement_sorts_exist fs vs raw s scope r = statement_so (IsSortOf fs) fs vs (inl refl) (own_sorts fs) scope raw s r
 
 -- the same of a term
-pub term_sorts_exist : (fs : List PlainOperator) (vs : Variables) (raw : RawTree) (t : Tree) → All (λ v. IsSortOf fs v.1) vs → Reads fs vs raw t → TermSorts (IsSortOf fs) t
+pub term_sorts_exist : (fs : List PlainOperator) (vs : Variables) (raw : RawTree) (t : Tree)
+    → All (λ v. IsSortOf fs v.1) vs → Reads fs vs raw t → TermSorts (IsSortOf fs) t
 term_sorts_exist fs vs raw t scope r = term_so (IsSortOf fs) fs vs (inl refl) (own_sorts fs) scope raw t r
 
-names_so : (P : List ℕ → Type 0) (vs : Variables) → All (λ v. P v.0) vs → (t : Tree) → HasVariablesOf vs t → All (λ v. P v.name) (occurrences t)
+names_so : (P : List ℕ → Type 0) (vs : Variables) → All (λ v. P v.0) vs → (t : Tree) → HasVariablesOf vs t
+    → All (λ v. P v.name) (occurrences t)
 names_so P vs h t in_scope =
     all_from (λ v. P v.name) (occurrences t)
     (λ v c. All-contains (λ w. P w.0) vs (v.name, v.sort) h
-    (scope_contains vs v.name v.sort (All-contains (λ w. sort_in vs w.name ≡ Some w.sort) (occurrences t) v in_scope c)))
+    (scope_contains vs v.name v.sort
+    (All-contains (λ w. sort_in vs w.name ≡ Some w.sort) (occurrences t) v in_scope c)))
 
 -- each name of a variable in what is in scope has a property that those in scope have
-pub statement_names : (P : List ℕ → Type 0) (vs : Variables) (s : Statement) → All (λ v. P v.0) vs → IsInScope vs s → StatementVariables P s
+pub statement_names : (P : List ℕ → Type 0) (vs : Variables) (s : Statement) → All (λ v. P v.0) vs → IsInScope vs s
+    → StatementVariables P s
 statement_names P vs (Equation l r) h (a, b) = (names_so P vs h l a, names_so P vs h r b)
 statement_names P vs (Generated z gs) h n = tt
 statement_names P vs (Partitioned z gs) h n = tt

@@ -5,7 +5,7 @@ pub mod Parts
 pub mod Read
 pub mod ReadingLists
 pub mod Readings
-pub mod Refusals
+pub mod Refusal
 pub mod Scope
 pub mod Signature
 pub mod Stands

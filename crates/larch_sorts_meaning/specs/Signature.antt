@@ -2,8 +2,8 @@
 use Rattle.std.specs.Map.{lookup}
 use Rattle.std.specs.Prelude.{List, None, Option, Some, [], bytes_eq, filter, ℕ, ◌++◌, ◌≡◌}
 use Rattle.larch_term.specs.Operator.{PlainOperator, plain}
-use Rattle.larch_operators.specs.BuiltIns.{built_ins_at}
-use Rattle.larch_operators.specs.Sorts.{existing_sorts}
+use Rattle.larch_sorts_known.specs.BuiltIns.{built_ins_at}
+use Rattle.larch_sorts_known.specs.Sorts.{existing_sorts}
 use Rattle.larch_term.specs.Equality.{same_name}
 
 -- the operators that terms are read over: these, and the built-in ones at each sort that exists

@@ -5,7 +5,7 @@ use Rattle.larch_raw.specs.RawTree.{RawForest, RawTree, apply, no_more, one_more
 use Rattle.larch_raw.specs.declared.declared.RawWord.{RawWord}
 use Rattle.larch_raw.specs.declared.equation.RawEquation.{RawEquation}
 use Rattle.larch_term.specs.Operator.{PlainOperator}
-use Rattle.larch_operators.specs.Sorts.{exists_sort}
+use Rattle.larch_sorts_known.specs.Sorts.{exists_sort}
 use Rattle.larch_sorts_meaning.specs.Parts.{in_sides, sides}
 
 abbrev mutual

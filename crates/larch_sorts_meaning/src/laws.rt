@@ -11,7 +11,7 @@ ghost use Rattle.larch_sorts_meaning.specs.Read.{read_equation, read_term};
 ghost use Rattle.larch_sorts_meaning.specs.Scope.{HasVariablesOf, IsInScope, Variables};
 ghost use Rattle.larch_sorts_meaning.specs.Unknown.{unknown_sort};
 ghost use Rattle.std.specs.Bool.{Decides};
-ghost use Rattle.larch_operators.specs.Sorts.{exists_sort};
+ghost use Rattle.larch_sorts_known.specs.Sorts.{exists_sort};
 ghost use Rattle.larch_sorts_meaning.specs.Laws.{IsSortOf, StatementSorts};
 ghost use Rattle.larch_sorts_meaning.specs.Stands.{Stands};
 ghost use Rattle.larch_sorts_meaning.specs.Readings.{ReadsEquation, ReadsLone, IsOnly};

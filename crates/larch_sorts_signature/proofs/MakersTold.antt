@@ -1,5 +1,6 @@
 -- What makes a sort.
-use Rattle.std.proofs.Common.{◌≡◌, inl, inr, ◌⊎◌, Bool, true, false, cond, List, [], ◌∷◌, Contains, Option, Some, None, refl, sym, ◌∙◌, ap, subst}
+use Rattle.std.proofs.Common.{◌≡◌, inl, inr, ◌⊎◌, Bool, true, false, cond, List, [], ◌∷◌, Contains, Option, Some, None}
+use Rattle.std.proofs.Common.{refl, sym, ◌∙◌, ap, subst}
 use Rattle.std.specs.List.{fold}
 use Rattle.larch_base.proofs.Members.{contains_here, contains_later, contains_cases, contains_none}
 use Rattle.larch_term.specs.Equality.{same_operator}
@@ -17,19 +18,28 @@ use Rattle.larch_sorts_meaning.proofs.Telling.{tells_same, tells_merged}
 abbrev pub IsMaker : Place → List PlainOperator → PlainOperator → Type 0
 IsMaker p fs f = Contains fs f × (made_place f ≡ p)
 
-maker_stepped : (P : PlainOperator → Type 0) (p : Place) (before : Option (Found PlainOperator)) (f : PlainOperator) (b : Bool) → same_place (made_place f) p ≡ b → Tells before P
+maker_stepped : (P : PlainOperator → Type 0) (p : Place) (before : Option (Found PlainOperator)) (f : PlainOperator)
+    (b : Bool) → same_place (made_place f) p ≡ b → Tells before P
     → Tells (cond b (Some (merged_by same_operator before (One f))) before) (λ g. P g ⊎ ((g ≡ f) × (made_place g ≡ p)))
 maker_stepped P p before f true e h =
     let made : made_place f ≡ p = (place_Decides (made_place f) p).0 e in
-    tells_merged same_operator operator_Decides P (λ g. (g ≡ f) × (made_place g ≡ p)) before (One f) h ((refl, made), λ g q. q.0)
+    tells_merged same_operator operator_Decides P (λ g. (g ≡ f) × (made_place g ≡ p)) before (One f) h
+    ((refl, made), λ g q. q.0)
 maker_stepped P p before f false e h =
     tells_same P (λ g. P g ⊎ ((g ≡ f) × (made_place g ≡ p))) (λ g q. inl q)
-    (λ g q. elim q [ inl a ↦ a | inr b ↦ absurd (let w : same_place (made_place f) p ≡ true = (place_Decides (made_place f) p).1 (ap made_place (sym b.0) ∙ b.1) in cc) ]) before h
+    (λ g q. elim q [
+      | inl a ↦ a
+      | inr b ↦
+          absurd (let w : same_place (made_place f) p
+          ≡ true = (place_Decides (made_place f) p).1 (ap made_place (sym b.0) ∙ b.1) in cc)
+    ]) before h
 
-makers_folded : (P : PlainOperator → Type 0) (p : Place) (before : Option (Found PlainOperator)) (fs : List PlainOperator) → Tells before P
+makers_folded : (P : PlainOperator → Type 0) (p : Place) (before : Option (Found PlainOperator))
+    (fs : List PlainOperator) → Tells before P
     → Tells (fold (with_maker p) before fs) (λ g. P g ⊎ IsMaker p fs g)
 makers_folded P p before [] h =
-    tells_same P (λ g. P g ⊎ IsMaker p [] g) (λ g q. inl q) (λ g q. elim q [ inl a ↦ a | inr b ↦ absurd (contains_none g b.0) ]) before h
+    tells_same P (λ g. P g ⊎ IsMaker p [] g) (λ g q. inl q)
+    (λ g q. elim q [ inl a ↦ a | inr b ↦ absurd (contains_none g b.0) ]) before h
 makers_folded P p before (f ∷ fs) h =
     tells_same (λ g. (P g ⊎ ((g ≡ f) × (made_place g ≡ p))) ⊎ IsMaker p fs g) (λ g. P g ⊎ IsMaker p (f ∷ fs) g)
     (λ g q. elim q [
@@ -44,7 +54,8 @@ makers_folded P p before (f ∷ fs) h =
       ]
     ])
     (fold (with_maker p) (with_maker p before f) fs)
-    (makers_folded (λ g. P g ⊎ ((g ≡ f) × (made_place g ≡ p))) p (with_maker p before f) fs (maker_stepped P p before f (same_place (made_place f) p) refl h))
+    (makers_folded (λ g. P g ⊎ ((g ≡ f) × (made_place g ≡ p))) p (with_maker p before f) fs
+    (maker_stepped P p before f (same_place (made_place f) p) refl h))
 
 -- what makes a sort is told
 pub makers_tell : (p : Place) (fs : List PlainOperator) → Tells (maker_among p fs) (IsMaker p fs)

@@ -45,6 +45,7 @@ place_Decides p q =
     Decides-like ((p.arity == q.arity) && ((p.position == q.position) && bytes_eq p.sort q.sort))
     (λ h. same_fields p q h.0 h.1.0 h.1.1)
     (λ e. (ap (λ x. x.arity) e, (ap (λ x. x.position) e, ap (λ x. x.sort) e)))
-    (Decides-and (p.arity == q.arity) ((p.position == q.position) && bytes_eq p.sort q.sort) (Decides-eqb p.arity q.arity)
+    (Decides-and (p.arity == q.arity) ((p.position == q.position) && bytes_eq p.sort q.sort)
+    (Decides-eqb p.arity q.arity)
     (Decides-and (p.position == q.position) (bytes_eq p.sort q.sort) (Decides-eqb p.position q.position)
     (bytes_eq-Decides p.sort q.sort)))

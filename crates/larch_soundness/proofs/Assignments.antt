@@ -1,5 +1,6 @@
 -- Assignments with other values for some variables, and the truth of what is so under all of them.
-use Rattle.std.proofs.Common.{◌≡◌, ◌≢◌, ◌≤◌, ◌==◌, ◌&&◌, ℕ, zero, suc, inl, inr, ◌⊎◌, Bool, true, false, cond, List, [], ◌∷◌, ◌++◌, bytes_eq, refl, sym, ◌∙◌, ap, subst, arith}
+use Rattle.std.proofs.Common.{◌≡◌, ◌≢◌, ◌≤◌, ◌==◌, ◌&&◌, ℕ, zero, suc, inl, inr, ◌⊎◌, Bool, true, false, cond, List, []}
+use Rattle.std.proofs.Common.{◌∷◌, ◌++◌, bytes_eq, refl, sym, ◌∙◌, ap, subst, arith}
 use Rattle.std.proofs.lemmas.Slice.Eq.{bytes_eq-Decides}
 use Rattle.larch_base.proofs.Bools.{and_left, and_right, and_both}
 use Rattle.larch_base.proofs.Members.{contains_none, contains_cases, contains_left, contains_right}
@@ -7,7 +8,7 @@ use Rattle.larch_term.specs.Tree.{Tree}
 use Rattle.larch_term.specs.Variable.{occurrences}
 use Rattle.larch_term.specs.declared.variable.Variable.{Variable}
 use Rattle.larch_models.specs.Interpretation.{Interpretation, Assignment, value_of, InRange}
-use Rattle.larch_models.specs.Computed.{all_up_to, updated, all_assignments, zeros}
+use Rattle.larch_models.specs.Computed.{all_up_to, update, all_assignments, zeros}
 use Rattle.larch_soundness.proofs.Values.{Alike, value_alike, same_numbers, numbers_same}
 
 -- whether the variable of this name and sort is this other one
@@ -29,28 +30,28 @@ choice_has P true u v p q = p refl
 choice_has P false u v p q = q refl
 
 pub updated_in_range : (last : List ℕ → ℕ) (a : Assignment) (x s : List ℕ) (v : ℕ) → v ≤ last s → InRange last a
-    → InRange last (updated x s v a)
+    → InRange last (update x s v a)
 updated_in_range last a x s v le r n t =
     choice_has (λ k. k ≤ last t) (is_variable x s n t) v (a n t)
     (λ e. subst (λ z. v ≤ last z) (variable_is x s n t e).1 le) (λ e. r n t)
 
-pub updated_itself : (a : Assignment) (x s : List ℕ) → updated x s (a x s) a ≡ a
+pub updated_itself : (a : Assignment) (x s : List ℕ) → update x s (a x s) a ≡ a
 updated_itself a x s =
     λ i n t. choice_has (λ k. k ≡ a n t) (is_variable x s n t) (a x s) (a n t)
     (λ e. let p = variable_is x s n t e in λ j. a (p.0 j) (p.1 j)) (λ e. refl) i
 
-pub updated_here : (a : Assignment) (x s : List ℕ) (v : ℕ) → updated x s v a x s ≡ v
+pub updated_here : (a : Assignment) (x s : List ℕ) (v : ℕ) → update x s v a x s ≡ v
 updated_here a x s v = ap (λ c. cond c v (a x s)) (is_itself x s)
 
 pub updated_elsewhere : (a : Assignment) (w x : Variable) (v : ℕ) → w ≢ x
-    → updated w.name w.sort v a x.name x.sort ≡ a x.name x.sort
+    → update w.name w.sort v a x.name x.sort ≡ a x.name x.sort
 updated_elsewhere a w x v h =
     choice_has (λ k. k ≡ a x.name x.sort) (is_variable w.name w.sort x.name x.sort) v (a x.name x.sort)
     (λ e. let p = variable_is w.name w.sort x.name x.sort e in absurd (h (λ i. record { name = p.0 i; sort = p.1 i })))
     (λ e. refl)
 
 pub updated_alike : (x s : List ℕ) (v : ℕ) (a b : Assignment) (ws : List Variable) → Alike a b ws
-    → Alike (updated x s v a) (updated x s v b) ws
+    → Alike (update x s v a) (update x s v b) ws
 updated_alike x s v a b ws h w c = ap (cond (is_variable x s w.name w.sort) v) (h w c)
 
 pub zeros_in_range : (last : List ℕ → ℕ) → InRange last zeros
@@ -78,35 +79,35 @@ up_to_if (suc n) p h =
 -- an assignment with the values of another one for these variables
 abbrev merged : List Variable → Assignment → Assignment → Assignment
 merged [] a b = a
-merged (w ∷ ws) a b = merged ws (updated w.name w.sort (b w.name w.sort) a) b
+merged (w ∷ ws) a b = merged ws (update w.name w.sort (b w.name w.sort) a) b
 
 assignments_at : (last : List ℕ → ℕ) (ws : List Variable) (a b : Assignment) (p : Assignment → Bool)
     → all_assignments last ws a p ≡ true → InRange last b → p (merged ws a b) ≡ true
 assignments_at last [] a b p h r = h
 assignments_at last (w ∷ ws) a b p h r =
-    assignments_at last ws (updated w.name w.sort (b w.name w.sort) a) b p
-    (up_to_at (last w.sort) (λ v. all_assignments last ws (updated w.name w.sort v a) p) h
+    assignments_at last ws (update w.name w.sort (b w.name w.sort) a) b p
+    (up_to_at (last w.sort) (λ v. all_assignments last ws (update w.name w.sort v a) p) h
     (b w.name w.sort) (r w.name w.sort)) r
 
 assignments_if : (last : List ℕ → ℕ) (ws : List Variable) (a : Assignment) (p : Assignment → Bool) → InRange last a
     → ((b : Assignment) → InRange last b → p b ≡ true) → all_assignments last ws a p ≡ true
 assignments_if last [] a p r h = h a r
 assignments_if last (w ∷ ws) a p r h =
-    up_to_if (last w.sort) (λ v. all_assignments last ws (updated w.name w.sort v a) p)
+    up_to_if (last w.sort) (λ v. all_assignments last ws (update w.name w.sort v a) p)
     (λ v le.
-    assignments_if last ws (updated w.name w.sort v a) p (updated_in_range last a w.name w.sort v le r) h)
+    assignments_if last ws (update w.name w.sort v a) p (updated_in_range last a w.name w.sort v le r) h)
 
 merged_keeps : (ws : List Variable) (a b : Assignment) (n s : List ℕ) → a n s ≡ b n s → merged ws a b n s ≡ b n s
 merged_keeps [] a b n s h = h
 merged_keeps (w ∷ ws) a b n s h =
-    merged_keeps ws (updated w.name w.sort (b w.name w.sort) a) b n s
+    merged_keeps ws (update w.name w.sort (b w.name w.sort) a) b n s
     (choice_has (λ k. k ≡ b n s) (is_variable w.name w.sort n s) (b w.name w.sort) (a n s)
     (λ e. let p = variable_is w.name w.sort n s e in λ j. b (p.0 j) (p.1 j)) (λ e. h))
 
 merged_alike : (ws : List Variable) (a b : Assignment) → Alike (merged ws a b) b ws
 merged_alike [] a b v c = absurd (contains_none v c)
 merged_alike (w ∷ ws) a b v c =
-    let here = updated w.name w.sort (b w.name w.sort) a in
+    let here = update w.name w.sort (b w.name w.sort) a in
     elim (contains_cases w v ws c) [
       | inl e ↦ merged_keeps ws here b v.name v.sort
           (subst (λ z. here z.name z.sort ≡ b z.name z.sort) e (updated_here a w.name w.sort (b w.name w.sort)))

@@ -1,5 +1,6 @@
 -- Interpretations with new tables for new names, and the one lemma on them: a model stays one.
-use Rattle.std.proofs.Common.{◌≡◌, ◌≢◌, ◌≤◌, ℕ, zero, suc, inl, inr, List, [], ◌∷◌, map, Option, Some, None, option_map, option_and_then, Contains, refl, sym, ◌∙◌, ap, subst}
+use Rattle.std.proofs.Common.{◌≡◌, ◌≢◌, ◌≤◌, ℕ, zero, suc, inl, inr, List, [], ◌∷◌, map, Option, Some, None, option_map}
+use Rattle.std.proofs.Common.{option_and_then, Contains, refl, sym, ◌∙◌, ap, subst}
 use Rattle.std.specs.List.{slice_get, AllPairs}
 use Rattle.std.proofs.lemmas.List.Elements.{All-contains}
 use Rattle.larch_base.proofs.Members.{contains_either, contains_got}
@@ -14,7 +15,7 @@ use Rattle.larch_term.specs.declared.statement.Theory.{Theory}
 use Rattle.larch_calculus.specs.Freed.{place_of}
 use Rattle.larch_calculus.specs.Generation.{constant_terms}
 use Rattle.larch_calculus.specs.Observation.{Observation, observations_of}
-use Rattle.larch_calculus.specs.Theories.{extended, AreNew}
+use Rattle.larch_calculus.specs.Theories.{extend, AreNew}
 use Rattle.larch_calculus.proofs.Freeing.{known_not_placed}
 use Rattle.larch_calculus.proofs.Names.{placed_at}
 use Rattle.larch_calculus.proofs.Observed.{observation_is}
@@ -77,7 +78,7 @@ pub extended_model : (new : OperatorName → Option (List ℕ → ℕ)) (m : Int
     (cs : List PlainOperator) (hs : List Statement) → IsWellSortedTheory t → IsModel m t → Spares new t.operators
     → ((c : PlainOperator) → Contains cs c → (vs : List ℕ) → Within m.last c.domain vs
     → (changed new m).table c vs ≤ m.last c.range)
-    → ((s : Statement) → Contains hs s → Holds (changed new m) s) → IsModel (changed new m) (extended t cs hs)
+    → ((s : Statement) → Contains hs s → Holds (changed new m) s) → IsModel (changed new m) (extend t cs hs)
 extended_model new m t cs hs w k h r d =
     let i = k.interpretation in
     let same = same_tables new m t.operators h in

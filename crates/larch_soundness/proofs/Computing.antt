@@ -13,7 +13,8 @@ use Rattle.larch_models.specs.Interpretation.{Interpretation, IsInterpretation}
 use Rattle.larch_models.specs.Models.{with_value, ShowsSame, Holds, IsModel}
 use Rattle.larch_models.specs.Computed.{all_up_to, shows_same, holds_partitioned, holds, all_hold}
 use Rattle.larch_soundness.proofs.Assignments.{up_to_at, up_to_if, agree_so, agree_if}
-use Rattle.larch_soundness.proofs.LeastSets.{arguments_at, arguments_if, all_at, all_if, implied_so, implied_if, generated_so, generated_if}
+use Rattle.larch_soundness.proofs.LeastSets.{arguments_at, arguments_if, all_at, all_if, implied_so, implied_if}
+use Rattle.larch_soundness.proofs.LeastSets.{generated_so, generated_if}
 use Rattle.larch_soundness.proofs.Values.{same_numbers, numbers_same, known_within}
 
 -- an observer's value with this one at the place

@@ -1,5 +1,6 @@
 -- What the counterexamples share.
-use Rattle.std.proofs.Common.{◌≡◌, ◌≢◌, ℕ, zero, suc, inl, true, false, List, [], ◌∷◌, All, Contains, Some, refl, sym, arith}
+use Rattle.std.proofs.Common.{◌≡◌, ◌≢◌, ℕ, zero, suc, inl, true, false, List, [], ◌∷◌, All, Contains, Some, refl, sym}
+use Rattle.std.proofs.Common.{arith}
 use Rattle.std.specs.List.{slice_get, AllPairs}
 use Rattle.std.proofs.lemmas.List.Elements.{All-nil, All-cons}
 use Rattle.larch_base.proofs.Options.{some_inj}
@@ -10,7 +11,8 @@ use Rattle.larch_term.specs.Statement.{IsStatementOver, IsWellSortedTheory}
 use Rattle.larch_term.specs.declared.statement.Statement.{Statement}
 use Rattle.larch_term.specs.declared.statement.Statement.TheVariants.{Equation, Partitioned}
 use Rattle.larch_term.specs.declared.statement.Theory.{Theory}
-use Rattle.larch_calculus.specs.Example.{number_sort, nought, successor, plus, numbers_generated, sum_with_nought, sum_with_successor, numbers}
+use Rattle.larch_calculus.specs.Example.{number_sort, nought, successor, plus, numbers_generated, sum_with_nought}
+use Rattle.larch_calculus.specs.Example.{sum_with_successor, numbers}
 use Rattle.larch_calculus.specs.Formula.{constant}
 use Rattle.larch_models.specs.Computed.{holds, all_hold}
 use Rattle.larch_soundness.specs.Conditions.{Refutes}

@@ -1,11 +1,12 @@
 -- Variables in the places of constants have the values that the constants are given.
-use Rattle.std.proofs.Common.{◌≡◌, ℕ, List, [], ◌∷◌, map, Option, Some, None, option_map, option_and_then, unwrap_or, refl, sym, ◌∙◌, ap}
+use Rattle.std.proofs.Common.{◌≡◌, ℕ, List, [], ◌∷◌, map, Option, Some, None, option_map, option_and_then, unwrap_or}
+use Rattle.std.proofs.Common.{refl, sym, ◌∙◌, ap}
 use Rattle.std.specs.List.{slice_get}
 use Rattle.std.proofs.lemmas.Option.{slice_get-map}
 use Rattle.larch_term.specs.Operator.{PlainOperator}
 use Rattle.larch_term.specs.Tree.{Tree, Forest, var, app, none, more}
 use Rattle.larch_term.specs.declared.variable.Variable.{Variable}
-use Rattle.larch_calculus.specs.Freed.{place_of, variable_for, freed, freed_all}
+use Rattle.larch_calculus.specs.Freed.{place_of, variable_for, free_constants, freed_all}
 use Rattle.larch_models.specs.Interpretation.{Interpretation, Assignment, value_of, values_of, Within, InRange}
 use Rattle.larch_soundness.proofs.Changed.{taken, changed, always, given_by}
 
@@ -46,7 +47,7 @@ as_variables m a cs vs = changed (given_by cs (of_variables a vs)) m
 
 mutual
   pub freed_value : (m : Interpretation) (a : Assignment) (cs : List PlainOperator) (vs : List Variable) (t : Tree)
-      → value_of m a (freed cs vs t) ≡ value_of (as_variables m a cs vs) a t
+      → value_of m a (free_constants cs vs t) ≡ value_of (as_variables m a cs vs) a t
   freed_value m a cs vs (var n s) = refl
   freed_value m a cs vs (app f ts) =
       let xs = values_of (as_variables m a cs vs) a ts in

@@ -1,5 +1,6 @@
 -- A set of values as the table of a predicate, and the hypotheses of a generation clause.
-use Rattle.std.proofs.Common.{◌≡◌, ℕ, suc, inl, inr, Bool, true, false, not, ◌||◌, ◌&&◌, cond, List, [], ◌∷◌, map, Option, Some, None, bytes_eq, refl, sym, ◌∙◌, ap, subst}
+use Rattle.std.proofs.Common.{◌≡◌, ℕ, suc, inl, inr, Bool, true, false, not, ◌||◌, ◌&&◌, cond, List, [], ◌∷◌, map}
+use Rattle.std.proofs.Common.{Option, Some, None, bytes_eq, refl, sym, ◌∙◌, ap, subst}
 use Rattle.std.proofs.lemmas.Slice.Eq.{bytes_eq-Decides}
 use Rattle.larch_base.proofs.Bools.{true_or_false, and_left, and_right}
 use Rattle.larch_term.specs.Operator.{OperatorName, PlainOperator}
@@ -10,9 +11,11 @@ use Rattle.larch_term.specs.declared.variable.Variable.{Variable}
 use Rattle.larch_term.specs.declared.statement.Statement.TheVariants.{Equation}
 use Rattle.larch_term.specs.Truth.{truth}
 use Rattle.larch_term.specs.OperatorKey.{same_name}
-use Rattle.larch_calculus.specs.Formula.{applied, conjunction}
-use Rattle.larch_calculus.specs.Generation.{variables_from, variable_terms, holding, conjoined, implied_by, generation_formula}
-use Rattle.larch_models.specs.Interpretation.{Interpretation, Assignment, value_of, values_of, bit, is_one, first, Within, IsInterpretation}
+use Rattle.larch_calculus.specs.Formula.{apply_one, conjunction}
+use Rattle.larch_calculus.specs.Generation.{variables_from, variable_terms, holding, conjunction_from, implied_by}
+use Rattle.larch_calculus.specs.Generation.{generation_formula}
+use Rattle.larch_models.specs.Interpretation.{Interpretation, Assignment, value_of, values_of, bit, is_one, first}
+use Rattle.larch_models.specs.Interpretation.{Within, IsInterpretation}
 use Rattle.larch_models.specs.Models.{ArgumentsIn, Holds}
 use Rattle.larch_soundness.proofs.Freed.{of_variables, of_variables_within}
 use Rattle.larch_soundness.proofs.Values.{is_one_bit}
@@ -31,7 +34,8 @@ AllTrue m a [] = Unit {0}
 AllTrue m a (t ∷ ts) = (is_one (value_of m a t) ≡ true) × AllTrue m a ts
 
 conjoined_true : {fs : List PlainOperator} {m : Interpretation} → IsInterpretation fs m → (a : Assignment) (t : Tree)
-    (us : List Tree) → is_one (value_of m a (conjoined t us)) ≡ true → (is_one (value_of m a t) ≡ true) × AllTrue m a us
+    (us : List Tree) → is_one (value_of m a (conjunction_from t us)) ≡ true
+    → (is_one (value_of m a t) ≡ true) × AllTrue m a us
 conjoined_true i a t [] h = (h, tt)
 conjoined_true {m = m} i a t (u ∷ us) h =
     let r = conjoined_true i a (conjunction t u) us h in
@@ -50,15 +54,15 @@ implied_true : {fs : List PlainOperator} {m : Interpretation} → IsInterpretati
     (t : Tree) → (AllTrue m a us → value_of m a t ≡ 1) → value_of m a (implied_by us t) ≡ 1
 implied_true i a [] t h = h tt
 implied_true {m = m} i a (u ∷ us) t h =
-    i.meanings Implies bool_sort (value_of m a (conjoined u us) ∷ value_of m a t ∷ [])
-    ∙ implied_bit (is_one (value_of m a (conjoined u us))) (value_of m a t) (λ e. h (conjoined_true i a u us e))
+    i.meanings Implies bool_sort (value_of m a (conjunction_from u us) ∷ value_of m a t ∷ [])
+    ∙ implied_bit (is_one (value_of m a (conjunction_from u us))) (value_of m a t) (λ e. h (conjoined_true i a u us e))
 
 holding_in : (m : Interpretation) (a : Assignment) (q : PlainOperator) (p : ℕ → Bool)
     → ((vs : List ℕ) → m.table q vs ≡ set_table p vs) → (s : List ℕ) (vs : List Variable)
     → AllTrue m a (holding q s vs) → ArgumentsIn p s (map (λ v. v.sort) vs) (of_variables a vs)
 holding_in m a q p e s [] h = tt
 holding_in m a q p e s (v ∷ vs) h =
-    let t = applied q (var v.name v.sort) in
+    let t = apply_one q (var v.name v.sort) in
     let rest = holding q s vs in
     let one : is_one (value_of m a t) ≡ true → p (a v.name v.sort) ≡ true =
     λ o. sym (is_one_bit (p (a v.name v.sort))) ∙ sym (ap is_one (e (a v.name v.sort ∷ []))) ∙ o in
@@ -94,9 +98,10 @@ generation_holds {n = n} i t q p e s f g c a r =
     let sorts = variable_sorts 1 f.domain in
     let within : Within n.last f.domain xs =
     subst (λ ss. Within n.last ss xs) sorts (of_variables_within n.last a r vs) in
-    let made : AllTrue n a (holding q s vs) → value_of n a (applied q (app f (variable_terms vs))) ≡ 1 =
+    let made : AllTrue n a (holding q s vs) → value_of n a (apply_one q (app f (variable_terms vs))) ≡ 1 =
     λ h. e (n.table f (values_of n a (variable_terms vs)) ∷ [])
     ∙ ap (λ us. bit (p (n.table f us))) (variable_values n a vs)
     ∙ ap (λ u. bit (p u)) (g xs)
     ∙ ap bit (c xs within (subst (λ ss. ArgumentsIn p s ss xs) sorts (holding_in n a q p e s vs h))) in
-    implied_true i a (holding q s vs) (applied q (app f (variable_terms vs))) made ∙ sym (i.meanings True bool_sort [])
+    implied_true i a (holding q s vs) (apply_one q (app f (variable_terms vs))) made
+    ∙ sym (i.meanings True bool_sort [])

@@ -1,14 +1,20 @@
 -- Identities hold.
-use Rattle.std.proofs.Common.{◌≡◌, ◌≤◌, ◌==◌, ℕ, Bool, true, false, cond, not, ◌&&◌, ◌||◌, List, [], ◌∷◌, refl, sym, ◌∙◌, ap, subst, arith}
+use Rattle.std.proofs.Common.{◌≡◌, ◌≤◌, ◌==◌, ℕ, Bool, true, false, cond, not, ◌&&◌, ◌||◌, List, [], ◌∷◌, refl, sym}
+use Rattle.std.proofs.Common.{◌∙◌, ap, subst, arith}
 use Rattle.larch_base.proofs.Options.{map_cond}
 use Rattle.larch_term.specs.Operator.{PlainOperator}
 use Rattle.larch_term.specs.Tree.{Tree, var}
 use Rattle.larch_term.specs.BuiltIn.{bool_sort}
-use Rattle.larch_term.specs.declared.built_in.BuiltIn.TheVariants.{True, False, Not, And, Or, Implies, Iff, Equal, Unequal, If}
+use Rattle.larch_term.specs.declared.built_in.BuiltIn.TheVariants.{True, False, Not, And, Or, Implies, Iff, Equal}
+use Rattle.larch_term.specs.declared.built_in.BuiltIn.TheVariants.{Unequal, If}
 use Rattle.larch_term.specs.Truth.{truth}
 use Rattle.larch_calculus.specs.Formula.{falsity, equality}
-use Rattle.larch_calculus.specs.Identity.{Proposition, letter, always, never, denied, both, either, implied, equivalent, equal, unequal, chosen, term_of, agree, value, IsIdentity, propositional, equal_itself, equal_exchanged, unequal_denied, chosen_first, chosen_second, chosen_same}
-use Rattle.larch_models.specs.Interpretation.{Interpretation, Assignment, value_of, bit, is_one, InRange, IsInterpretation}
+use Rattle.larch_calculus.specs.Identity.{Proposition, letter, always, never, denied, both, either, implied, equivalent}
+use Rattle.larch_calculus.specs.Identity.{equal, unequal, chosen, term_of, agree, value, IsIdentity, propositional}
+use Rattle.larch_calculus.specs.Identity.{equal_itself, equal_exchanged, unequal_denied, chosen_first, chosen_second}
+use Rattle.larch_calculus.specs.Identity.{chosen_same}
+use Rattle.larch_models.specs.Interpretation.{Interpretation, Assignment, value_of, bit, is_one, InRange}
+use Rattle.larch_models.specs.Interpretation.{IsInterpretation}
 use Rattle.larch_soundness.proofs.Values.{is_one_bit, bit_is_one}
 
 -- the truth values of an assignment

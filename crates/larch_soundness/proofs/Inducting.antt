@@ -1,5 +1,6 @@
 -- The hypotheses of an induction hold of values in a set on which the equation holds.
-use Rattle.std.proofs.Common.{◌≡◌, ℕ, suc, inl, inr, Bool, true, cond, List, [], ◌∷◌, map, Contains, bytes_eq, refl, sym, ◌∙◌, ap, subst}
+use Rattle.std.proofs.Common.{◌≡◌, ℕ, suc, inl, inr, Bool, true, cond, List, [], ◌∷◌, map, Contains, bytes_eq, refl}
+use Rattle.std.proofs.Common.{sym, ◌∙◌, ap, subst}
 use Rattle.std.proofs.lemmas.Slice.Eq.{bytes_eq-Decides}
 use Rattle.larch_base.proofs.Bools.{true_or_false}
 use Rattle.larch_base.proofs.Members.{contains_none, contains_cases}
@@ -7,28 +8,28 @@ use Rattle.larch_base.proofs.Options.{map_cond}
 use Rattle.larch_term.specs.Operator.{PlainOperator}
 use Rattle.larch_term.specs.Tree.{Tree, var}
 use Rattle.larch_term.specs.Statement.{IsStatementOver}
-use Rattle.larch_term.specs.Substitution.{substituted}
+use Rattle.larch_term.specs.Substitution.{instance_of}
 use Rattle.larch_term.specs.declared.statement.Statement.{Statement}
 use Rattle.larch_term.specs.declared.statement.Statement.TheVariants.{Equation}
 use Rattle.larch_calculus.specs.Formula.{constant}
 use Rattle.larch_calculus.specs.Generation.{only, equation_at, induction_hypotheses}
 use Rattle.larch_models.specs.Interpretation.{Interpretation, Assignment, value_of, Within, InRange}
 use Rattle.larch_models.specs.Models.{ArgumentsIn, Holds}
-use Rattle.larch_models.specs.Computed.{updated}
+use Rattle.larch_models.specs.Computed.{update}
 use Rattle.larch_soundness.proofs.Assignments.{is_variable, Agree}
 use Rattle.larch_soundness.proofs.Changed.{Gives}
 use Rattle.larch_soundness.proofs.Values.{value_substituted, SameTables, value_same}
 
 -- a term for a variable gives it the term's value
 pub only_value : (m : Interpretation) (a : Assignment) (x s : List ℕ) (u t : Tree)
-    → value_of m a (substituted (only x s u) t) ≡ value_of m (updated x s (value_of m a u) a) t
+    → value_of m a (instance_of (only x s u) t) ≡ value_of m (update x s (value_of m a u) a) t
 only_value m a x s u t =
     value_substituted m a (only x s u) t
     ∙ ap (λ b. value_of m b t) (λ i n r. map_cond (value_of m a) (is_variable x s n r) u (var n r) i)
 
 -- an equation holds if it does with this value for the variable
 abbrev pub HoldsAt : Interpretation → List ℕ → List ℕ → Tree → Tree → ℕ → Type 0
-HoldsAt m x s l r v = Agree m (updated x s v) l r
+HoldsAt m x s l r v = Agree m (update x s v) l r
 
 -- in an interpretation with tables as those of one, the equation holds with a term that has such a value
 holds_term : (m n : Interpretation) (fs : List PlainOperator) (x s : List ℕ) (l r u : Tree) (v : ℕ) → SameTables n m fs
@@ -36,11 +37,11 @@ holds_term : (m n : Interpretation) (fs : List PlainOperator) (x s : List ℕ) (
     → HoldsAt m x s l r v → Holds n (equation_at x s l r u)
 holds_term m n fs x s l r u v e f w h k a g =
     only_value n a x s u l
-    ∙ ap (λ z. value_of n (updated x s z a) l) (h a)
-    ∙ value_same n m fs e (updated x s v a) l w.0.1
+    ∙ ap (λ z. value_of n (update x s z a) l) (h a)
+    ∙ value_same n m fs e (update x s v a) l w.0.1
     ∙ k a (subst (λ z. InRange z a) f g)
-    ∙ sym (value_same n m fs e (updated x s v a) r w.1.1)
-    ∙ sym (ap (λ z. value_of n (updated x s z a) r) (h a))
+    ∙ sym (value_same n m fs e (update x s v a) r w.1.1)
+    ∙ sym (ap (λ z. value_of n (update x s z a) r) (h a))
     ∙ sym (only_value n a x s u r)
 
 pub hypotheses_hold : (m n : Interpretation) (fs : List PlainOperator) (x s : List ℕ) (l r : Tree) → SameTables n m fs

@@ -1,5 +1,6 @@
 -- Observations of terms and of their values.
-use Rattle.std.proofs.Common.{◌≡◌, ◌≢◌, ◌==◌, ℕ, suc, inl, inr, Bool, true, false, cond, List, [], ◌∷◌, All, Contains, refl, sym, ◌∙◌, ap, subst}
+use Rattle.std.proofs.Common.{◌≡◌, ◌≢◌, ◌==◌, ℕ, suc, inl, inr, Bool, true, false, cond, List, [], ◌∷◌, All, Contains}
+use Rattle.std.proofs.Common.{refl, sym, ◌∙◌, ap, subst}
 use Rattle.std.proofs.lemmas.List.Elements.{All-head, All-tail}
 use Rattle.larch_base.proofs.Bools.{true_or_false}
 use Rattle.larch_base.proofs.Lists.{pairs_head, pairs_tail}
@@ -9,10 +10,11 @@ use Rattle.larch_term.specs.Variable.{occurrences}
 use Rattle.larch_term.specs.declared.variable.Variable.{Variable}
 use Rattle.larch_term.specs.declared.statement.Statement.TheVariants.{Equation}
 use Rattle.larch_calculus.specs.Derivable.{AreApart}
-use Rattle.larch_calculus.specs.Observation.{Observation, arguments_with, variables_beside, observed, other_variables, AreDifferent}
+use Rattle.larch_calculus.specs.Observation.{Observation, arguments_with, variables_beside, observer_term}
+use Rattle.larch_calculus.specs.Observation.{other_variables, AreDifferent}
 use Rattle.larch_models.specs.Interpretation.{Interpretation, Assignment, value_of, values_of, Within, InRange}
 use Rattle.larch_models.specs.Models.{with_value, ShowsSame, Holds}
-use Rattle.larch_models.specs.Computed.{updated}
+use Rattle.larch_models.specs.Computed.{update}
 use Rattle.larch_soundness.proofs.Assignments.{updated_in_range, updated_here, updated_elsewhere}
 use Rattle.larch_soundness.proofs.Values.{Alike, value_alike}
 
@@ -38,7 +40,7 @@ arguments_values m a names place t k (r ∷ rs) =
 pub observation_holds : (m n : Interpretation) (names : ℕ → List ℕ) (w : Observation) (a b : Tree) (u v : ℕ)
     → n.last ≡ m.last → ((vs : List ℕ) → n.table w.observer vs ≡ m.table w.observer vs)
     → ((x : Assignment) → value_of n x a ≡ u) → ((x : Assignment) → value_of n x b ≡ v) → ShowsSame m w u v
-    → Holds n (Equation (observed names w a) (observed names w b))
+    → Holds n (Equation (observer_term names w a) (observer_term names w b))
 observation_holds m n names w a b u v f e p q h x r =
     let rs = w.observer.domain in
     let vs = named_values x names 1 rs in
@@ -71,7 +73,7 @@ have_arguments last b names place u k (r ∷ rs) (v ∷ vs) w h =
 
 -- one variable more, unless its place is that of the term
 abbrev spread_one : Bool → List ℕ → List ℕ → ℕ → Assignment → Assignment
-spread_one c n r v a = cond c a (updated n r v a)
+spread_one c n r v a = cond c a (update n r v a)
 
 -- the assignment with these values for the variables beside a place
 abbrev spread : (ℕ → List ℕ) → ℕ → ℕ → List (List ℕ) → List ℕ → Assignment → Assignment
@@ -86,7 +88,7 @@ not_both false e f = cc
 have_updated : (b : Assignment) (names : ℕ → List ℕ) (place : ℕ) (x : Variable) (u k : ℕ) (rs : List (List ℕ))
     (vs : List ℕ)
     → All (λ w. x ≢ w) (variables_beside names place k rs) → Have b names place k rs vs
-    → Have (updated x.name x.sort u b) names place k rs vs
+    → Have (update x.name x.sort u b) names place k rs vs
 have_updated b names place x u k [] vs d h = tt
 have_updated b names place x u k (r ∷ rs) [] d h = tt
 have_updated b names place x u k (r ∷ rs) (v ∷ vs) d h =
@@ -140,7 +142,7 @@ spread_in_range last names place k (r ∷ rs) [] a d g = g
 spread_in_range last names place k (r ∷ rs) (v ∷ vs) a d g =
     let b = spread names place (suc k) rs vs a in
     let h = spread_in_range last names place (suc k) rs vs a d.1 g in
-    either_in_range last (k == place) b (updated (names k) r v b) h (updated_in_range last b (names k) r v d.0 h)
+    either_in_range last (k == place) b (update (names k) r v b) h (updated_in_range last b (names k) r v d.0 h)
 
 spread_alike : (names : ℕ → List ℕ) (place k : ℕ) (rs : List (List ℕ)) (vs : List ℕ) (a : Assignment)
     (ws : List Variable)
@@ -165,7 +167,7 @@ spread_alike names place k (r ∷ rs) (v ∷ vs) a ws h x c =
 -- the equation of an observation says that it shows the same of both terms' values, if the variables beside the terms
 -- are apart from them
 pub values_show_same : (m : Interpretation) (names : ℕ → List ℕ) (w : Observation) (a b : Tree)
-    → AreApart (other_variables names w) a b → Holds m (Equation (observed names w a) (observed names w b))
+    → AreApart (other_variables names w) a b → Holds m (Equation (observer_term names w a) (observer_term names w b))
     → (x : Assignment) → InRange m.last x → ShowsSame m w (value_of m x a) (value_of m x b)
 values_show_same m names w a b apart h x r vs d =
     let rs = w.observer.domain in

@@ -1,8 +1,10 @@
 -- What is derivable holds in each model.
-use Rattle.std.proofs.Common.{◌≡◌, ◌≢◌, ◌≤◌, ◌==◌, ℕ, zero, suc, inl, inr, ◌⊎◌, Bool, true, cond, List, [], ◌∷◌, ◌++◌, map, Some, None, All, Contains, refl, sym, ◌∙◌, ap, subst, arith}
+use Rattle.std.proofs.Common.{◌≡◌, ◌≢◌, ◌≤◌, ◌==◌, ℕ, zero, suc, inl, inr, ◌⊎◌, Bool, true, cond, List, [], ◌∷◌, ◌++◌}
+use Rattle.std.proofs.Common.{map, Some, None, All, Contains, refl, sym, ◌∙◌, ap, subst, arith}
 use Rattle.std.specs.List.{slice_get}
 use Rattle.std.proofs.lemmas.List.Elements.{All-nil, All-cons, All-head, All-contains}
-use Rattle.larch_base.proofs.Members.{contains_none, contains_one, contains_cases, contains_here, contains_later, contains_either, contained_in_map, contains_got}
+use Rattle.larch_base.proofs.Members.{contains_none, contains_one, contains_cases, contains_here, contains_later}
+use Rattle.larch_base.proofs.Members.{contains_either, contained_in_map, contains_got}
 use Rattle.larch_term.specs.Operator.{PlainOperator}
 use Rattle.larch_term.specs.OperatorKey.{name_Decides}
 use Rattle.larch_term.specs.Tree.{Tree, var, app}
@@ -11,37 +13,43 @@ use Rattle.larch_term.specs.Place.{at, put}
 use Rattle.larch_term.specs.Sorts.{sort_of, IsKnown, IsOver, IsTermOver}
 use Rattle.larch_term.specs.Variable.{occurrences}
 use Rattle.larch_term.specs.Statement.{IsStatementOver, statement_zero, IsWellSortedTheory}
-use Rattle.larch_term.specs.Substitution.{image, substituted, Fits}
+use Rattle.larch_term.specs.Substitution.{image, instance_of, Fits}
 use Rattle.larch_term.specs.declared.substitution.Entry.{Entry}
 use Rattle.larch_term.specs.declared.variable.Variable.{Variable}
 use Rattle.larch_term.specs.declared.built_in.BuiltIn.TheVariants.{True, False, Equal}
 use Rattle.larch_term.specs.declared.statement.Statement.{Statement}
 use Rattle.larch_term.specs.declared.statement.Statement.TheVariants.{Equation, Generated, Partitioned}
 use Rattle.larch_term.specs.declared.statement.Theory.{Theory}
-use Rattle.larch_term_laws.proofs.Substitutions.{image_sort, image_well_sorted, substituted_over}
+use Rattle.larch_term_law.proofs.Substitutions.{image_sort, image_well_sorted, substituted_over}
 use Rattle.larch_term.specs.Truth.{truth}
 use Rattle.larch_calculus.specs.Derivable.{Derivable, AreArguments, AreApart}
 use Rattle.larch_calculus.specs.Induction.{IsClosed, by_rules}
-use Rattle.larch_calculus.specs.Formula.{falsity, constant, applied, equality}
-use Rattle.larch_calculus.specs.Freed.{freed}
-use Rattle.larch_calculus.specs.Generation.{place_name, generation_hypotheses, generation_formula, constant_terms, equation_at, induction_hypotheses}
-use Rattle.larch_calculus.specs.Observation.{Observation, observations_of, observed, other_variables, observations}
-use Rattle.larch_calculus.specs.Theories.{with_statements, extended, IsIncluded, AreNew, AreConstants}
+use Rattle.larch_calculus.specs.Formula.{falsity, constant, apply_one, equality}
+use Rattle.larch_calculus.specs.Freed.{free_constants}
+use Rattle.larch_calculus.specs.Generation.{place_name, generation_hypotheses, generation_formula, constant_terms}
+use Rattle.larch_calculus.specs.Generation.{equation_at, induction_hypotheses}
+use Rattle.larch_calculus.specs.Observation.{Observation, observations_of, observer_term, other_variables, observations}
+use Rattle.larch_calculus.specs.Theories.{with_statements, extend, IsIncluded, AreNew, AreConstants}
 use Rattle.larch_calculus.proofs.Names.{names_apart}
 use Rattle.larch_calculus.proofs.Observed.{partition_over}
-use Rattle.larch_calculus.proofs.Sorted.{truth_over, falsity_over, extended_well_sorted, with_statements_well_sorted, generation_over, suppositions_over}
+use Rattle.larch_calculus.proofs.Sorted.{truth_over, falsity_over, extended_well_sorted, with_statements_well_sorted}
+use Rattle.larch_calculus.proofs.Sorted.{generation_over, suppositions_over}
 use Rattle.larch_calculus.proofs.WellSorted.{well_sorted}
-use Rattle.larch_models.specs.Interpretation.{Interpretation, Assignment, value_of, values_of, bit, is_one, first, Within, InRange, IsInterpretation}
+use Rattle.larch_models.specs.Interpretation.{Interpretation, Assignment, value_of, values_of, bit, is_one, first}
+use Rattle.larch_models.specs.Interpretation.{Within, InRange, IsInterpretation}
 use Rattle.larch_models.specs.Models.{ArgumentsIn, IsClosedUnder, Holds, IsModel}
-use Rattle.larch_models.specs.Computed.{updated, zeros}
-use Rattle.larch_soundness.proofs.Assignments.{updated_itself, updated_here, updated_in_range, updated_alike, zeros_in_range, agree, agree_so, agree_if}
-use Rattle.larch_soundness.proofs.Changed.{taken, changed, Spares, same_tables, known_observer, extended_model, given_by, given_spares, given_within, given_gives, constant_values}
+use Rattle.larch_models.specs.Computed.{update, zeros}
+use Rattle.larch_soundness.proofs.Assignments.{updated_itself, updated_here, updated_in_range, updated_alike}
+use Rattle.larch_soundness.proofs.Assignments.{zeros_in_range, agree, agree_so, agree_if}
+use Rattle.larch_soundness.proofs.Changed.{taken, changed, Spares, same_tables, known_observer, extended_model}
+use Rattle.larch_soundness.proofs.Changed.{given_by, given_spares, given_within, given_gives, constant_values}
 use Rattle.larch_soundness.proofs.Freed.{of_variables, of_variables_within, freed_value}
 use Rattle.larch_soundness.proofs.Generating.{set_table, set_for, generation_holds}
 use Rattle.larch_soundness.proofs.Identities.{identity_holds}
 use Rattle.larch_soundness.proofs.Inducting.{only_value, HoldsAt, hypotheses_hold}
 use Rattle.larch_soundness.proofs.Observing.{values_show_same, observation_holds}
-use Rattle.larch_soundness.proofs.Values.{bit_within, is_one_bit, same_numbers, value_within, value_put, through, value_substituted, value_alike, value_same}
+use Rattle.larch_soundness.proofs.Values.{bit_within, is_one_bit, same_numbers, value_within, value_put, through}
+use Rattle.larch_soundness.proofs.Values.{value_substituted, value_alike, value_same}
 
 -- the statement holds in each model of the theory, if the theory is well sorted
 abbrev pub IsValid : Theory → Statement → Type 0
@@ -71,7 +79,7 @@ through_in_range {fs} {m} i a r es f o n s =
     (value_within i a r (image es n s) (image_well_sorted es n s f) (substituted_over fs es (var n s) o tt))
 
 instance_valid : (t : Theory) (a b c d : Tree) (es : List Entry) → Fits es → All (λ e. IsOver t.operators e.term) es
-    → IsValid t (Equation a b) → c ≡ substituted es a → d ≡ substituted es b → IsValid t (Equation c d)
+    → IsValid t (Equation a b) → c ≡ instance_of es a → d ≡ instance_of es b → IsValid t (Equation c d)
 instance_valid t a b c d es f o v p q m g k y r =
     ap (value_of m y) p ∙ value_substituted m y es a
     ∙ v m g k (through m y es) (through_in_range k.interpretation y r es f o)
@@ -88,8 +96,8 @@ equal_valid t a b s v m g k y r =
     ∙ ap is_one (sym (i.meanings Equal s (p ∷ q ∷ [])) ∙ v m g k y r ∙ i.meanings True bool_sort []))
 
 fresh_valid : (t : Theory) (a b c d : Tree) (cs : List PlainOperator) (vs : List Variable) → AreNew t cs
-    → map (λ f. f.range) cs ≡ map (λ v. v.sort) vs → IsValid (extended t cs []) (Equation a b)
-    → c ≡ freed cs vs a → d ≡ freed cs vs b → IsValid t (Equation c d)
+    → map (λ f. f.range) cs ≡ map (λ v. v.sort) vs → IsValid (extend t cs []) (Equation a b)
+    → c ≡ free_constants cs vs a → d ≡ free_constants cs vs b → IsValid t (Equation c d)
 fresh_valid t a b c d cs vs n e v p q m g k y r =
     let xs = of_variables y vs in
     let new = given_by cs xs in
@@ -137,7 +145,7 @@ cases_valid t a b f w s o u v m g k y r =
 -- new constants is valid
 case_valid : (t : Theory) (a b : Tree) (x s : List ℕ) (f : PlainOperator) (cs : List PlainOperator)
     → IsStatementOver t.operators (Equation a b) → IsKnown t.operators f → AreArguments t f cs
-    → IsValid (extended t cs (induction_hypotheses x s a b cs)) (equation_at x s a b (app f (constant_terms cs)))
+    → IsValid (extend t cs (induction_hypotheses x s a b cs)) (equation_at x s a b (app f (constant_terms cs)))
     → (m : Interpretation) → IsWellSortedTheory t → IsModel m t → (p : ℕ → Bool)
     → ((v : ℕ) → p v ≡ true → HoldsAt m x s a b v)
     → (vs : List ℕ) → Within m.last f.domain vs → ArgumentsIn p s f.domain vs → HoldsAt m x s a b (m.table f vs)
@@ -156,9 +164,9 @@ case_valid t a b x s f cs w known args v m g k p decided vs i q y r =
     let value : value_of n y made ≡ m.table f vs =
     same f known (values_of n y (constant_terms cs)) ∙ ap (m.table f) (constant_values n y cs vs within gives) in
     let side : (l : Tree) → IsOver t.operators l
-    → value_of n (updated x s (value_of n y made) y) l ≡ value_of m (updated x s (m.table f vs) y) l =
-    λ l o. ap (λ z. value_of n (updated x s z y) l) value
-    ∙ value_same n m t.operators same (updated x s (m.table f vs) y) l o in
+    → value_of n (update x s (value_of n y made) y) l ≡ value_of m (update x s (m.table f vs) y) l =
+    λ l o. ap (λ z. value_of n (update x s z y) l) value
+    ∙ value_same n m t.operators same (update x s (m.table f vs) y) l o in
     sym (side a w.0.1) ∙ sym (only_value n y x s made a)
     ∙ v n (extended_well_sorted t cs hs g (suppositions_over t x s a b cs w args.constants)) model y r
     ∙ only_value n y x s made b ∙ side b w.1.1
@@ -168,18 +176,18 @@ induct_valid : (t : Theory) (a b : Tree) (x s : List ℕ) (fs : List PlainOperat
     → IsStatementOver t.operators (Equation a b)
     → ((i : ℕ) (f : PlainOperator) → slice_get fs i ≡ Some f → AreArguments t f (cs i))
     → ((i : ℕ) (f : PlainOperator) → slice_get fs i ≡ Some f
-    → IsValid (extended t (cs i) (induction_hypotheses x s a b (cs i)))
+    → IsValid (extend t (cs i) (induction_hypotheses x s a b (cs i)))
     (equation_at x s a b (app f (constant_terms (cs i)))))
     → IsValid t (Equation a b)
 induct_valid t a b x s fs cs o d w k h m g j y r =
-    let p : ℕ → Bool = λ v. agree m (updated x s v) a b in
+    let p : ℕ → Bool = λ v. agree m (update x s v) a b in
     let decided : (v : ℕ) → p v ≡ true → HoldsAt m x s a b v =
-    λ v. agree_so m (updated x s v) (updated_alike x s v) a b in
+    λ v. agree_so m (update x s v) (updated_alike x s v) a b in
     let closed : IsClosedUnder m s fs p =
     λ f c vs i q.
     let found = contains_got fs f c in
     let known = (All-contains (λ g. IsKnown t.operators g × (g.range ≡ s)) fs f o c).0 in
-    agree_if m (updated x s (m.table f vs)) a b
+    agree_if m (update x s (m.table f vs)) a b
     (case_valid t a b x s f (cs found.0) w known (k found.0 f found.1) (h found.0 f found.1) m g j p decided vs i q) in
     sym (ap (λ z. value_of m z a) (updated_itself y x s))
     ∙ decided (y x s) (d m g j p closed (y x s) (r x s)) y r
@@ -190,7 +198,7 @@ observe_valid : (t : Theory) (a b : Tree) (s : List ℕ) (os : List PlainOperato
     → ((i : ℕ) (w : Observation) → slice_get (observations_of s os) i ≡ Some w
     → AreApart (other_variables (names i) w) a b)
     → ((i : ℕ) (w : Observation) → slice_get (observations_of s os) i ≡ Some w
-    → IsValid t (Equation (observed (names i) w a) (observed (names i) w b)))
+    → IsValid t (Equation (observer_term (names i) w a) (observer_term (names i) w b)))
     → IsValid t (Equation a b)
 observe_valid t a b s os names d w e k h m g j y r =
     let i = j.interpretation in
@@ -203,7 +211,7 @@ observe_valid t a b s os names d w e k h m g j y r =
 
 generated_valid : (t : Theory) (s : List ℕ) (fs : List PlainOperator) (q : PlainOperator) (x : List ℕ)
     → IsStatementOver t.operators (Generated s fs) → AreNew t (q ∷ []) → q.domain ≡ s ∷ [] → q.range ≡ bool_sort
-    → IsValid (extended t (q ∷ []) (generation_hypotheses q s fs)) (Equation (applied q (var x s)) truth)
+    → IsValid (extend t (q ∷ []) (generation_hypotheses q s fs)) (Equation (apply_one q (var x s)) truth)
     → IsValid t (Generated s fs)
 generated_valid t s fs q x w n d r v m g k p closed u le =
     let cs = q ∷ [] in
@@ -237,7 +245,7 @@ generated_valid t s fs q x w n d r v m g k p closed u le =
     (generation_holds interpreted (m.table f.0) q p here s f.0 (λ vs. same f.0 known vs)
     (λ vs o c. closed f.0 f.1 vs o c)) in
     let model = extended_model new m t cs hs g k spares within hold in
-    let y = updated x s u zeros in
+    let y = update x s u zeros in
     let e = v z (extended_well_sorted t cs hs g (generation_over t q s fs w d r)) model y
     (updated_in_range m.last zeros x s u le (zeros_in_range m.last)) in
     let at : y x s ≡ u = updated_here zeros x s u in
@@ -248,7 +256,7 @@ generated_valid t s fs q x w n d r v m g k p closed u le =
 partitioned_valid : (t : Theory) (s : List ℕ) (os : List PlainOperator) (c d : PlainOperator)
     → IsStatementOver t.operators (Partitioned s os) → AreNew t (c ∷ d ∷ []) → AreConstants (c ∷ d ∷ [])
     → c.range ≡ s → d.range ≡ s
-    → IsValid (extended t (c ∷ d ∷ []) (observations place_name s os (constant c) (constant d)))
+    → IsValid (extend t (c ∷ d ∷ []) (observations place_name s os (constant c) (constant d)))
     (Equation (constant c) (constant d))
     → IsValid t (Partitioned s os)
 partitioned_valid t s os c d w n k e f h m g j u v lu lv shows =
@@ -265,7 +273,9 @@ partitioned_valid t s os c d w n k e f h m g j u v lu lv shows =
     let sorted = partition_over t place_name s os c d w k e f in
     let hold : (a : Statement) → Contains hs a → Holds z a =
     λ a i.
-    let o = contained_in_map (λ w. Equation (observed place_name w (constant c)) (observed place_name w (constant d)))
+    let o =
+    contained_in_map (λ w. Equation (observer_term place_name w (constant c))
+    (observer_term place_name w (constant d)))
     (observations_of s os) a i in
     subst (Holds z) o.2
     (observation_holds m z place_name o.0 (constant c) (constant d) u v refl

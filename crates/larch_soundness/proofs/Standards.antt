@@ -1,5 +1,6 @@
 -- Standard interpretations are interpretations, whatever the tables.
-use Rattle.std.proofs.Common.{◌≡◌, ◌≤◌, ℕ, inl, inr, Bool, true, cond, List, [], ◌∷◌, Option, Some, None, refl, sym, ◌∙◌, ap, subst}
+use Rattle.std.proofs.Common.{◌≡◌, ◌≤◌, ℕ, inl, inr, Bool, true, cond, List, [], ◌∷◌, Option, Some, None, refl, sym}
+use Rattle.std.proofs.Common.{◌∙◌, ap, subst}
 use Rattle.std.proofs.Math.Nat.{min-le_left, min-eq_right}
 use Rattle.larch_base.proofs.Bools.{true_or_false}
 use Rattle.larch_base.proofs.Members.{contains_none}
@@ -7,10 +8,12 @@ use Rattle.larch_base.proofs.Options.{some_inj}
 use Rattle.larch_term.specs.Operator.{PlainOperator}
 use Rattle.larch_term.specs.BuiltIn.{built_in, IsBuiltIn}
 use Rattle.larch_term.specs.declared.built_in.BuiltIn.{BuiltIn}
-use Rattle.larch_term.specs.declared.built_in.BuiltIn.TheVariants.{True, False, Not, And, Or, Implies, Iff, Equal, Unequal, If}
+use Rattle.larch_term.specs.declared.built_in.BuiltIn.TheVariants.{True, False, Not, And, Or, Implies, Iff, Equal}
+use Rattle.larch_term.specs.declared.built_in.BuiltIn.TheVariants.{Unequal, If}
 use Rattle.larch_term.specs.OperatorKey.{same_operator, operator_Decides}
 use Rattle.larch_models.specs.Interpretation.{Interpretation, meaning, Within, IsInterpretation}
-use Rattle.larch_models.specs.Standard.{last_sort, built_in_among, every_built_in, standard_last, standard_value, standard}
+use Rattle.larch_models.specs.Standard.{last_sort, built_in_among, every_built_in, standard_last, standard_value}
+use Rattle.larch_models.specs.Standard.{standard}
 use Rattle.larch_soundness.proofs.Values.{meaning_within}
 
 among_is : (f : PlainOperator) (bs : List BuiltIn) (b : BuiltIn) → built_in_among f bs ≡ Some b

@@ -1,5 +1,6 @@
 -- Values of terms.
-use Rattle.std.proofs.Common.{◌≡◌, ◌≤◌, ◌==◌, ℕ, zero, suc, inl, inr, Bool, true, false, cond, not, ◌&&◌, ◌||◌, List, [], ◌∷◌, Some, Contains, refl, sym, ◌∙◌, ap, subst, arith}
+use Rattle.std.proofs.Common.{◌≡◌, ◌≤◌, ◌==◌, ℕ, zero, suc, inl, inr, Bool, true, false, cond, not, ◌&&◌, ◌||◌, List}
+use Rattle.std.proofs.Common.{[], ◌∷◌, Some, Contains, refl, sym, ◌∙◌, ap, subst, arith}
 use Rattle.std.proofs.lemmas.Option.{option_and_then_some}
 use Rattle.larch_base.proofs.Members.{contains_here, contains_left, contains_right}
 use Rattle.larch_base.proofs.Options.{some_inj}
@@ -9,12 +10,14 @@ use Rattle.larch_term.specs.BuiltIn.{bool_sort, built_in}
 use Rattle.larch_term.specs.Place.{at, argument, put, put_in}
 use Rattle.larch_term.specs.Sorts.{sort_of, sorts_of, WellSorted, AllWellSorted, IsOver, AllOver, IsKnown}
 use Rattle.larch_term.specs.Variable.{occurrences, occurrences_in}
-use Rattle.larch_term.specs.Substitution.{image, substituted, substituted_all}
+use Rattle.larch_term.specs.Substitution.{image, instance_of, substituted_all}
 use Rattle.larch_term.specs.declared.substitution.Entry.{Entry}
 use Rattle.larch_term.specs.declared.variable.Variable.{Variable}
 use Rattle.larch_term.specs.declared.built_in.BuiltIn.{BuiltIn}
-use Rattle.larch_term.specs.declared.built_in.BuiltIn.TheVariants.{True, False, Not, And, Or, Implies, Iff, Equal, Unequal, If}
-use Rattle.larch_models.specs.Interpretation.{Interpretation, Assignment, value_of, values_of, bit, is_one, first, others, meaning, Within, InRange, IsInterpretation}
+use Rattle.larch_term.specs.declared.built_in.BuiltIn.TheVariants.{True, False, Not, And, Or, Implies, Iff, Equal}
+use Rattle.larch_term.specs.declared.built_in.BuiltIn.TheVariants.{Unequal, If}
+use Rattle.larch_models.specs.Interpretation.{Interpretation, Assignment, value_of, values_of, bit, is_one, first}
+use Rattle.larch_models.specs.Interpretation.{others, meaning, Within, InRange, IsInterpretation}
 
 pub bit_within : (b : Bool) → bit b ≤ 1
 bit_within true = omega arith
@@ -112,7 +115,7 @@ through m a es = λ n s. value_of m a (image es n s)
 mutual
   -- a substituted term has the value of the term under that assignment
   pub value_substituted : (m : Interpretation) (a : Assignment) (es : List Entry) (t : Tree)
-      → value_of m a (substituted es t) ≡ value_of m (through m a es) t
+      → value_of m a (instance_of es t) ≡ value_of m (through m a es) t
   value_substituted m a es (var n s) = refl
   value_substituted m a es (app f ts) = ap (m.table f) (values_substituted m a es ts)
 

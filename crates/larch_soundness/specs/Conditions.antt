@@ -13,11 +13,11 @@ use Rattle.larch_term.specs.declared.statement.Statement.TheVariants.{Equation, 
 use Rattle.larch_term.specs.declared.statement.Theory.{Theory}
 use Rattle.larch_term.specs.Truth.{truth}
 use Rattle.larch_calculus.specs.Derivable.{Derivable}
-use Rattle.larch_calculus.specs.Formula.{falsity, constant, applied}
+use Rattle.larch_calculus.specs.Formula.{falsity, constant, apply_one}
 use Rattle.larch_calculus.specs.Generation.{place_name, generation_hypotheses, constant_terms, equation_at}
 use Rattle.larch_calculus.specs.Generation.{induction_hypotheses}
-use Rattle.larch_calculus.specs.Observation.{Observation, observations_of, observed, observations}
-use Rattle.larch_calculus.specs.Theories.{IsIncluded, IsNewName, AreConstants, with_statements, extended}
+use Rattle.larch_calculus.specs.Observation.{Observation, observations_of, observer_term, observations}
+use Rattle.larch_calculus.specs.Theories.{IsIncluded, IsNewName, AreConstants, with_statements, extend}
 use Rattle.larch_models.specs.Computed.{holds}
 use Rattle.larch_models.specs.Interpretation.{Interpretation}
 use Rattle.larch_models.specs.Models.{IsModel}
@@ -37,7 +37,7 @@ pub record WeakenPremises (u t : Theory) (s : Statement) : Type 0 where
 pub record FreshPremises (t : Theory) (cs : List PlainOperator) (vs : List Variable) (a b : Tree) : Type 0 where
   pub constants : AreConstants cs
   pub sorts : map (λ f. f.range) cs ≡ map (λ v. v.sort) vs
-  pub derived : Derivable (extended t cs []) (Equation a b)
+  pub derived : Derivable (extend t cs []) (Equation a b)
 
 -- `cases`, of a formula that may have variables
 pub record CasesPremises (t : Theory) (f a b : Tree) : Type 0 where
@@ -55,7 +55,7 @@ pub record InductPremises (t : Theory) (x s : List ℕ) (fs : List PlainOperator
   pub constants : (i : ℕ) (f : PlainOperator) → slice_get fs i ≡ Some f → AreConstants (cs i)
   pub sorts : (i : ℕ) (f : PlainOperator) → slice_get fs i ≡ Some f → map (λ c. c.range) (cs i) ≡ f.domain
   pub derived : (i : ℕ) (f : PlainOperator) → slice_get fs i ≡ Some f
-      → Derivable (extended t (cs i) (induction_hypotheses x s a b (cs i)))
+      → Derivable (extend t (cs i) (induction_hypotheses x s a b (cs i)))
       (equation_at x s a b (app f (constant_terms (cs i))))
 
 -- `observe`, with any variables beside the terms
@@ -65,7 +65,7 @@ pub record ObservePremises (t : Theory) (s : List ℕ) (os : List PlainOperator)
   pub over : IsStatementOver t.operators (Equation a b)
   pub sort : sort_of a ≡ s
   pub derived : (i : ℕ) (w : Observation) → slice_get (observations_of s os) i ≡ Some w
-      → Derivable t (Equation (observed (names i) w a) (observed (names i) w b))
+      → Derivable t (Equation (observer_term (names i) w a) (observer_term (names i) w b))
 
 -- none of these variables occurs in the term
 abbrev pub OccursNot : List Variable → Tree → Type 0
@@ -77,7 +77,7 @@ pub record GeneratedPremises (t : Theory) (s : List ℕ) (fs : List PlainOperato
   pub over : IsStatementOver t.operators (Generated s fs)
   pub domain : p.domain ≡ s ∷ []
   pub range : p.range ≡ bool_sort
-  pub derived : Derivable (extended t (p ∷ []) (generation_hypotheses p s fs)) (Equation (applied p (var x s)) truth)
+  pub derived : Derivable (extend t (p ∷ []) (generation_hypotheses p s fs)) (Equation (apply_one p (var x s)) truth)
 
 -- `partitioned`, of constants that needn't be new or differ
 pub record PartitionedPremises (t : Theory) (s : List ℕ) (os : List PlainOperator) (c d : PlainOperator) : Type 0 where
@@ -85,5 +85,5 @@ pub record PartitionedPremises (t : Theory) (s : List ℕ) (os : List PlainOpera
   pub constants : AreConstants (c ∷ d ∷ [])
   pub first_sort : c.range ≡ s
   pub second_sort : d.range ≡ s
-  pub derived : Derivable (extended t (c ∷ d ∷ []) (observations place_name s os (constant c) (constant d)))
+  pub derived : Derivable (extend t (c ∷ d ∷ []) (observations place_name s os (constant c) (constant d)))
       (Equation (constant c) (constant d))

@@ -30,7 +30,8 @@ unfolding Belongs
 belongs_once s x y b c e = let p : Some x ≡ Some y = sym b ∙ ap (slice_get s) e ∙ c in cc
 
 -- likewise lists of them
-pub all_belong_once : (s xs ys : List Numbered) → AllBelong s xs → AllBelong s ys → map number_of xs ≡ map number_of ys → xs ≡ ys
+pub all_belong_once : (s xs ys : List Numbered) → AllBelong s xs → AllBelong s ys
+    → map number_of xs ≡ map number_of ys → xs ≡ ys
 all_belong_once s [] [] b c e = refl
 all_belong_once s [] (y ∷ ys) b c e = absurd cc
 all_belong_once s (x ∷ xs) [] b c e = absurd cc

@@ -35,7 +35,8 @@ self_key (Var n s) = grind (arith, self_numbers n, self_numbers s)
 self_key (App f cs) = grind (arith, self_numbers cs, (operator_Decides f f).1 refl)
 
 -- the first key that passes is the key
-pub stands_under : (ks : List Key) (k : Key) (i : ℕ) → position (key_eq.ghosts.eq k) ks ≡ Some i → slice_get ks i ≡ Some k
+pub stands_under : (ks : List Key) (k : Key) (i : ℕ) → position (key_eq.ghosts.eq k) ks ≡ Some i
+    → slice_get ks i ≡ Some k
 stands_under ks k i e =
     let p = position-Some (key_eq.ghosts.eq k) ks i k e in
     slice_get-get_or ks i k p.0 ∙ ap Some (sym (same_key k (get_or ks i k) p.1))

@@ -10,19 +10,28 @@ use Rattle.larch_store.specs.contracts.key.KeyPartialEq.TheImpl as key_eq
 use Rattle.larch_store.proofs.Apart.{one_term}
 use Rattle.larch_store.proofs.Standing.{belonging, branch_nodes}
 
-pub children_within : (ks : List Key) (s n : List Numbered) → s ≡ n → IsStore ks s → (x : Numbered) → Belongs n x → AllBelong n (children_of x)
-children_within ks s n e h = subst (λ u. (x : Numbered) → Belongs u x → AllBelong u (children_of x)) e (λ x b. (belonging ks s x h b).3)
+pub children_within : (ks : List Key) (s n : List Numbered) → s ≡ n → IsStore ks s → (x : Numbered) → Belongs n x
+    → AllBelong n (children_of x)
+children_within ks s n e h =
+    subst (λ u. (x : Numbered) → Belongs u x → AllBelong u (children_of x)) e (λ x b. (belonging ks s x h b).3)
 
-pub size_within : (ks : List Key) (s n : List Numbered) → s ≡ n → IsStore ks s → (x : Numbered) → Belongs n x → size_of x ≡ nodes (term_of x)
-size_within ks s n e h = subst (λ u. (x : Numbered) → Belongs u x → size_of x ≡ nodes (term_of x)) e (λ x b. (belonging ks s x h b).1)
+pub size_within : (ks : List Key) (s n : List Numbered) → s ≡ n → IsStore ks s → (x : Numbered) → Belongs n x
+    → size_of x ≡ nodes (term_of x)
+size_within ks s n e h =
+    subst (λ u. (x : Numbered) → Belongs u x → size_of x ≡ nodes (term_of x)) e (λ x b. (belonging ks s x h b).1)
 
-pub small_within : (ks : List Key) (s n : List Numbered) → s ≡ n → IsStore ks s → (x : Numbered) → Belongs n x → nodes (term_of x) ≤ most_nodes
-small_within ks s n e h = subst (λ u. (x : Numbered) → Belongs u x → nodes (term_of x) ≤ most_nodes) e (λ x b. (belonging ks s x h b).2)
+pub small_within : (ks : List Key) (s n : List Numbered) → s ≡ n → IsStore ks s → (x : Numbered) → Belongs n x
+    → nodes (term_of x) ≤ most_nodes
+small_within ks s n e h =
+    subst (λ u. (x : Numbered) → Belongs u x → nodes (term_of x) ≤ most_nodes) e (λ x b. (belonging ks s x h b).2)
 
-pub terms_within : (ks : List Key) (s n : List Numbered) → s ≡ n → IsStore ks s → IsDistinct key_eq.ghosts.eq ks → (x y : Numbered) → Belongs n x → Belongs n y → term_of x ≡ term_of y → x ≡ y
-terms_within ks s n e h u = subst (λ v. (x y : Numbered) → Belongs v x → Belongs v y → term_of x ≡ term_of y → x ≡ y) e (one_term ks s h u)
+pub terms_within : (ks : List Key) (s n : List Numbered) → s ≡ n → IsStore ks s → IsDistinct key_eq.ghosts.eq ks
+    → (x y : Numbered) → Belongs n x → Belongs n y → term_of x ≡ term_of y → x ≡ y
+terms_within ks s n e h u =
+    subst (λ v. (x y : Numbered) → Belongs v x → Belongs v y → term_of x ≡ term_of y → x ≡ y) e (one_term ks s h u)
 
-pub nodes_within : (ks : List Key) (s n : List Numbered) (f : PlainOperator) (cs : List Numbered) → s ≡ n → IsStore ks s → AllBelong n cs → nodes (app f (forest_of (map term_of cs))) ≡ 1 + sum_by size_of cs
+pub nodes_within : (ks : List Key) (s n : List Numbered) (f : PlainOperator) (cs : List Numbered) → s ≡ n → IsStore ks s
+    → AllBelong n cs → nodes (app f (forest_of (map term_of cs))) ≡ 1 + sum_by size_of cs
 nodes_within ks s n f cs e h b = branch_nodes ks s f cs h (subst (λ u. AllBelong u cs) (sym e) b)
 
 same_keys : (ks ls : List Key) → AllZip (λ a b. b ≡ a) ks ls → ls ≡ ks
@@ -32,5 +41,6 @@ same_keys (k ∷ ks) [] h = absurd h
 same_keys (k ∷ ks) (l ∷ ls) h = λ i. h.0 i ∷ same_keys ks ls h.1 i
 
 -- copies of the keys and of the shared terms are a store
-pub copied_store : (ks ls : List Key) (s u : List Numbered) → IsStore ks s → AllZip (λ a b. b ≡ a) ks ls → u ≡ s → IsStore ls u
+pub copied_store : (ks ls : List Key) (s u : List Numbered) → IsStore ks s → AllZip (λ a b. b ≡ a) ks ls → u ≡ s
+    → IsStore ls u
 copied_store ks ls s u h z e = subst (IsStore ls) (sym e) (subst (λ js. IsStore js s) (sym (same_keys ks ls z)) h)

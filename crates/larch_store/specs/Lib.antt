@@ -1,8 +1,8 @@
+pub mod KeptFalls
+pub mod Key
 pub mod Numbered
 pub mod NumberedCode
 pub mod NumberedFalls
+pub mod Refusal
 pub mod SharedView
-pub mod KeptFalls
-pub mod Keys
 pub mod Stored
-pub mod Refusals

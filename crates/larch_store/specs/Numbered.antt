@@ -40,11 +40,11 @@ several [] = nothing
 several (x ∷ xs) = further x (several xs)
 
 -- arguments as a list
-abbrev pub listed : Several → List Numbered
-listed nothing = []
-listed (further x xs) = x ∷ listed xs
+abbrev pub list_of_several : Several → List Numbered
+list_of_several nothing = []
+list_of_several (further x xs) = x ∷ list_of_several xs
 
 -- the arguments of a shared term; a variable has none
 abbrev pub children_of : Numbered → List Numbered
 children_of (leaf k z n s) = []
-children_of (branch k z f xs) = listed xs
+children_of (branch k z f xs) = list_of_several xs

@@ -2,7 +2,7 @@
 use Rattle.std.specs.Prelude.{◌≡◌, ℕ, ◌≤◌, List, [], ◌∷◌, ◌++◌, length, take, map, All, slice_get, Some}
 use Rattle.larch_term.specs.Tree.{nodes}
 use Rattle.larch_store.specs.Numbered.{Numbered, term_of, number_of, size_of, children_of}
-use Rattle.larch_store.specs.Keys.{key_of}
+use Rattle.larch_store.specs.Key.{key_of}
 use Rattle.larch_store.specs.declared.key.Key.{Key}
 
 -- a shared term belongs to a store: it stands there under its number

@@ -1,7 +1,7 @@
 ghost use Rattle.std.specs.Prelude.{◌≡◌, map, IfOk, IfErr};
 ghost use Rattle.larch_term.specs.Tree.{nodes, nodes_all, forest_of};
 ghost use Rattle.larch_store.specs.Numbered.{term_of};
-ghost use Rattle.larch_store.specs.Refusals.{MayRefuse};
+ghost use Rattle.larch_store.specs.Refusal.{MayRefuse};
 ghost use Rattle.larch_store.specs.Stored.{Belongs, AllBelong, Grows};
 
 use crate::refusal::StoreRefusal;

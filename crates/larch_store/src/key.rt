@@ -20,16 +20,16 @@ pub enum Key {
     /// A variable: its name and sort.
     Var(Name, Sort),
     /// An operator, with the numbers of its arguments.
-    App(Operator, Numbers),
+    App(Operator, SharedNumbers),
 }
 
 /// Numbers of shared terms, in order. Contracts see them as a list.
 #[derive(Drop)]
-pub struct Numbers {
+pub struct SharedNumbers {
     items: Vec<u64>,
 }
 
-impl Model for Numbers {
+impl Model for SharedNumbers {
     ghost use Rattle.std.specs.Prelude.{List, ℕ};
 
     ghost Value = { List ℕ };
@@ -37,7 +37,7 @@ impl Model for Numbers {
     ghost view = { λ numbers. numbers.items.items };
 }
 
-impl Numbers {
+impl SharedNumbers {
     // The numbers.
     fn as_slice(&self) -> &[u64]
         ensures { result.now ≡ self.now }
@@ -46,21 +46,21 @@ impl Numbers {
     }
 }
 
-impl PartialEq for Numbers {
+impl PartialEq for SharedNumbers {
     ghost eq = { pointwise nat_eq };
 
     ghost laws = { Prim.search (comparing, rules) };
 
-    fn eq(&self, other: &Numbers) -> bool {
+    fn eq(&self, other: &SharedNumbers) -> bool {
         self.as_slice() == other.as_slice()
     }
 }
 
-impl Eq for Numbers {
+impl Eq for SharedNumbers {
     ghost laws = { Prim.search (comparing, rules) };
 }
 
-impl Hash for Numbers {
+impl Hash for SharedNumbers {
     ghost hash_input = { fed.slice fed.u64 };
 
     ghost respects_eq = { Prim.search (comparing, rules) };
@@ -92,12 +92,12 @@ fn copy(key: &Key) -> Result<Key, Memory>
 }
 
 // What an operator with arguments of these numbers is found by.
-fn copy_application(operator: &Operator, numbers: &Numbers) -> Result<Key, Memory>
+fn copy_application(operator: &Operator, numbers: &SharedNumbers) -> Result<Key, Memory>
     ensures { IfOk result (λ key. key ≡ App operator.now numbers.now) }
 {
     let items = numbers.items.clone()?;
     let operator = operator.copy()?;
-    Ok(Key::App(operator, Numbers { items }))
+    Ok(Key::App(operator, SharedNumbers { items }))
 }
 
 /// What a variable is found by.
@@ -123,12 +123,12 @@ pub fn application_key(
 }
 
 // The numbers of shared terms.
-fn numbers_of(alloc: Global, arguments: &[Shared]) -> Result<Numbers, Memory>
+fn numbers_of(alloc: Global, arguments: &[Shared]) -> Result<SharedNumbers, Memory>
     ensures { IfOk result (λ numbers. numbers ≡ map number_of arguments.now) }
 {
     let mut items = Vec::with_capacity(alloc, arguments.len())?;
     for argument in arguments {
         items.push(argument.number())?;
     }
-    Ok(Numbers { items })
+    Ok(SharedNumbers { items })
 }

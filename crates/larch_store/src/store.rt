@@ -2,7 +2,7 @@ ghost use Rattle.std.specs.Prelude.{◌≡◌, ◌↔◌, ◌+◌, ◌≤◌, Li
 ghost use Rattle.larch_term.specs.Operator.{PlainOperator};
 ghost use Rattle.larch_term.specs.Tree.{var, app, nodes, forest_of};
 ghost use Rattle.larch_store.specs.Numbered.{Numbered, term_of, number_of, size_of, children_of};
-ghost use Rattle.larch_store.specs.Refusals.{MayRefuse};
+ghost use Rattle.larch_store.specs.Refusal.{MayRefuse};
 ghost use Rattle.larch_store.specs.Stored.{Belongs, AllBelong, Grows, most_nodes};
 
 use crate::interning::intern_term;

@@ -4,24 +4,31 @@ use Rattle.larch_base.specs.declared.position.Pos.{Pos}
 use Rattle.larch_raw.specs.RawTree.{RawTree}
 use Rattle.larch_raw.specs.declared.declared.RawForm.{RawForm}
 use Rattle.larch_grammar.specs.Machine.{after_form, end_marks, final, hand, step}
-use Rattle.larch_grammar.specs.Trees.{chain_tree, if_tree, infix_name, mixfix, postfix_name, postfix_tree, prefix_tree, call_tree}
+use Rattle.larch_grammar.specs.Trees.{chain_tree, if_tree, infix_name, mixfix, postfix_name, postfix_tree, prefix_tree}
+use Rattle.larch_grammar.specs.Trees.{call_tree}
 use Rattle.larch_grammar.specs.declared.machine.Frame.{Frame}
-use Rattle.larch_grammar.specs.declared.machine.Frame.TheVariants.{InFields, InStrays, Prefixed, InPostfixes, InInfixes, InEqualities, InConnectives, InParentheses, InList, InIf, InThen, InElse, InLeft, InRight, InExempted}
+use Rattle.larch_grammar.specs.declared.machine.Frame.TheVariants.{InFields, InStrays, Prefixed, InPostfixes, InInfixes}
+use Rattle.larch_grammar.specs.declared.machine.Frame.TheVariants.{InEqualities, InConnectives, InParentheses, InList}
+use Rattle.larch_grammar.specs.declared.machine.Frame.TheVariants.{InIf, InThen, InElse, InLeft, InRight, InExempted}
 use Rattle.larch_grammar.specs.declared.machine.Listing.TheVariants.{Call, First as call_first, Bracketed}
 use Rattle.larch_grammar.specs.declared.machine.RefKind.TheVariants.{Included, Assumed, First, Further}
-use Rattle.larch_grammar.specs.declared.machine.Scope.TheVariants.{Quantified, Exempted}
+use Rattle.larch_grammar.specs.declared.machine.VariablesFor.TheVariants.{Quantified, Exempted}
 use Rattle.larch_grammar.specs.declared.machine.Naming.{Naming}
-use Rattle.larch_grammar.specs.declared.machine.Naming.TheVariants.{Declared, Referred, Formal, Actual, Renaming, Renamed, Lone, Converted}
+use Rattle.larch_grammar.specs.declared.machine.Naming.TheVariants.{Declared, Referred, Formal, Actual, Renaming}
+use Rattle.larch_grammar.specs.declared.machine.Naming.TheVariants.{Renamed, Lone, Converted}
 use Rattle.larch_grammar.specs.declared.machine.State.{State}
-use Rattle.larch_grammar.specs.declared.machine.State.TheVariants.{AfterGroup, AfterTraitRef, AfterRefName, AfterSymbolForm, AfterMarkerSymbol, AfterFormBracket, AfterBracketMarker, AfterForm, AfterWord, NeedFirst, AfterSymbol, Have}
+use Rattle.larch_grammar.specs.declared.machine.State.TheVariants.{AfterGroup, AfterTraitRef, AfterRefName}
+use Rattle.larch_grammar.specs.declared.machine.State.TheVariants.{AfterSymbolForm, AfterMarkerSymbol, AfterFormBracket}
+use Rattle.larch_grammar.specs.declared.machine.State.TheVariants.{AfterBracketMarker, AfterForm, AfterWord, NeedFirst}
+use Rattle.larch_grammar.specs.declared.machine.State.TheVariants.{AfterSymbol, Have}
 use Rattle.larch_grammar.specs.declared.machine.Waiting.TheVariants.{Alone, Item}
 use Rattle.larch_grammar.specs.declared.machine.Whole.{Whole}
 use Rattle.larch_grammar.specs.declared.terminal.Bracket.{Bracket}
 use Rattle.larch_grammar.specs.declared.terminal.Bracket.TheVariants.{Square, Curly}
 use Rattle.larch_grammar.specs.declared.terminal.Terminal.TheVariants.{Other}
-use Rattle.larch_heads.specs.Outcome.{outcome, stepped}
-use Rattle.larch_heads.specs.declared.outcome.Outcome.{Outcome}
-use Rattle.larch_heads.specs.declared.outcome.Outcome.TheVariants.{Stops}
+use Rattle.larch_syntax_heads.specs.Outcome.{outcome, step_state}
+use Rattle.larch_syntax_heads.specs.declared.outcome.Outcome.{Outcome}
+use Rattle.larch_syntax_heads.specs.declared.outcome.Outcome.TheVariants.{Stops}
 
 hand_nothing : (r : RawTree) (k : List Frame) → hand true r k Other ≡ None
 hand_nothing r [] = refl
@@ -84,13 +91,13 @@ step_nothing (AfterGroup (Quantified raw) vs) = refl
 step_nothing (AfterGroup (Exempted raw rs) vs) = refl
 step_nothing n = refl
 
-pub stops_at_end : (n : State) → stepped n Other ≡ Stops (final n)
+pub stops_at_end : (n : State) → step_state n Other ≡ Stops (final n)
 stops_at_end n = ap (λ o. outcome o (final n)) (step_nothing n)
 
 -- a whole that ends there is the state's
-pub ended_so : (n : State) (o : Outcome) (w : Option Whole) → o ≡ stepped n Other → o ≡ Stops w → w ≡ final n
+pub ended_so : (n : State) (o : Outcome) (w : Option Whole) → o ≡ step_state n Other → o ≡ Stops w → w ≡ final n
 ended_so n o w e s = let q : Stops w ≡ Stops (final n) = sym s ∙ e ∙ stops_at_end n in cc
 
 -- and one ends there
-pub ends_so : (n : State) (o : Outcome) → o ≡ stepped n Other → ((w : Option Whole) → o ≡ Stops w → ⊥) → ⊥
+pub ends_so : (n : State) (o : Outcome) → o ≡ step_state n Other → ((w : Option Whole) → o ≡ Stops w → ⊥) → ⊥
 ends_so n o e h = h (final n) (e ∙ stops_at_end n)

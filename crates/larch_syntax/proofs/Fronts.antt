@@ -1,5 +1,6 @@
 -- What taking a token makes of the answer.
-use Rattle.std.proofs.Common.{◌≡◌, ◌+◌, ◌<◌, ℕ, suc, length, drop, get_or, Bool, true, false, Option, Some, None, IfSome, Result, Ok, Err, List, [], ◌∷◌, ◌∙◌, refl, sym, ap, subst, arith}
+use Rattle.std.proofs.Common.{◌≡◌, ◌+◌, ◌<◌, ℕ, suc, length, drop, get_or, Bool, true, false, Option, Some, None}
+use Rattle.std.proofs.Common.{IfSome, Result, Ok, Err, List, [], ◌∷◌, ◌∙◌, refl, sym, ap, subst, arith}
 use Rattle.std.specs.Prelude.{unwrap_or}
 use Rattle.std.proofs.lemmas.List.{drop_more}
 use Rattle.larch_base.specs.Answering.{Answers}
@@ -15,16 +16,17 @@ use Rattle.larch_grammar.specs.declared.machine.Waiting.TheVariants.{Alone}
 use Rattle.larch_grammar.specs.declared.machine.Whole.{Whole}
 use Rattle.larch_lexer.specs.TokenList.{TokenList}
 use Rattle.larch_lexer.specs.declared.token.Token.{Token}
-use Rattle.larch_fronts.specs.Answer.{at_end, at_front, at_mark, at_step, front, front_at, front_on, go_on}
-use Rattle.larch_fronts.specs.Mark.{admitted}
-use Rattle.larch_fronts.specs.declared.mark.Flaw.{Flaw}
-use Rattle.larch_fronts.specs.declared.mark.Flaw.TheVariants as flaw
+use Rattle.larch_grammar_law.specs.Answer.{at_end, at_front, at_mark, at_step, front, front_at, front_on, go_on}
+use Rattle.larch_grammar_law.specs.Mark.{admission}
+use Rattle.larch_grammar_law.specs.declared.mark.Flaw.{Flaw}
+use Rattle.larch_grammar_law.specs.declared.mark.Flaw.TheVariants as flaw
 use Rattle.larch_raw.specs.declared.declared.RawOpRef.{RawOpRef}
 use Rattle.larch_raw.specs.declared.equation.RawEquation.{RawEquation}
 use Rattle.larch_raw.specs.declared.equation.RawTrait.{RawTrait}
-use Rattle.larch_heads.specs.Outcome.{outcome}
-use Rattle.larch_syntax.specs.Read.{counted, fault_at, from_there, front_after, leads_to, longest, reference_of, taken_at, term_of, with_fault}
-use Rattle.larch_syntax.specs.Refusals.{fault_of, told}
+use Rattle.larch_syntax_heads.specs.Outcome.{outcome}
+use Rattle.larch_syntax.specs.Read.{count_token, fault_at, from_there, front_after, leads_to, longest, reference_of}
+use Rattle.larch_syntax.specs.Read.{taken_at, term_of, with_fault}
+use Rattle.larch_syntax.specs.Refusal.{fault_of, cause}
 use Rattle.larch_syntax.specs.declared.read.Front.{Front}
 use Rattle.larch_syntax.specs.declared.read.Taken.{Taken}
 use Rattle.larch_syntax.specs.declared.read.Taken.TheVariants.{On, Stops}
@@ -37,17 +39,22 @@ trait_behind pos (Ok (Stops whole)) further = Err (fault_of (flaw.Syntax, pos))
 trait_behind pos (Err fault) further = Err fault
 
 trait_marked : (pos : Pos) (after : State) (r : Result ℕ Flaw) (further : ℕ → State → Result RawTrait (Flaw × Pos))
-    → with_fault (go_on (at_mark pos after r) further) ≡ trait_behind pos (leads_to after (fault_at pos r)) (λ m a. with_fault (further m a))
+    → with_fault (go_on (at_mark pos after r) further)
+    ≡ trait_behind pos (leads_to after (fault_at pos r)) (λ m a. with_fault (further m a))
 trait_marked pos after (Ok more) further = refl
 trait_marked pos after (Err f) further = refl
 
-trait_taken : (pos : Pos) (heads : ℕ) (whole : Option Whole) (s : Taking) (further : ℕ → State → Result RawTrait (Flaw × Pos))
-    → with_fault (go_on (at_step pos heads s) further) ≡ trait_behind pos (counted pos heads (outcome s whole)) (λ m a. with_fault (further m a))
+trait_taken : (pos : Pos) (heads : ℕ) (whole : Option Whole) (s : Taking)
+    (further : ℕ → State → Result RawTrait (Flaw × Pos))
+    → with_fault (go_on (at_step pos heads s) further)
+    ≡ trait_behind pos (count_token pos heads (outcome s whole)) (λ m a. with_fault (further m a))
 trait_taken pos heads whole None further = refl
-trait_taken pos heads whole (Some step) further = trait_marked pos step.1 (admitted heads step.0) further
+trait_taken pos heads whole (Some step) further = trait_marked pos step.1 (admission heads step.0) further
 
-trait_step : (g : Bool) (end : Pos) (heads : ℕ) (state : State) (token : Token) (rest : List Token) (t : Result Taken Fault) → taken_at g heads state token ≡ t
-    → with_fault (trait_from g end heads state (token ∷ rest)) ≡ trait_behind token.pos t (λ m a. with_fault (trait_from g end m a rest))
+trait_step : (g : Bool) (end : Pos) (heads : ℕ) (state : State) (token : Token) (rest : List Token)
+    (t : Result Taken Fault) → taken_at g heads state token ≡ t
+    → with_fault (trait_from g end heads state (token ∷ rest))
+    ≡ trait_behind token.pos t (λ m a. with_fault (trait_from g end m a rest))
 trait_step g end heads state token rest t e =
     trait_taken token.pos heads (final state) (step_at g true state token) (λ m a. trait_from g end m a rest)
     ∙ ap (λ x. trait_behind token.pos x (λ m a. with_fault (trait_from g end m a rest))) e
@@ -58,29 +65,40 @@ told_on None P Q k h = tt
 told_on (Some f) P Q k h = k f h
 
 -- the tree at the longest front of these tokens from a state on, which is a part of the whole that ends there
-abbrev pub front_by : {T : Type 0} → (Option Whole → Option T) → Pos → ℕ → ℕ → State → List Token → Result (T × ℕ) (Flaw × Pos)
-front_by part end heads taken state tokens = front (step_at false true) (λ n. part (final n)) position_of_token end heads taken state tokens
+abbrev pub front_by : {T : Type 0} → (Option Whole → Option T) → Pos → ℕ → ℕ → State → List Token
+    → Result (T × ℕ) (Flaw × Pos)
+front_by part end heads taken state tokens =
+    front (step_at false true) (λ n. part (final n)) position_of_token end heads taken state tokens
 
 -- how a tree at a front goes on behind a token, so many being before it
-abbrev front_behind : {T : Type 0} → (Option Whole → Option T) → Pos → ℕ → Result Taken Fault → (ℕ → State → Result (T × ℕ) Fault) → Result (T × ℕ) Fault
+abbrev front_behind : {T : Type 0} → (Option Whole → Option T) → Pos → ℕ → Result Taken Fault
+    → (ℕ → State → Result (T × ℕ) Fault) → Result (T × ℕ) Fault
 front_behind part pos taken (Ok (On more after)) further = further more after
 front_behind part pos taken (Ok (Stops whole)) further = with_fault (at_front pos taken (part whole))
 front_behind part pos taken (Err fault) further = Err fault
 
-front_marked : {T : Type 0} (part : Option Whole → Option T) (pos : Pos) (taken : ℕ) (after : State) (r : Result ℕ Flaw) (further : ℕ → State → Result (T × ℕ) (Flaw × Pos))
-    → with_fault (front_on (at_mark pos after r) further) ≡ front_behind part pos taken (leads_to after (fault_at pos r)) (λ m a. with_fault (further m a))
+front_marked : {T : Type 0} (part : Option Whole → Option T) (pos : Pos) (taken : ℕ) (after : State) (r : Result ℕ Flaw)
+    (further : ℕ → State → Result (T × ℕ) (Flaw × Pos))
+    → with_fault (front_on (at_mark pos after r) further)
+    ≡ front_behind part pos taken (leads_to after (fault_at pos r)) (λ m a. with_fault (further m a))
 front_marked part pos taken after (Ok more) further = refl
 front_marked part pos taken after (Err f) further = refl
 
-front_taken : {T : Type 0} (part : Option Whole → Option T) (pos : Pos) (heads taken : ℕ) (whole : Option Whole) (s : Taking) (further : ℕ → State → Result (T × ℕ) (Flaw × Pos))
-    → with_fault (front_at pos heads taken (part whole) s further) ≡ front_behind part pos taken (counted pos heads (outcome s whole)) (λ m a. with_fault (further m a))
+front_taken : {T : Type 0} (part : Option Whole → Option T) (pos : Pos) (heads taken : ℕ) (whole : Option Whole)
+    (s : Taking) (further : ℕ → State → Result (T × ℕ) (Flaw × Pos))
+    → with_fault (front_at pos heads taken (part whole) s further)
+    ≡ front_behind part pos taken (count_token pos heads (outcome s whole)) (λ m a. with_fault (further m a))
 front_taken part pos heads taken whole None further = refl
-front_taken part pos heads taken whole (Some step) further = front_marked part pos taken step.1 (admitted heads step.0) further
+front_taken part pos heads taken whole (Some step) further =
+    front_marked part pos taken step.1 (admission heads step.0) further
 
-front_step : {T : Type 0} (part : Option Whole → Option T) (end : Pos) (heads taken : ℕ) (state : State) (token : Token) (rest : List Token) (t : Result Taken Fault) → taken_at false heads state token ≡ t
-    → with_fault (front_by part end heads taken state (token ∷ rest)) ≡ front_behind part token.pos taken t (λ m a. with_fault (front_by part end m (suc taken) a rest))
+front_step : {T : Type 0} (part : Option Whole → Option T) (end : Pos) (heads taken : ℕ) (state : State) (token : Token)
+    (rest : List Token) (t : Result Taken Fault) → taken_at false heads state token ≡ t
+    → with_fault (front_by part end heads taken state (token ∷ rest))
+    ≡ front_behind part token.pos taken t (λ m a. with_fault (front_by part end m (suc taken) a rest))
 front_step part end heads taken state token rest t e =
-    front_taken part token.pos heads taken (final state) (step_at false true state token) (λ m a. front_by part end m (suc taken) a rest)
+    front_taken part token.pos heads taken (final state) (step_at false true state token)
+    (λ m a. front_by part end m (suc taken) a rest)
     ∙ ap (λ x. front_behind part token.pos taken x (λ m a. with_fault (front_by part end m (suc taken) a rest))) e
 
 -- the tokens from this one on
@@ -89,7 +107,8 @@ pub cut_at : (ts : List Token) (i : ℕ) (token : Token) → i < length ts → g
 cut_at ts i token within here = drop_more ts i token within ∙ ap (λ t. t ∷ drop (i + 1) ts) here
 
 -- a front goes on after a token that is taken
-pub goes_on : (g : Bool) (heads more taken : ℕ) (state after : State) (token : Token) (rest ts : List Token) (answer : Result Front Fault)
+pub goes_on : (g : Bool) (heads more taken : ℕ) (state after : State) (token : Token) (rest ts : List Token)
+    (answer : Result Front Fault)
     → taken_at g heads state token ≡ Ok (On more after) → ts ≡ token ∷ rest → longest g heads taken state ts ≡ answer
     → longest g more (taken + 1) after rest ≡ answer
 goes_on g heads more taken state after token rest ts answer e l h =
@@ -99,7 +118,8 @@ goes_on g heads more taken state after token rest ts answer e l h =
     ∙ ap (longest g heads taken state) (sym l) ∙ h
 
 -- it ends before a token that no step takes
-pub stops : (g : Bool) (heads taken : ℕ) (state : State) (whole : Option Whole) (token : Token) (rest ts : List Token) (answer : Result Front Fault)
+pub stops : (g : Bool) (heads taken : ℕ) (state : State) (whole : Option Whole) (token : Token) (rest ts : List Token)
+    (answer : Result Front Fault)
     → taken_at g heads state token ≡ Ok (Stops whole) → ts ≡ token ∷ rest → longest g heads taken state ts ≡ answer
     → answer ≡ Ok (record { whole = whole; taken = taken; next = Some token.pos })
 stops g heads taken state whole token rest ts answer e l h =
@@ -107,11 +127,12 @@ stops g heads taken state whole token rest ts answer e l h =
     ∙ ap (λ t. front_after token.pos taken t (λ m a. longest g m (suc taken) a rest)) e
 
 -- it is refused by what is counted at a token
-pub refused : (g : Bool) (heads taken : ℕ) (state : State) (refusal : SyntaxRefusal) (token : Token) (rest ts : List Token) (answer : Result Front Fault)
-    → IfSome (told refusal) (λ fault. taken_at g heads state token ≡ Err fault) → ts ≡ token ∷ rest
-    → longest g heads taken state ts ≡ answer → IfSome (told refusal) (λ fault. answer ≡ Err fault)
+pub refused : (g : Bool) (heads taken : ℕ) (state : State) (refusal : SyntaxRefusal) (token : Token)
+    (rest ts : List Token) (answer : Result Front Fault)
+    → IfSome (cause refusal) (λ fault. taken_at g heads state token ≡ Err fault) → ts ≡ token ∷ rest
+    → longest g heads taken state ts ≡ answer → IfSome (cause refusal) (λ fault. answer ≡ Err fault)
 refused g heads taken state refusal token rest ts answer e l h =
-    told_on (told refusal) (λ fault. taken_at g heads state token ≡ Err fault) (λ fault. answer ≡ Err fault)
+    told_on (cause refusal) (λ fault. taken_at g heads state token ≡ Err fault) (λ fault. answer ≡ Err fault)
     (λ fault q. sym h ∙ ap (longest g heads taken state) l
     ∙ ap (λ t. front_after token.pos taken t (λ m a. longest g m (suc taken) a rest)) q) e
 
@@ -129,12 +150,14 @@ tree_after part end pos taken (Ok (Stops whole)) trees fronts k = refl
 tree_after part end pos taken (Err fault) trees fronts k = refl
 
 -- the tree is that of the longest front
-pub front_tree : {T : Type 0} (part : Option Whole → Option T) (end : Pos) (heads taken : ℕ) (state : State) (ts : List Token)
+pub front_tree : {T : Type 0} (part : Option Whole → Option T) (end : Pos) (heads taken : ℕ) (state : State)
+    (ts : List Token)
     → with_fault (front_by part end heads taken state ts) ≡ tree_of part end (longest false heads taken state ts)
 front_tree part end heads taken state [] = refl
 front_tree part end heads taken state (token ∷ rest) =
     front_step part end heads taken state token rest (taken_at false heads state token) refl
-    ∙ tree_after part end token.pos taken (taken_at false heads state token) (λ m a. with_fault (front_by part end m (suc taken) a rest))
+    ∙ tree_after part end token.pos taken (taken_at false heads state token)
+    (λ m a. with_fault (front_by part end m (suc taken) a rest))
     (λ m a. longest false m (suc taken) a rest) (λ m a. front_tree part end m (suc taken) a rest)
 
 -- the trait that ends at a front, if no token is after it
@@ -164,51 +187,60 @@ front_trait g end heads taken state (token ∷ rest) =
     (λ m a. longest g m (suc taken) a rest) (λ m a. front_trait g end m (suc taken) a rest)
 
 -- what is told of the longest front is told of the tree
-pub tree_refused : {T : Type 0} (part : Option Whole → Option T) (end : Pos) (from : ℕ) (state : State) (ts : List Token) (refusal : SyntaxRefusal)
-    → IfSome (told refusal) (λ fault. longest false 0 0 state ts ≡ Err fault)
-    → IfSome (told refusal) (λ fault. from_there from (with_fault (front_by part end 0 0 state ts)) ≡ Err fault)
+pub tree_refused : {T : Type 0} (part : Option Whole → Option T) (end : Pos) (from : ℕ) (state : State)
+    (ts : List Token) (refusal : SyntaxRefusal)
+    → IfSome (cause refusal) (λ fault. longest false 0 0 state ts ≡ Err fault)
+    → IfSome (cause refusal) (λ fault. from_there from (with_fault (front_by part end 0 0 state ts)) ≡ Err fault)
 tree_refused part end from state ts refusal h =
-    told_on (told refusal) (λ fault. longest false 0 0 state ts ≡ Err fault)
+    told_on (cause refusal) (λ fault. longest false 0 0 state ts ≡ Err fault)
     (λ fault. from_there from (with_fault (front_by part end 0 0 state ts)) ≡ Err fault)
     (λ fault q. ap (from_there from) (front_tree part end 0 0 state ts ∙ ap (tree_of part end) q)) h
 
 -- the tree at the longest front is the one that is read
-pub tree_read : {T : Type 0} (part : Option Whole → Option T) (end : Pos) (from : ℕ) (state : State) (ts : List Token) (found : Front)
+pub tree_read : {T : Type 0} (part : Option Whole → Option T) (end : Pos) (from : ℕ) (state : State) (ts : List Token)
+    (found : Front)
     → longest false 0 0 state ts ≡ Ok found
     → from_there from (with_fault (at_front (unwrap_or found.next end) found.taken (part found.whole)))
     ≡ from_there from (with_fault (front_by part end 0 0 state ts))
-tree_read part end from state ts found h = sym (ap (from_there from) (front_tree part end 0 0 state ts ∙ ap (tree_of part end) h))
+tree_read part end from state ts found h =
+    sym (ap (from_there from) (front_tree part end 0 0 state ts ∙ ap (tree_of part end) h))
 
 -- what is told of the longest front is told of the trait
 pub trait_refused : (g : Bool) (end : Pos) (state : State) (ts : List Token) (refusal : SyntaxRefusal)
-    → IfSome (told refusal) (λ fault. longest g 0 0 state ts ≡ Err fault)
-    → IfSome (told refusal) (λ fault. with_fault (trait_from g end 0 state ts) ≡ Err fault)
+    → IfSome (cause refusal) (λ fault. longest g 0 0 state ts ≡ Err fault)
+    → IfSome (cause refusal) (λ fault. with_fault (trait_from g end 0 state ts) ≡ Err fault)
 trait_refused g end state ts refusal h =
-    told_on (told refusal) (λ fault. longest g 0 0 state ts ≡ Err fault)
+    told_on (cause refusal) (λ fault. longest g 0 0 state ts ≡ Err fault)
     (λ fault. with_fault (trait_from g end 0 state ts) ≡ Err fault)
     (λ fault q. front_trait g end 0 0 state ts ∙ ap (trait_of_front end) q) h
 
 -- the trait at the longest front is the one that is read
-pub trait_read : (g : Bool) (end : Pos) (state : State) (ts : List Token) (found : Front) → longest g 0 0 state ts ≡ Ok found
+pub trait_read : (g : Bool) (end : Pos) (state : State) (ts : List Token) (found : Front)
+    → longest g 0 0 state ts ≡ Ok found
     → with_fault (trait_from g end 0 state ts) ≡ trait_at end found.next found.whole
 trait_read g end state ts found h = front_trait g end 0 0 state ts ∙ ap (trait_of_front end) h
 
 -- what is told of the tree at the longest front is told of the equation
-pub term_told : (tokens : TokenList) (from : ℕ) (found : Front) (p : Pos) (t : Option RawEquation) (r : Result (RawEquation × ℕ) SyntaxRefusal)
-    → longest false 0 0 (NeedEquation Alone) (drop from tokens.tokens) ≡ Ok found → p ≡ unwrap_or found.next tokens.end → t ≡ as_equation found.whole
-    → Answers told r (from_there from (with_fault (at_front p found.taken t))) → Answers told r (term_of tokens from)
+pub term_told : (tokens : TokenList) (from : ℕ) (found : Front) (p : Pos) (t : Option RawEquation)
+    (r : Result (RawEquation × ℕ) SyntaxRefusal)
+    → longest false 0 0 (NeedEquation Alone) (drop from tokens.tokens) ≡ Ok found → p ≡ unwrap_or found.next tokens.end
+    → t ≡ as_equation found.whole
+    → Answers cause r (from_there from (with_fault (at_front p found.taken t))) → Answers cause r (term_of tokens from)
 term_told tokens from found p t r h a b =
-    subst (Answers told r)
+    subst (Answers cause r)
     (ap (λ q. from_there from (with_fault (at_front q found.taken t))) a
     ∙ ap (λ u. from_there from (with_fault (at_front (unwrap_or found.next tokens.end) found.taken u))) b
     ∙ tree_read as_equation tokens.end from (NeedEquation Alone) (drop from tokens.tokens) found h)
 
 -- what is told of the tree at the longest front is told of the reference
-pub reference_told : (tokens : TokenList) (from : ℕ) (found : Front) (p : Pos) (t : Option RawOpRef) (r : Result (RawOpRef × ℕ) SyntaxRefusal)
-    → longest false 0 0 (NeedForm Lone) (drop from tokens.tokens) ≡ Ok found → p ≡ unwrap_or found.next tokens.end → t ≡ as_reference found.whole
-    → Answers told r (from_there from (with_fault (at_front p found.taken t))) → Answers told r (reference_of tokens from)
+pub reference_told : (tokens : TokenList) (from : ℕ) (found : Front) (p : Pos) (t : Option RawOpRef)
+    (r : Result (RawOpRef × ℕ) SyntaxRefusal)
+    → longest false 0 0 (NeedForm Lone) (drop from tokens.tokens) ≡ Ok found → p ≡ unwrap_or found.next tokens.end
+    → t ≡ as_reference found.whole
+    → Answers cause r (from_there from (with_fault (at_front p found.taken t)))
+    → Answers cause r (reference_of tokens from)
 reference_told tokens from found p t r h a b =
-    subst (Answers told r)
+    subst (Answers cause r)
     (ap (λ q. from_there from (with_fault (at_front q found.taken t))) a
     ∙ ap (λ u. from_there from (with_fault (at_front (unwrap_or found.next tokens.end) found.taken u))) b
     ∙ tree_read as_reference tokens.end from (NeedForm Lone) (drop from tokens.tokens) found h)

@@ -2,12 +2,13 @@
 use Rattle.std.proofs.Common.{◌≡◌, ℕ, IsTrue, List, [], ◌∷◌, Result, Ok, Err, ap, subst}
 use Rattle.std.proofs.lemmas.List.Elements.{All-nil, All-cons}
 use Rattle.larch_base.specs.declared.position.Pos.{Pos}
-use Rattle.larch_lexer.specs.Lexing.{lexed}
+use Rattle.larch_lexer.specs.Lexing.{lexing_of}
 use Rattle.larch_lexer.specs.TokenList.{TokenList}
-use Rattle.larch_lexer.specs.TokenTable.{has_form, LexAnswer, with_tokens, Lexes, at_end, skips_blank, skips_comment, takes_token, no_token}
+use Rattle.larch_lexer.specs.TokenTable.{has_form, LexAnswer, with_tokens, Lexes, at_end, skips_blank, skips_comment}
+use Rattle.larch_lexer.specs.TokenTable.{takes_token, no_token}
 use Rattle.larch_lexer.specs.declared.token.Token.{Token}
 use Rattle.larch_lexer.proofs.OneAnswer.{lexes_given}
-use Rattle.larch_fronts.specs.declared.mark.Flaw.{Flaw}
+use Rattle.larch_grammar_law.specs.declared.mark.Flaw.{Flaw}
 use Rattle.larch_grammar.specs.Answers.{trait_answer}
 use Rattle.larch_grammar.specs.WordTokens.{IsWordToken, AreWordTokens}
 use Rattle.larch_grammar.proofs.Law.{trait_law}
@@ -21,7 +22,8 @@ abbrev WordsIn : LexAnswer → Type 0
 WordsIn (Ok all) = AreWordTokens all.tokens
 WordsIn (Err position) = Unit {0}
 
-one_more_word : (token : Token) (answer : LexAnswer) → IsWordToken token → WordsIn answer → WordsIn (with_tokens (token ∷ []) answer)
+one_more_word : (token : Token) (answer : LexAnswer) → IsWordToken token → WordsIn answer
+    → WordsIn (with_tokens (token ∷ []) answer)
 one_more_word token (Ok all) w ws = All-cons IsWordToken token all.tokens w ws
 one_more_word token (Err position) w ws = ws
 
@@ -35,7 +37,7 @@ words_in (takes_token {position} {answer} kind front behind longest rest) =
 words_in (no_token position byte rest blank percent none) = record {}
 
 -- the words among the tokens of a text are words
-pub lexed_words : (text : List ℕ) (tokens : TokenList) → lexed text ≡ Ok tokens → AreWordTokens tokens.tokens
+pub lexed_words : (text : List ℕ) (tokens : TokenList) → lexing_of text ≡ Ok tokens → AreWordTokens tokens.tokens
 lexed_words text tokens e = words_in (lexes_given text (Ok tokens) e)
 
 read_from : (answer : Result RawTrait (Flaw × Pos)) (raw : RawTrait) → with_fault answer ≡ Ok raw → answer ≡ Ok raw
@@ -43,7 +45,8 @@ read_from (Ok other) raw e = let p : other ≡ raw = cc in ap Ok p
 read_from (Err found) raw e = absurd cc
 
 -- what is read of them is written with words
-pub read_words : (tokens : TokenList) (raw : RawTrait) → AreWordTokens tokens.tokens → trait_of tokens ≡ Ok raw → WordedTrait raw
+pub read_words : (tokens : TokenList) (raw : RawTrait) → AreWordTokens tokens.tokens → trait_of tokens ≡ Ok raw
+    → WordedTrait raw
 read_words tokens raw ws e =
     let means = trait_law tokens (Ok raw) (read_from (trait_answer tokens) raw e) in
     trait_worded means.0 tokens.tokens raw ws means.1.1

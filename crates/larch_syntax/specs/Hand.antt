@@ -3,7 +3,8 @@ use Rattle.std.specs.Prelude.{Bool, true, false, None}
 use Rattle.larch_grammar.specs.declared.machine.Frame.{Frame}
 use Rattle.larch_grammar.specs.declared.machine.Frame.TheVariants.{InConnectives, InEqualities, InFields, InInfixes}
 use Rattle.larch_grammar.specs.declared.terminal.Terminal.{Terminal}
-use Rattle.larch_grammar.specs.declared.terminal.Terminal.TheVariants.{Colon, Connective, Dot, Equality, OpenBracket, Symbol}
+use Rattle.larch_grammar.specs.declared.terminal.Terminal.TheVariants.{Colon, Connective, Dot, Equality, OpenBracket}
+use Rattle.larch_grammar.specs.declared.terminal.Terminal.TheVariants.{Symbol}
 
 -- a frame hands on the term and the token as they are
 abbrev pub hands_on : Frame → Terminal → Bool

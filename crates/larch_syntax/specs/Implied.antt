@@ -1,7 +1,7 @@
 -- Outcomes where no whole ends.
 use Rattle.std.specs.Prelude.{None}
-use Rattle.larch_heads.specs.declared.outcome.Outcome.{Outcome}
-use Rattle.larch_heads.specs.declared.outcome.Outcome.TheVariants.{Handed, Stops, Taken}
+use Rattle.larch_syntax_heads.specs.declared.outcome.Outcome.{Outcome}
+use Rattle.larch_syntax_heads.specs.declared.outcome.Outcome.TheVariants.{Handed, Stops, Taken}
 
 -- the same outcome, where no whole ends before the token
 abbrev pub without_whole : Outcome → Outcome

@@ -1,5 +1,5 @@
 pub mod Hand
 pub mod Implied
 pub mod Read
-pub mod Refusals
+pub mod Refusal
 pub mod Refused

@@ -2,23 +2,23 @@
 use Rattle.std.specs.Prelude.{◌≡◌, ℕ, suc, Bool, ◌+◌, Some, None, IfSome, Result, Ok, Err, List, [], ◌∷◌, drop}
 use Rattle.larch_base.specs.declared.fault.Fault.{Fault}
 use Rattle.larch_base.specs.declared.position.Pos.{Pos}
-use Rattle.larch_fronts.specs.Claims.{MeansFront}
-use Rattle.larch_fronts.specs.Mark.{admitted}
-use Rattle.larch_fronts.specs.declared.mark.Flaw.{Flaw}
+use Rattle.larch_grammar_law.specs.Claims.{MeansFront}
+use Rattle.larch_grammar_law.specs.Mark.{admission}
+use Rattle.larch_grammar_law.specs.declared.mark.Flaw.{Flaw}
 use Rattle.larch_grammar.specs.Answers.{Equations, References, reference_answer, term_answer, trait_answer}
 use Rattle.larch_grammar.specs.Machine.{final}
 use Rattle.larch_grammar.specs.Refused.{position_of_token}
-use Rattle.larch_grammar.specs.Terminals.{terminal_of}
+use Rattle.larch_grammar.specs.Terminal.{terminal_of}
 use Rattle.larch_grammar.specs.declared.machine.State.{State}
 use Rattle.larch_lexer.specs.TokenList.{TokenList}
 use Rattle.larch_lexer.specs.declared.token.Token.{Token}
 use Rattle.larch_raw.specs.declared.declared.RawOpRef.{RawOpRef}
 use Rattle.larch_raw.specs.declared.equation.RawEquation.{RawEquation}
 use Rattle.larch_raw.specs.declared.equation.RawTrait.{RawTrait}
-use Rattle.larch_heads.specs.Outcome.{stepped}
-use Rattle.larch_syntax.specs.Refusals.{fault_of, flaw_told}
-use Rattle.larch_heads.specs.declared.outcome.Outcome.{Outcome}
-use Rattle.larch_heads.specs.declared.outcome.Outcome.TheVariants as outcome
+use Rattle.larch_syntax_heads.specs.Outcome.{step_state}
+use Rattle.larch_syntax.specs.Refusal.{fault_of, flaw_told}
+use Rattle.larch_syntax_heads.specs.declared.outcome.Outcome.{Outcome}
+use Rattle.larch_syntax_heads.specs.declared.outcome.Outcome.TheVariants as outcome
 use Rattle.larch_syntax.specs.declared.read.Front.{Front}
 use Rattle.larch_syntax.specs.declared.read.Taken.{Taken}
 use Rattle.larch_syntax.specs.declared.read.Taken.TheVariants.{On, Stops}
@@ -80,14 +80,14 @@ leads_to after (Ok more) = Ok (On more after)
 leads_to after (Err fault) = Err fault
 
 -- what comes of a token that stands there, behind so many head tokens
-abbrev pub counted : Pos → ℕ → Outcome → Result Taken Fault
-counted pos heads (outcome.Taken mark after) = leads_to after (fault_at pos (admitted heads mark))
-counted pos heads (outcome.Handed term frames terminal) = Ok (Stops None)
-counted pos heads (outcome.Stops whole) = Ok (Stops whole)
+abbrev pub count_token : Pos → ℕ → Outcome → Result Taken Fault
+count_token pos heads (outcome.Taken mark after) = leads_to after (fault_at pos (admission heads mark))
+count_token pos heads (outcome.Handed term frames terminal) = Ok (Stops None)
+count_token pos heads (outcome.Stops whole) = Ok (Stops whole)
 
 -- what a token does in a state behind so many head tokens, where references follow `implies` or not
 abbrev pub taken_at : Bool → ℕ → State → Token → Result Taken Fault
-taken_at lists heads state token = counted token.pos heads (stepped state (terminal_of lists token))
+taken_at lists heads state token = count_token token.pos heads (step_state state (terminal_of lists token))
 
 -- how a front goes on after a token that stands there, so many being before it, by what the token does
 abbrev pub front_after : Pos → ℕ → Result Taken Fault → (ℕ → State → Result Front Fault) → Result Front Fault

@@ -1,10 +1,10 @@
 -- Which of two refusals stands.
 use Rattle.std.specs.Prelude.{◌≡◌, Bool, true, false, Option, Some, None, IfSome}
 use Rattle.larch_base.specs.declared.position.Pos.{Pos}
-use Rattle.larch_fronts.specs.declared.mark.Flaw.{Flaw}
+use Rattle.larch_grammar_law.specs.declared.mark.Flaw.{Flaw}
 use Rattle.larch_lexer.specs.TokenList.{TokenList}
 use Rattle.larch_grammar.specs.Refused.{which}
-use Rattle.larch_syntax.specs.Refusals.{flaw_told}
+use Rattle.larch_syntax.specs.Refusal.{flaw_told}
 use Rattle.larch_syntax.specs.declared.refusal.SyntaxRefusal.{SyntaxRefusal}
 use Rattle.larch_syntax.specs.declared.refusal.SyntaxRefusal.TheVariants.{Syntax, Mixed, Deep, Large, Memory}
 

@@ -5,15 +5,15 @@ ghost use Rattle.larch_grammar.specs.Terms.{opens, opens_head};
 ghost use Rattle.larch_grammar.specs.Trees.{bracket_tree};
 ghost use Rattle.larch_grammar.specs.declared.machine.Frame.TheVariants.{InConnectives, InEqualities, InLeft, Prefixed};
 ghost use Rattle.larch_grammar.specs.declared.machine.State.TheVariants.{NeedPrefixed};
-ghost use Rattle.larch_heads.specs.Outcome.{Settles, closes, outcome, settled, stepped};
+ghost use Rattle.larch_syntax_heads.specs.Outcome.{Settles, closes, outcome, settle, step_state};
 
 use larch_base::{Memory, Pos, let_go};
-use larch_fronts::Mark;
 use larch_grammar::{
     Bracket, Frame, Listing, Stack, State, Terminal, Waiting, bracket_tree, no_terms, position_of,
 };
-use larch_heads::{Outcome, at_head, plainly, stops};
+use larch_grammar_law::Mark;
 use larch_raw::{RawTerm, RawWord};
+use larch_syntax_heads::{Outcome, at_head, plainly, stops};
 use std::alloc::Global;
 
 // A token that opens a construct.
@@ -45,7 +45,7 @@ pub(crate) fn open_bracket(
 
 // The first token of a Post.
 pub(crate) fn begin_post(terminal: Terminal, stack: Stack) -> Result<Outcome, Memory>
-    ensures { Settles result (stepped (State.NeedPost stack) terminal) }
+    ensures { Settles result (step_state (State.NeedPost stack) terminal) }
 {
     match terminal {
         Terminal::Word(word) => Ok(at_head(State::AfterWord(word, stack))),
@@ -70,7 +70,7 @@ fn begin_prefix(symbol: RawWord, stack: Stack) -> Result<Outcome, Memory>
 // The first token behind a prefix symbol.
 #[tactic(auto, using(crate::proofs::Defaults::other_prefixed))]
 pub(crate) fn begin_prefixed(terminal: Terminal, stack: Stack) -> Result<Outcome, Memory>
-    ensures { Settles result (stepped (State.NeedPrefixed stack) terminal) }
+    ensures { Settles result (step_state (State.NeedPrefixed stack) terminal) }
 {
     match terminal {
         Terminal::Symbol(symbol) | Terminal::Not(symbol) => begin_prefix(symbol, stack),
@@ -84,7 +84,7 @@ pub(crate) fn begin_prefixed(terminal: Terminal, stack: Stack) -> Result<Outcome
 // The first token of an Oper.
 #[tactic(auto, using(crate::proofs::Defaults::other_operand))]
 pub(crate) fn begin_operand(terminal: Terminal, stack: Stack) -> Result<Outcome, Memory>
-    ensures { Settles result (stepped (State.NeedOperand stack) terminal) }
+    ensures { Settles result (step_state (State.NeedOperand stack) terminal) }
 {
     match terminal {
         Terminal::Symbol(symbol) | Terminal::Not(symbol) => begin_prefix(symbol, stack),
@@ -98,7 +98,7 @@ pub(crate) fn begin_operand(terminal: Terminal, stack: Stack) -> Result<Outcome,
 // The first token of a term.
 #[tactic(auto, using(crate::proofs::Defaults::other_term))]
 pub(crate) fn begin_term(terminal: Terminal, stack: Stack) -> Result<Outcome, Memory>
-    ensures { Settles result (stepped (State.NeedTerm stack) terminal) }
+    ensures { Settles result (step_state (State.NeedTerm stack) terminal) }
 {
     match terminal {
         Terminal::If(pos) => {
@@ -129,7 +129,7 @@ pub(crate) fn begin_equation(
     terminal: Terminal,
     waiting: Waiting,
 ) -> Result<Outcome, Memory>
-    ensures { Settles result (stepped (State.NeedEquation waiting) terminal) }
+    ensures { Settles result (step_state (State.NeedEquation waiting) terminal) }
 {
     match left_of(alloc, position_of(&terminal), waiting) {
         Ok(stack) => begin_term(terminal, stack),
@@ -158,7 +158,7 @@ pub(crate) fn begin_bracket(
     stack: Stack,
     terminal: Terminal,
 ) -> Result<Outcome, Memory>
-    ensures { Settles result (stepped (State.NeedFirst bracket front pos stack) terminal) }
+    ensures { Settles result (step_state (State.NeedFirst bracket front pos stack) terminal) }
 {
     let stack = match stack.with(Frame::InFields) {
         Ok(stack) => stack,
@@ -206,7 +206,7 @@ fn begin_first(
     terminal: Terminal,
 ) -> Result<Outcome, Memory>
     ensures { Settles result
-        (stepped (State.NeedTerm (Frame.InList (Listing.Bracketed bracket front pos) [] ∷ stack)) terminal) }
+        (step_state (State.NeedTerm (Frame.InList (Listing.Bracketed bracket front pos) [] ∷ stack)) terminal) }
 {
     let listing = Listing::Bracketed(bracket, front, pos);
     match stack.with(Frame::InList(listing, no_terms(alloc))) {

@@ -1,16 +1,16 @@
 ghost use Rattle.std.specs.Prelude.{◌≡◌, ◌∷◌, IfOk};
 ghost use Rattle.larch_grammar.specs.Machine.{symbol_of};
-ghost use Rattle.larch_grammar.specs.Terms.{chained};
+ghost use Rattle.larch_grammar.specs.Terms.{chain_link};
 ghost use Rattle.larch_grammar.specs.Trees.{chain_tree};
 ghost use Rattle.larch_grammar.specs.declared.machine.Frame.TheVariants.{InConnectives, InEqualities, InInfixes};
 ghost use Rattle.larch_grammar.specs.declared.machine.Frame.TheVariants.{InPostfixes, InStrays};
-ghost use Rattle.larch_heads.specs.Outcome.{Leaves, Settles, handed};
+ghost use Rattle.larch_syntax_heads.specs.Outcome.{Leaves, Settles, hand_over};
 
 use larch_base::{Memory, let_go};
-use larch_fronts::Mark;
 use larch_grammar::{Frame, Link, Stack, State, Terminal, chain_tree, postfix_tree};
-use larch_heads::{Outcome, at_head};
+use larch_grammar_law::Mark;
 use larch_raw::{RawTerm, RawWord};
+use larch_syntax_heads::{Outcome, at_head};
 use std::alloc::Global;
 
 // Symbols behind a term with prefix symbols.
@@ -20,7 +20,7 @@ pub(crate) fn in_strays(
     stack: Stack,
     terminal: Terminal,
 ) -> Result<Outcome, Memory>
-    ensures outcome { Settles result (handed term (InStrays ∷ stack) terminal) }
+    ensures outcome { Settles result (hand_over term (InStrays ∷ stack) terminal) }
     ensures frames { IfOk result (Leaves stack) }
 {
     match terminal {
@@ -40,7 +40,7 @@ pub(crate) fn in_postfixes(
     stack: Stack,
     terminal: Terminal,
 ) -> Result<Outcome, Memory>
-    ensures outcome { Settles result (handed term (InPostfixes ∷ stack) terminal) }
+    ensures outcome { Settles result (hand_over term (InPostfixes ∷ stack) terminal) }
     ensures frames { IfOk result (Leaves stack) }
 {
     match terminal {
@@ -61,7 +61,7 @@ pub(crate) fn in_infixes(
     stack: Stack,
     terminal: Terminal,
 ) -> Result<Outcome, Memory>
-    ensures outcome { Settles result (handed term (InInfixes link ∷ stack) terminal) }
+    ensures outcome { Settles result (hand_over term (InInfixes link ∷ stack) terminal) }
     ensures frames { IfOk result (Leaves stack) }
 {
     match (link, terminal) {
@@ -86,7 +86,7 @@ fn next_link(
     term: RawTerm,
     symbol: RawWord,
 ) -> Result<(Mark, Link), Memory>
-    ensures mark { IfOk result (λ next. next.0 ≡ chained (symbol_of link) symbol) }
+    ensures mark { IfOk result (λ next. next.0 ≡ chain_link (symbol_of link) symbol) }
     ensures link { IfOk result (λ next. next.1 ≡ record { symbol = symbol; left = chain_tree link term }) }
 {
     let mark = match &link {
@@ -105,7 +105,7 @@ pub(crate) fn in_equalities(
     stack: Stack,
     terminal: Terminal,
 ) -> Result<Outcome, Memory>
-    ensures outcome { Settles result (handed term (InEqualities link ∷ stack) terminal) }
+    ensures outcome { Settles result (hand_over term (InEqualities link ∷ stack) terminal) }
     ensures frames { IfOk result (Leaves stack) }
 {
     match terminal {
@@ -129,7 +129,7 @@ pub(crate) fn in_connectives(
     stack: Stack,
     terminal: Terminal,
 ) -> Result<Outcome, Memory>
-    ensures outcome { Settles result (handed term (InConnectives link ∷ stack) terminal) }
+    ensures outcome { Settles result (hand_over term (InConnectives link ∷ stack) terminal) }
     ensures frames { IfOk result (Leaves stack) }
 {
     match terminal {

@@ -4,21 +4,22 @@ ghost use Rattle.larch_grammar.specs.declared.machine.Frame.{Frame};
 ghost use Rattle.larch_grammar.specs.declared.machine.Frame.TheVariants.{InExempted};
 ghost use Rattle.larch_grammar.specs.declared.machine.Naming.TheVariants.{Converted};
 ghost use Rattle.larch_grammar.specs.declared.machine.Whole.TheVariants.{Trait as whole_trait};
-ghost use Rattle.larch_heads.specs.Outcome.{Leaves, Settles, handed, outcome, settled, stepped};
+ghost use Rattle.larch_syntax_heads.specs.Outcome.{Leaves, Settles, hand_over, outcome, settle, step_state};
 
 use crate::begin::begin_term;
 use larch_base::{Memory, Pos, Sequence, let_go};
 use larch_grammar::{
-    Draft, Frame, Naming, OpenConversion, Scope, Signing, Stack, State, Terminal, close_conversion,
-    formula_of, open_conversion, position_of, with_converted, with_exempted, with_reference,
+    Draft, Frame, Naming, OpenConversion, Signing, Stack, State, Terminal, VariablesFor,
+    close_conversion, formula_of, open_conversion, position_of, with_converted, with_exempted,
+    with_reference,
 };
-use larch_heads::{Outcome, ends, outside};
 use larch_raw::{RawForm, RawOpRefs, RawTerm};
+use larch_syntax_heads::{Outcome, ends, outside};
 use std::alloc::Global;
 
 // A further conversion begins, or the trait ends.
 fn begin_conversion(alloc: Global, raw: Draft, terminal: Terminal) -> Outcome
-    ensures outcome { settled result ≡ outcome (begin_conversion raw terminal) (Some (whole_trait raw)) }
+    ensures outcome { settle result ≡ outcome (begin_conversion raw terminal) (Some (whole_trait raw)) }
     ensures frames { (frames : List Frame) → Leaves frames result }
 {
     match terminal {
@@ -38,7 +39,7 @@ pub(crate) fn after_converted_form(
     form: RawForm,
     terminal: Terminal,
 ) -> Result<Outcome, Memory>
-    ensures { Settles result (stepped (State.AfterForm (Converted raw refs) form) terminal) }
+    ensures { Settles result (step_state (State.AfterForm (Converted raw refs) form) terminal) }
 {
     match terminal {
         Terminal::Colon(_pos) => Ok(outside(State::NeedSig(Signing::Conversion(raw, refs, form)))),
@@ -57,7 +58,7 @@ pub(crate) fn after_converted(
     refs: RawOpRefs,
     terminal: Terminal,
 ) -> Result<Outcome, Memory>
-    ensures { Settles result (stepped (State.AfterConverted raw refs) terminal) }
+    ensures { Settles result (step_state (State.AfterConverted raw refs) terminal) }
 {
     match terminal {
         Terminal::Comma => Ok(outside(State::NeedForm(Naming::Converted(raw, refs)))),
@@ -77,11 +78,11 @@ pub(crate) fn need_exempted(
     refs: RawOpRefs,
     terminal: Terminal,
 ) -> Result<Outcome, Memory>
-    ensures { Settles result (stepped (State.NeedExempted raw refs) terminal) }
+    ensures { Settles result (step_state (State.NeedExempted raw refs) terminal) }
 {
     match terminal {
         Terminal::ForAll => {
-            let scope = Scope::Exempted(raw, refs);
+            let scope = VariablesFor::Exempted(raw, refs);
             Ok(outside(State::NeedVariable(scope, Sequence::new(alloc))))
         }
         other => {
@@ -97,7 +98,7 @@ pub(crate) fn begin_exempted(
     conversion: OpenConversion,
     terminal: Terminal,
 ) -> Result<Outcome, Memory>
-    ensures { Settles result (stepped (State.NeedFurtherExempted conversion) terminal) }
+    ensures { Settles result (step_state (State.NeedFurtherExempted conversion) terminal) }
 {
     let frame = Frame::InExempted(position_of(&terminal), conversion);
     match Stack::new(alloc).with(frame) {
@@ -115,7 +116,7 @@ pub(crate) fn in_exempted(
     terminal: Terminal,
 ) -> Result<Outcome, Memory>
     ensures outcome { (frames : List Frame)
-        → Settles result (handed term (InExempted pos conversion ∷ frames) terminal) }
+        → Settles result (hand_over term (InExempted pos conversion ∷ frames) terminal) }
     ensures frames { (frames : List Frame) → IfOk result (Leaves frames) }
 {
     let conversion = match with_exempted(conversion, formula_of(term, pos)) {

@@ -3,7 +3,7 @@ ghost use Rattle.larch_grammar.specs.Composition.{with_actual};
 ghost use Rattle.larch_grammar.specs.Machine.{end_marks, hand_sig};
 ghost use Rattle.larch_grammar.specs.Traits.{with_declaration};
 ghost use Rattle.larch_grammar.specs.declared.machine.Naming.TheVariants.{Declared, Lone, Referred};
-ghost use Rattle.larch_heads.specs.Outcome.{Settles, outcome, settled, stepped};
+ghost use Rattle.larch_syntax_heads.specs.Outcome.{Settles, outcome, settle, step_state};
 
 use crate::conversions::after_converted_form;
 use crate::items::begin_item;
@@ -13,17 +13,17 @@ use larch_grammar::{
     bracket_form, field_form, infix_form, plain_form, postfix_form, prefix_form, with_actual,
     with_clause, with_declaration, with_reference, with_word,
 };
-use larch_heads::{
-    Outcome, after_formal, after_plain, after_renamed, after_renaming, outside, stops,
-};
 use larch_raw::{
     RawActual, RawDecl, RawForm, RawForms, RawOpRef, RawOpRefs, RawSig, RawWord, RawWords,
+};
+use larch_syntax_heads::{
+    Outcome, after_formal, after_plain, after_renamed, after_renaming, outside, stops,
 };
 use std::alloc::Global;
 
 // The first token of a form.
 pub(crate) fn begin_form(naming: Naming, terminal: Terminal) -> Outcome
-    ensures { settled result ≡ stepped (State.NeedForm naming) terminal }
+    ensures { settle result ≡ step_state (State.NeedForm naming) terminal }
 {
     match terminal {
         Terminal::Word(word) => outside(State::AfterForm(naming, plain_form(word))),
@@ -49,7 +49,7 @@ pub(crate) fn after_symbol_form(
     symbol: RawWord,
     terminal: Terminal,
 ) -> Result<Outcome, Memory>
-    ensures { Settles result (stepped (State.AfterSymbolForm naming symbol) terminal) }
+    ensures { Settles result (step_state (State.AfterSymbolForm naming symbol) terminal) }
 {
     match terminal {
         Terminal::Marker(_pos) => match prefix_form(alloc, symbol) {
@@ -70,7 +70,7 @@ pub(crate) fn after_dot_form(
     pos: Pos,
     terminal: Terminal,
 ) -> Result<Outcome, Memory>
-    ensures { Settles result (stepped (State.AfterDotForm naming pos) terminal) }
+    ensures { Settles result (step_state (State.AfterDotForm naming pos) terminal) }
 {
     match terminal {
         Terminal::Word(word) => match field_form(alloc, pos, word) {
@@ -83,7 +83,7 @@ pub(crate) fn after_dot_form(
 
 // A `__` that begins a form is read.
 pub(crate) fn after_leading_marker(naming: Naming, pos: Pos, terminal: Terminal) -> Outcome
-    ensures { settled result ≡ stepped (State.AfterLeadingMarker naming pos) terminal }
+    ensures { settle result ≡ step_state (State.AfterLeadingMarker naming pos) terminal }
 {
     match terminal {
         Terminal::Dot(_dot) => outside(State::AfterDotForm(naming, pos)),
@@ -108,7 +108,7 @@ pub(crate) fn after_marker_symbol(
     symbol: RawWord,
     terminal: Terminal,
 ) -> Result<Outcome, Memory>
-    ensures { Settles result (stepped (State.AfterMarkerSymbol naming pos symbol) terminal) }
+    ensures { Settles result (step_state (State.AfterMarkerSymbol naming pos symbol) terminal) }
 {
     match terminal {
         Terminal::Marker(_behind) => match infix_form(alloc, pos, symbol) {
@@ -155,7 +155,7 @@ pub(crate) fn after_form_bracket(
     form: FormBracket,
     terminal: Terminal,
 ) -> Result<Outcome, Memory>
-    ensures { Settles result (stepped (State.AfterFormBracket form) terminal) }
+    ensures { Settles result (step_state (State.AfterFormBracket form) terminal) }
 {
     match terminal {
         Terminal::Marker(_marker) => Ok(outside(State::AfterBracketMarker(form, 1))),
@@ -170,7 +170,7 @@ pub(crate) fn after_bracket_marker(
     markers: u32,
     terminal: Terminal,
 ) -> Result<Outcome, Memory>
-    ensures { Settles result (stepped (State.AfterBracketMarker form markers) terminal) }
+    ensures { Settles result (step_state (State.AfterBracketMarker form markers) terminal) }
 {
     match terminal {
         Terminal::Comma => Ok(outside(State::NeedBracketMarker(form, markers))),
@@ -184,7 +184,7 @@ pub(crate) fn need_bracket_marker(
     markers: u32,
     terminal: Terminal,
 ) -> Result<Outcome, Memory>
-    ensures { Settles result (stepped (State.NeedBracketMarker form markers) terminal) }
+    ensures { Settles result (step_state (State.NeedBracketMarker form markers) terminal) }
 {
     match terminal {
         Terminal::Marker(_marker) => match markers.checked_add(1) {
@@ -202,7 +202,7 @@ pub(crate) fn after_form(
     form: RawForm,
     terminal: Terminal,
 ) -> Result<Outcome, Memory>
-    ensures { Settles result (stepped (State.AfterForm naming form) terminal) }
+    ensures { Settles result (step_state (State.AfterForm naming form) terminal) }
 {
     match naming {
         Naming::Declared(raw, forms) => after_declared(raw, forms, form, terminal),
@@ -218,7 +218,7 @@ pub(crate) fn after_form(
 
 // The form of a reference by itself is read.
 fn after_lone(form: RawForm, terminal: Terminal) -> Outcome
-    ensures { settled result ≡ stepped (State.AfterForm Lone form) terminal }
+    ensures { settle result ≡ step_state (State.AfterForm Lone form) terminal }
 {
     match terminal {
         Terminal::Colon(_pos) => outside(State::NeedSig(Signing::LoneForm(form))),
@@ -236,7 +236,7 @@ fn after_declared(
     form: RawForm,
     terminal: Terminal,
 ) -> Result<Outcome, Memory>
-    ensures { Settles result (stepped (State.AfterForm (Declared raw forms) form) terminal) }
+    ensures { Settles result (step_state (State.AfterForm (Declared raw forms) form) terminal) }
 {
     let forms = match with_form(forms, form) {
         Ok(forms) => forms,
@@ -267,7 +267,7 @@ fn after_referred(
     form: RawForm,
     terminal: Terminal,
 ) -> Result<Outcome, Memory>
-    ensures { Settles result (stepped (State.AfterForm (Referred clause refs) form) terminal) }
+    ensures { Settles result (step_state (State.AfterForm (Referred clause refs) form) terminal) }
 {
     match terminal {
         Terminal::Colon(_pos) => Ok(outside(State::NeedSig(Signing::Reference(
@@ -288,7 +288,7 @@ pub(crate) fn after_operator_ref(
     refs: RawOpRefs,
     terminal: Terminal,
 ) -> Result<Outcome, Memory>
-    ensures { Settles result (stepped (State.AfterOperatorRef clause refs) terminal) }
+    ensures { Settles result (step_state (State.AfterOperatorRef clause refs) terminal) }
 {
     match terminal {
         Terminal::Comma => Ok(outside(State::NeedForm(Naming::Referred(clause, refs)))),
@@ -309,7 +309,7 @@ pub(crate) fn need_sig(
     signing: Signing,
     terminal: Terminal,
 ) -> Result<Outcome, Memory>
-    ensures { Settles result (stepped (State.NeedSig signing) terminal) }
+    ensures { Settles result (step_state (State.NeedSig signing) terminal) }
 {
     match terminal {
         Terminal::Word(word) => match with_word(Sequence::new(alloc), word) {
@@ -323,7 +323,7 @@ pub(crate) fn need_sig(
 
 // A sort of a domain is read.
 pub(crate) fn after_sort(signing: Signing, sorts: RawWords, terminal: Terminal) -> Outcome
-    ensures { settled result ≡ stepped (State.AfterSort signing sorts) terminal }
+    ensures { settle result ≡ step_state (State.AfterSort signing sorts) terminal }
 {
     match terminal {
         Terminal::Comma => outside(State::NeedSort(signing, sorts)),
@@ -338,7 +338,7 @@ pub(crate) fn need_sort(
     sorts: RawWords,
     terminal: Terminal,
 ) -> Result<Outcome, Memory>
-    ensures { Settles result (stepped (State.NeedSort signing sorts) terminal) }
+    ensures { Settles result (step_state (State.NeedSort signing sorts) terminal) }
 {
     match terminal {
         Terminal::Word(word) => match with_word(sorts, word) {
@@ -355,7 +355,7 @@ pub(crate) fn need_range(
     domain: RawWords,
     terminal: Terminal,
 ) -> Result<Outcome, Memory>
-    ensures { Settles result (stepped (State.NeedRange signing domain) terminal) }
+    ensures { Settles result (step_state (State.NeedRange signing domain) terminal) }
 {
     match terminal {
         Terminal::Word(range) => {
@@ -371,17 +371,17 @@ fn hand_sig(signing: Signing, sig: RawSig) -> Result<State, Memory>
     ensures { IfOk result (λ state. state ≡ hand_sig signing sig) }
 {
     match signing {
-        Signing::Declaration(raw, forms) => declared(raw, RawDecl { forms, sig }),
+        Signing::Declaration(raw, forms) => take_declaration(raw, RawDecl { forms, sig }),
         Signing::Reference(clause, refs, form) => {
             let sig = Some(sig);
-            referred(clause, refs, RawOpRef { form, sig })
+            take_reference(clause, refs, RawOpRef { form, sig })
         }
         Signing::Replacement(reference, renamed, form) => {
-            replaced(reference, RawActual::Replace(renamed, form, Some(sig)))
+            take_replacement(reference, RawActual::Replace(renamed, form, Some(sig)))
         }
         Signing::Conversion(raw, refs, form) => {
             let sig = Some(sig);
-            converted(raw, refs, RawOpRef { form, sig })
+            take_conversion(raw, refs, RawOpRef { form, sig })
         }
         Signing::LoneForm(form) => {
             let sig = Some(sig);
@@ -391,7 +391,7 @@ fn hand_sig(signing: Signing, sig: RawSig) -> Result<State, Memory>
 }
 
 // A declaration is read.
-fn declared(raw: Draft, declaration: RawDecl) -> Result<State, Memory>
+fn take_declaration(raw: Draft, declaration: RawDecl) -> Result<State, Memory>
     ensures { IfOk result (λ state. state ≡ State.InPart (with_declaration raw declaration)) }
 {
     let raw = with_declaration(raw, declaration)?;
@@ -399,7 +399,7 @@ fn declared(raw: Draft, declaration: RawDecl) -> Result<State, Memory>
 }
 
 // A replacement of an actual is read.
-fn replaced(reference: OpenRef, actual: RawActual) -> Result<State, Memory>
+fn take_replacement(reference: OpenRef, actual: RawActual) -> Result<State, Memory>
     ensures { IfOk result (λ state. state ≡ State.AfterRename (with_actual reference actual)) }
 {
     let reference = with_actual(reference, actual)?;
@@ -407,7 +407,7 @@ fn replaced(reference: OpenRef, actual: RawActual) -> Result<State, Memory>
 }
 
 // A reference of a clause with its signature is read.
-fn referred(clause: Clause, refs: RawOpRefs, reference: RawOpRef) -> Result<State, Memory>
+fn take_reference(clause: Clause, refs: RawOpRefs, reference: RawOpRef) -> Result<State, Memory>
     ensures { IfOk result (λ state. state ≡ State.AfterOperatorRef clause (refs ++ reference ∷ [])) }
 {
     match with_signed(refs, reference) {
@@ -417,7 +417,7 @@ fn referred(clause: Clause, refs: RawOpRefs, reference: RawOpRef) -> Result<Stat
 }
 
 // A reference of a conversion with its signature is read.
-fn converted(raw: Draft, refs: RawOpRefs, reference: RawOpRef) -> Result<State, Memory>
+fn take_conversion(raw: Draft, refs: RawOpRefs, reference: RawOpRef) -> Result<State, Memory>
     ensures { IfOk result (λ state. state ≡ State.AfterConverted raw (refs ++ reference ∷ [])) }
 {
     match with_signed(refs, reference) {

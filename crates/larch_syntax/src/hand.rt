@@ -3,7 +3,7 @@ ghost use Rattle.larch_grammar.specs.Machine.{plainly};
 ghost use Rattle.larch_grammar.specs.Trees.{bracket_tree, postfix_tree};
 ghost use Rattle.larch_grammar.specs.declared.machine.Frame.TheVariants.{InFields, InIf, InLeft, InList};
 ghost use Rattle.larch_grammar.specs.declared.machine.Frame.TheVariants.{InParentheses, InPostfixes, InThen};
-ghost use Rattle.larch_heads.specs.Outcome.{Leaves, Settles, handed, outcome, settled, stepped};
+ghost use Rattle.larch_syntax_heads.specs.Outcome.{Leaves, Settles, hand_over, outcome, settle, step_state};
 ghost use Rattle.larch_syntax.specs.Hand.{hands_on};
 
 use crate::begin::{begin_post, open_bracket, opens};
@@ -16,8 +16,8 @@ use larch_grammar::{
     equation_of, field_tree, formula_of, if_tree, no_terms, postfix_tree, prefix_tree, qualified,
     with_term,
 };
-use larch_heads::{Outcome, at_head, plainly, stops};
 use larch_raw::{RawTerm, RawTerms, RawWord};
+use larch_syntax_heads::{Outcome, at_head, plainly, stops};
 use std::alloc::Global;
 
 // A term is read, and a token stands behind it: the innermost frame takes the token, or hands on what it makes of
@@ -29,7 +29,7 @@ pub(crate) fn hand(
     stack: Stack,
     terminal: Terminal,
 ) -> Result<Outcome, Memory>
-    ensures { IfOk result (λ answer. answer ≡ handed term stack terminal) }
+    ensures { IfOk result (λ answer. answer ≡ hand_over term stack terminal) }
 {
     let mut term = term;
     let mut stack = stack;
@@ -79,7 +79,7 @@ fn pass(
     stack: Stack,
     terminal: Terminal,
 ) -> Result<Outcome, Memory>
-    ensures outcome { Settles result (handed term (frame ∷ stack) terminal) }
+    ensures outcome { Settles result (hand_over term (frame ∷ stack) terminal) }
     ensures frames { IfOk result (Leaves stack) }
 {
     match frame {
@@ -114,7 +114,7 @@ fn pass(
 
 // Fields, brackets and a sort may follow.
 fn in_fields(term: RawTerm, stack: Stack, terminal: Terminal) -> Outcome
-    ensures outcome { settled result ≡ handed term (InFields ∷ stack) terminal }
+    ensures outcome { settle result ≡ hand_over term (InFields ∷ stack) terminal }
     ensures frames { Leaves stack result }
 {
     match terminal {
@@ -127,7 +127,7 @@ fn in_fields(term: RawTerm, stack: Stack, terminal: Terminal) -> Outcome
 
 // Inside parentheses.
 fn in_parentheses(term: RawTerm, stack: Stack, terminal: Terminal) -> Outcome
-    ensures outcome { settled result ≡ handed term (InParentheses ∷ stack) terminal }
+    ensures outcome { settle result ≡ hand_over term (InParentheses ∷ stack) terminal }
     ensures frames { Leaves stack result }
 {
     match terminal {
@@ -145,7 +145,7 @@ fn in_list(
     stack: Stack,
     terminal: Terminal,
 ) -> Result<Outcome, Memory>
-    ensures outcome { Settles result (handed term (InList listing terms ∷ stack) terminal) }
+    ensures outcome { Settles result (hand_over term (InList listing terms ∷ stack) terminal) }
     ensures frames { IfOk result (Leaves stack) }
 {
     let terms = match with_term(terms, term) {
@@ -192,7 +192,7 @@ fn end_list(
 
 // `if`: its condition ends with `then`.
 fn in_if(pos: Pos, term: RawTerm, stack: Stack, terminal: Terminal) -> Result<Outcome, Memory>
-    ensures outcome { Settles result (handed term (InIf pos ∷ stack) terminal) }
+    ensures outcome { Settles result (hand_over term (InIf pos ∷ stack) terminal) }
     ensures frames { IfOk result (Leaves stack) }
 {
     match terminal {
@@ -212,7 +212,7 @@ fn in_then(
     stack: Stack,
     terminal: Terminal,
 ) -> Result<Outcome, Memory>
-    ensures outcome { Settles result (handed term (InThen pos condition ∷ stack) terminal) }
+    ensures outcome { Settles result (hand_over term (InThen pos condition ∷ stack) terminal) }
     ensures frames { IfOk result (Leaves stack) }
 {
     match terminal {
@@ -233,7 +233,7 @@ fn in_left(
     stack: Stack,
     terminal: Terminal,
 ) -> Result<Outcome, Memory>
-    ensures outcome { Settles result (handed term (InLeft pos waiting ∷ stack) terminal) }
+    ensures outcome { Settles result (hand_over term (InLeft pos waiting ∷ stack) terminal) }
     ensures frames { IfOk result (Leaves stack) }
 {
     match terminal {
@@ -253,7 +253,7 @@ pub(crate) fn need_field(
     stack: Stack,
     terminal: Terminal,
 ) -> Result<Outcome, Memory>
-    ensures { Settles result (stepped (State.NeedField term pos stack) terminal) }
+    ensures { Settles result (step_state (State.NeedField term pos stack) terminal) }
 {
     match terminal {
         Terminal::Word(word) => {
@@ -273,7 +273,7 @@ pub(crate) fn need_sort_of(
     stack: Stack,
     terminal: Terminal,
 ) -> Result<Outcome, Memory>
-    ensures { Settles result (stepped (State.NeedSortOf term pos stack) terminal) }
+    ensures { Settles result (step_state (State.NeedSortOf term pos stack) terminal) }
 {
     match terminal {
         Terminal::Word(sort) => {
@@ -292,7 +292,7 @@ pub(crate) fn after_word(
     stack: Stack,
     terminal: Terminal,
 ) -> Result<Outcome, Memory>
-    ensures { Settles result (stepped (State.AfterWord word stack) terminal) }
+    ensures { Settles result (step_state (State.AfterWord word stack) terminal) }
 {
     match terminal {
         Terminal::Open(_pos) => {
@@ -317,7 +317,7 @@ pub(crate) fn after_symbol(
     stack: Stack,
     terminal: Terminal,
 ) -> Result<Outcome, Memory>
-    ensures { Settles result (stepped (State.AfterSymbol symbol term stack) terminal) }
+    ensures { Settles result (step_state (State.AfterSymbol symbol term stack) terminal) }
 {
     match terminal {
         Terminal::Word(_) | Terminal::Open(_) | Terminal::OpenBracket(_, _) => {

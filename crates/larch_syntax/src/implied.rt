@@ -1,23 +1,23 @@
 ghost use Rattle.std.specs.Prelude.{◌≡◌, ◌∷◌, [], cond, true, IfOk, None, Some};
 ghost use Rattle.larch_grammar.specs.Machine.{after_word, behind_refs, open_item, word_frames};
-ghost use Rattle.larch_grammar.specs.Terminals.{ends_reference};
+ghost use Rattle.larch_grammar.specs.Terminal.{ends_reference};
 ghost use Rattle.larch_grammar.specs.declared.machine.Frame.TheVariants.{InFields};
 ghost use Rattle.larch_grammar.specs.declared.machine.Waiting.TheVariants.{Item};
 ghost use Rattle.larch_grammar.specs.declared.machine.Whole.TheVariants.{Trait as whole_trait};
-ghost use Rattle.larch_heads.specs.Outcome.{Settles, outcome, settled, stepped};
+ghost use Rattle.larch_syntax_heads.specs.Outcome.{Settles, outcome, settle, step_state};
 ghost use Rattle.larch_syntax.specs.Implied.{without_whole};
 
 use crate::begin::word_frames;
 use crate::hand::{after_word, hand};
 use crate::items::{begin_item, clause_word, first_of_item};
 use larch_base::{Memory, let_go};
-use larch_fronts::Mark;
 use larch_grammar::{
     Draft, Frame, Listing, Naming, RefKind, Stack, State, Terminal, call_tree, close_ref,
     ends_reference, next_kind, no_terms, open_ref,
 };
-use larch_heads::{Outcome, after_head, at_head, ends, outside, stops};
+use larch_grammar_law::Mark;
 use larch_raw::{RawTerms, RawWord};
+use larch_syntax_heads::{Outcome, after_head, at_head, ends, outside, stops};
 use std::alloc::Global;
 
 // The name of a trait that is referred to is read.
@@ -29,7 +29,7 @@ pub(crate) fn after_ref_name(
     name: RawWord,
     terminal: Terminal,
 ) -> Result<Outcome, Memory>
-    ensures { Settles result (stepped (State.AfterRefName raw kind name) terminal) }
+    ensures { Settles result (step_state (State.AfterRefName raw kind name) terminal) }
 {
     let reference = open_ref(alloc, raw, kind, name);
     match terminal {
@@ -49,7 +49,7 @@ pub(crate) fn after_trait_ref(
     kind: RefKind,
     terminal: Terminal,
 ) -> Result<Outcome, Memory>
-    ensures { Settles result (stepped (State.AfterTraitRef raw kind) terminal) }
+    ensures { Settles result (step_state (State.AfterTraitRef raw kind) terminal) }
 {
     match terminal {
         Terminal::Comma => Ok(outside(State::NeedRef(raw, next_kind(kind)))),
@@ -86,7 +86,7 @@ pub(crate) fn after_implies(
     raw: Draft,
     terminal: Terminal,
 ) -> Result<Outcome, Memory>
-    ensures { Settles result (stepped (State.AfterImplies raw) terminal) }
+    ensures { Settles result (step_state (State.AfterImplies raw) terminal) }
 {
     match terminal {
         Terminal::Word(word) => Ok(at_head(State::ImpliedWord(raw, word))),
@@ -96,7 +96,7 @@ pub(crate) fn after_implies(
 
 // What a token does, where no whole ends before it.
 fn forgetting(alloc: Global, found: Outcome) -> Result<Outcome, Memory>
-    ensures { IfOk result (λ answer. answer ≡ without_whole (settled found)) }
+    ensures { IfOk result (λ answer. answer ≡ without_whole (settle found)) }
 {
     let found = match found {
         Outcome::Handed(term, stack, terminal) => hand(alloc, term, stack, terminal)?,
@@ -123,7 +123,7 @@ pub(crate) fn implied_word(
     word: RawWord,
     terminal: Terminal,
 ) -> Result<Outcome, Memory>
-    ensures { Settles result (stepped (State.ImpliedWord raw word) terminal) }
+    ensures { Settles result (step_state (State.ImpliedWord raw word) terminal) }
 {
     match terminal {
         Terminal::Generated | Terminal::Partitioned => Ok(clause_word(raw, word, terminal)),
@@ -165,7 +165,7 @@ pub(crate) fn behind_first(
     terms: RawTerms,
     terminal: Terminal,
 ) -> Result<Outcome, Memory>
-    ensures { Settles result (stepped (State.BehindFirst raw word terms) terminal) }
+    ensures { Settles result (step_state (State.BehindFirst raw word terms) terminal) }
 {
     if ends_reference(&terminal) {
         return Ok(let_go(stops(), (raw, word, terms, terminal)));

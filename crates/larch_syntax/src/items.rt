@@ -4,7 +4,7 @@ ghost use Rattle.larch_grammar.specs.Machine.{open_item, word_frames};
 ghost use Rattle.larch_grammar.specs.Traits.{with_equations};
 ghost use Rattle.larch_grammar.specs.declared.machine.Frame.{Frame};
 ghost use Rattle.larch_grammar.specs.declared.machine.Waiting.TheVariants.{Item};
-ghost use Rattle.larch_heads.specs.Outcome.{Leaves, Settles, outcome, settled, stepped};
+ghost use Rattle.larch_syntax_heads.specs.Outcome.{Leaves, Settles, outcome, settle, step_state};
 
 use crate::begin::{begin_equation, word_frames};
 use crate::conversions::begin_exempted;
@@ -12,16 +12,16 @@ use crate::forms::begin_form;
 use crate::hand::after_word;
 use larch_base::{Memory, Sequence, let_go};
 use larch_grammar::{
-    Clause, Draft, Naming, OpenItem, Scope, State, Terminal, Waiting, Whole, open_conversion,
-    with_equations, with_group, with_word,
+    Clause, Draft, Naming, OpenItem, State, Terminal, VariablesFor, Waiting, Whole,
+    open_conversion, with_equations, with_group, with_word,
 };
-use larch_heads::{Outcome, at_head, begin_claim, ends, outside, stops};
 use larch_raw::{ClauseKind, RawEquation, RawVars, RawWord, RawWords};
+use larch_syntax_heads::{Outcome, at_head, begin_claim, ends, outside, stops};
 use std::alloc::Global;
 
 // `introduces` or a declaration is read.
 pub(crate) fn in_part(alloc: Global, raw: Draft, terminal: Terminal) -> Outcome
-    ensures { settled result ≡ stepped (State.InPart raw) terminal }
+    ensures { settle result ≡ step_state (State.InPart raw) terminal }
 {
     match terminal {
         Terminal::Introduces => outside(State::InPart(raw)),
@@ -41,12 +41,12 @@ pub(crate) fn in_part(alloc: Global, raw: Draft, terminal: Terminal) -> Outcome
 
 // A part, or an item that needs no `;` before it.
 fn begin_part(alloc: Global, raw: Draft, terminal: Terminal) -> Outcome
-    ensures outcome { settled result ≡ outcome (begin_part raw terminal) (Some (Whole.Trait raw)) }
+    ensures outcome { settle result ≡ outcome (begin_part raw terminal) (Some (Whole.Trait raw)) }
     ensures frames { (frames : List Frame) → Leaves frames result }
 {
     match terminal {
         Terminal::ForAll => {
-            outside(State::NeedVariable(Scope::Quantified(raw), Sequence::new(alloc)))
+            outside(State::NeedVariable(VariablesFor::Quantified(raw), Sequence::new(alloc)))
         }
         Terminal::Asserts | Terminal::Implies(_) | Terminal::Converts => {
             begin_claim(alloc, raw, terminal)
@@ -68,7 +68,7 @@ pub(crate) fn first_of_item(alloc: Global, raw: Draft) -> Waiting
 
 // The first token of any item, or a part.
 pub(crate) fn begin_item(alloc: Global, raw: Draft, terminal: Terminal) -> Result<Outcome, Memory>
-    ensures { Settles result (stepped (State.InItems raw) terminal) }
+    ensures { Settles result (step_state (State.InItems raw) terminal) }
 {
     match terminal {
         Terminal::Word(word) => Ok(at_head(State::FirstWord(raw, word))),
@@ -164,7 +164,7 @@ pub(crate) fn first_word(
     word: RawWord,
     terminal: Terminal,
 ) -> Result<Outcome, Memory>
-    ensures { Settles result (stepped (State.FirstWord raw word) terminal) }
+    ensures { Settles result (step_state (State.FirstWord raw word) terminal) }
 {
     match terminal {
         Terminal::Generated | Terminal::Partitioned => { Ok(clause_word(raw, word, terminal)) }
@@ -179,7 +179,7 @@ fn word_of_equation(
     waiting: Waiting,
     terminal: Terminal,
 ) -> Result<Outcome, Memory>
-    ensures { Settles result (stepped (State.AfterWord word (word_frames word waiting)) terminal) }
+    ensures { Settles result (step_state (State.AfterWord word (word_frames word waiting)) terminal) }
 {
     match word_frames(alloc, &word, waiting) {
         Ok(frames) => after_word(alloc, word, frames, terminal),
@@ -195,7 +195,7 @@ pub(crate) fn word_behind(
     word: RawWord,
     terminal: Terminal,
 ) -> Result<Outcome, Memory>
-    ensures { Settles result (stepped (State.WordBehind item word) terminal) }
+    ensures { Settles result (step_state (State.WordBehind item word) terminal) }
 {
     match terminal {
         Terminal::Generated | Terminal::Partitioned => match close_item(item) {
@@ -208,7 +208,7 @@ pub(crate) fn word_behind(
 
 // The word that begins a clause is read.
 pub(crate) fn clause_word(raw: Draft, sort: RawWord, terminal: Terminal) -> Outcome
-    ensures { settled result ≡ stepped (State.ClauseWord raw sort) terminal }
+    ensures { settle result ≡ step_state (State.ClauseWord raw sort) terminal }
 {
     let kind = match terminal {
         Terminal::Generated => ClauseKind::Generated,
@@ -220,7 +220,7 @@ pub(crate) fn clause_word(raw: Draft, sort: RawWord, terminal: Terminal) -> Outc
 
 // `generated` or `partitioned` is read.
 pub(crate) fn need_by(alloc: Global, clause: Clause, terminal: Terminal) -> Outcome
-    ensures { settled result ≡ stepped (State.NeedBy clause) terminal }
+    ensures { settle result ≡ step_state (State.NeedBy clause) terminal }
 {
     match terminal {
         Terminal::By => {
@@ -237,7 +237,7 @@ pub(crate) fn after_semicolon(
     item: OpenItem,
     terminal: Terminal,
 ) -> Result<Outcome, Memory>
-    ensures { Settles result (stepped (State.AfterSemicolon item) terminal) }
+    ensures { Settles result (step_state (State.AfterSemicolon item) terminal) }
 {
     match terminal {
         Terminal::Word(word) => Ok(at_head(State::WordBehind(item, word))),
@@ -262,11 +262,11 @@ pub(crate) fn after_semicolon(
 // A variable is needed.
 pub(crate) fn need_variable(
     alloc: Global,
-    scope: Scope,
+    scope: VariablesFor,
     variables: RawVars,
     terminal: Terminal,
 ) -> Result<Outcome, Memory>
-    ensures { Settles result (stepped (State.NeedVariable scope variables) terminal) }
+    ensures { Settles result (step_state (State.NeedVariable scope variables) terminal) }
 {
     match terminal {
         Terminal::Word(name) => match with_word(Sequence::new(alloc), name) {
@@ -279,12 +279,12 @@ pub(crate) fn need_variable(
 
 // Names of variables are read.
 pub(crate) fn after_variable(
-    scope: Scope,
+    scope: VariablesFor,
     variables: RawVars,
     names: RawWords,
     terminal: Terminal,
 ) -> Outcome
-    ensures { settled result ≡ stepped (State.AfterVariable scope variables names) terminal }
+    ensures { settle result ≡ step_state (State.AfterVariable scope variables names) terminal }
 {
     match terminal {
         Terminal::Comma => outside(State::NeedFurtherVariable(scope, variables, names)),
@@ -295,12 +295,12 @@ pub(crate) fn after_variable(
 
 // A `,` behind names of variables is read.
 pub(crate) fn need_further_variable(
-    scope: Scope,
+    scope: VariablesFor,
     variables: RawVars,
     names: RawWords,
     terminal: Terminal,
 ) -> Result<Outcome, Memory>
-    ensures { Settles result (stepped (State.NeedFurtherVariable scope variables names) terminal) }
+    ensures { Settles result (step_state (State.NeedFurtherVariable scope variables names) terminal) }
 {
     match terminal {
         Terminal::Word(name) => match with_word(names, name) {
@@ -313,12 +313,12 @@ pub(crate) fn need_further_variable(
 
 // The `:` behind names of variables is read.
 pub(crate) fn need_variable_sort(
-    scope: Scope,
+    scope: VariablesFor,
     variables: RawVars,
     names: RawWords,
     terminal: Terminal,
 ) -> Result<Outcome, Memory>
-    ensures { Settles result (stepped (State.NeedVariableSort scope variables names) terminal) }
+    ensures { Settles result (step_state (State.NeedVariableSort scope variables names) terminal) }
 {
     match terminal {
         Terminal::Word(sort) => match with_group(variables, &names, &sort) {
@@ -333,11 +333,11 @@ pub(crate) fn need_variable_sort(
 #[tactic(auto, using(crate::proofs::Defaults::other_group))]
 pub(crate) fn after_group(
     alloc: Global,
-    scope: Scope,
+    scope: VariablesFor,
     variables: RawVars,
     terminal: Terminal,
 ) -> Result<Outcome, Memory>
-    ensures { Settles result (stepped (State.AfterGroup scope variables) terminal) }
+    ensures { Settles result (step_state (State.AfterGroup scope variables) terminal) }
 {
     match terminal {
         Terminal::Comma => Ok(outside(State::NeedVariable(scope, variables))),
@@ -348,14 +348,14 @@ pub(crate) fn after_group(
 // What variables are read for begins: an equation, or a term that is exempted.
 fn begin_quantified(
     alloc: Global,
-    scope: Scope,
+    scope: VariablesFor,
     variables: RawVars,
     terminal: Terminal,
 ) -> Result<Outcome, Memory>
     ensures { Settles result (outcome (begin_quantified scope variables terminal) None) }
 {
     match scope {
-        Scope::Quantified(raw) => {
+        VariablesFor::Quantified(raw) => {
             let item = OpenItem {
                 raw,
                 variables,
@@ -363,7 +363,7 @@ fn begin_quantified(
             };
             begin_equation(alloc, terminal, Waiting::Item(item))
         }
-        Scope::Exempted(raw, refs) => {
+        VariablesFor::Exempted(raw, refs) => {
             let conversion = open_conversion(alloc, raw, refs, variables);
             begin_exempted(alloc, conversion, terminal)
         }

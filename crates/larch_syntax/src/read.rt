@@ -1,22 +1,22 @@
 ghost use Rattle.std.specs.Prelude.{◌≡◌, ◌+◌, ◌≤◌, drop, length, false, Err, IfOk, IfSome};
 ghost use Rattle.larch_base.specs.Answering.{Answers};
-ghost use Rattle.larch_fronts.specs.Answer.{at_end, at_front};
-ghost use Rattle.larch_fronts.specs.Mark.{admitted};
+ghost use Rattle.larch_grammar_law.specs.Answer.{at_end, at_front};
+ghost use Rattle.larch_grammar_law.specs.Mark.{admission};
 ghost use Rattle.larch_grammar.specs.Answers.{MeansTrait, trait_by};
 ghost use Rattle.larch_grammar.specs.Machine.{as_equation, as_reference, as_trait};
 ghost use Rattle.larch_syntax.specs.Read.{ClaimHolds, MeansFrom, MeansReference, fault_at, from_there, longest};
 ghost use Rattle.larch_syntax.specs.Read.{reference_of, taken_at, term_of, trait_of, with_fault};
-ghost use Rattle.larch_syntax.specs.Refusals.{told};
+ghost use Rattle.larch_syntax.specs.Refusal.{cause};
 
 use crate::refusal::{SyntaxRefusal, refusal_of};
 use crate::refused::{position_of, which_refusal};
 use crate::step::{last, step};
 use larch_base::{Memory, Pos};
-use larch_fronts::{Mark, admit};
 use larch_grammar::{Naming, State, Waiting, Whole, terminal_of};
-use larch_heads::Outcome;
+use larch_grammar_law::{Mark, admit};
 use larch_lexer::{Token, Tokens};
 use larch_raw::{RawEquation, RawOpRef, RawTrait};
+use larch_syntax_heads::Outcome;
 use std::alloc::Global;
 
 /// The raw trait that these tokens are, all of them; or the first refusal. Of several that stand at one token the order
@@ -24,7 +24,7 @@ use std::alloc::Global;
 /// references behind `implies`.
 #[tactic(auto, using(crate::proofs::Either::first_read, crate::proofs::Told::trait_said))]
 pub fn read_trait(alloc: Global, tokens: &Tokens) -> Result<RawTrait, SyntaxRefusal>
-    ensures answer { Answers told result (trait_of tokens.now) }
+    ensures answer { Answers cause result (trait_of tokens.now) }
 
     // The grammar says the same without a machine.
     ensures grammar { ClaimHolds (MeansTrait tokens.now) result }
@@ -42,8 +42,8 @@ fn or_references(
     tokens: &Tokens,
     item: SyntaxRefusal,
 ) -> Result<RawTrait, SyntaxRefusal>
-    requires { IfSome (told item) (λ fault. with_fault (trait_by false tokens.now) ≡ Err fault) }
-    ensures { Answers told result (trait_of tokens.now) }
+    requires { IfSome (cause item) (λ fault. with_fault (trait_by false tokens.now) ≡ Err fault) }
+    ensures { Answers cause result (trait_of tokens.now) }
 {
     let Some(_position) = position_of(item) else {
         return Err(SyntaxRefusal::Memory);
@@ -56,7 +56,7 @@ fn or_references(
 
 // The trait where references follow `implies` or not, by the machine.
 fn trait_by_steps(alloc: Global, lists: bool, tokens: &Tokens) -> Result<RawTrait, SyntaxRefusal>
-    ensures { Answers told result (with_fault (trait_by lists tokens.now)) }
+    ensures { Answers cause result (with_fault (trait_by lists tokens.now)) }
 {
     let Front {
         whole,
@@ -71,7 +71,7 @@ fn trait_by_steps(alloc: Global, lists: bool, tokens: &Tokens) -> Result<RawTrai
 
 // The whole as a trait, or SYNTAX at the end of the text.
 fn whole_trait(whole: Option<Whole>, end: Pos) -> Result<RawTrait, SyntaxRefusal>
-    ensures { Answers told result (with_fault (at_end end (as_trait whole))) }
+    ensures { Answers cause result (with_fault (at_end end (as_trait whole))) }
 {
     match whole {
         Some(Whole::Trait(draft)) => Ok(draft.into_raw()),
@@ -88,7 +88,7 @@ pub fn read_term(
     from: u32,
 ) -> Result<(RawEquation, u32), SyntaxRefusal>
     requires { from ≤ length tokens.now.tokens }
-    ensures answer { Answers told result (term_of tokens.now from) }
+    ensures answer { Answers cause result (term_of tokens.now from) }
 
     // The grammar says the same without a machine.
     ensures grammar { ClaimHolds (MeansFrom tokens.now from) result }
@@ -126,7 +126,7 @@ pub fn read_reference(
     from: u32,
 ) -> Result<(RawOpRef, u32), SyntaxRefusal>
     requires { from ≤ length tokens.now.tokens }
-    ensures answer { Answers told result (reference_of tokens.now from) }
+    ensures answer { Answers cause result (reference_of tokens.now from) }
 
     // The grammar says the same without a machine.
     ensures grammar { ClaimHolds (MeansReference tokens.now from) result }
@@ -162,7 +162,7 @@ fn tree_from<T: Drop>(
     taken: usize,
     pos: Pos,
 ) -> Result<(T, u32), SyntaxRefusal>
-    ensures { Answers told result (from_there from (with_fault (at_front pos taken tree))) }
+    ensures { Answers cause result (from_there from (with_fault (at_front pos taken tree))) }
 {
     match tree {
         Some(tree) => Ok((tree, number_after(from, taken)?)),
@@ -197,7 +197,7 @@ fn front_from(
     state: State,
 ) -> Result<Front, SyntaxRefusal>
     requires { from ≤ length tokens.now.tokens }
-    ensures { Answers told result (longest false 0 0 state (drop from tokens.now.tokens)) }
+    ensures { Answers cause result (longest false 0 0 state (drop from tokens.now.tokens)) }
 {
     longest_front(alloc, false, &tokens.as_slice()[from as usize..], state)
 }
@@ -209,7 +209,7 @@ fn longest_front(
     tokens: &[Token],
     state: State,
 ) -> Result<Front, SyntaxRefusal>
-    ensures { Answers told result (longest lists 0 0 state tokens.now) }
+    ensures { Answers cause result (longest lists 0 0 state tokens.now) }
 {
     let mut state = state;
     let mut heads: u32 = 0;
@@ -250,7 +250,7 @@ fn take(
     state: State,
     token: &Token,
 ) -> Result<Taken, SyntaxRefusal>
-    ensures { Answers told result (taken_at lists heads state token.now) }
+    ensures { Answers cause result (taken_at lists heads state token.now) }
 {
     let terminal = terminal_of(lists, token)?;
     match step(alloc, state, terminal)? {
@@ -265,7 +265,7 @@ fn take(
 
 // The number of head tokens behind a token with this mark, or the refusal by what is counted at it.
 fn count(heads: u32, mark: Mark, pos: Pos) -> Result<u32, SyntaxRefusal>
-    ensures { Answers told result (fault_at pos (admitted heads mark)) }
+    ensures { Answers cause result (fault_at pos (admission heads mark)) }
 {
     admit(heads, mark).map_err(|flaw| refusal_of(flaw, pos))
 }

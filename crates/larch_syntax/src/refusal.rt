@@ -1,9 +1,9 @@
 ghost use Rattle.std.specs.Prelude.{◌≡◌};
-ghost use Rattle.larch_syntax.specs.Refusals.{refusal_of};
+ghost use Rattle.larch_syntax.specs.Refusal.{refusal_of};
 ghost use Rattle.larch_syntax.specs.declared.refusal.SyntaxRefusal.TheVariants.{Memory as wants_memory};
 
 use larch_base::{Memory, Pos};
-use larch_fronts::Flaw;
+use larch_grammar_law::Flaw;
 use thiserror::Error;
 
 /// Why tokens are no trait, and where.

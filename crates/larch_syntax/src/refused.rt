@@ -1,5 +1,5 @@
 ghost use Rattle.std.specs.Prelude.{◌≡◌, IfOk, Some, option_map};
-ghost use Rattle.larch_grammar.specs.Leading.{behind_first, behind_group, behind_word, opened};
+ghost use Rattle.larch_grammar.specs.Leading.{behind_first, behind_group, behind_word, open_depth};
 ghost use Rattle.larch_grammar.specs.Refused.{earlier, implied_tokens, is_implies, known, reaches, reaches_end};
 ghost use Rattle.larch_syntax.specs.Refused.{counted, position, refused};
 
@@ -143,7 +143,7 @@ fn behind_group<'a>(tokens: &'a [Token]) -> Result<Option<&'a [Token]>, Memory>
     let mut inside: usize = 0;
     let mut rest = tokens;
     while let [token, others @ ..] = rest {
-        match opened(terminal_of(false, token)?, inside)? {
+        match open_depth(terminal_of(false, token)?, inside)? {
             Some(more) => {
                 inside = more;
                 rest = others;
@@ -157,8 +157,8 @@ fn behind_group<'a>(tokens: &'a [Token]) -> Result<Option<&'a [Token]>, Memory>
 // How many parentheses are open behind a token, where so many are inside a group before it; nothing where it closes
 // the group.
 #[tactic(auto, using(crate::proofs::Behind::one_closed, crate::proofs::Behind::other_opened))]
-fn opened(terminal: Terminal, inside: usize) -> Result<Option<usize>, Memory>
-    ensures { IfOk result (λ more. more ≡ opened terminal inside) }
+fn open_depth(terminal: Terminal, inside: usize) -> Result<Option<usize>, Memory>
+    ensures { IfOk result (λ more. more ≡ open_depth terminal inside) }
 {
     match terminal {
         Terminal::Open(_pos) => {

@@ -1,6 +1,6 @@
 ghost use Rattle.std.specs.Prelude.{◌≡◌, IfOk};
 ghost use Rattle.larch_grammar.specs.Machine.{final};
-ghost use Rattle.larch_heads.specs.Outcome.{Settles, stepped};
+ghost use Rattle.larch_syntax_heads.specs.Outcome.{Settles, step_state};
 
 use crate::begin::{
     begin_bracket, begin_equation, begin_operand, begin_post, begin_prefixed, begin_term,
@@ -19,17 +19,17 @@ use crate::items::{
 };
 use larch_base::Memory;
 use larch_grammar::{Stack, State, Terminal, Whole, call_tree, no_terms};
-use larch_heads::{
+use larch_raw::RawWord;
+use larch_syntax_heads::{
     Outcome, after_constant, after_field, after_formals, after_head, after_name, after_names,
     after_rename, at_head, at_start, need_constant, need_constants, need_fields, need_further_name,
     need_name, need_names_sort, need_ref, need_trait, short_word,
 };
-use larch_raw::RawWord;
 use std::alloc::Global;
 
 // What a token does in a state: it is taken, or the whole ends before it, if there is one.
 pub(crate) fn step(alloc: Global, state: State, terminal: Terminal) -> Result<Outcome, Memory>
-    ensures { IfOk result (λ answer. answer ≡ stepped state terminal) }
+    ensures { IfOk result (λ answer. answer ≡ step_state state terminal) }
 {
     match state {
         State::NeedTerm(stack) => need_term(alloc, stack, terminal),
@@ -42,7 +42,7 @@ pub(crate) fn step(alloc: Global, state: State, terminal: Terminal) -> Result<Ou
 // The same where a term is needed.
 #[tactic(auto, using(crate::proofs::Passing::not_handed))]
 fn need_term(alloc: Global, stack: Stack, terminal: Terminal) -> Result<Outcome, Memory>
-    ensures { IfOk result (λ answer. answer ≡ stepped (State.NeedTerm stack) terminal) }
+    ensures { IfOk result (λ answer. answer ≡ step_state (State.NeedTerm stack) terminal) }
 {
     match terminal {
         Terminal::Word(word) => Ok(at_head(State::AfterWord(word, stack.with_chains()?))),
@@ -61,7 +61,7 @@ fn behind_word(
     stack: Stack,
     terminal: Terminal,
 ) -> Result<Outcome, Memory>
-    ensures { IfOk result (λ answer. answer ≡ stepped (State.AfterWord word stack) terminal) }
+    ensures { IfOk result (λ answer. answer ≡ step_state (State.AfterWord word stack) terminal) }
 {
     match terminal {
         Terminal::Comma | Terminal::Close | Terminal::Equates(_) => {
@@ -78,7 +78,7 @@ fn behind_word(
 #[inline(never)]
 #[tactic(auto, using(crate::proofs::Passing::not_handed))]
 fn step_elsewhere(alloc: Global, state: State, terminal: Terminal) -> Result<Outcome, Memory>
-    ensures { IfOk result (λ answer. answer ≡ stepped state terminal) }
+    ensures { IfOk result (λ answer. answer ≡ step_state state terminal) }
 {
     match step_in_variables(alloc, state, terminal) {
         Ok(Outcome::Handed(term, stack, terminal)) => hand(alloc, term, stack, terminal),
@@ -101,7 +101,7 @@ pub(crate) fn last(alloc: Global, state: State) -> Result<Option<Whole>, Memory>
 // at its start, so the states of most tokens have functions of their own.
 #[inline(never)]
 fn step_in_variables(alloc: Global, state: State, terminal: Terminal) -> Result<Outcome, Memory>
-    ensures { Settles result (stepped state terminal) }
+    ensures { Settles result (step_state state terminal) }
 {
     match state {
         State::NeedVariable(scope, variables) => need_variable(alloc, scope, variables, terminal),
@@ -122,7 +122,7 @@ fn step_in_variables(alloc: Global, state: State, terminal: Terminal) -> Result<
 // The same, first of the states of declarations.
 #[inline(never)]
 fn step_in_declarations(alloc: Global, state: State, terminal: Terminal) -> Result<Outcome, Memory>
-    ensures { Settles result (stepped state terminal) }
+    ensures { Settles result (step_state state terminal) }
 {
     match state {
         State::InPart(raw) => Ok(in_part(alloc, raw, terminal)),
@@ -138,7 +138,7 @@ fn step_in_declarations(alloc: Global, state: State, terminal: Terminal) -> Resu
 // The same, of all states.
 #[inline(never)]
 fn step_anywhere(alloc: Global, state: State, terminal: Terminal) -> Result<Outcome, Memory>
-    ensures { Settles result (stepped state terminal) }
+    ensures { Settles result (step_state state terminal) }
 {
     match state {
         State::Start => Ok(at_start(terminal)),

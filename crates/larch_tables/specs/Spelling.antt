@@ -59,10 +59,10 @@ before s (Some w) v ts = word_before s w ts
 
 -- the terms that codes in preorder spell at a sort, one behind the other, where all stand for something and each word
 -- has its arguments
-abbrev pub spelled : List ℕ → List ℕ → Option (List Tree)
-spelled s [] = Some []
-spelled s (k ∷ ks) =
-    option_and_then (before s (slice_get words k) (slice_get (variables s) (k - length words))) (spelled s ks)
+abbrev pub spelling_of : List ℕ → List ℕ → Option (List Tree)
+spelling_of s [] = Some []
+spelling_of s (k ∷ ks) =
+    option_and_then (before s (slice_get words k) (slice_get (variables s) (k - length words))) (spelling_of s ks)
 
 -- the term, where there is one
 abbrev pub only : List Tree → Option Tree
@@ -72,7 +72,7 @@ only (t ∷ u ∷ us) = None
 
 -- the term that a side spells
 abbrev pub spelled_side : List ℕ → Side → Option Tree
-spelled_side s side = option_and_then only (spelled s (take side.length side.codes))
+spelled_side s side = option_and_then only (spelling_of s (take side.length side.codes))
 
 -- the equation that two sides spell at a sort, where each spells one term
 abbrev pub equation_of : List ℕ → Sides → Option Statement

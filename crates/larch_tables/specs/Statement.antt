@@ -13,8 +13,9 @@ abbrev pub is_offered : List ℕ → PlainRow → Bool
 is_offered s row = row.sorted || bytes_eq s bool_sort
 
 -- the equation of the built-in row with a number at a sort, where there is such a row and it is offered there
-abbrev pub offered : ℕ → List ℕ → Option Statement
-offered n s = option_and_then (λ row. if is_offered s row then Some row.given else None) (numbered (built_in_rows s) n)
+abbrev pub offered_row : ℕ → List ℕ → Option Statement
+offered_row n s =
+    option_and_then (λ row. if is_offered s row then Some row.given else None) (numbered (built_in_rows s) n)
 
 -- the statement is an identity
 abbrev pub IsIdentityStatement : Statement → Type 0

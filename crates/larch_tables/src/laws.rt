@@ -6,7 +6,7 @@ ghost use Rattle.larch_term.specs.declared.statement.Theory.{Theory};
 ghost use Rattle.larch_term.specs.declared.substitution.Entry.{Entry};
 ghost use Rattle.larch_calculus.specs.Derivable.{Derivable};
 ghost use Rattle.larch_tables.specs.Row.{PlainRow};
-ghost use Rattle.larch_tables.specs.Statement.{offered, IsIdentityStatement};
+ghost use Rattle.larch_tables.specs.Statement.{offered_row, IsIdentityStatement};
 ghost use Rattle.larch_tables.specs.Tables.{built_in_rows, deduction_rows};
 ghost use Rattle.larch_term.specs.Substitution.{substituted_statement};
 
@@ -24,7 +24,7 @@ pub fn numbers_of_rows()
 pub fn rows_are_identities()
     ensures rows { (s : List ℕ) (n : ℕ) (row : PlainRow) → numbered (built_in_rows s) n ≡ Some row →
         IsIdentityStatement row.given }
-    ensures offered { (s : List ℕ) (n : ℕ) (statement : Statement) → offered n s ≡ Some statement →
+    ensures offered { (s : List ℕ) (n : ℕ) (statement : Statement) → offered_row n s ≡ Some statement →
         IsIdentityStatement statement }
 {}
 

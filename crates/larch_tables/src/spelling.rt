@@ -2,7 +2,7 @@ ghost use Rattle.std.specs.Prelude.{◌≡◌, ◌≤◌, ◌-◌, IfOk, None, l
 ghost use Rattle.std.specs.List.{slice_get};
 ghost use Rattle.larch_term.specs.BuiltIn.{bool_sort};
 ghost use Rattle.larch_term.specs.Tree.{var};
-ghost use Rattle.larch_tables.specs.Spelling.{words, variables, arity, word_before, before, spelled, only};
+ghost use Rattle.larch_tables.specs.Spelling.{words, variables, arity, word_before, before, spelling_of, only};
 ghost use Rattle.larch_tables.specs.Spelling.{spelled_side, equation_of};
 
 use crate::row::{Side, Sides};
@@ -45,7 +45,7 @@ fn spelled_side(alloc: Global, side: &Side, sort: &Sort) -> Result<Option<Term>,
     ensures { IfOk result (λ term. term ≡ spelled_side sort.now side.now) }
 {
     let length = (side.length as usize).min(side.codes.len());
-    let Some(terms) = spelled(alloc, &side.codes[..length], sort)? else {
+    let Some(terms) = spelling_of(alloc, &side.codes[..length], sort)? else {
         return Ok(None);
     };
     Ok(only(terms))
@@ -63,13 +63,13 @@ fn only(terms: Sequence<Term>) -> Option<Term>
 }
 
 // The terms that codes in preorder spell, where they spell any. It goes as deep as there are codes, eight at most.
-fn spelled(alloc: Global, codes: &[u8], sort: &Sort) -> Result<Option<Sequence<Term>>, Memory>
-    ensures { IfOk result (λ terms. terms ≡ spelled sort.now codes.now) }
+fn spelling_of(alloc: Global, codes: &[u8], sort: &Sort) -> Result<Option<Sequence<Term>>, Memory>
+    ensures { IfOk result (λ terms. terms ≡ spelling_of sort.now codes.now) }
 {
     let Some((code, further)) = codes.split_first() else {
         return Ok(Some(Sequence::new(alloc)));
     };
-    let Some(terms) = spelled(alloc, further, sort)? else {
+    let Some(terms) = spelling_of(alloc, further, sort)? else {
         return Ok(None);
     };
     let terms = with_code(alloc, *code, sort, terms)?;
@@ -83,7 +83,7 @@ fn with_code(
     sort: &Sort,
     terms: Sequence<Term>,
 ) -> Result<Option<Sequence<Term>>, Memory>
-    ensures { IfOk result (λ spelled. spelled ≡
+    ensures { IfOk result (λ spelling_of. spelling_of ≡
         before sort.now (slice_get words code) (slice_get (variables sort.now) (code - length words)) terms) }
 {
     if (code as usize) < WORDS.len() {
@@ -105,7 +105,7 @@ fn with_word(
     sort: &Sort,
     terms: Sequence<Term>,
 ) -> Result<Option<Sequence<Term>>, Memory>
-    ensures { IfOk result (λ spelled. spelled ≡ word_before sort.now word terms) }
+    ensures { IfOk result (λ spelling_of. spelling_of ≡ word_before sort.now word terms) }
 {
     let mut arguments = terms.into_vec();
     if arguments.len() < arity(word) {
@@ -137,8 +137,8 @@ fn variable(alloc: Global, code: u8, sort: &Sort) -> Result<Option<Term>, Memory
         10 => truth_value(alloc, b"x")?,
         11 => truth_value(alloc, b"y")?,
         12 => truth_value(alloc, b"z")?,
-        13 => named(alloc, b"a", sort)?,
-        14 => named(alloc, b"b", sort)?,
+        13 => variable_named(alloc, b"a", sort)?,
+        14 => variable_named(alloc, b"b", sort)?,
         _ => return Ok(None),
     };
     Ok(Some(variable))
@@ -149,12 +149,12 @@ fn truth_value(alloc: Global, name: &[u8]) -> Result<Term, Memory>
     ensures { IfOk result (λ variable. variable ≡ var name.now bool_sort) }
 {
     let truth = bool_sort(alloc)?;
-    let variable = named(alloc, name, &truth)?;
+    let variable = variable_named(alloc, name, &truth)?;
     Ok(variable)
 }
 
 // The variable with a name and a sort.
-fn named(alloc: Global, name: &[u8], sort: &Sort) -> Result<Term, Memory>
+fn variable_named(alloc: Global, name: &[u8], sort: &Sort) -> Result<Term, Memory>
     ensures { IfOk result (λ variable. variable ≡ var name.now sort.now) }
 {
     let name = Name::new(alloc, name)?;

@@ -1,6 +1,6 @@
 ghost use Rattle.std.specs.Prelude.{◌≡◌, ◌||◌, bytes_eq, IfOk, IsErrOf, Some, None};
 ghost use Rattle.larch_term.specs.BuiltIn.{bool_sort};
-ghost use Rattle.larch_tables.specs.Statement.{offered, IsIdentityStatement};
+ghost use Rattle.larch_tables.specs.Statement.{offered_row, IsIdentityStatement};
 ghost use Rattle.larch_tables.specs.declared.statement.RowRefusal.TheVariants.{Memory as wants_memory};
 
 use crate::row::Row;
@@ -39,8 +39,8 @@ fn is_offered(row: &Row, sort: &Sort) -> bool
 /// The equation of the built-in row with a number, counted from 1, at a sort. `NoRow` comes exactly where no row has
 /// the number or the row isn't offered at the sort: a row without a sort of its own is offered at Bool alone.
 pub fn row_statement(alloc: Global, number: u32, sort: &Sort) -> Result<Statement, RowRefusal>
-    ensures row { IfOk result (λ statement. offered number sort.now ≡ Some statement) }
-    ensures no_row { IsErrOf result RowRefusal.NoRow → offered number sort.now ≡ None }
+    ensures row { IfOk result (λ statement. offered_row number sort.now ≡ Some statement) }
+    ensures no_row { IsErrOf result RowRefusal.NoRow → offered_row number sort.now ≡ None }
     ensures identity { IfOk result (λ statement. IsIdentityStatement statement) }
 {
     let Some(row) = built_in().row(number) else {

@@ -1,14 +1,17 @@
 -- Built-in operators and the sorts that they are at.
-use Rattle.std.proofs.Common.{◌≡◌, ℕ, ◌-◌, ◌<◌, ◌||◌, Bool, true, false, IsTrue, ◌↔◌, Some, List, [], ◌∷◌, length, get_or, refl, sym, ◌∙◌, ap, arith}
+use Rattle.std.proofs.Common.{◌≡◌, ℕ, ◌-◌, ◌<◌, ◌||◌, Bool, true, false, IsTrue, ◌↔◌, Some, List, [], ◌∷◌, length}
+use Rattle.std.proofs.Common.{get_or, refl, sym, ◌∙◌, ap, arith}
 use Rattle.std.specs.Bool.{Decides}
 use Rattle.std.specs.List.{list_any}
 use Rattle.std.proofs.lemmas.List.Folds.{list_any_at}
 use Rattle.std.proofs.lemmas.Bool.Decides.{same_from_decides}
 use Rattle.larch_term.specs.Operator.{PlainOperator, plain}
 use Rattle.larch_term.specs.BuiltInNames.{built_in_named}
-use Rattle.larch_term.specs.BuiltIn.{built_in, built_in_name, IsBuiltIn, IsBuiltInAs, built_ins, is_built_in, is_built_in_as}
+use Rattle.larch_term.specs.BuiltIn.{built_in, built_in_name, IsBuiltIn, IsBuiltInAs, built_ins, is_built_in}
+use Rattle.larch_term.specs.BuiltIn.{is_built_in_as}
 use Rattle.larch_term.specs.declared.built_in.BuiltIn.{BuiltIn}
-use Rattle.larch_term.specs.declared.built_in.BuiltIn.TheVariants.{True, False, Not, And, Or, Implies, Iff, Equal, Unequal, If}
+use Rattle.larch_term.specs.declared.built_in.BuiltIn.TheVariants.{True, False, Not, And, Or, Implies, Iff, Equal}
+use Rattle.larch_term.specs.declared.built_in.BuiltIn.TheVariants.{Unequal, If}
 use Rattle.larch_term.proofs.Decided.{operator_Decides}
 
 -- the last sort of the domain
@@ -41,7 +44,8 @@ named_built_in Unequal = refl
 named_built_in If = refl
 
 -- a built-in operator is found by its name
-pub is_named : (b : BuiltIn) (f : PlainOperator) (n : List ℕ) → IsBuiltInAs b f → plain n ≡ f.name → built_in_named n ≡ Some b
+pub is_named : (b : BuiltIn) (f : PlainOperator) (n : List ℕ) → IsBuiltInAs b f → plain n ≡ f.name
+    → built_in_named n ≡ Some b
 is_named b f n h e =
     let same : n ≡ built_in_name b = cc (h.1, e) in
     ap built_in_named same ∙ named_built_in b
@@ -68,7 +72,8 @@ empty_is_nil (x ∷ xs) e = absurd (omega arith)
 
 as_Decides : (f : PlainOperator) (b : BuiltIn) → Decides (is_built_in_as f b) (IsBuiltInAs b f)
 as_Decides f b =
-    let d = operator_Decides f (built_in b (last_sort f)) in (λ e. (last_sort f, d.0 e), λ h. d.1 (is_built_in_at_last b f h))
+    let d = operator_Decides f (built_in b (last_sort f)) in
+    (λ e. (last_sort f, d.0 e), λ h. d.1 (is_built_in_at_last b f h))
 
 some_is : (f : PlainOperator) (b : BuiltIn) (bs : List BuiltIn) (r : Bool) → is_built_in_as f b ≡ r
     → (list_any (is_built_in_as f) bs ≡ true → IsBuiltIn f) → (r || list_any (is_built_in_as f) bs) ≡ true → IsBuiltIn f

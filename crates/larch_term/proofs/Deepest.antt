@@ -18,5 +18,7 @@ most_below (t ∷ ts) = omega (arith, most_below ts, size_term t)
 pub most_joined : (μ : Tree → ℕ) (xs ys : List Tree) → most μ (xs ++ ys) ≡ max (most μ xs) (most μ ys)
 most_joined μ xs ys = most-append μ xs ys
 
-pub arguments_fall : (f : PlainOperator) (ts us : List Tree) (t : Tree) → us ≡ ts → app f (forest_of ts) ≡ t → most size-Term us < size-Term t
-arguments_fall f ts us t e p = rw (← p) (rw e (omega (arith, most_below ts, size_term (app f (forest_of ts)), size_terms ts)))
+pub arguments_fall : (f : PlainOperator) (ts us : List Tree) (t : Tree) → us ≡ ts → app f (forest_of ts) ≡ t
+    → most size-Term us < size-Term t
+arguments_fall f ts us t e p =
+    rw (← p) (rw e (omega (arith, most_below ts, size_term (app f (forest_of ts)), size_terms ts)))

@@ -9,7 +9,8 @@ use Rattle.larch_term.specs.Tree.{Tree, var, app, none, more, forest_of}
 use Rattle.larch_term.specs.Truth.{truth, is_true, is_truth}
 use Rattle.larch_term.specs.declared.built_in.BuiltIn.TheVariants.{True}
 
-pub not_truth : (f : PlainOperator) (ts : List Tree) → (length ts == 0) ≡ false → is_truth (app f (forest_of ts)) ≡ false
+pub not_truth : (f : PlainOperator) (ts : List Tree) → (length ts == 0) ≡ false
+    → is_truth (app f (forest_of ts)) ≡ false
 not_truth f [] h = cc
 not_truth f (t ∷ ts) h = refl
 
@@ -23,7 +24,8 @@ named_true (boxed b k) e = cc
 
 is_true_one : (f : PlainOperator) → is_true f ≡ true → f ≡ built_in True bool_sort
 is_true_one f e =
-    let p = both_true (bytes_eq (name_bytes f.name) (codes "true")) ((length f.domain == 0) && bytes_eq f.range bool_sort) e in
+    let p = both_true (bytes_eq (name_bytes f.name) (codes "true"))
+    ((length f.domain == 0) && bytes_eq f.range bool_sort) e in
     let q = both_true (length f.domain == 0) (bytes_eq f.range bool_sort) p.1 in
     let n = named_true f.name p.0 in
     let d = no_sorts f.domain q.0 in
@@ -33,5 +35,6 @@ is_true_one f e =
 -- the test tells exactly what is the constant true
 pub is_truth_Decides : (t : Tree) → Decides (is_truth t) (t ≡ truth)
 is_truth_Decides (var n s) = (λ e. cc, λ e. cc)
-is_truth_Decides (app f none) = (λ e i. app (is_true_one f e i) none, λ e. let i : f ≡ built_in True bool_sort = cc in rw i refl)
+is_truth_Decides (app f none) =
+    (λ e i. app (is_true_one f e i) none, λ e. let i : f ≡ built_in True bool_sort = cc in rw i refl)
 is_truth_Decides (app f (more t ts)) = (λ e. cc, λ e. cc)

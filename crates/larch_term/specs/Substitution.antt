@@ -24,17 +24,17 @@ image (e ∷ es) n s = if is_entry_of n s e then e.term else image es n s
 
 abbrev mutual
   -- the term with all variables replaced at once
-  pub substituted : List Entry → Tree → Tree
-  substituted es (var n s) = image es n s
-  substituted es (app f ts) = app f (substituted_all es ts)
+  pub instance_of : List Entry → Tree → Tree
+  instance_of es (var n s) = image es n s
+  instance_of es (app f ts) = app f (substituted_all es ts)
 
   pub substituted_all : List Entry → Forest → Forest
   substituted_all es none = none
-  substituted_all es (more t ts) = more (substituted es t) (substituted_all es ts)
+  substituted_all es (more t ts) = more (instance_of es t) (substituted_all es ts)
 
 -- the statement with all variables replaced at once, where it is an equation; the others have none
 abbrev pub substituted_statement : List Entry → Statement → Statement
-substituted_statement es (Equation l r) = Equation (substituted es l) (substituted es r)
+substituted_statement es (Equation l r) = Equation (instance_of es l) (instance_of es r)
 substituted_statement es (Generated s fs) = Generated s fs
 substituted_statement es (Partitioned s fs) = Partitioned s fs
 
@@ -43,5 +43,5 @@ abbrev pub Fits : List Entry → Type 0
 Fits es = All (λ e. WellSorted e.term × (sort_of e.term ≡ e.sort)) es
 
 -- the substitution that does what the second does and then what the first does
-abbrev pub composed : List Entry → List Entry → List Entry
-composed es ds = map (λ d. record { name = d.name; sort = d.sort; term = substituted es d.term }) ds ++ es
+abbrev pub compose : List Entry → List Entry → List Entry
+compose es ds = map (λ d. record { name = d.name; sort = d.sort; term = instance_of es d.term }) ds ++ es

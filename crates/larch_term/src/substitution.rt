@@ -1,6 +1,6 @@
 ghost use Rattle.std.specs.Prelude.{◌≡◌, ◌++◌, ◌∷◌, [], IfOk, OnOk, OnErr, false, map};
 ghost use Rattle.std.specs.List.{list_any};
-ghost use Rattle.larch_term.specs.Substitution.{is_entry_of, image, substituted};
+ghost use Rattle.larch_term.specs.Substitution.{is_entry_of, image, instance_of};
 
 use crate::copying::{copy, copy_variable};
 use crate::operator::Sort;
@@ -75,7 +75,7 @@ impl Substitution {
 
 /// The term with all variables replaced at once.
 pub fn substitute(alloc: Global, term: &Term, by: &Substitution) -> Result<Term, Memory>
-    ensures { IfOk result (λ t. t ≡ substituted by.now term.now) }
+    ensures { IfOk result (λ t. t ≡ instance_of by.now term.now) }
 {
     let substituted = substitute_by(alloc, term, by.as_slice())?;
     Ok(substituted)
@@ -84,7 +84,7 @@ pub fn substitute(alloc: Global, term: &Term, by: &Substitution) -> Result<Term,
 #[cycle(substitute)]
 #[tactic(auto, using(crate::proofs::TreeLists::substituted_all_forest))]
 fn substitute_by(alloc: Global, term: &Term, by: &[Entry]) -> Result<Term, Memory>
-    ensures { IfOk result (λ t. t ≡ substituted by.now term.now) }
+    ensures { IfOk result (λ t. t ≡ instance_of by.now term.now) }
 {
     match &term.node {
         Node::Var(name, sort) => {
@@ -101,7 +101,7 @@ fn substitute_by(alloc: Global, term: &Term, by: &[Entry]) -> Result<Term, Memor
 
 #[cycle(substitute)]
 fn substitute_all(alloc: Global, terms: &Terms, by: &[Entry]) -> Result<Terms, Memory>
-    ensures { IfOk result (λ ts. ts ≡ map (substituted by.now) terms.now) }
+    ensures { IfOk result (λ ts. ts ≡ map (instance_of by.now) terms.now) }
 {
     let mut items = Vec::with_capacity(alloc, terms.items.len())?;
     for term in &terms.items {

@@ -21,7 +21,7 @@ pub fn task_of(words: &[String]) -> Option<Task> {
         return None;
     }
     Some(Task {
-        shape: Shape::named(shape.as_bytes())?,
+        shape: Shape::shape_named(shape.as_bytes())?,
         way: way_named(way.as_bytes())?,
         size: size.parse::<u64>().ok()?,
         count: count.parse::<u64>().ok()?,

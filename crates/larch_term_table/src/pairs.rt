@@ -1,7 +1,7 @@
 use crate::writing::{put_count, put_pairs, put_unifier};
 use larch_base::{Bytes, Memory};
-use larch_critical_pairs::{Pairs, Rule, critical_pairs};
 use larch_pairs::{PairRefusal, unify};
+use larch_pairs_critical::{Pairs, Rule, critical_pairs};
 use larch_term::{Substitution, Term};
 use std::alloc::Global;
 

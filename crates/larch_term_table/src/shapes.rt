@@ -31,7 +31,7 @@ pub struct Pair {
 
 impl Shape {
     /// The shape with a name.
-    pub fn named(name: &[u8]) -> Option<Shape> {
+    pub fn shape_named(name: &[u8]) -> Option<Shape> {
         match name {
             b"chains" => Some(Shape::Chains),
             b"trees" => Some(Shape::Trees),
@@ -228,12 +228,12 @@ fn variable(alloc: Global, name: &[u8]) -> Result<Term, Memory> {
 
 fn one(alloc: Global, argument: Term) -> Result<Term, Memory> {
     let arguments = alone(alloc, argument)?;
-    applied(alloc, b"f", arguments)
+    apply_form(alloc, b"f", arguments)
 }
 
 fn two(alloc: Global, form: &[u8], first: Term, second: Term) -> Result<Term, Memory> {
     let arguments = both(alloc, first, second)?;
-    applied(alloc, form, arguments)
+    apply_form(alloc, form, arguments)
 }
 
 fn alone(alloc: Global, argument: Term) -> Result<Terms, Memory> {
@@ -250,7 +250,7 @@ fn both(alloc: Global, first: Term, second: Term) -> Result<Terms, Memory> {
 }
 
 // An operator over N with these arguments.
-fn applied(alloc: Global, form: &[u8], arguments: Terms) -> Result<Term, Memory> {
+fn apply_form(alloc: Global, form: &[u8], arguments: Terms) -> Result<Term, Memory> {
     match operator(alloc, form, arguments.as_slice().len() as u64) {
         Ok(operator) => Ok(Term::app(operator, arguments)),
         Err(memory) => Err(let_go(memory, arguments)),

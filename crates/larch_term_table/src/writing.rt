@@ -1,5 +1,5 @@
 use larch_base::{Bytes, Memory, Name};
-use larch_critical_pairs::Pair;
+use larch_pairs_critical::Pair;
 use larch_term::{Node, Sort, Substitution, Term, size};
 use std::alloc::Global;
 

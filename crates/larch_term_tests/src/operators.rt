@@ -1,6 +1,6 @@
 use crate::making::operator_from;
 use larch_base::{Memory, Name, Sequence};
-use larch_operators::{SortSet, existing_sorts, push_built_ins};
+use larch_sorts_known::{SortSet, existing_sorts, push_built_ins};
 use larch_term::{Operators, Sort};
 use std::alloc::Global;
 

@@ -6,7 +6,11 @@ use std::alloc::Global;
 use std::test::Fail;
 
 // How many bindings make two terms one, and the nodes of the left one under them.
-fn unified(alloc: Global, left: &Term, right: &Term) -> Result<Option<(usize, u64)>, PairRefusal> {
+fn unify_sizes(
+    alloc: Global,
+    left: &Term,
+    right: &Term,
+) -> Result<Option<(usize, u64)>, PairRefusal> {
     let Some(unifier) = unify(alloc, left, right)? else {
         return Ok(None);
     };
@@ -18,7 +22,7 @@ fn unified(alloc: Global, left: &Term, right: &Term) -> Result<Option<(usize, u6
 fn binds_a_variable(rt: HostRuntime) -> Result<(), Fail> {
     let left = chain(rt.alloc(), b"f", b"x", 1)?;
     let right = chain(rt.alloc(), b"f", b"y", 2)?;
-    assert_eq!(rt; unified(rt.alloc(), &left, &right), Ok(Some((1, 3))));
+    assert_eq!(rt; unify_sizes(rt.alloc(), &left, &right), Ok(Some((1, 3))));
     Ok(())
 }
 
@@ -26,7 +30,7 @@ fn binds_a_variable(rt: HostRuntime) -> Result<(), Fail> {
 fn finds_no_unifier(rt: HostRuntime) -> Result<(), Fail> {
     let left = variable(rt.alloc(), b"x")?;
     let right = chain(rt.alloc(), b"f", b"x", 1)?;
-    assert_eq!(rt; unified(rt.alloc(), &left, &right), Ok(None));
+    assert_eq!(rt; unify_sizes(rt.alloc(), &left, &right), Ok(None));
     Ok(())
 }
 

@@ -1,7 +1,7 @@
 use crate::making::{chain, operator, variable};
 use larch_base::{Memory, Name};
-use larch_pool::{
-    Binding, Numbers, Pool, SortList, Symbol, SymbolName, are_bindings, free_constants,
+use larch_verify_pool::{
+    NodeNumbers, Pool, PoolBinding, PoolSymbol, SortList, SymbolName, are_bindings, free_constants,
     intern_operator, intern_term, replace_at, substitute,
 };
 use std::alloc::Global;
@@ -19,9 +19,9 @@ fn next_in(alloc: Global, pool: &mut Pool, name: &[u8]) -> Result<u32, Memory> {
 }
 
 // An operator with arguments, if it and they are in the pool.
-fn applied(pool: &mut Pool, operator: u32, arguments: Vec<u32>) -> Result<u32, Memory> {
+fn apply_operator(pool: &mut Pool, operator: u32, arguments: Vec<u32>) -> Result<u32, Memory> {
     if (operator as usize) < pool.operator_count() && pool.are_within(&arguments) {
-        return pool.apply(operator, Numbers::from_vec(arguments));
+        return pool.apply(operator, NodeNumbers::from_vec(arguments));
     }
     Err(Memory)
 }
@@ -29,12 +29,12 @@ fn applied(pool: &mut Pool, operator: u32, arguments: Vec<u32>) -> Result<u32, M
 // The first constant of the box of line 7.
 fn constant(alloc: Global, pool: &mut Pool) -> Result<u32, Memory> {
     let range = Name::new(alloc, b"N")?;
-    let constant = pool.operator(Symbol {
+    let constant = pool.operator(PoolSymbol {
         name: SymbolName::Boxed(7, 1),
         domain: SortList::from_vec(Vec::new(alloc)),
         range,
     })?;
-    applied(pool, constant, Vec::new(alloc))
+    apply_operator(pool, constant, Vec::new(alloc))
 }
 
 // Its successor.
@@ -43,7 +43,7 @@ fn next_constant(alloc: Global, pool: &mut Pool) -> Result<u32, Memory> {
     arguments.push(constant(alloc, pool)?)?;
     let successor = operator(alloc, b"s", 1)?;
     let successor = intern_operator(alloc, pool, &successor)?;
-    applied(pool, successor, arguments)
+    apply_operator(pool, successor, arguments)
 }
 
 #[test]
@@ -57,11 +57,11 @@ fn keeps_equal_terms_once(rt: HostRuntime) -> Result<(), Memory> {
 }
 
 // s(x) with a term for x.
-fn substituted(alloc: Global, pool: &mut Pool, image: u32) -> Result<u32, Memory> {
+fn substitute_image(alloc: Global, pool: &mut Pool, image: u32) -> Result<u32, Memory> {
     let variable = variable_in(alloc, pool, b"x")?;
     let term = next_in(alloc, pool, b"x")?;
     let mut by = Vec::new(alloc);
-    by.push(Binding { variable, image })?;
+    by.push(PoolBinding { variable, image })?;
     if (term as usize) < pool.len() && are_bindings(pool, &by) {
         return substitute(alloc, pool, term, &by);
     }
@@ -72,19 +72,19 @@ fn substituted(alloc: Global, pool: &mut Pool, image: u32) -> Result<u32, Memory
 fn replaces_a_variable(rt: HostRuntime) -> Result<(), Memory> {
     let mut pool = Pool::new(rt.alloc());
     let y = variable_in(rt.alloc(), &mut pool, b"y")?;
-    let made = substituted(rt.alloc(), &mut pool, y)?;
+    let made = substitute_image(rt.alloc(), &mut pool, y)?;
     let expected = next_in(rt.alloc(), &mut pool, b"y")?;
     assert_eq!(rt; made, expected);
     Ok(())
 }
 
 // The successor of the constant with a term for the constant.
-fn freed(alloc: Global, pool: &mut Pool, image: u32) -> Result<u32, Memory> {
+fn free_constant(alloc: Global, pool: &mut Pool, image: u32) -> Result<u32, Memory> {
     let term = next_constant(alloc, pool)?;
     let mut images = Vec::new(alloc);
     images.push(image)?;
     if (term as usize) < pool.len() && pool.are_within(&images) {
-        return free_constants(alloc, pool, term, 7, 1, Numbers::from_vec(images));
+        return free_constants(alloc, pool, term, 7, 1, NodeNumbers::from_vec(images));
     }
     Err(Memory)
 }
@@ -93,7 +93,7 @@ fn freed(alloc: Global, pool: &mut Pool, image: u32) -> Result<u32, Memory> {
 fn frees_a_constant(rt: HostRuntime) -> Result<(), Memory> {
     let mut pool = Pool::new(rt.alloc());
     let x = variable_in(rt.alloc(), &mut pool, b"x")?;
-    let made = freed(rt.alloc(), &mut pool, x)?;
+    let made = free_constant(rt.alloc(), &mut pool, x)?;
     let expected = next_in(rt.alloc(), &mut pool, b"x")?;
     assert_eq!(rt; made, expected);
     Ok(())

@@ -1,4 +1,4 @@
-use crate::making::{applied, chain, two, variable};
+use crate::making::{apply_form, chain, two, variable};
 use larch_base::Memory;
 use larch_store::{Store, StoreRefusal};
 use larch_term::{Term, same_term};
@@ -6,7 +6,7 @@ use std::alloc::Global;
 use std::test::Fail;
 
 // g(f(f(x)), f(x))
-fn mixed(alloc: Global) -> Result<Term, Memory> {
+fn mixed_term(alloc: Global) -> Result<Term, Memory> {
     let left = chain(alloc, b"f", b"x", 2)?;
     let right = chain(alloc, b"f", b"x", 1)?;
     two(alloc, b"g", left, right)
@@ -26,7 +26,7 @@ fn number_of(store: &mut Store, term: &Term) -> Result<u64, StoreRefusal> {
 
 #[test]
 fn gives_terms_back(rt: HostRuntime) -> Result<(), Fail> {
-    let term = mixed(rt.alloc())?;
+    let term = mixed_term(rt.alloc())?;
     let mut store = Store::new(rt.alloc())?;
     let (read, size) = given_back(&mut store, &term)?;
     assert!(rt; same_term(&read, &term));
@@ -69,7 +69,7 @@ fn wide(alloc: Global, arguments: usize) -> Result<Term, Memory> {
         let x = variable(alloc, b"x")?;
         terms.push(x)?;
     }
-    applied(alloc, b"h", terms)
+    apply_form(alloc, b"h", terms)
 }
 
 #[test]

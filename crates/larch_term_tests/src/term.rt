@@ -1,4 +1,4 @@
-use crate::making::{chain, formula, generated, joined, operators, variable};
+use crate::making::{binary_operator, chain, formula, naturals_generated, operators, variable};
 use larch_base::{Memory, Name, Sequence};
 use larch_term::{
     ReplaceRefusal, Statement, Statements, Substitution, Term, Theory, at, copy, copy_theory,
@@ -27,9 +27,9 @@ fn exchanged(alloc: Global, term: &Term) -> Result<Term, Memory> {
 
 #[test]
 fn substitutes_at_once(rt: HostRuntime) -> Result<(), Memory> {
-    let difference = joined(rt.alloc(), b"__ - __", b"x", b"y")?;
+    let difference = binary_operator(rt.alloc(), b"__ - __", b"x", b"y")?;
     let exchanged = exchanged(rt.alloc(), &difference)?;
-    let expected = joined(rt.alloc(), b"__ - __", b"y", b"x")?;
+    let expected = binary_operator(rt.alloc(), b"__ - __", b"y", b"x")?;
     assert!(rt; same_term(&exchanged, &expected));
     Ok(())
 }
@@ -72,7 +72,7 @@ fn replaces_and_finds(rt: HostRuntime) -> Result<(), ReplaceRefusal> {
 
 #[test]
 fn lists_variables_once(rt: HostRuntime) -> Result<(), Memory> {
-    let difference = joined(rt.alloc(), b"__ - __", b"x", b"x")?;
+    let difference = binary_operator(rt.alloc(), b"__ - __", b"x", b"x")?;
     let found = variables(rt.alloc(), &difference)?;
     assert_eq!(rt; found.as_slice().len(), 1);
     Ok(())
@@ -82,7 +82,7 @@ fn lists_variables_once(rt: HostRuntime) -> Result<(), Memory> {
 fn statements(alloc: Global) -> Result<Statements, Memory> {
     let mut statements = Sequence::new(alloc);
     push(&mut statements, formula(alloc))?;
-    push(&mut statements, generated(alloc))?;
+    push(&mut statements, naturals_generated(alloc))?;
     push(&mut statements, partitioned(alloc))?;
     Ok(statements)
 }

@@ -197,7 +197,7 @@ fn looks_for_the_certificate_first(rt: HostRuntime) -> Result<(), Fail> {
     let (status, sink) = called(&rt, &words, &[2])?;
     assert_eq!(rt; status, Status::NoFile);
     assert_eq!(rt; sink.bytes(), b"no file No.cert\n".as_slice());
-    let (status, _) = called(&rt, &words, &[1])?;
+    let (status, _) = call_status(&rt, &words, &[1])?;
     assert_eq!(rt; status, Status::ReadFault);
     Ok(())
 }

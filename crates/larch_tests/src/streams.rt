@@ -19,7 +19,7 @@ const CUT_OUTPUT: &[u8] =
     b"total 0 traits, 0 errors, 0 proved, 0 suspended, 0 refused\nend\nmalformed at byte 7\n";
 
 // The status of a session over these streams, its steps being counted in a ledger of their own.
-fn counted<L: Ledger>(
+fn session_status<L: Ledger>(
     rt: &HostRuntime,
     blank: Blank,
     words: &[String],
@@ -42,7 +42,7 @@ fn status_of(
     source: &mut MemorySource,
     sink: &mut MemorySink,
 ) -> Status {
-    counted::<Brand>(rt, Blank::new(1), words, source, sink)
+    session_status::<Brand>(rt, Blank::new(1), words, source, sink)
 }
 
 fn word(alloc: Global, text: &str) -> Result<Vec<String>, Memory> {

@@ -1,9 +1,9 @@
 use crate::making::text_of;
 use larch_base::{Bytes, Memory, Name};
 use larch_io::{
-    CleanFolder, CleanSink, CleanSource, Folder, FolderRefusal, Line, MemorySink, MemorySource,
-    Reader, Source, StandardInput, StandardOutput, TakeRefusal, WriteRefusal, put_all, take_exact,
-    take_line,
+    CleanFolder, CleanSink, CleanSource, Folder, FolderRefusal, MemorySink, MemorySource, Reader,
+    Source, StandardInput, StandardOutput, TakeRefusal, TextLine, WriteRefusal, put_all,
+    take_exact, take_line,
 };
 use std::alloc::Global;
 use std::test::Fail;
@@ -93,7 +93,7 @@ fn bytes_and_line<S: Source>(
     alloc: Global,
     reader: &mut Reader,
     source: &mut S,
-) -> Result<(Bytes, Line), TakeRefusal> {
+) -> Result<(Bytes, TextLine), TakeRefusal> {
     let bytes = take_exact(alloc, reader, source, 6)?;
     let line = take_line(alloc, reader, source)?;
     Ok((bytes, line))

@@ -1,6 +1,6 @@
 use larch_base::Memory;
-use larch_commands::{Script, same_commands};
 use larch_script::read_script;
+use larch_script_commands::{Script, same_commands};
 use std::alloc::Global;
 
 // A script with a preamble and two blocks whose commands stand on other lines.

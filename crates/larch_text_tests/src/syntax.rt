@@ -159,7 +159,7 @@ const REFERENCES: [(&str, u32); 8] = [
 ];
 
 // The code and the column of a refusal.
-fn told(refusal: SyntaxRefusal) -> (&'static str, u32) {
+fn code_and_column(refusal: SyntaxRefusal) -> (&'static str, u32) {
     match refusal {
         SyntaxRefusal::Syntax(pos) => ("SYNTAX", pos.column),
         SyntaxRefusal::Mixed(pos) => ("MIXED", pos.column),
@@ -178,18 +178,18 @@ fn tokens_of(alloc: Global, text: &[u8]) -> Option<Tokens> {
 }
 
 // How a text is refused as a trait; an empty code for a trait, and nothing where it has no tokens.
-fn read(alloc: Global, text: &[u8]) -> Option<(&'static str, u32)> {
+fn trait_refusal(alloc: Global, text: &[u8]) -> Option<(&'static str, u32)> {
     let tokens = tokens_of(alloc, text)?;
     match read_trait(alloc, &tokens) {
         Ok(raw) => Some(let_go(("", 0), raw)),
-        Err(refusal) => Some(told(refusal)),
+        Err(refusal) => Some(code_and_column(refusal)),
     }
 }
 
 #[test]
 fn refuses_at_the_first_wrong_token(rt: HostRuntime) {
     for (text, code, column) in &NEAR_MISSES {
-        let answer = read(rt.alloc(), text.as_bytes());
+        let answer = trait_refusal(rt.alloc(), text.as_bytes());
         assert!(rt; answer == Some((*code, *column)), "{text}: {answer:?}");
     }
 }
@@ -197,7 +197,7 @@ fn refuses_at_the_first_wrong_token(rt: HostRuntime) {
 #[test]
 fn refuses_a_wrong_composition(rt: HostRuntime) {
     for (text, code, column) in &WRONG_COMPOSITION {
-        let answer = read(rt.alloc(), text.as_bytes());
+        let answer = trait_refusal(rt.alloc(), text.as_bytes());
         assert!(rt; answer == Some((*code, *column)), "{text}: {answer:?}");
     }
 }
@@ -205,7 +205,7 @@ fn refuses_a_wrong_composition(rt: HostRuntime) {
 #[test]
 fn refuses_a_wrong_claim(rt: HostRuntime) {
     for (text, code, column) in &WRONG_CLAIMS {
-        let answer = read(rt.alloc(), text.as_bytes());
+        let answer = trait_refusal(rt.alloc(), text.as_bytes());
         assert!(rt; answer == Some((*code, *column)), "{text}: {answer:?}");
     }
 }
@@ -246,7 +246,7 @@ fn reads_the_reference_at_the_front(rt: HostRuntime) {
 }
 
 // How a trait is refused whose equation is `x`, with this before it and that behind it so many times.
-fn repeated(
+fn refusal_of_repeat(
     alloc: Global,
     before: &[u8],
     behind: &[u8],
@@ -254,7 +254,7 @@ fn repeated(
 ) -> Option<(&'static str, u32)> {
     let mut text = Bytes::new(alloc);
     write_repeated(&mut text, before, behind, times).ok()?;
-    read(alloc, text.bytes())
+    trait_refusal(alloc, text.bytes())
 }
 
 // Writes such a trait.
@@ -277,22 +277,22 @@ fn write_repeated(
 
 #[test]
 fn nests_two_hundred_deep(rt: HostRuntime) {
-    let answer = repeated(rt.alloc(), b"(", b")", 200);
+    let answer = refusal_of_repeat(rt.alloc(), b"(", b")", 200);
     assert!(rt; answer == Some(("", 0)), "200 parentheses: {answer:?}");
-    let answer = repeated(rt.alloc(), b"(", b")", 201);
+    let answer = refusal_of_repeat(rt.alloc(), b"(", b")", 201);
     assert!(rt;
         answer == Some(("DEEP", 219)),
         "201 parentheses: {answer:?}"
     );
-    let answer = repeated(rt.alloc(), b"if a then b else ", b"", 201);
+    let answer = refusal_of_repeat(rt.alloc(), b"if a then b else ", b"", 201);
     assert!(rt; answer == Some(("DEEP", 3419)), "201 times if: {answer:?}");
 }
 
 #[test]
 fn takes_five_thousand_head_tokens(rt: HostRuntime) {
-    let answer = repeated(rt.alloc(), b"-", b"", 1);
+    let answer = refusal_of_repeat(rt.alloc(), b"-", b"", 1);
     assert!(rt; answer == Some(("", 0)), "one symbol: {answer:?}");
-    let answer = repeated(rt.alloc(), b"- ", b"", 5000);
+    let answer = refusal_of_repeat(rt.alloc(), b"- ", b"", 5000);
     assert!(rt;
         answer == Some(("SIZE", 10019)),
         "5,001 head tokens: {answer:?}"

@@ -1,23 +1,23 @@
 -- What is read of the trait files of a session.
 use Rattle.std.specs.Prelude.{ℕ, if◌then◌else◌, fold, List, [], Option, Some, None, Result}
 use Rattle.std.specs.Result.{result_map_both}
-use Rattle.larch_base.specs.FileNames.{is_trait_file, stem_of}
+use Rattle.larch_base.specs.FileName.{is_trait_file, stem_of}
 use Rattle.larch_base.specs.declared.code.Code.TheVariants.{Lex}
 use Rattle.larch_base.specs.declared.fault.Fault.{Fault}
-use Rattle.larch_lexer.specs.Lexing.{lexed}
+use Rattle.larch_lexer.specs.Lexing.{lexing_of}
 use Rattle.larch_lexer.specs.TokenList.{TokenList}
 use Rattle.larch_raw.specs.declared.equation.RawTrait.{RawTrait}
 use Rattle.larch_syntax.specs.Read.{trait_of}
-use Rattle.larch_items.specs.Steps.{after}
-use Rattle.larch_flat.specs.Flat.{FlatTrait}
-use Rattle.larch_flat.specs.Stops.{Stop}
-use Rattle.larch_sources.specs.Sources.{Table as Sources, put_text}
-use Rattle.larch_flatten.specs.Parts.{flat_trait}
+use Rattle.larch_traits_items.specs.Steps.{after}
+use Rattle.larch_flat_meaning.specs.Flat.{FlatTrait}
+use Rattle.larch_flat_meaning.specs.Stops.{Stop}
+use Rattle.larch_flat_sources.specs.Sources.{Table as Sources, put_text}
+use Rattle.larch_flat.specs.Parts.{flat_trait}
 use Rattle.larch_traits.specs.Files.{Table, names_of, text_of}
 
 -- the tokens of a text, or the first byte that begins none
 abbrev pub tokens_of : List ℕ → Result TokenList Fault
-tokens_of text = result_map_both (λ tokens. tokens) (λ pos. record { pos = pos; code = Lex }) (lexed text)
+tokens_of text = result_map_both (λ tokens. tokens) (λ pos. record { pos = pos; code = Lex }) (lexing_of text)
 
 -- the trait that a text is as it is written, or what is wrong with it first: a byte, or else its grammar
 abbrev pub read_text : List ℕ → Result RawTrait Fault

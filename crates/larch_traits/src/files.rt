@@ -11,11 +11,11 @@ use std::marker::Model;
 
 /// The bytes of a file, of which there aren't too many. Contracts see it as its bytes.
 #[derive(Debug, Drop)]
-pub struct Text {
+pub struct FileText {
     bytes: Bytes,
 }
 
-impl Model for Text {
+impl Model for FileText {
     ghost use Rattle.std.specs.Prelude.{List, ℕ, ◌≤◌, length};
     ghost use Rattle.larch_base.specs.declared.limits.TheConstants.{MAX_FILE_BYTES};
 
@@ -26,7 +26,7 @@ impl Model for Text {
     ghost invariant = { λ text. length text.bytes ≤ MAX_FILE_BYTES };
 }
 
-impl Text {
+impl FileText {
     fn bytes(&self) -> &[u8]
         ensures same { result.now ≡ self.now }
         ensures short { length result.now ≤ MAX_FILE_BYTES }
@@ -39,7 +39,7 @@ impl Text {
 /// names.
 #[derive(Drop)]
 pub struct Files {
-    map: BTreeMap<FileName, Text>,
+    map: BTreeMap<FileName, FileText>,
 }
 
 impl Model for Files {
@@ -86,7 +86,7 @@ impl Files {
     }
 
     /// The names, in byte order.
-    pub fn names(&self) -> Keys<'_, FileName, Text>
+    pub fn names(&self) -> Keys<'_, FileName, FileText>
         ensures { result ≡ names_of self.now }
     {
         self.map.keys()
@@ -98,7 +98,7 @@ impl Files {
         ensures ok { OnOk result (self.new ≡ put_file self.old name text) }
         ensures err { OnErr result (self.new ≡ self.old) }
     {
-        self.map.insert(name, Text { bytes: text })?;
+        self.map.insert(name, FileText { bytes: text })?;
         Ok(())
     }
 

@@ -1,10 +1,10 @@
 //! What holds of the flat traits of all trait files, for crates above to cite. No function here does anything.
 ghost use Rattle.std.specs.Prelude.{◌≡◌, ℕ, List, All, Ok};
 ghost use Rattle.larch_sorts_meaning.specs.Laws.{OperatorSorts, StatementSorts, StatementVariables};
-ghost use Rattle.larch_items.specs.Laws.{IsWord};
+ghost use Rattle.larch_traits_items.specs.Laws.{IsWord};
 ghost use Rattle.larch_term.specs.Statement.{IsTheory};
-ghost use Rattle.larch_flat.specs.Flat.{FlatTrait, theory_of};
-ghost use Rattle.larch_flat.specs.Laws.{IsStatedOver, IsTold};
+ghost use Rattle.larch_flat_meaning.specs.Flat.{FlatTrait, theory_of};
+ghost use Rattle.larch_flat_meaning.specs.Laws.{IsStatedOver, IsTold};
 ghost use Rattle.larch_traits.specs.Files.{Table};
 ghost use Rattle.larch_traits.specs.Reading.{flat_of};
 

@@ -6,5 +6,5 @@ pub mod laws;
 mod reading;
 
 pub use files::Files;
-pub use larch_items::TraitRefusal;
+pub use larch_traits_items::TraitRefusal;
 pub use reading::{read_files, read_text};

@@ -1,16 +1,16 @@
 ghost use Rattle.std.specs.Prelude.{◌≡◌, ◌≤◌, length, IfOk, OnOk, Some};
 ghost use Rattle.larch_base.specs.Answering.{Answers};
 ghost use Rattle.larch_base.specs.declared.limits.TheConstants.{MAX_FILE_BYTES};
-ghost use Rattle.larch_items.specs.Refusals.{told};
+ghost use Rattle.larch_traits_items.specs.Refusal.{cause};
 ghost use Rattle.larch_syntax.specs.Read.{trait_of};
 ghost use Rattle.larch_traits.specs.Reading.{read_files, read_text, with_file};
 
 use crate::files::Files;
 use larch_base::{Code, Fault, FileName, Memory, Name};
-use larch_items::TraitRefusal;
+use larch_flat_sources::Sources;
 use larch_lexer::{LexRefusal, Tokens, lex_lsl};
-use larch_sources::Sources;
 use larch_syntax::{RawTrait, SyntaxRefusal, read_trait};
+use larch_traits_items::TraitRefusal;
 use std::alloc::Global;
 
 /// What is read of the trait files, by their stems. It takes as long as their texts are.
@@ -52,7 +52,7 @@ fn read_file(
 /// MIXED, DEEP or SIZE, as the grammar has it.
 pub fn read_text(alloc: Global, text: &[u8]) -> Result<RawTrait, TraitRefusal>
     requires { length text.now ≤ MAX_FILE_BYTES }
-    ensures { Answers told result (read_text text.now) }
+    ensures { Answers cause result (read_text text.now) }
 {
     match lex_lsl(alloc, text) {
         Ok(tokens) => read_tokens(alloc, &tokens),
@@ -62,7 +62,7 @@ pub fn read_text(alloc: Global, text: &[u8]) -> Result<RawTrait, TraitRefusal>
 }
 
 fn read_tokens(alloc: Global, tokens: &Tokens) -> Result<RawTrait, TraitRefusal>
-    ensures { Answers told result (trait_of tokens.now) }
+    ensures { Answers cause result (trait_of tokens.now) }
 {
     match read_trait(alloc, tokens) {
         Ok(raw) => Ok(raw),

@@ -1,9 +1,9 @@
 use crate::making::sources;
 use larch_base::Bytes;
 use larch_duties::{duties_of, find_duty, list_trait};
-use larch_flatten::flatten;
-use larch_items::TraitRefusal;
-use larch_sources::Sources;
+use larch_flat::flatten;
+use larch_flat_sources::Sources;
+use larch_traits_items::TraitRefusal;
 use std::alloc::Global;
 use std::test::Fail;
 
@@ -16,7 +16,7 @@ fn claiming(alloc: Global) -> Result<Sources, Fail> {
 }
 
 // What is written of the first trait.
-fn listed(alloc: Global, sources: &Sources) -> Result<Bytes, TraitRefusal> {
+fn listing_of(alloc: Global, sources: &Sources) -> Result<Bytes, TraitRefusal> {
     if sources.len() == 0 {
         return Err(TraitRefusal::Memory);
     }
@@ -39,7 +39,7 @@ fn has_duty(alloc: Global, sources: &Sources, label: &[u8]) -> Result<bool, Trai
 #[test]
 fn lists_a_claim(rt: HostRuntime) -> Result<(), Fail> {
     let sources = claiming(rt.alloc())?;
-    let text = listed(rt.alloc(), &sources)?;
+    let text = listing_of(rt.alloc(), &sources)?;
     assert_eq!(rt; text.bytes(), b"op c: -> S\nimply.1 c == c\n".as_slice());
     Ok(())
 }

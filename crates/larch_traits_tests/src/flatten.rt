@@ -1,6 +1,6 @@
 use crate::making::{at, sources};
 use larch_base::{Code, Fault};
-use larch_flatten::flatten;
+use larch_flat::flatten;
 use std::alloc::Global;
 use std::test::Fail;
 

@@ -1,9 +1,9 @@
 use larch_base::{Bytes, Code, FileName, Pos};
-use larch_items::{TraitRefusal, present};
+use larch_flat_sources::Sources;
 use larch_raw::RawTrait;
-use larch_sources::Sources;
 use larch_term::Theory;
 use larch_traits::{Files, read_files, read_text};
+use larch_traits_items::{TraitRefusal, present};
 use std::alloc::Global;
 use std::test::Fail;
 

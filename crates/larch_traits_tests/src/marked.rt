@@ -1,5 +1,5 @@
 use crate::making::theory;
-use larch_marked::{MarkedStatements, new_among};
+use larch_flat_statements::{MarkedStatements, new_among};
 use std::alloc::Global;
 use std::test::Fail;
 

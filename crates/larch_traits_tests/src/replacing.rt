@@ -1,10 +1,10 @@
 use crate::making::{raw_trait, theory, wrong};
 use larch_base::{Bytes, Code};
-use larch_items::TraitRefusal;
+use larch_flat_replacing::{NewNames, replacements_of};
 use larch_print::{print_operator, print_statement};
 use larch_raw::RawReference;
-use larch_replacing::{NewNames, replacements_of};
 use larch_term::{Operator, Statement, Theory};
+use larch_traits_items::TraitRefusal;
 use std::alloc::Global;
 
 // A constant, of which one thing is stated.
@@ -32,7 +32,7 @@ fn names_by(
 }
 
 // The constant by its new name.
-fn renamed(alloc: Global, text: &[u8]) -> Result<Bytes, TraitRefusal> {
+fn new_name_of(alloc: Global, text: &[u8]) -> Result<Bytes, TraitRefusal> {
     let theory = constant(alloc)?;
     renamed_among(alloc, text, theory.operators.as_slice())
 }
@@ -55,7 +55,7 @@ fn renamed_among(
 }
 
 // What is stated of it by that name.
-fn restated(alloc: Global, text: &[u8]) -> Result<Bytes, TraitRefusal> {
+fn statement_under(alloc: Global, text: &[u8]) -> Result<Bytes, TraitRefusal> {
     let theory = constant(alloc)?;
     let names = names(alloc, text, theory.operators.as_slice())?;
     match theory.statements.as_slice() {
@@ -76,23 +76,23 @@ fn restated_by(
 
 #[test]
 fn renames_a_sort_and_an_operator(rt: HostRuntime) -> Result<(), TraitRefusal> {
-    let line = renamed(rt.alloc(), b"U: trait includes T(B for A)")?;
+    let line = new_name_of(rt.alloc(), b"U: trait includes T(B for A)")?;
     assert_eq!(rt; line.bytes(), b"op c: -> B".as_slice());
-    let line = renamed(rt.alloc(), b"U: trait includes T(d for c)")?;
+    let line = new_name_of(rt.alloc(), b"U: trait includes T(d for c)")?;
     assert_eq!(rt; line.bytes(), b"op d: -> A".as_slice());
     Ok(())
 }
 
 #[test]
 fn renames_a_statement(rt: HostRuntime) -> Result<(), TraitRefusal> {
-    let line = restated(rt.alloc(), b"U: trait includes T(d for c)")?;
+    let line = statement_under(rt.alloc(), b"U: trait includes T(d for c)")?;
     assert_eq!(rt; line.bytes(), b"d == d".as_slice());
     Ok(())
 }
 
 #[test]
 fn refuses_what_is_not_there(rt: HostRuntime) -> Result<(), TraitRefusal> {
-    let refusal = renamed(rt.alloc(), b"U: trait includes T(B for C)").err();
+    let refusal = new_name_of(rt.alloc(), b"U: trait includes T(B for C)").err();
     assert_eq!(rt; refusal, wrong(27, Code::Rename));
     Ok(())
 }

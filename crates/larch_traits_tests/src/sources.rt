@@ -1,5 +1,5 @@
 use crate::making::sources;
-use larch_sources::{Links, links_of};
+use larch_flat_sources::{Links, links_of};
 use std::alloc::Global;
 use std::test::Fail;
 

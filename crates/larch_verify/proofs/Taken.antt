@@ -1,20 +1,22 @@
 -- Lines one after the other.
-use Rattle.std.proofs.Common.{◌≡◌, ℕ, suc, ◌+◌, Bool, true, false, IsTrue, if◌then◌else◌, List, [], ◌∷◌, length, Option, Some, None, refl, sym, ◌∙◌, ap, subst, arith}
+use Rattle.std.proofs.Common.{◌≡◌, ℕ, suc, ◌+◌, Bool, true, false, IsTrue, if◌then◌else◌, List, [], ◌∷◌, length, Option}
+use Rattle.std.proofs.Common.{Some, None, refl, sym, ◌∙◌, ap, subst, arith}
 use Rattle.std.specs.Prelude.{IfSome}
 use Rattle.std.specs.Option.{option_map, option_map_or}
 use Rattle.larch_term.specs.declared.statement.Statement.{Statement}
 use Rattle.larch_term.specs.declared.statement.Theory.{Theory}
 use Rattle.larch_certificate.specs.declared.line.Line.{Line}
-use Rattle.larch_lines.specs.Acceptance.{ends_with, verdict_from, verdict}
-use Rattle.larch_lines.specs.Events.{Event, State, start}
-use Rattle.larch_lines.specs.Run.{step, happens}
-use Rattle.larch_pool.specs.Pooled.{Pooled}
-use Rattle.larch_past.specs.Past.{history_of}
-use Rattle.larch_past.specs.declared.past.Past.{Past}
+use Rattle.larch_verify_meaning.specs.Acceptance.{ends_with, verdict_from, verdict}
+use Rattle.larch_verify_meaning.specs.Events.{Event, State, start}
+use Rattle.larch_verify_meaning.specs.Run.{step, happens}
+use Rattle.larch_verify_pool.specs.Pooled.{Pooled}
+use Rattle.larch_verify_history.specs.Past.{history_of}
+use Rattle.larch_verify_history.specs.declared.past.KeptHistory.{KeptHistory}
 use Rattle.larch_verify.specs.Checking.{state_of}
 
 -- nothing has happened yet
-pub begun : (p : Pooled) (past : Past) → length past.places.items ≡ 0 → history_of p past ≡ [] → state_of p past ≡ start
+pub begun : (p : Pooled) (past : KeptHistory) → length past.places.items ≡ 0 → history_of p past ≡ []
+    → state_of p past ≡ start
 begun p past n h = λ i. record { count = n i; history = h i }
 
 -- a good line

@@ -1,17 +1,17 @@
 ghost use Rattle.std.specs.Prelude.{◌≡◌, ◌+◌, if◌then◌else◌, IsTrue, IfOk, IfSome, OnOk, Some, None, All, length, map};
 ghost use Rattle.std.specs.Option.{option_map};
-ghost use Rattle.larch_lines.specs.Context.{find_symbol};
-ghost use Rattle.larch_lines.specs.Decoding.{each, decode_equation};
-ghost use Rattle.larch_lines.specs.Run.{box_opens};
-ghost use Rattle.larch_pool.specs.Pooled.{Grows};
-ghost use Rattle.larch_past.specs.Past.{IsPast, IsEquated, equated_in, history_of};
+ghost use Rattle.larch_verify_meaning.specs.Context.{find_symbol};
+ghost use Rattle.larch_verify_meaning.specs.Decoding.{each, decode_equation};
+ghost use Rattle.larch_verify_meaning.specs.Run.{box_opens};
+ghost use Rattle.larch_verify_pool.specs.Pooled.{Grows};
+ghost use Rattle.larch_verify_history.specs.Past.{IsPast, IsEquated, equated_in, history_of};
 
 use larch_base::{Memory, Sequence};
 use larch_certificate::{BoxPart, BoxParts, CodedEquation};
-use larch_decoding::decode_equation;
-use larch_past::{Context, EquatedList, Past};
-use larch_pool::Pool;
 use larch_term::Theory;
+use larch_verify_decoding::decode_equation;
+use larch_verify_history::{Context, EquatedList, KeptHistory};
+use larch_verify_pool::Pool;
 use std::alloc::Global;
 
 // A line opens a box. What the box makes may stand in its own hypotheses. `false` where one of these means nothing.
@@ -19,7 +19,7 @@ pub(crate) fn open_box(
     alloc: Global,
     pool: &mut Pool,
     theory: &Theory,
-    past: &mut Past,
+    past: &mut KeptHistory,
     parts: &[BoxPart],
     hypotheses: &[CodedEquation],
 ) -> Result<bool, Memory>

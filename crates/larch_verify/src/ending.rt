@@ -1,13 +1,13 @@
 ghost use Rattle.std.specs.Prelude.{◌≡◌, All, IfOk, IfSome};
 ghost use Rattle.std.specs.Option.{option_map};
-ghost use Rattle.larch_lines.specs.Acceptance.{ends_with, last_statement};
-ghost use Rattle.larch_pool.specs.Pooled.{Pooled};
-ghost use Rattle.larch_past.specs.Past.{IsHappened, IsPast, IsStated, history_of, stated_in};
+ghost use Rattle.larch_verify_meaning.specs.Acceptance.{ends_with, last_statement};
+ghost use Rattle.larch_verify_pool.specs.Pooled.{Pooled};
+ghost use Rattle.larch_verify_history.specs.Past.{IsHappened, IsPast, IsStated, history_of, stated_in};
 
 use larch_base::Memory;
-use larch_past::{Happened, Past, Stated, intern_statement, same_stated};
-use larch_pool::Pool;
 use larch_term::{Statement, Theory};
+use larch_verify_history::{KeptEvent, KeptHistory, Stated, intern_statement, same_stated};
+use larch_verify_pool::Pool;
 use std::alloc::Global;
 
 // Whether no box is open and the last line says the statement. This goes down the statement's terms by recursion; they
@@ -16,7 +16,7 @@ pub(crate) fn ends_with(
     alloc: Global,
     pool: &mut Pool,
     theory: &Theory,
-    past: &Past,
+    past: &KeptHistory,
     statement: &Statement,
 ) -> Result<bool, Memory>
     requires { IsPast theory.now pool.old past.now }
@@ -33,7 +33,7 @@ pub(crate) fn ends_with(
 }
 
 // What the last line says, if it says something.
-fn last_statement(past: &Past) -> Option<&Stated>
+fn last_statement(past: &KeptHistory) -> Option<&Stated>
     ensures says { (p : Pooled) → option_map (λ s. stated_in p s.now) result ≡ last_statement (history_of p past.now) }
     ensures within { (p : Pooled) → All (IsHappened p) past.now.events.items → IfSome result (λ s. IsStated p s.now) }
 {
@@ -41,8 +41,8 @@ fn last_statement(past: &Past) -> Option<&Stated>
         return None;
     };
     match event {
-        Happened::Says(_, stated) => Some(stated),
-        Happened::Opens(_) => None,
-        Happened::Closes(_, _) => None,
+        KeptEvent::Says(_, stated) => Some(stated),
+        KeptEvent::Opens(_) => None,
+        KeptEvent::Closes(_, _) => None,
     }
 }

@@ -1,22 +1,22 @@
 ghost use Rattle.std.specs.Prelude.{◌≡◌, IsTrue, IfOk, IfSome, OnOk};
 ghost use Rattle.std.specs.Option.{option_map};
-ghost use Rattle.larch_lines.specs.Run.{judge};
-ghost use Rattle.larch_pool.specs.Pooled.{Grows};
-ghost use Rattle.larch_past.specs.Past.{IsPast, IsEquated, IsStated, equated_in, stated_in, history_of};
-ghost use Rattle.larch_past.specs.declared.stated.Stated.TheVariants.{Equal};
+ghost use Rattle.larch_verify_meaning.specs.Run.{judge};
+ghost use Rattle.larch_verify_pool.specs.Pooled.{Grows};
+ghost use Rattle.larch_verify_history.specs.Past.{IsPast, IsEquated, IsStated, equated_in, stated_in, history_of};
+ghost use Rattle.larch_verify_history.specs.declared.stated.Stated.TheVariants.{Equal};
 ghost use Rattle.larch_verify.specs.Checking.{AreStatements};
 ghost use Rattle.larch_verify.specs.Kinds.{goes_by_boxes, says_equations};
 
 use larch_base::Memory;
-use larch_box_rules::{Induction, cases_line, fresh_line, induct_line};
 use larch_certificate::Line;
-use larch_clause_rules::{generated_line, observe_line, partitioned_line};
-use larch_past::{Context, Equated, Past, Stated};
-use larch_pool::Pool;
-use larch_rules::{
-    axiom_line, equal_line, hyp_line, inst_line, refl_line, repl_line, row_line, sym_line,
-};
 use larch_term::Theory;
+use larch_verify_box_rules::{Induction, judge_cases, judge_fresh, judge_induct};
+use larch_verify_clause_rules::{judge_generated, judge_observe, judge_partitioned};
+use larch_verify_history::{Context, Equated, KeptHistory, Stated};
+use larch_verify_pool::Pool;
+use larch_verify_rules::{
+    judge_axiom, judge_equal, judge_hyp, judge_inst, judge_refl, judge_repl, judge_row, judge_sym,
+};
 use std::alloc::Global;
 
 // What a line says, if it says something. The theory's statements are given by numbers.
@@ -25,7 +25,7 @@ pub(crate) fn judge(
     pool: &mut Pool,
     theory: &Theory,
     axioms: &[Stated],
-    past: &Past,
+    past: &KeptHistory,
     line: &Line,
 ) -> Result<Option<Stated>, Memory>
     requires past { IsPast theory.now pool.old past.now }
@@ -38,15 +38,15 @@ pub(crate) fn judge(
     let context = Context { theory, past };
     match line {
         Line::Axiom(number) => {
-            let stated = axiom_line(alloc, axioms, *number)?;
+            let stated = judge_axiom(alloc, axioms, *number)?;
             Ok(stated)
         }
         Line::Row(number, sort) => {
-            let stated = row_line(alloc, pool, *number, sort)?;
+            let stated = judge_row(alloc, pool, *number, sort)?;
             Ok(stated)
         }
         Line::Generated(of_box, sort, operators) => {
-            let stated = generated_line(
+            let stated = judge_generated(
                 alloc,
                 pool,
                 &context,
@@ -57,7 +57,7 @@ pub(crate) fn judge(
             Ok(stated)
         }
         Line::Partitioned(of_box, sort, operators) => {
-            let stated = partitioned_line(
+            let stated = judge_partitioned(
                 alloc,
                 pool,
                 &context,
@@ -90,22 +90,22 @@ fn judge_equation(
     ensures grows { OnOk result (Grows pool.old pool.new) }
 {
     match line {
-        Line::Hyp(of_box, number) => Ok(hyp_line(context.past, *of_box, *number)),
+        Line::Hyp(of_box, number) => Ok(judge_hyp(context.past, *of_box, *number)),
         Line::Refl(term) => {
-            let sides = refl_line(alloc, pool, context, term)?;
+            let sides = judge_refl(alloc, pool, context, term)?;
             Ok(sides)
         }
-        Line::Sym(of_line) => Ok(sym_line(context.past, *of_line)),
+        Line::Sym(of_line) => Ok(judge_sym(context.past, *of_line)),
         Line::Inst(of_line, bindings) => {
-            let sides = inst_line(alloc, pool, context, *of_line, bindings.as_slice())?;
+            let sides = judge_inst(alloc, pool, context, *of_line, bindings.as_slice())?;
             Ok(sides)
         }
         Line::Repl(of_line, place, by) => {
-            let sides = repl_line(alloc, pool, context, *of_line, place.as_slice(), *by)?;
+            let sides = judge_repl(alloc, pool, context, *of_line, place.as_slice(), *by)?;
             Ok(sides)
         }
         Line::Equal(of_line) => {
-            let sides = equal_line(alloc, pool, context, *of_line)?;
+            let sides = judge_equal(alloc, pool, context, *of_line)?;
             Ok(sides)
         }
         _ => {
@@ -131,21 +131,21 @@ fn judge_by_boxes(
 {
     match line {
         Line::Fresh(of_box, variables) => {
-            let sides = fresh_line(alloc, pool, context, *of_box, variables.as_slice())?;
+            let sides = judge_fresh(alloc, pool, context, *of_box, variables.as_slice())?;
             Ok(sides)
         }
         Line::Cases(first, second) => {
-            let sides = cases_line(alloc, pool, context, *first, *second)?;
+            let sides = judge_cases(alloc, pool, context, *first, *second)?;
             Ok(sides)
         }
         Line::Induct(clause, variable, equation, boxes) => {
             let induction = Induction { variable, equation };
             let boxes = boxes.as_slice();
-            let sides = induct_line(alloc, pool, context, *clause, &induction, boxes)?;
+            let sides = judge_induct(alloc, pool, context, *clause, &induction, boxes)?;
             Ok(sides)
         }
         Line::Observe(clause, equation, lines) => {
-            let sides = observe_line(alloc, pool, context, *clause, equation, lines.as_slice())?;
+            let sides = judge_observe(alloc, pool, context, *clause, equation, lines.as_slice())?;
             Ok(sides)
         }
         // Other lines don't come here.

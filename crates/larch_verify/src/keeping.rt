@@ -1,12 +1,12 @@
 ghost use Rattle.std.specs.Prelude.{◌≡◌, IfOk, OnOk, All, Some, map};
 ghost use Rattle.std.specs.List.{slice_get};
-ghost use Rattle.larch_pool.specs.Pooled.{Grows};
-ghost use Rattle.larch_past.specs.Past.{IsStated, stated_in};
+ghost use Rattle.larch_verify_pool.specs.Pooled.{Grows};
+ghost use Rattle.larch_verify_history.specs.Past.{IsStated, stated_in};
 
 use larch_base::Memory;
-use larch_past::{Stated, intern_statement};
-use larch_pool::{Pool, intern_operator};
 use larch_term::{Operator, Statement};
+use larch_verify_history::{Stated, intern_statement};
+use larch_verify_pool::{Pool, intern_operator};
 use std::alloc::Global;
 
 // The numbers of a theory's operators.

@@ -1,20 +1,20 @@
 ghost use Rattle.std.specs.Prelude.{◌≡◌, ◌+◌, if◌then◌else◌, [], ◌∷◌, IsTrue, IfOk, IfSome, OnOk, Some, None, length};
 ghost use Rattle.std.specs.Option.{option_map};
 ghost use Rattle.larch_term.specs.declared.statement.Statement.{Statement};
-ghost use Rattle.larch_lines.specs.Acceptance.{verdict_from};
-ghost use Rattle.larch_lines.specs.Events.{Said};
-ghost use Rattle.larch_lines.specs.Run.{judge, step};
-ghost use Rattle.larch_pool.specs.Pooled.{Grows};
-ghost use Rattle.larch_past.specs.Past.{IsPast, history_of};
+ghost use Rattle.larch_verify_meaning.specs.Acceptance.{verdict_from};
+ghost use Rattle.larch_verify_meaning.specs.Events.{Said};
+ghost use Rattle.larch_verify_meaning.specs.Run.{judge, step};
+ghost use Rattle.larch_verify_pool.specs.Pooled.{Grows};
+ghost use Rattle.larch_verify_history.specs.Past.{IsPast, history_of};
 ghost use Rattle.larch_verify.specs.Checking.{AreStatements, state_of};
 
 use crate::boxes::open_box;
 use crate::judging::judge;
 use larch_base::Memory;
 use larch_certificate::Line;
-use larch_past::{Past, Stated};
-use larch_pool::Pool;
 use larch_term::Theory;
+use larch_verify_history::{KeptHistory, Stated};
+use larch_verify_pool::Pool;
 use std::alloc::Global;
 
 // Takes lines in order, up to the first bad one, of which it gives the number.
@@ -23,7 +23,7 @@ pub(crate) fn take_lines(
     pool: &mut Pool,
     theory: &Theory,
     axioms: &[Stated],
-    past: &mut Past,
+    past: &mut KeptHistory,
     lines: &[Line],
 ) -> Result<Option<u64>, Memory>
     requires past { IsPast theory.now pool.old past.old }
@@ -51,7 +51,7 @@ fn take_line(
     pool: &mut Pool,
     theory: &Theory,
     axioms: &[Stated],
-    past: &mut Past,
+    past: &mut KeptHistory,
     line: &Line,
 ) -> Result<bool, Memory>
     requires past { IsPast theory.now pool.old past.old }
@@ -90,7 +90,7 @@ fn say_line(
     pool: &mut Pool,
     theory: &Theory,
     axioms: &[Stated],
-    past: &mut Past,
+    past: &mut KeptHistory,
     line: &Line,
 ) -> Result<bool, Memory>
     requires past { IsPast theory.now pool.old past.old }

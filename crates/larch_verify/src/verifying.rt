@@ -2,9 +2,9 @@ ghost use Rattle.std.specs.Prelude.{◌≡◌, [], IfOk, length};
 ghost use Rattle.larch_term.specs.Statement.{IsWellSortedTheory};
 ghost use Rattle.larch_calculus.specs.Derivable.{Derivable};
 ghost use Rattle.larch_calculus.specs.Renaming.{HasPlainNames};
-ghost use Rattle.larch_lines.specs.Acceptance.{verdict, verdict_from};
-ghost use Rattle.larch_pool.specs.Pooled.{Pooled};
-ghost use Rattle.larch_past.specs.Past.{IsPast, history_of};
+ghost use Rattle.larch_verify_meaning.specs.Acceptance.{verdict, verdict_from};
+ghost use Rattle.larch_verify_pool.specs.Pooled.{Pooled};
+ghost use Rattle.larch_verify_history.specs.Past.{IsPast, history_of};
 ghost use Rattle.larch_verify.specs.Checking.{state_of};
 ghost use Rattle.larch_verify.specs.Verdict.{refusal};
 ghost use Rattle.larch_verify.specs.declared.verdict.Verdict.TheVariants.{Accepted};
@@ -15,10 +15,10 @@ use crate::steps::take_lines;
 use crate::verdict::Verdict;
 use larch_base::Memory;
 use larch_certificate::Line;
-use larch_lines_law::laws::accepted_is_derivable;
-use larch_past::Past;
-use larch_pool::Pool;
 use larch_term::{Statement, Theory};
+use larch_verify_history::KeptHistory;
+use larch_verify_law::laws::accepted_is_derivable;
+use larch_verify_pool::Pool;
 use std::alloc::Global;
 
 /// The verdict on a certificate for a statement over a theory. Whoever wrote the certificate: where it is accepted the
@@ -37,12 +37,12 @@ pub fn verify(
         → Derivable theory.now statement.now) }
 {
     accepted_is_derivable();
-    let verdict = checked(alloc, theory, statement, certificate)?;
+    let verdict = check_verdict(alloc, theory, statement, certificate)?;
     Ok(verdict)
 }
 
 // The verdict, with a pool and a past of its own.
-fn checked(
+fn check_verdict(
     alloc: Global,
     theory: &Theory,
     statement: &Statement,
@@ -52,7 +52,7 @@ fn checked(
 {
     let mut pool = Pool::new(alloc);
     let own = intern_operators(alloc, &mut pool, theory.operators.as_slice())?;
-    let mut past = Past::new(alloc, own);
+    let mut past = KeptHistory::new(alloc, own);
     let verdict = by_lines(alloc, &mut pool, theory, &mut past, statement, certificate)?;
     Ok(verdict)
 }
@@ -62,7 +62,7 @@ fn by_lines(
     alloc: Global,
     pool: &mut Pool,
     theory: &Theory,
-    past: &mut Past,
+    past: &mut KeptHistory,
     statement: &Statement,
     certificate: &[Line],
 ) -> Result<Verdict, Memory>
@@ -85,7 +85,7 @@ fn by_end(
     alloc: Global,
     pool: &mut Pool,
     theory: &Theory,
-    past: &Past,
+    past: &KeptHistory,
     statement: &Statement,
 ) -> Result<Verdict, Memory>
     requires { IsPast theory.now pool.old past.now }

@@ -39,7 +39,7 @@ fn put_line(alloc: Global, text: &mut Bytes, number: usize, line: &str) -> Resul
 }
 
 // The certificate's text with another line.
-fn changed(alloc: Global, number: usize, line: &str) -> Result<Bytes, Memory> {
+fn with_line(alloc: Global, number: usize, line: &str) -> Result<Bytes, Memory> {
     let mut text = Bytes::new(alloc);
     text.append(b"certificate 1\n")?;
     for (index, worked) in WORKED.iter().enumerate() {
@@ -59,7 +59,7 @@ fn changed(alloc: Global, number: usize, line: &str) -> Result<Bytes, Memory> {
 
 // The verdict on it.
 fn verdict_with(alloc: Global, number: usize, line: &str) -> Result<Option<Verdict>, Fail> {
-    let text = changed(alloc, number, line)?;
+    let text = with_line(alloc, number, line)?;
     verdict_of(alloc, SHOWN, text.bytes())
 }
 

@@ -1,16 +1,18 @@
 -- What files are named by.
-use Rattle.std.proofs.Common.{◌≡◌, refl, sym, subst, Bool, true, false, not, ◌&&◌, cond, List, [], ◌∷◌, ℕ, Option, Some, None}
+use Rattle.std.proofs.Common.{◌≡◌, refl, sym, subst, Bool, true, false, not, ◌&&◌, cond, List, [], ◌∷◌, ℕ, Option, Some}
+use Rattle.std.proofs.Common.{None}
 use Rattle.std.specs.List.{list_all}
 use Rattle.std.specs.Str.{bytes_eq}
 use Rattle.std.specs.Prelude.{codes}
 use Rattle.std.specs.Option.{option_map_or}
 use Rattle.clap.specs.Walk.{is_empty}
-use Rattle.larch_base.specs.FileNames.{is_file_name, is_stem}
+use Rattle.larch_base.specs.FileName.{is_file_name, is_stem}
 use Rattle.larch_base.specs.declared.label.Label.{Label}
 use Rattle.larch_base.proofs.Bools.{and_right}
-use Rattle.larch_words.specs.Call.{are_files, asked, call_of, called, files_named, has_option, is_certificate, of_files, verified, verified_by}
+use Rattle.larch_words.specs.Call.{are_files, asked, call_of, call_from, files_named, has_option, is_certificate}
+use Rattle.larch_words.specs.Call.{of_files, verification_call, verified_by}
 use Rattle.larch_words.specs.CommandLine.{Request, request_of}
-use Rattle.larch_words.specs.Labels.{label_of}
+use Rattle.larch_words.specs.Label.{label_of}
 use Rattle.larch_words.specs.declared.call.Call.{Call}
 use Rattle.larch_words.specs.declared.call.Call.TheVariants.{Session, Check, Obligations, Verify, Nothing}
 use Rattle.larch_words.specs.declared.call.Verification.{Verification}
@@ -24,13 +26,16 @@ either true x y p q = p
 either false x y p q = q
 
 -- a call that names exactly the files that it is asked for
-asked_of : (ask : List (List ℕ) → Call) → ((names : List (List ℕ)) → files_named (ask names) ≡ names) → (these : List (List ℕ)) (b : Bool)
+asked_of : (ask : List (List ℕ) → Call) → ((names : List (List ℕ)) → files_named (ask names) ≡ names)
+    → (these : List (List ℕ)) (b : Bool)
     → are_files these ≡ b → AreNamed (cond b (ask these) Nothing)
 asked_of ask is these true e =
-    subst (λ names. list_all is_file_name names ≡ true) (sym (is these)) (and_right (not (is_empty these)) (list_all is_file_name these) e)
+    subst (λ names. list_all is_file_name names ≡ true) (sym (is these))
+    (and_right (not (is_empty these)) (list_all is_file_name these) e)
 asked_of ask is these false e = refl
 
-of_files_named : (ask : List (List ℕ) → Call) → ((names : List (List ℕ)) → files_named (ask names) ≡ names) → (these : List (List ℕ))
+of_files_named : (ask : List (List ℕ) → Call) → ((names : List (List ℕ)) → files_named (ask names) ≡ names)
+    → (these : List (List ℕ))
     → AreNamed (of_files ask these)
 of_files_named ask is these = asked_of ask is these (are_files these) refl
 
@@ -39,15 +44,16 @@ verified_by_named : (stem : List ℕ) (label : Option Label) (certificate : List
 verified_by_named stem None certificate files = refl
 verified_by_named stem (Some label) certificate files =
     either (is_stem stem && is_certificate certificate) _ _
-    (of_files_named (λ names. Verify (record { stem = stem; label = label; certificate = certificate; files = names })) (λ names. refl) files) refl
+    (of_files_named (λ names. Verify (record { stem = stem; label = label; certificate = certificate; files = names }))
+    (λ names. refl) files) refl
 
-verified_named : (words : List (List ℕ)) → AreNamed (verified words)
+verified_named : (words : List (List ℕ)) → AreNamed (verification_call words)
 verified_named [] = refl
 verified_named (stem ∷ []) = refl
 verified_named (stem ∷ label ∷ []) = refl
 verified_named (stem ∷ label ∷ certificate ∷ files) = verified_by_named stem (label_of label) certificate files
 
-called_named : (command : List ℕ) (words : List (List ℕ)) → AreNamed (called command words)
+called_named : (command : List ℕ) (words : List (List ℕ)) → AreNamed (call_from command words)
 called_named command words =
     either (bytes_eq command (codes "session")) _ _ (either (is_empty words) _ _ refl refl)
     (either (bytes_eq command (codes "check")) _ _ (of_files_named Check (λ names. refl) words)
@@ -84,12 +90,18 @@ session_certified : (b : Bool) → IsCertified (cond b Session Nothing)
 session_certified true asked e = cc
 session_certified false asked e = cc
 
-verify_certified : (one : Verification) (b : Bool) → is_certificate one.certificate ≡ true → IsCertified (cond b (Verify one) Nothing)
-verify_certified one true is asked e = let same : one ≡ asked = cc in subst (λ x. is_certificate x.certificate ≡ true) same is
+verify_certified : (one : Verification) (b : Bool) → is_certificate one.certificate ≡ true
+    → IsCertified (cond b (Verify one) Nothing)
+verify_certified one true is asked e = let same : one ≡ asked = cc in
+    subst (λ x. is_certificate x.certificate ≡ true) same is
 verify_certified one false is asked e = cc
 
-named_certified : (stem : List ℕ) (label : Label) (certificate : List ℕ) (files : List (List ℕ)) (b : Bool) → (is_stem stem && is_certificate certificate) ≡ b
-    → IsCertified (cond b (of_files (λ names. Verify (record { stem = stem; label = label; certificate = certificate; files = names })) files) Nothing)
+named_certified : (stem : List ℕ) (label : Label) (certificate : List ℕ) (files : List (List ℕ)) (b : Bool)
+    → (is_stem stem && is_certificate certificate) ≡ b
+    → IsCertified
+    (cond b
+    (of_files (λ names. Verify (record { stem = stem; label = label; certificate = certificate; files = names })) files)
+    Nothing)
 named_certified stem label certificate files true e =
     verify_certified (record { stem = stem; label = label; certificate = certificate; files = files }) (are_files files)
     (and_right (is_stem stem) (is_certificate certificate) e)
@@ -98,15 +110,16 @@ named_certified stem label certificate files false e = nothing_certified
 verified_by_certified : (stem : List ℕ) (label : Option Label) (certificate : List ℕ) (files : List (List ℕ))
     → IsCertified (verified_by stem label certificate files)
 verified_by_certified stem None certificate files = nothing_certified
-verified_by_certified stem (Some label) certificate files = named_certified stem label certificate files (is_stem stem && is_certificate certificate) refl
+verified_by_certified stem (Some label) certificate files =
+    named_certified stem label certificate files (is_stem stem && is_certificate certificate) refl
 
-verified_certified : (words : List (List ℕ)) → IsCertified (verified words)
+verified_certified : (words : List (List ℕ)) → IsCertified (verification_call words)
 verified_certified [] = nothing_certified
 verified_certified (stem ∷ []) = nothing_certified
 verified_certified (stem ∷ label ∷ []) = nothing_certified
 verified_certified (stem ∷ label ∷ certificate ∷ files) = verified_by_certified stem (label_of label) certificate files
 
-called_certified : (command : List ℕ) (words : List (List ℕ)) → IsCertified (called command words)
+called_certified : (command : List ℕ) (words : List (List ℕ)) → IsCertified (call_from command words)
 called_certified command words =
     either_certified (bytes_eq command (codes "session")) _ _ (session_certified (is_empty words))
     (either_certified (bytes_eq command (codes "check")) _ _ (checks_certified (are_files words) words)
@@ -115,7 +128,8 @@ called_certified command words =
 
 found_certified : (request : Option Request) → IsCertified (option_map_or asked request Nothing)
 found_certified None = nothing_certified
-found_certified (Some request) = either_certified (has_option request) _ _ nothing_certified (called_certified request.command request.words)
+found_certified (Some request) =
+    either_certified (has_option request) _ _ nothing_certified (called_certified request.command request.words)
 
 pub names_certificates : (words : List (List ℕ)) → IsCertified (call_of words)
 names_certificates words = found_certified (request_of words)

@@ -1,15 +1,18 @@
 -- Values of arguments, by rows.
-use Rattle.std.proofs.Common.{◌≡◌, ℕ, ◌<◌, zero, suc, List, [], ◌∷◌, length, map, get_or, Bool, true, false, ◌&&◌, if◌then◌else◌, Option, Some, None, is_some, unwrap_or, IsSomeAnd, refl, sym, ◌∙◌, ap, ap₂, arith}
+use Rattle.std.proofs.Common.{◌≡◌, ℕ, ◌<◌, zero, suc, List, [], ◌∷◌, length, map, get_or, Bool, true, false, ◌&&◌}
+use Rattle.std.proofs.Common.{if◌then◌else◌, Option, Some, None, is_some, unwrap_or, IsSomeAnd, refl, sym, ◌∙◌, ap, ap₂}
+use Rattle.std.proofs.Common.{arith}
 use Rattle.std.specs.List.{list_all}
 use Rattle.std.specs.Option.{option_map}
-use Rattle.clap.specs.Words.{App, Row, Text, all_of, fault_of, first_of, first_value, is_simple, is_simple_and_free, matched_of, matches_of, raw_values, rows_of}
+use Rattle.clap.specs.Words.{App, Row, Text, all_of, fault_of, first_of, first_value, is_simple, is_simple_and_free}
+use Rattle.clap.specs.Words.{matched_of, matches_of, raw_values, rows_of}
 use Rattle.clap.specs.declared.parser.matches.Found.{Found}
 use Rattle.clap.specs.declared.builder.range.ValueRange.{ValueRange}
 use Rattle.clap.proofs.OnLiterals.{clap_on_literals}
 use Rattle.clap.proofs.WalkLemmas.{first_value-rows, raw_values-rows}
 use Rattle.clap.specs.Walk.{is_empty}
 use Rattle.std.specs.Option.{option_map_or}
-use Rattle.larch_words.specs.Call.{asked, call_of, called, has_option}
+use Rattle.larch_words.specs.Call.{asked, call_of, call_from, has_option}
 use Rattle.larch_words.specs.CommandLine.{Request, command_line, request_in}
 use Rattle.larch_words.specs.declared.call.Call.{Call}
 use Rattle.larch_words.specs.declared.call.Call.TheVariants.{Nothing}
@@ -28,7 +31,8 @@ pub all_but : {X : Type 0} (now : X → Text) (p : Text → Bool) (xs : List X) 
     → p (now (get_or xs i d)) ≡ false → list_all p (map now xs) ≡ false
 all_but now p [] i d l e = absurd (omega arith)
 all_but now p (x ∷ xs) zero d l e = ap (λ b. b && list_all p (map now xs)) e
-all_but now p (x ∷ xs) (suc i) d l e = ap (λ b. p (now x) && b) (all_but now p xs i d (omega arith) e) ∙ and_false (p (now x))
+all_but now p (x ∷ xs) (suc i) d l e =
+    ap (λ b. p (now x) && b) (all_but now p xs i d (omega arith) e) ∙ and_false (p (now x))
   where
     and_false : (b : Bool) → (b && false) ≡ false
     and_false true = refl
@@ -39,7 +43,8 @@ unwrap_or_map f None d = refl
 unwrap_or_map f (Some x) d = refl
 
 -- the first value, or another text where there is none
-pub taken : {X : Type 0} (now : X → Text) (f : Found) (id : Text) (o : Option X) (d : X) → option_map now o ≡ first_value f id
+pub taken : {X : Type 0} (now : X → Text) (f : Found) (id : Text) (o : Option X) (d : X)
+    → option_map now o ≡ first_value f id
     → now (unwrap_or o d) ≡ unwrap_or (first_of id (rows_of f)) (now d)
 taken now f id o d e = unwrap_or_map now o d ∙ ap (λ p. unwrap_or p (now d)) (e ∙ first_value-rows f id)
 
@@ -54,9 +59,9 @@ none_taken now f id o s e = ap (λ p. unwrap_or p []) (ap (option_map now) (sym 
 
 -- what a command with words asks for, where no option was given
 pub asks_for : (request : Request) (command : Text) (words : List Text) (call : Call) → has_option request ≡ false
-    → command ≡ request.command → words ≡ request.words → call ≡ called command words → call ≡ asked request
+    → command ≡ request.command → words ≡ request.words → call ≡ call_from command words → call ≡ asked request
 asks_for request command words call h e f k =
-    k ∙ ap₂ called e f ∙ ap (λ b. if b then Nothing else called request.command request.words) (sym h)
+    k ∙ ap₂ call_from e f ∙ ap (λ b. if b then Nothing else call_from request.command request.words) (sym h)
 
 -- the range of an argument
 pub some_range : (o : Option ValueRange) (v : ValueRange) → IsSomeAnd o (λ r. r ≡ v) → o ≡ Some v
@@ -76,8 +81,10 @@ pub asks : (a : App) (words : List Text) (rows : List Row) (call : Call) → a �
     → (is_simple a ≡ true → rows ≡ matches_of a words) → (is_simple_and_free a ≡ true → fault_of a words ≡ [])
     → call ≡ asked (request_in rows) → call ≡ call_of words
 asks a words rows call e m k h =
-    let f : fault_of command_line words ≡ [] = ap (λ b. fault_of b words) (sym e) ∙ k (ap is_simple_and_free e ∙ free) in
+    let f : fault_of command_line words ≡ [] =
+    ap (λ b. fault_of b words) (sym e) ∙ k (ap is_simple_and_free e ∙ free) in
     let r : rows ≡ matches_of command_line words = m (ap is_simple e ∙ simple) ∙ ap (λ b. matches_of b words) e in
     h ∙ ap (λ rs. asked (request_in rs)) r
-    ∙ ap (λ fs. option_map_or asked (if is_empty fs then Some (request_in (matches_of command_line words)) else None) Nothing)
+    ∙ ap (λ fs. option_map_or asked
+    (if is_empty fs then Some (request_in (matches_of command_line words)) else None) Nothing)
     (sym f)

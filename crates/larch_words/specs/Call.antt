@@ -5,10 +5,10 @@ use Rattle.std.specs.List.{list_all}
 use Rattle.std.specs.Option.{option_map_or}
 use Rattle.std.specs.Str.{bytes_eq}
 use Rattle.clap.specs.Walk.{is_empty}
-use Rattle.larch_base.specs.FileNames.{is_file_name, is_stem}
+use Rattle.larch_base.specs.FileName.{is_file_name, is_stem}
 use Rattle.larch_base.specs.declared.label.Label.{Label}
 use Rattle.larch_words.specs.CommandLine.{Request, request_of}
-use Rattle.larch_words.specs.Labels.{label_of}
+use Rattle.larch_words.specs.Label.{label_of}
 use Rattle.larch_words.specs.declared.call.Call.{Call}
 use Rattle.larch_words.specs.declared.call.Call.TheVariants.{Session, Check, Obligations, Verify, Nothing}
 
@@ -33,7 +33,8 @@ abbrev pub verified_by : List ℕ → Option Label → List ℕ → List (List �
 verified_by stem None certificate files = Nothing
 verified_by stem (Some label) certificate files =
     if is_stem stem && is_certificate certificate
-    then of_files (λ names. Verify (record { stem = stem; label = label; certificate = certificate; files = names })) files
+    then of_files (λ names. Verify (record { stem = stem; label = label; certificate = certificate; files = names }))
+    files
     else Nothing
 
 -- behind a trait and a label: a certificate and files
@@ -47,22 +48,22 @@ verified_trait stem [] = Nothing
 verified_trait stem (label ∷ words) = verified_duty stem (label_of label) words
 
 -- a trait, a label, a certificate and files
-abbrev pub verified : List (List ℕ) → Call
-verified [] = Nothing
-verified (stem ∷ words) = verified_trait stem words
+abbrev pub verification_call : List (List ℕ) → Call
+verification_call [] = Nothing
+verification_call (stem ∷ words) = verified_trait stem words
 
 -- a session takes no words, the other commands take files
-abbrev pub called : List ℕ → List (List ℕ) → Call
-called command words =
+abbrev pub call_from : List ℕ → List (List ℕ) → Call
+call_from command words =
     if bytes_eq command (codes "session") then (if is_empty words then Session else Nothing)
     else if bytes_eq command (codes "check") then of_files Check words
     else if bytes_eq command (codes "obligations") then of_files Obligations words
-    else if bytes_eq command (codes "verify") then verified words
+    else if bytes_eq command (codes "verify") then verification_call words
     else Nothing
 
 -- no command takes an option yet
 abbrev pub asked : Request → Call
-asked request = if has_option request then Nothing else called request.command request.words
+asked request = if has_option request then Nothing else call_from request.command request.words
 
 -- what these words ask for; words without matches mean nothing
 abbrev pub call_of : List (List ℕ) → Call

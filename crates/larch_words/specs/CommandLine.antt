@@ -61,4 +61,5 @@ request_in rows =
 
 -- what words ask for, where they have matches
 abbrev pub request_of : List (List ℕ) → Option Request
-request_of words = if is_empty (fault_of command_line words) then Some (request_in (matches_of command_line words)) else None
+request_of words =
+    if is_empty (fault_of command_line words) then Some (request_in (matches_of command_line words)) else None

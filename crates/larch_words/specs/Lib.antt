@@ -1,3 +1,3 @@
 pub mod Call
 pub mod CommandLine
-pub mod Labels
+pub mod Label

@@ -1,9 +1,9 @@
 ghost use Rattle.std.specs.Prelude.{◌≡◌, if◌then◌else◌, IfOk, IsErrOf, [], false, is_some, map, string_bytes, true, Some, None};
 ghost use Rattle.std.specs.List.{list_all};
 ghost use Rattle.clap.specs.Words.{first_of, found_of, rows_of};
-ghost use Rattle.larch_base.specs.FileNames.{is_file_name, is_stem, is_stem_byte};
-ghost use Rattle.larch_words.specs.Call.{are_files, asked, call_of, called, has_option, is_certificate, of_files};
-ghost use Rattle.larch_words.specs.Call.{verified, verified_by, verified_duty, verified_trait};
+ghost use Rattle.larch_base.specs.FileName.{is_file_name, is_stem, is_stem_byte};
+ghost use Rattle.larch_words.specs.Call.{are_files, asked, call_of, call_from, has_option, is_certificate, of_files};
+ghost use Rattle.larch_words.specs.Call.{verification_call, verified_by, verified_duty, verified_trait};
 ghost use Rattle.larch_words.specs.CommandLine.{request_in};
 ghost use Rattle.larch_words.specs.declared.call.Call.TheVariants.{Check as call_check, Obligations as call_obligations};
 
@@ -107,7 +107,7 @@ fn command_in<'a>(matches: &ArgMatches<'a>) -> &'a str
 
 // What a command without words asks for.
 fn call_without_words(command: &str) -> Call
-    ensures { result ≡ called command.now [] }
+    ensures { result ≡ call_from command.now [] }
 {
     if command == "session" {
         Call::Session
@@ -118,7 +118,7 @@ fn call_without_words(command: &str) -> Call
 
 // What a command with these words asks for.
 fn call_with_words(alloc: Global, command: &str, words: &[&str]) -> Result<Call, Memory>
-    ensures { IfOk result (λ call. call ≡ called command.now (map (λ word. word.now) words.now)) }
+    ensures { IfOk result (λ call. call ≡ call_from command.now (map (λ word. word.now) words.now)) }
 {
     match command {
         "session" => {
@@ -157,7 +157,7 @@ fn obligations_call(alloc: Global, words: &[&str]) -> Result<Call, Memory>
 
 // What these words ask for, where they say what is to be verified.
 fn verify_call(alloc: Global, words: &[&str]) -> Result<Call, Memory>
-    ensures { IfOk result (λ call. call ≡ verified (map (λ word. word.now) words.now)) }
+    ensures { IfOk result (λ call. call ≡ verification_call (map (λ word. word.now) words.now)) }
 {
     match words {
         [] => Ok(Call::Nothing),

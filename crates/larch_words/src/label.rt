@@ -1,6 +1,6 @@
 ghost use Rattle.std.specs.Prelude.{◌≡◌, ◌<◌, IfSome, option_and_then};
 ghost use Rattle.std.specs.Option.{option_map};
-ghost use Rattle.larch_words.specs.Labels.{behind, label_of, number_of, with_digit};
+ghost use Rattle.larch_words.specs.Label.{behind, label_of, number_of, with_digit};
 
 use larch_base::Label;
 

@@ -1,7 +1,7 @@
 //! Laws about what words ask for.
 ghost use Rattle.std.specs.Prelude.{◌≡◌, ℕ, true, List};
 ghost use Rattle.std.specs.List.{list_all};
-ghost use Rattle.larch_base.specs.FileNames.{is_file_name};
+ghost use Rattle.larch_base.specs.FileName.{is_file_name};
 ghost use Rattle.larch_words.specs.Call.{call_of, files_named, is_certificate};
 ghost use Rattle.larch_words.specs.declared.call.Call.TheVariants.{Verify};
 ghost use Rattle.larch_words.specs.declared.call.Verification.{Verification};

@@ -1,5 +1,5 @@
 use Rattle.std.proofs.Common.{◌≡◌, ℕ, ◌<◌, false, get_or}
-use Rattle.larch_base.specs.FileNames.{is_dot}
+use Rattle.larch_base.specs.FileName.{is_dot}
 use Rattle.larch_base.proofs.file_name.first_dot.Given as goal
 
 -- no dot stands before the place

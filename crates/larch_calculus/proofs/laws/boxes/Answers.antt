@@ -1,4 +1,6 @@
-use Rattle.larch_calculus.proofs.Boxes.{constants_without_arguments, constants_sorts, constants_new, constants_as_arguments, older_plain, older_later, older_opened, older_less, statement_older, older_stays}
+use Rattle.larch_calculus.proofs.Boxes.{constants_without_arguments, constants_sorts, constants_new}
+use Rattle.larch_calculus.proofs.Boxes.{constants_as_arguments, older_plain, older_later, older_opened, older_less}
+use Rattle.larch_calculus.proofs.Boxes.{statement_older, older_stays}
 use Rattle.larch_calculus.proofs.laws.boxes.Goals as goal
 
 pub returns : goal.returns

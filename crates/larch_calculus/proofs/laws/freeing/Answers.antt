@@ -1,4 +1,5 @@
-use Rattle.larch_calculus.proofs.Freeing.{freed_constants, freed_itself, constants_close, with_constants, without_constants, generalised, specialised}
+use Rattle.larch_calculus.proofs.Freeing.{freed_constants, freed_itself, constants_close, with_constants}
+use Rattle.larch_calculus.proofs.Freeing.{without_constants, generalised, specialised}
 use Rattle.larch_calculus.proofs.laws.freeing.Goals as goal
 
 pub returns : goal.returns

@@ -1,5 +1,6 @@
 use Rattle.larch_calculus.proofs.Translation.{translated}
-use Rattle.larch_calculus.proofs.RenamedTheories.{theory_renamed, renamed_taken_back, names_faithful, names_taken_back, boxes_renamed, boxes_taken_back}
+use Rattle.larch_calculus.proofs.RenamedTheories.{theory_renamed, renamed_taken_back, names_faithful, names_taken_back}
+use Rattle.larch_calculus.proofs.RenamedTheories.{boxes_renamed, boxes_taken_back}
 use Rattle.larch_calculus.proofs.laws.renaming.Goals as goal
 
 pub returns : goal.returns
@@ -11,5 +12,7 @@ returns c =
       names = names_faithful;
       names_back = names_taken_back;
       boxes = boxes_renamed;
-      boxes_both_ways = λ new old t cs hs s r q h p w v. (boxes_renamed new t cs hs s r p w v, boxes_taken_back new old t cs hs s r q h p w v);
+      boxes_both_ways =
+          λ new old t cs hs s r q h p w v.
+          (boxes_renamed new t cs hs s r p w v, boxes_taken_back new old t cs hs s r q h p w v);
     }

@@ -4,7 +4,8 @@ use Rattle.larch_derive.proofs.coding.symbol_of.Goals as goal
 
 pub returns-in-Some-place_of : goal.returns-in-Some-place_of
 returns-in-Some-place_of c =
-    own_symbol c.args.boxes.now c.args.theory.now.operators c.args.operator.now c.in-Some-place_of.place (sym c.in_default.ensures)
+    own_symbol c.args.boxes.now c.args.theory.now.operators c.args.operator.now c.in-Some-place_of.place
+    (sym c.in_default.ensures)
     c.in_default-built_in_of.ensures.none (sym c.in-Some-place_of.ensures)
 
 pub returns-in-None : goal.returns-in-None

@@ -1,5 +1,5 @@
 use Rattle.std.proofs.Common.{◌≡◌, ◌+◌, ◌++◌, drop}
-use Rattle.larch_claims.specs.Duties.{arguments}
+use Rattle.larch_duties_meaning.specs.Duties.{arguments}
 use Rattle.larch_duties.proofs.clause.arguments.Given as goal
 
 -- the variables so far, and those of the sorts that are left

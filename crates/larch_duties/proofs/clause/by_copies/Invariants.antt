@@ -1,5 +1,5 @@
 use Rattle.std.proofs.Common.{◌≡◌, take}
-use Rattle.larch_claims.specs.Conversions.{by_copies}
+use Rattle.larch_duties_meaning.specs.Conversions.{by_copies}
 use Rattle.larch_duties.proofs.clause.by_copies.Given as goal
 
 -- the copies so far are in the places of their operators

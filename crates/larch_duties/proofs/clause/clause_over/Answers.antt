@@ -1,6 +1,6 @@
 use Rattle.std.proofs.Common.{◌∙◌, ap, map}
-use Rattle.larch_flat.specs.Gathered.{Gathered, statements_in}
-use Rattle.larch_claims.specs.Conversions.{Conversion, bytes_of, clause_by, clause_over, copies}
+use Rattle.larch_flat_meaning.specs.Gathered.{Gathered, statements_in}
+use Rattle.larch_duties_meaning.specs.Conversions.{Conversion, bytes_of, clause_by, clause_over, copies}
 use Rattle.larch_duties.specs.Kept.{theory_in}
 use Rattle.larch_duties.proofs.clause.clause_over.Goals as goal
 

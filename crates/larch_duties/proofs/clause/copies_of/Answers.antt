@@ -1,6 +1,6 @@
 use Rattle.std.proofs.Common.{◌∙◌, ◌∷◌, ◌++◌, ◌+◌, ap, sym, map}
 use Rattle.std.proofs.lemmas.List.{append-nil, drop_all}
-use Rattle.larch_claims.specs.Conversions.{bytes_of, copies}
+use Rattle.larch_duties_meaning.specs.Conversions.{bytes_of, copies}
 use Rattle.larch_duties.proofs.Copying.{next_copy, word_found}
 use Rattle.larch_duties.proofs.clause.copies_of.Goals as goal
 
@@ -14,14 +14,19 @@ loop-i-init c = (
 pub loop-i-preserved : goal.loop-i-preserved
 loop-i-preserved c = (
   c.in_ok-word.word ∷ c.loop-i.invariant.0,
-  word_found c.loop-i.taken.keys c.take_word.new.names.keys c.loop-i.invariant.0 c.in_ok-word.word c.loop-i.invariant.1 c.in_ok-take_word.ensures,
-  next_copy c.loop-i.i c.loop-i.invariant.0 c.loop-i.copies c.push.new.self (copies 1 (map (λ f. bytes_of f.name) c.args.operators.now) c.args.converted.now)
-      c.args.converted.now c.index-converted-i.result c.in_ok-operator.operator c.in_ok-word.word c.loop-i-test.true (sym c.index-converted-i.is)
-      c.in_ok-operator.ensures (c.in_ok-word.ensures c.loop-i.invariant.0 c.loop-i.invariant.1) c.in_ok-push.ensures.ok c.loop-i.invariant.2,
+  word_found c.loop-i.taken.keys c.take_word.new.names.keys c.loop-i.invariant.0 c.in_ok-word.word c.loop-i.invariant.1
+      c.in_ok-take_word.ensures,
+  next_copy c.loop-i.i c.loop-i.invariant.0 c.loop-i.copies c.push.new.self
+      (copies 1 (map (λ f. bytes_of f.name) c.args.operators.now) c.args.converted.now)
+      c.args.converted.now c.index-converted-i.result c.in_ok-operator.operator c.in_ok-word.word c.loop-i-test.true
+      (sym c.index-converted-i.is)
+      c.in_ok-operator.ensures (c.in_ok-word.ensures c.loop-i.invariant.0 c.loop-i.invariant.1) c.in_ok-push.ensures.ok
+      c.loop-i.invariant.2,
 )
 
 pub returns : goal.returns
 returns c =
     sym (append-nil c.loop-i.copies)
-    ∙ sym (ap (λ fs. c.loop-i.copies ++ copies (c.loop-i.i + 1) c.loop-i.invariant.0 fs) (drop_all c.loop-i.i c.args.converted.now c.loop-i-test.false))
+    ∙ sym (ap (λ fs. c.loop-i.copies ++ copies (c.loop-i.i + 1) c.loop-i.invariant.0 fs)
+    (drop_all c.loop-i.i c.args.converted.now c.loop-i-test.false))
     ∙ c.loop-i.invariant.2

@@ -1,6 +1,6 @@
 use Rattle.std.proofs.Common.{◌≡◌, [], drop}
-use Rattle.larch_items.specs.Steps.{all_taken}
-use Rattle.larch_claims.specs.Conversions.{take_converted}
+use Rattle.larch_traits_items.specs.Steps.{all_taken}
+use Rattle.larch_duties_meaning.specs.Conversions.{take_converted}
 use Rattle.larch_duties.proofs.conversion.all_converted.Given as goal
 
 -- the operators so far, with those that the references that are left name, are all

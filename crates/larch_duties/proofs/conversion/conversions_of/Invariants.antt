@@ -1,6 +1,6 @@
 use Rattle.std.proofs.Common.{◌≡◌, drop}
-use Rattle.larch_items.specs.Steps.{all_taken, each, one_behind}
-use Rattle.larch_claims.specs.Conversions.{conversion_of}
+use Rattle.larch_traits_items.specs.Steps.{all_taken, each, one_behind}
+use Rattle.larch_duties_meaning.specs.Conversions.{conversion_of}
 use Rattle.larch_duties.proofs.conversion.conversions_of.Given as goal
 
 -- the clauses so far, with those that are left, are all

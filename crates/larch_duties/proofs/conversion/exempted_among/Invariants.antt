@@ -1,6 +1,6 @@
 use Rattle.std.proofs.Common.{◌≡◌, [], drop}
-use Rattle.larch_items.specs.Steps.{all_taken}
-use Rattle.larch_claims.specs.Conversions.{take_exempted}
+use Rattle.larch_traits_items.specs.Steps.{all_taken}
+use Rattle.larch_duties_meaning.specs.Conversions.{take_exempted}
 use Rattle.larch_duties.proofs.conversion.exempted_among.Given as goal
 
 -- the terms so far, with those that are left, are all

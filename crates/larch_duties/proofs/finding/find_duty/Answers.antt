@@ -1,5 +1,5 @@
 use Rattle.std.proofs.Common.{◌∙◌, ap}
-use Rattle.larch_claims.specs.Duties.{Duties, all_duties}
+use Rattle.larch_duties_meaning.specs.Duties.{Duties, all_duties}
 use Rattle.larch_duties.specs.Finding.{kept_duty}
 use Rattle.larch_duties.proofs.Found.{duty_with, kept_found}
 use Rattle.larch_duties.proofs.finding.find_duty.Goals as goal

@@ -1,5 +1,5 @@
 use Rattle.std.proofs.Common.{◌≡◌, take}
-use Rattle.larch_flat.specs.Gathered.{statements_in}
+use Rattle.larch_flat_meaning.specs.Gathered.{statements_in}
 use Rattle.larch_duties.proofs.finding.statements_of.Given as goal
 
 -- the statements so far

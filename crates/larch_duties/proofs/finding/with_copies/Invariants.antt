@@ -1,5 +1,5 @@
 use Rattle.std.proofs.Common.{◌≡◌, ◌++◌, map, take}
-use Rattle.larch_claims.specs.Conversions.{copy_of}
+use Rattle.larch_duties_meaning.specs.Conversions.{copy_of}
 use Rattle.larch_duties.proofs.finding.with_copies.Given as goal
 
 -- the operators, and the copies so far

@@ -1,5 +1,5 @@
 use Rattle.std.proofs.Common.{◌∙◌, ap}
-use Rattle.larch_flat.specs.Gathered.{new_among, statements_in}
+use Rattle.larch_flat_meaning.specs.Gathered.{new_among, statements_in}
 use Rattle.larch_duties.proofs.Distinct.{new_beside}
 use Rattle.larch_duties.proofs.known.not_discharged.Goals as goal
 

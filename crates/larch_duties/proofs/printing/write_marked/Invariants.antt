@@ -1,5 +1,5 @@
 use Rattle.std.proofs.Common.{◌≡◌, ◌+◌, ◌++◌, drop}
-use Rattle.larch_claims.specs.Listing.{listed_marked}
+use Rattle.larch_duties_meaning.specs.Listing.{listed_marked}
 use Rattle.larch_duties.proofs.printing.write_marked.Given as goal
 
 -- what is written and what is left to write are all

@@ -1,6 +1,6 @@
 use Rattle.std.proofs.Common.{◌≡◌, ◌++◌, drop}
 use Rattle.std.specs.List.{flat_map}
-use Rattle.larch_claims.specs.Listing.{listed_operator}
+use Rattle.larch_duties_meaning.specs.Listing.{listed_operator}
 use Rattle.larch_duties.proofs.printing.write_operators.Given as goal
 
 -- what is written and what is left to write are all

@@ -1,6 +1,6 @@
 use Rattle.std.proofs.Common.{◌≡◌, ◌+◌, ◌*◌, drop, sum_by}
 use Rattle.larch_term.specs.Tree.{forest_of, nodes}
-use Rattle.larch_claims.specs.Conversions.{have_one_of}
+use Rattle.larch_duties_meaning.specs.Conversions.{have_one_of}
 use Rattle.larch_duties.proofs.standing.+standing.Given as goal
 
 -- what is left is answered as all terms are

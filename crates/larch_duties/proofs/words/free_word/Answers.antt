@@ -13,7 +13,8 @@ loop-alloc-preserved c =
 
 pub loop-alloc-smaller : goal.loop-alloc-smaller
 loop-alloc-smaller c =
-    let few = tried_few c.args.taken.now.keys c.args.tried c.loop-alloc.word c.loop-alloc.invariant (sym c.is_taken.ensures ∙ c.loop-alloc-test.true) in
+    let few = tried_few c.args.taken.now.keys c.args.tried c.loop-alloc.word c.loop-alloc.invariant
+    (sym c.is_taken.ensures ∙ c.loop-alloc-test.true) in
     let long = ap length c.in_ok-word.ensures ∙ length-append c.loop-alloc.word (codes "'") in
     omega (arith, few, long)
 

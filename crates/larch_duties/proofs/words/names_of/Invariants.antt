@@ -1,5 +1,5 @@
 use Rattle.std.proofs.Common.{◌≡◌, [], drop, fold, map}
-use Rattle.larch_claims.specs.Conversions.{bytes_of}
+use Rattle.larch_duties_meaning.specs.Conversions.{bytes_of}
 use Rattle.larch_duties.specs.Names.{with_word}
 use Rattle.larch_duties.proofs.words.names_of.Given as goal
 

@@ -1,5 +1,5 @@
 use Rattle.std.proofs.Common.{◌≡◌, ◌++◌, take}
-use Rattle.larch_grammar.specs.Forms.{variables_at}
+use Rattle.larch_grammar.specs.Form.{variables_at}
 use Rattle.larch_grammar.proofs.traits.with_group.Given as goal
 
 -- the names so far have their variables

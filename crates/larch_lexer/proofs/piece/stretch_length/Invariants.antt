@@ -1,5 +1,5 @@
 use Rattle.std.proofs.Common.{◌≡◌, ◌+◌, length}
-use Rattle.larch_lexer.specs.Pieces.{stretch_length}
+use Rattle.larch_lexer.specs.Piece.{stretch_length}
 use Rattle.larch_lexer.proofs.piece.stretch_length.Given as goal
 
 -- what was counted and what is still to count make up the whole

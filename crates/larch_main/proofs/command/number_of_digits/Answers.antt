@@ -21,6 +21,10 @@ pub loop-digit-preserved : goal.loop-digit-preserved
 loop-digit-preserved c =
     let digit = digit_at c.args.digits.now c.loop-digit.digit-index c.requires.digits c.loop-digit-test.true in
     record {
-      spelled = rw (c.from.ensures, c.loop-digit.invariant.spelled) (sym (number_more c.args.digits.now c.loop-digit.digit-index c.loop-digit-test.true));
-      small = one_more c.loop-digit.number c.loop-digit.digit-index c.from.result c.loop-digit.invariant.small (omega arith);
+      spelled =
+          rw (c.from.ensures, c.loop-digit.invariant.spelled)
+          (sym (number_more c.args.digits.now c.loop-digit.digit-index c.loop-digit-test.true));
+      small =
+          one_more c.loop-digit.number c.loop-digit.digit-index c.from.result c.loop-digit.invariant.small
+          (omega arith);
     }

@@ -2,7 +2,7 @@
 use Rattle.std.proofs.Common.{rules, ◌≤◌, length, subst, sym}
 use Rattle.larch_base.specs.declared.limits.TheConstants.{MAX_FILE_BYTES}
 use Rattle.larch_io.specs.Folder.{IsFile}
-use Rattle.larch_io.specs.Refusals.{FileRefused}
+use Rattle.larch_io.specs.Refusal.{FileRefused}
 use Rattle.larch_main.specs.Look.{Fetches, IsRefusalFor}
 use Rattle.larch_main.specs.Gather.{Whole}
 use Rattle.larch_main.proofs.Evidence.{fetched, fetch_refused}

@@ -18,7 +18,8 @@ returns-in-Err-clause-faults g c =
 pub loop-name-preserved : goal.loop-name-preserved
 loop-name-preserved g c = record {
   gathers =
-      went_on _ _ c.loop-name.invariant.same c.args.names.now c.loop-name.files c.look.new.files c.loop-name.name-index c.name-item.result
+      went_on _ _ c.loop-name.invariant.same c.args.names.now c.loop-name.files c.look.new.files c.loop-name.name-index
+      c.name-item.result
       c.loop-name-test.true c.name-item.is c.loop-name.invariant.gathers _ c.in-Ok.ensures.looks;
   same = c.look.ensures.same ∙ c.loop-name.invariant.same;
   fine = c.in-Ok.ensures.fine ∙ c.loop-name.invariant.fine;

@@ -9,6 +9,7 @@ loop-number-preserved c = record {
       next_line c.args.sources.now c.loop-number.number c.loop-number.lines _ _ c.in_ok-line.line (omega arith)
       c.in_ok-line.ensures.line c.in_ok-push.ensures.ok c.loop-number.invariant.lines;
   text =
-      next_piece (listed_at c.args.sources.now) c.args.sources.now c.loop-number.number c.loop-number.text _ _ (omega arith)
+      next_piece (listed_at c.args.sources.now) c.args.sources.now c.loop-number.number c.loop-number.text _ _
+      (omega arith)
       c.in_ok-line.ensures.text c.loop-number.invariant.text;
 }

@@ -8,7 +8,9 @@ use Rattle.larch_main.proofs.obligations.list_all.Given as goal
 abbrev pub invariant-loop-number : goal.invariant-loop-number
 invariant-loop-number l = record {
   lines :
-      l.lines ++ flat_map (λ source. trait_lines source.0 (trait_duties l.sources source.0)) (drop l.number l.sources) ≡ source_lines l.sources;
+      l.lines ++ flat_map (λ source. trait_lines source.0 (trait_duties l.sources source.0)) (drop l.number l.sources)
+      ≡ source_lines l.sources;
   text :
-      l.text ++ flat_map (λ source. listed_at l.sources source.0) (drop l.number l.sources) ≡ l.initial.text ++ listings_of l.sources;
+      l.text ++ flat_map (λ source. listed_at l.sources source.0) (drop l.number l.sources)
+      ≡ l.initial.text ++ listings_of l.sources;
 }

@@ -13,5 +13,6 @@ returns-in-Ok-clause-moves g c =
 pub returns-in-Err-clause-moves : goal.returns-in-Err-clause-moves
 returns-in-Err-clause-moves g c =
     let p = c.args.progress.now in
-    line_refused p c.take_line.new.reader _ _ c.in-Err.refusal c.without_line.result c.in-Err.ensures.none c.in-Err.ensures.refused
+    line_refused p c.take_line.new.reader _ _ c.in-Err.refusal c.without_line.result c.in-Err.ensures.none
+    c.in-Err.ensures.refused
     (rw c.taken-before.ensures at c.without_line.ensures)

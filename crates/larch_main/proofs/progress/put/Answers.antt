@@ -9,10 +9,12 @@ returns-in-Ok-clause-moves g c =
     let r = record q { files = c.keep.new.files } in
     rw (sym c.in-Ok.ensures.count)
     (moves_after p q r _ _ _ c.keep.result
-    (bytes_pass p c.take_exact.new.reader _ _ c.args.before c.args.name c.in-Ok.bytes c.in-Ok.ensures.bytes c.take_exact.ensures.within)
+    (bytes_pass p c.take_exact.new.reader _ _ c.args.before c.args.name c.in-Ok.bytes c.in-Ok.ensures.bytes
+    c.take_exact.ensures.within)
     (file_moves q c.keep.new.files _ c.args.name c.in-Ok.bytes c.keep.result c.keep.ensures))
 
 pub returns-in-Err-clause-moves : goal.returns-in-Err-clause-moves
 returns-in-Err-clause-moves g c =
-    bytes_refused c.args.progress.now c.take_exact.new.reader _ _ c.args.before c.args.name c.args.count c.in-Err.refusal c.without_bytes.result
+    bytes_refused c.args.progress.now c.take_exact.new.reader _ _ c.args.before c.args.name c.args.count
+    c.in-Err.refusal c.without_bytes.result
     c.in-Err.ensures.none c.in-Err.ensures.refused c.without_bytes.ensures

@@ -1,12 +1,14 @@
 -- What the words ask for, and what that call does.
 use Rattle.std.proofs.Common.{◌∙◌, refl, sym}
 use Rattle.larch_words.specs.declared.call.Call.TheVariants as call_
-use Rattle.larch_main.proofs.Whole.{completes_as, folder_kept, memory_input, nothing_written, source_kept, unlooked, unread, usage_sink, usage_writes, writes_as}
+use Rattle.larch_main.proofs.Whole.{completes_as, folder_kept, memory_input, nothing_written, source_kept, unlooked}
+use Rattle.larch_main.proofs.Whole.{unread, usage_sink, usage_writes, writes_as}
 use Rattle.larch_main.proofs.running.run.Goals as goal
 
 pub returns-in-Session-clause-output : goal.returns-in-Session-clause-output
 returns-in-Session-clause-output g c =
-    writes_as call_.Session _ _ _ _ _ _ c.session.result (sym c.in-Session.is ∙ c.in-Ok.ensures) (c.session.ensures.output _)
+    writes_as call_.Session _ _ _ _ _ _ c.session.result (sym c.in-Session.is ∙ c.in-Ok.ensures)
+    (c.session.ensures.output _)
 
 pub returns-in-Session-clause-complete : goal.returns-in-Session-clause-complete
 returns-in-Session-clause-complete g c =
@@ -16,12 +18,14 @@ returns-in-Session-clause-complete g c =
 
 pub returns-in-Nothing-clause-output : goal.returns-in-Nothing-clause-output
 returns-in-Nothing-clause-output g c =
-    writes_as call_.Nothing _ _ _ _ _ _ c.say.result (sym c.in-Nothing.is ∙ c.in-Ok.ensures) (usage_writes _ _ _ _ _ _ c.say.result c.say.ensures)
+    writes_as call_.Nothing _ _ _ _ _ _ c.say.result (sym c.in-Nothing.is ∙ c.in-Ok.ensures)
+    (usage_writes _ _ _ _ _ _ c.say.result c.say.ensures)
 
 pub returns-in-Nothing-clause-complete : goal.returns-in-Nothing-clause-complete
 returns-in-Nothing-clause-complete g c =
     completes_as call_.Nothing _ _ _ _ _ _ c.say.result _ _ _ _ _ _ (sym c.in-Nothing.is ∙ c.in-Ok.ensures)
-    (usage_writes (g.F.Folder.files c.args.folder.now) (g.S.Source.left c.args.source.now) _ _ _ _ c.say.result c.say.ensures)
+    (usage_writes (g.F.Folder.files c.args.folder.now)
+    (g.S.Source.left c.args.source.now) _ _ _ _ c.say.result c.say.ensures)
     (unread call_.Nothing refl c.say.result (g.S.Source.faults c.args.source.now))
     (unlooked call_.Nothing refl c.say.result (g.F.Folder.faults c.args.folder.now))
     (usage_sink _ _ _ _ c.say.result c.say.ensures)

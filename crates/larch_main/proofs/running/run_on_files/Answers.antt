@@ -4,7 +4,8 @@ use Rattle.larch_main.proofs.running.run_on_files.Goals as goal
 
 pub returns-clause-output : goal.returns-clause-output
 returns-clause-output g c = λ left.
-    look_writes c.args.call.now c.requires.reads (g.F.Folder.files c.args.folder.now) c.answer-answered.result c.answer-answered.ensures.answer left _ _ _ _
+    look_writes c.args.call.now c.requires.reads
+    (g.F.Folder.files c.args.folder.now) c.answer-answered.result c.answer-answered.ensures.answer left _ _ _ _
     c.tell.result c.tell.ensures
 
 pub returns-clause-source_faults : goal.returns-clause-source_faults
@@ -12,10 +13,12 @@ returns-clause-source_faults g c = λ count. look_source c.args.call.now c.requi
 
 pub returns-clause-folder_faults : goal.returns-clause-folder_faults
 returns-clause-folder_faults g c =
-    look_folder c.args.call.now c.requires.reads (g.F.Folder.files c.args.folder.now) c.answer-answered.result c.answer-answered.ensures.answer _ _ _ _
+    look_folder c.args.call.now c.requires.reads
+    (g.F.Folder.files c.args.folder.now) c.answer-answered.result c.answer-answered.ensures.answer _ _ _ _
     c.tell.result _ _ c.answer-answered.ensures.fine c.answer-answered.ensures.faults c.tell.ensures
 
 pub returns-clause-sink_faults : goal.returns-clause-sink_faults
 returns-clause-sink_faults g c =
-    look_sink c.args.call.now c.requires.reads (g.F.Folder.files c.args.folder.now) c.answer-answered.result c.answer-answered.ensures.answer _ _ _ _
+    look_sink c.args.call.now c.requires.reads
+    (g.F.Folder.files c.args.folder.now) c.answer-answered.result c.answer-answered.ensures.answer _ _ _ _
     c.tell.result c.tell.ensures

@@ -6,7 +6,8 @@ use Rattle.larch_main.proofs.session.session.Given as goal
 -- what was given and written so far
 abbrev pub invariant-loop-reply : goal.invariant-loop-reply
 invariant-loop-reply g l = record {
-  so_far : SoFar l.progress (g.S.Source.left l.initial.source) (g.S.Source.left l.source) (g.K.Sink.held l.initial.sink) (g.K.Sink.held l.sink);
+  so_far : SoFar l.progress (g.S.Source.left l.initial.source) (g.S.Source.left l.source) (g.K.Sink.held l.initial.sink)
+      (g.K.Sink.held l.sink);
   no_source_fault : g.S.Source.faults l.source ≡ g.S.Source.faults l.initial.source;
   no_sink_fault : g.K.Sink.faults l.sink ≡ g.K.Sink.faults l.initial.sink;
 }

@@ -10,7 +10,8 @@ returns-clause-says c a os e k =
     let q = c.in_ok-same.ensures.says _ _ _ k.says in
     let g = c.in_ok-close_box.ensures.grows a i.opened k.box _ _ _ i.opens j q in
     let r = c.in_ok-close_box.ensures.result a i.opened k.box _ _ _ i.opens j q in
-    c.in_ok-said.ensures.says os (numbers_still a _ c.args.operators os g e) k.domains (shows_partitioned a _ _ _ _ _ _ k g r)
+    c.in_ok-said.ensures.says os (numbers_still a _ c.args.operators os g e) k.domains
+    (shows_partitioned a _ _ _ _ _ _ k g r)
 
 pub returns-clause-grows : goal.returns-clause-grows
 returns-clause-grows c a os e k =
@@ -20,5 +21,6 @@ returns-clause-grows c a os e k =
     let q = c.in_ok-same.ensures.says _ _ _ k.says in
     let g = c.in_ok-close_box.ensures.grows a i.opened k.box _ _ _ i.opens j q in
     let r = c.in_ok-close_box.ensures.result a i.opened k.box _ _ _ i.opens j q in
-    grows_trans a _ _ g (extends_grows _ _ (c.in_ok-said.ensures.extends os (numbers_still a _ c.args.operators os g e) k.domains
+    grows_trans a _ _ g (extends_grows _ _
+    (c.in_ok-said.ensures.extends os (numbers_still a _ c.args.operators os g e) k.domains
     (shows_partitioned a _ _ _ _ _ _ k g r)))

@@ -2,7 +2,8 @@ use Rattle.std.specs.Prelude.{true}
 use Rattle.std.proofs.Common.{sym, ◌∙◌}
 use Rattle.larch_term.specs.Truth.{truth}
 use Rattle.larch_derive.proofs.Growth.{extends_grows, grows_trans, known_stands}
-use Rattle.larch_methods.proofs.Sharing.{closed_as, closed_up, inside_as, inside_grown, said_left, shows_still, value_known}
+use Rattle.larch_methods.proofs.Sharing.{closed_as, closed_up, inside_as, inside_grown, said_left, shows_still}
+use Rattle.larch_methods.proofs.Sharing.{value_known}
 use Rattle.larch_calculus.specs.Formula.{implication}
 use Rattle.larch_methods.proofs.implication.write_implication.Goals as goal
 

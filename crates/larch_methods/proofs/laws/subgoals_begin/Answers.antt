@@ -1,4 +1,5 @@
-use Rattle.larch_methods.proofs.Begun.{cases_begin, contradiction_begins, implication_begins, induction_begins, partition_begins}
+use Rattle.larch_methods.proofs.Begun.{cases_begin, contradiction_begins, implication_begins, induction_begins}
+use Rattle.larch_methods.proofs.Begun.{partition_begins}
 use Rattle.larch_methods.proofs.laws.subgoals_begin.Goals as goal
 
 pub returns : goal.returns

@@ -1,4 +1,5 @@
-use Rattle.larch_methods.proofs.Left.{cases_left, conjunction_left, contradiction_left, implication_left, induction_left, partition_left}
+use Rattle.larch_methods.proofs.Left.{cases_left, conjunction_left, contradiction_left, implication_left}
+use Rattle.larch_methods.proofs.Left.{induction_left, partition_left}
 use Rattle.larch_methods.proofs.laws.subgoals_show.Goals as goal
 
 pub returns : goal.returns

@@ -7,7 +7,8 @@ loop-candidate-preserved c =
     let k = c.loop-candidate.invariant.0 in (
       omega (arith, k),
       others_more c.args.own.now c.args.operator.now c.candidate-item.result c.loop-candidate.candidate-index
-          c.loop-candidate-test.true c.candidate-item.is (sym c.eq.ensures ∙ c.if-eq.false) c.loop-candidate.invariant.1,
+          c.loop-candidate-test.true c.candidate-item.is
+          (sym c.eq.ensures ∙ c.if-eq.false) c.loop-candidate.invariant.1,
     )
 
 pub returns-then-eq-clause-some : goal.returns-then-eq-clause-some

@@ -4,4 +4,5 @@ use Rattle.larch_order.proofs.greater.count_of.Given as goal
 
 -- what is counted and what is left
 abbrev pub invariant-loop-other : goal.invariant-loop-other
-invariant-loop-other l = (l.count + count_of l.term (drop l.other-index l.terms) ≡ count_of l.term l.terms) × (l.count ≤ l.other-index)
+invariant-loop-other l =
+    (l.count + count_of l.term (drop l.other-index l.terms) ≡ count_of l.term l.terms) × (l.count ≤ l.other-index)

@@ -3,4 +3,9 @@ use Rattle.larch_order.proofs.OrderingLaws.{greater_than_variable, greater_than_
 use Rattle.larch_order.proofs.laws.cases_of_greater.Goals as goal
 
 pub returns : goal.returns
-returns c = record { variable = λ ranks n s t. refl; than_variable = greater_than_variable; than_application = greater_than_application }
+returns c =
+    record {
+      variable = λ ranks n s t. refl;
+      than_variable = greater_than_variable;
+      than_application = greater_than_application;
+    }

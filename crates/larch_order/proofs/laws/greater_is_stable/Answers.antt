@@ -1,7 +1,7 @@
-use Rattle.larch_term.specs.Substitution.{substituted}
+use Rattle.larch_term.specs.Substitution.{instance_of}
 use Rattle.larch_order.proofs.Computed.{computed, shown}
 use Rattle.larch_order.proofs.Stable.{stable}
 use Rattle.larch_order.proofs.laws.greater_is_stable.Goals as goal
 
 pub returns : goal.returns
-returns c ranks es t u g = shown ranks (substituted es t) (substituted es u) (stable ranks es t u (computed g))
+returns c ranks es t u g = shown ranks (instance_of es t) (instance_of es u) (stable ranks es t u (computed g))

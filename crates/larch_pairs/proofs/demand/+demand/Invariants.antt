@@ -12,4 +12,5 @@ decreases-demand_of_all l = 2 * sum_by nodes l.terms.now + 1
 -- the equations so far ask for nothing
 abbrev pub invariant-demand_of_all-loop-i : goal.invariant-demand_of_all-loop-i
 invariant-demand_of_all-loop-i l =
-    demand_all (forest_of (drop l.i l.terms)) (forest_of (drop l.i l.others)) ≡ demand_all (forest_of l.terms) (forest_of l.others)
+    demand_all (forest_of (drop l.i l.terms)) (forest_of (drop l.i l.others))
+    ≡ demand_all (forest_of l.terms) (forest_of l.others)

@@ -13,5 +13,6 @@ decreases-occurs_in l = 2 * sum_by nodes l.terms.now + 1
 -- it doesn't occur in the terms so far
 abbrev pub invariant-occurs_in-loop-term : goal.invariant-occurs_in-loop-term
 invariant-occurs_in-loop-term l =
-    list_any (same_variable (record { name = l.name; sort = l.sort })) (occurrences_in (forest_of (drop l.term-index l.terms)))
+    list_any (same_variable (record { name = l.name; sort = l.sort }))
+    (occurrences_in (forest_of (drop l.term-index l.terms)))
     ≡ list_any (same_variable (record { name = l.name; sort = l.sort })) (occurrences_in (forest_of l.terms))

@@ -12,5 +12,6 @@ decreases-room_behind_all l = 2 * sum_by nodes l.terms.now + 1
 -- the room behind the terms so far, against that before all
 abbrev pub invariant-room_behind_all-loop-term : goal.invariant-room_behind_all-loop-term
 invariant-room_behind_all-loop-term l =
-    (l.left + nodes_all (substituted_all l.by (forest_of l.terms)) ≡ l.fn.room + nodes_all (substituted_all l.by (forest_of (drop l.term-index l.terms))))
+    (l.left + nodes_all (substituted_all l.by (forest_of l.terms))
+    ≡ l.fn.room + nodes_all (substituted_all l.by (forest_of (drop l.term-index l.terms))))
     × (l.left < 2 ^ 64 - 1)

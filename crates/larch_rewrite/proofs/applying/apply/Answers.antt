@@ -9,7 +9,8 @@ pub returns-in_err-term-clause-refused : goal.returns-in_err-term-clause-refused
 returns-in_err-term-clause-refused c =
     let p = err_from_is_err_and c.from_residual.result c.from_residual.ensures.1 in
     rw (p.1, p.2)
-    (λ rs t s n. application_tells rs t _ _ _ (λ q. omega (arith, q, c.if-means-eq0.false)) s n c.in_err-term.ensures.refused)
+    (λ rs t s n. application_tells rs t _ _ _
+    (λ q. omega (arith, q, c.if-means-eq0.false)) s n c.in_err-term.ensures.refused)
 
 pub returns-in_err-line-clause-extends : goal.returns-in_err-line-clause-extends
 returns-in_err-line-clause-extends c s t k h b d w =

@@ -4,7 +4,7 @@ use Rattle.std.proofs.lemmas.List.Elements.{All-nil, All-push}
 use Rattle.std.proofs.lemmas.Result.{err_from_is_err_and}
 use Rattle.larch_derive.proofs.Growth.{extends_refl}
 use Rattle.larch_store.specs.Stored.{Belongs}
-use Rattle.larch_rewrite.specs.Levels.{IsArgument, IsFrameOf}
+use Rattle.larch_rewrite.specs.Level.{IsArgument, IsFrameOf}
 use Rattle.larch_rewrite.specs.declared.level.Turn.TheVariants.{Arguments}
 use Rattle.larch_rewrite.proofs.Turns.{tells_whole, works_deeper, works_on}
 use Rattle.larch_rewrite.proofs.Lines.{says_deeper, says_on, way_formed}
@@ -14,7 +14,8 @@ use Rattle.larch_rewrite.proofs.machine.go_on.Goals as goal
 -- the argument that begins
 begins : (c : goal.In_ok-push-in-Some) → IsArgument c.args.frame c.args.pending.now.means.left c.in-Some.level
 begins c =
-    subst (λ o. IfSome o (IsArgument c.args.frame c.args.pending.now.means.left)) c.in-Some.is c.in_ok-level.ensures.some
+    subst (λ o. IfSome o (IsArgument c.args.frame c.args.pending.now.means.left)) c.in-Some.is
+    c.in_ok-level.ensures.some
 
 pub returns-in_ok-push-in-Some-clause-frames : goal.returns-in_ok-push-in-Some-clause-frames
 returns-in_ok-push-in-Some-clause-frames c =
@@ -45,10 +46,13 @@ returns-in_ok-turn-in-None-clause-works c rs whole budget kept h =
 
 pub returns-in_ok-turn-in-None-clause-says : goal.returns-in_ok-turn-in-None-clause-says
 returns-in_ok-turn-in-None-clause-says c b rules kept h =
-    says_on b b _ _ _ (Arguments c.args.frame) c.in_ok-turn-in-None.turn (extends_refl b) c.in_ok-turn-in-None.ensures.start
-    (way_formed b _ (Arguments c.args.frame) c.in_ok-turn-in-None.turn c.in_ok-turn-in-None.ensures.way c.in_ok-turn-in-None.ensures.reached h.way) h
+    says_on b b _ _ _ (Arguments c.args.frame) c.in_ok-turn-in-None.turn
+    (extends_refl b) c.in_ok-turn-in-None.ensures.start
+    (way_formed b _ (Arguments c.args.frame) c.in_ok-turn-in-None.turn c.in_ok-turn-in-None.ensures.way
+    c.in_ok-turn-in-None.ensures.reached h.way) h
 
 pub returns-in_err-turn-in-None-clause-refused : goal.returns-in_err-turn-in-None-clause-refused
 returns-in_err-turn-in-None-clause-refused c =
-    let p = err_from_is_err_and c.from_residual-in_err-turn-in-None.result c.from_residual-in_err-turn-in-None.ensures.1 in
+    let p =
+    err_from_is_err_and c.from_residual-in_err-turn-in-None.result c.from_residual-in_err-turn-in-None.ensures.1 in
     rw (p.1, p.2) (λ rs whole budget kept h. tells_whole _ _ _ _ _ _ _ _ h (c.in_err-turn-in-None.ensures.refused rs _))

@@ -3,7 +3,7 @@ use Rattle.std.proofs.Common.{arith, sym, subst}
 use Rattle.std.proofs.lemmas.Grind.{common_steps}
 use Rattle.std.proofs.lemmas.List.Elements.{All-pop, All-push}
 use Rattle.larch_store.specs.Stored.{Belongs, AllBelong}
-use Rattle.larch_rewrite.specs.Levels.{IsFrameOf}
+use Rattle.larch_rewrite.specs.Level.{IsFrameOf}
 use Rattle.larch_rewrite.proofs.Turns.{works_up}
 use Rattle.larch_rewrite.proofs.Lines.{first_way, says_up}
 use Rattle.larch_rewrite.proofs.machine.go_up.Goals as goal
@@ -22,7 +22,8 @@ returns-clause-frames c = (frames_popped c).0
 
 pub returns-clause-works : goal.returns-clause-works
 returns-clause-works c rs whole budget kept h =
-    works_up _ _ _ _ _ _ _ _ _ _ (popped c) (frames_popped c).1.3 c.in_ok-frame.ensures.level c.in_ok-frame.ensures.done h
+    works_up _ _ _ _ _ _ _ _ _ _ (popped c)
+    (frames_popped c).1.3 c.in_ok-frame.ensures.level c.in_ok-frame.ensures.done h
 
 pub returns-clause-says : goal.returns-clause-says
 returns-clause-says c rules kept h =

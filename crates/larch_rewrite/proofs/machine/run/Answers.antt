@@ -2,11 +2,11 @@ use Rattle.std.specs.Prelude.{All, refl}
 use Rattle.std.proofs.Common.{ap, sym, subst, ◌∙◌}
 use Rattle.std.proofs.lemmas.List.Elements.{All-nil}
 use Rattle.std.proofs.lemmas.Result.{err_from_is_err_and}
-use Rattle.larch_applying.proofs.Written.{encodings_stay}
+use Rattle.larch_rewrite_step.proofs.Written.{encodings_stay}
 use Rattle.larch_derive.proofs.Growth.{extends_same, extends_trans}
 use Rattle.larch_store.specs.Stored.{Belongs}
 use Rattle.larch_store.proofs.Growth.{grows_refl, grows_trans}
-use Rattle.larch_rewrite.specs.Levels.{IsFrameOf}
+use Rattle.larch_rewrite.specs.Level.{IsFrameOf}
 use Rattle.larch_rewrite.specs.declared.level.Level.{Level}
 use Rattle.larch_rewrite.proofs.Turns.{last_made, last_start, works_first}
 use Rattle.larch_rewrite.proofs.Lines.{last_says, last_way, led_stays, none_written, says_first}
@@ -64,7 +64,8 @@ returns-then-is_last-clause-made c =
 pub returns-then-is_last-clause-says : goal.returns-then-is_last-clause-says
 returns-then-is_last-clause-says c m =
     let w = last_way _ _ _ _ _ (c.is_last.ensures c.if-is_last.true) (c.loop.invariant.says m) in
-    last_says _ _ c.loop.turn _ _ (last_start _ _ _ _ _ _ _ (c.is_last.ensures c.if-is_last.true) c.loop.invariant.works)
+    last_says _ _ c.loop.turn _ _ (last_start _ _ _ _ _ _ _
+    (c.is_last.ensures c.if-is_last.true) c.loop.invariant.works)
     c.in_ok-normal.ensures.form (c.in_ok-normal.ensures.says _ w.0 w.1)
 
 pub returns-then-is_last-clause-led : goal.returns-then-is_last-clause-led

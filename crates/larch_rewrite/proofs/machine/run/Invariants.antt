@@ -1,10 +1,10 @@
-use Rattle.larch_applying.specs.Encodings.{AreEncodings, AreOfStore}
+use Rattle.larch_rewrite_step.specs.Encoding.{AreEncodings, AreOfStore}
 use Rattle.larch_derive.specs.Predicates.{Extends}
-use Rattle.larch_redexes.specs.Rule.{all_sides}
+use Rattle.larch_rewrite_match.specs.Rule.{all_sides}
 use Rattle.larch_store.specs.Numbered.{term_of}
 use Rattle.larch_store.specs.Stored.{Grows}
 use Rattle.larch_rewrite.specs.Kept.{IsFront}
-use Rattle.larch_rewrite.specs.Levels.{IsStored, Works}
+use Rattle.larch_rewrite.specs.Level.{IsStored, Works}
 use Rattle.larch_rewrite.specs.Ways.{MayBegin, Says}
 use Rattle.larch_rewrite.proofs.machine.run.Given as goal
 
@@ -18,5 +18,6 @@ invariant-loop l = record {
   says : MayBegin l.fn.builder l.rules l.fn.kept (term_of l.term)
       → Says l.builder l.rules l.kept l.pending.frames.items l.turn;
   belong : AreOfStore l.store l.pending.means.encodings;
-  encodings : MayBegin l.fn.builder l.rules l.fn.kept (term_of l.term) → AreEncodings l.builder l.pending.means.encodings;
+  encodings : MayBegin l.fn.builder l.rules l.fn.kept (term_of l.term)
+      → AreEncodings l.builder l.pending.means.encodings;
 }

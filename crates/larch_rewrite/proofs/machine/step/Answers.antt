@@ -1,9 +1,9 @@
 use Rattle.std.specs.Prelude.{All}
 use Rattle.std.proofs.Common.{sym, subst}
 use Rattle.std.proofs.lemmas.Result.{err_from_is_err_and}
-use Rattle.larch_applying.proofs.Written.{of_store_stay}
+use Rattle.larch_rewrite_step.proofs.Written.{of_store_stay}
 use Rattle.larch_rewrite.specs.Kept.{IsOfStore}
-use Rattle.larch_rewrite.specs.Levels.{IsTurnOf}
+use Rattle.larch_rewrite.specs.Level.{IsTurnOf}
 use Rattle.larch_rewrite.proofs.Turns.{tells_whole, works_from, works_kept, works_on}
 use Rattle.larch_rewrite.proofs.Lines.{means_written, says_from, says_kept, says_on}
 use Rattle.larch_rewrite.proofs.Stored.{all_kept, front_at, front_same, frames_stay, kept_from, kept_stay, means_stay}
@@ -31,7 +31,8 @@ pub returns-in_ok-turn-in-Begin-clause-says : goal.returns-in_ok-turn-in-Begin-c
 returns-in_ok-turn-in-Begin-clause-says c h d =
     let g = says_from _ _ _ _ _ _ c.in-Begin.is h in
     says_kept _ _ _ _ _ _ _ c.keep.ensures
-    (says_on _ _ _ _ _ _ _ (c.in_ok-turn-in-Begin.ensures.extends _ g.kept_led g.way) c.in_ok-turn-in-Begin.ensures.start
+    (says_on _ _ _ _ _ _ _ (c.in_ok-turn-in-Begin.ensures.extends _ g.kept_led g.way)
+    c.in_ok-turn-in-Begin.ensures.start
     (c.in_ok-turn-in-Begin.ensures.says _ g.kept_led g.way) g)
 
 pub returns-in_err-turn-in-Begin-clause-refused : goal.returns-in_err-turn-in-Begin-clause-refused
@@ -109,7 +110,8 @@ pub returns-in_ok-turn-in-Root-clause-says : goal.returns-in_ok-turn-in-Root-cla
 returns-in_ok-turn-in-Root-clause-says c h d =
     let g = says_from _ _ _ _ _ _ c.in-Root.is h in
     says_kept _ _ _ _ _ _ _ (kept_from _ _ _ _ _ c.in_ok-turn-in-Root.ensures.kept c.keep-in-Root.ensures)
-    (says_on _ _ _ _ _ _ _ (c.in_ok-turn-in-Root.ensures.extends _ g.rules_hold g.way d) c.in_ok-turn-in-Root.ensures.start
+    (says_on _ _ _ _ _ _ _ (c.in_ok-turn-in-Root.ensures.extends _ g.rules_hold g.way d)
+    c.in_ok-turn-in-Root.ensures.start
     (c.in_ok-turn-in-Root.ensures.says _ g.rules_hold g.way d) g)
 
 pub returns-in_err-turn-in-Root-clause-refused : goal.returns-in_err-turn-in-Root-clause-refused

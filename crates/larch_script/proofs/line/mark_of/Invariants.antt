@@ -1,5 +1,5 @@
 use Rattle.std.proofs.Common.{◌≡◌, length}
-use Rattle.larch_script.specs.Lines.{mark_of}
+use Rattle.larch_script.specs.Line.{mark_of}
 use Rattle.larch_script.proofs.line.mark_of.Given as goal
 
 -- what is left of the line has its mark

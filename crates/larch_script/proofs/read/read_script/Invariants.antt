@@ -1,5 +1,5 @@
 use Rattle.std.proofs.Common.{◌≡◌, ◌+◌, ◌≤◌, length}
-use Rattle.larch_script.specs.Drafts.{whole}
+use Rattle.larch_script.specs.Draft.{whole}
 use Rattle.larch_script.specs.Scripts.{lines_of, script_from}
 use Rattle.larch_script.proofs.read.read_script.Given as goal
 

@@ -3,16 +3,26 @@ use Rattle.larch_sorts_meaning.proofs.ReadAnswers.{lone_known, lone_only, lone_s
 use Rattle.larch_sorts.proofs.lone.read_lone.Goals as goal
 
 pub returns-clause-known : goal.returns-clause-known
-returns-clause-known c = lone_known c.args.signature.now c.args.scope.now (option_copied c.args.sort) c.args.raw.now c.lone.result c.lone.ensures
+returns-clause-known c =
+    lone_known c.args.signature.now c.args.scope.now
+    (option_copied c.args.sort) c.args.raw.now c.lone.result c.lone.ensures
 
 pub returns-clause-only : goal.returns-clause-only
-returns-clause-only c = lone_only c.args.signature.now c.args.scope.now (option_copied c.args.sort) c.args.raw.now c.lone.result c.lone.ensures
+returns-clause-only c =
+    lone_only c.args.signature.now c.args.scope.now
+    (option_copied c.args.sort) c.args.raw.now c.lone.result c.lone.ensures
 
 pub returns-clause-stands : goal.returns-clause-stands
-returns-clause-stands c = lone_stands c.args.signature.now c.args.scope.now (option_copied c.args.sort) c.args.raw.now c.lone.result c.lone.ensures
+returns-clause-stands c =
+    lone_stands c.args.signature.now c.args.scope.now
+    (option_copied c.args.sort) c.args.raw.now c.lone.result c.lone.ensures
 
 pub returns-clause-well_sorted : goal.returns-clause-well_sorted
-returns-clause-well_sorted c = lone_over c.args.signature.now c.args.scope.now (option_copied c.args.sort) c.args.raw.now c.lone.result c.lone.ensures
+returns-clause-well_sorted c =
+    lone_over c.args.signature.now c.args.scope.now
+    (option_copied c.args.sort) c.args.raw.now c.lone.result c.lone.ensures
 
 pub returns-clause-in_scope : goal.returns-clause-in_scope
-returns-clause-in_scope c = lone_in_scope c.args.signature.now c.args.scope.now (option_copied c.args.sort) c.args.raw.now c.lone.result c.lone.ensures
+returns-clause-in_scope c =
+    lone_in_scope c.args.signature.now c.args.scope.now
+    (option_copied c.args.sort) c.args.raw.now c.lone.result c.lone.ensures

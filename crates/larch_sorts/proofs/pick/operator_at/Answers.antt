@@ -5,5 +5,6 @@ use Rattle.larch_sorts.proofs.pick.operator_at.Goals as goal
 
 pub returns-in-Some-One : goal.returns-in-Some-One
 returns-in-Some-One c =
-    maker_picked (named c.args.name.now (taking_part c.args.signature.now)) (length c.args.arguments.now) c.args.sort.now c.in-Some-One.operator
+    maker_picked (named c.args.name.now (taking_part c.args.signature.now))
+    (length c.args.arguments.now) c.args.sort.now c.in-Some-One.operator
     (sym (c.in-Some-One.is ∙ ap Some c.in-Some-One.field-0-is) ∙ c.in_ok-maker_of.ensures)

@@ -19,4 +19,5 @@ decreases-tables_of l = 3 * sum_by raw_nodes l.arguments.now + 2
 abbrev pub invariant-tables_of-loop-argument : goal.invariant-tables_of-loop-argument
 invariant-tables_of-loop-argument l =
     AllTell l.signature l.scope (map (λ t. t.found.value.entries) l.tables) (take l.argument-index l.argument-items)
-    × (unread_in l.signature l.scope (parts_of (raw_forest (drop l.argument-index l.argument-items))) ≡ unread_in l.signature l.scope (parts_of (raw_forest l.arguments)))
+    × (unread_in l.signature l.scope (parts_of (raw_forest (drop l.argument-index l.argument-items)))
+    ≡ unread_in l.signature l.scope (parts_of (raw_forest l.arguments)))

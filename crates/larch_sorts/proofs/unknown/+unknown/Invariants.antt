@@ -13,4 +13,5 @@ decreases-unknown_in_any l = 2 * sum_by raw_nodes l.arguments.now + 1
 -- what is unknown in the arguments that are left is so in all
 abbrev pub invariant-unknown_in_any-loop-argument : goal.invariant-unknown_in_any-loop-argument
 invariant-unknown_in_any-loop-argument l =
-    unknown_among l.signature (sort_words_of (raw_forest (drop l.argument-index l.argument-items))) ≡ unknown_among l.signature (sort_words_of (raw_forest l.arguments))
+    unknown_among l.signature (sort_words_of (raw_forest (drop l.argument-index l.argument-items)))
+    ≡ unknown_among l.signature (sort_words_of (raw_forest l.arguments))

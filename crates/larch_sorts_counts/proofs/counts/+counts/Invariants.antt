@@ -24,4 +24,5 @@ abbrev pub invariant-counts_of_all-loop-argument : goal.invariant-counts_of_all-
 invariant-counts_of_all-loop-argument l =
     AllCounts l.numbers l.scope (take l.argument-index l.argument-items) (map counts_in l.all)
     × ((fs : List PlainOperator) → AreNumbers l.numbers (taking_part fs)
-    → unread_in fs l.scope (parts_of (raw_forest (drop l.argument-index l.argument-items))) ≡ unread_in fs l.scope (parts_of (raw_forest l.arguments)))
+    → unread_in fs l.scope (parts_of (raw_forest (drop l.argument-index l.argument-items)))
+    ≡ unread_in fs l.scope (parts_of (raw_forest l.arguments)))

@@ -6,4 +6,5 @@ use Rattle.larch_sorts_counts.proofs.numbers.names_of.Given as goal
 -- each name is left, or its operators are kept under it as numbers
 abbrev pub invariant-loop-name : goal.invariant-loop-name
 invariant-loop-name l =
-    (n : List ℕ) → Contains l.name-iterator n ⊎ (numbers_under l.names.entries n ≡ map (numbered l.sorts.keys) (kept_under l.index.entries n))
+    (n : List ℕ) → Contains l.name-iterator n
+    ⊎ (numbers_under l.names.entries n ≡ map (numbered l.sorts.keys) (kept_under l.index.entries n))

@@ -5,11 +5,14 @@ use Rattle.larch_sorts_counts.proofs.Products.{product_more, product_never}
 use Rattle.larch_sorts_counts.proofs.tally.product.Goals as goal
 
 pub returns-then-arguments-numbers : goal.returns-then-arguments-numbers
-returns-then-arguments-numbers c = product_never counts_in c.args.arguments.now c.args.numbers.now c.if-arguments-numbers.true
+returns-then-arguments-numbers c =
+    product_never counts_in c.args.arguments.now c.args.numbers.now c.if-arguments-numbers.true
 
 pub loop-i-preserved : goal.loop-i-preserved
 loop-i-preserved c =
-    product_more counts_in c.args.arguments.now c.args.numbers.now c.loop-i.i c.index-arguments-i.result (get_or c.args.numbers.now c.loop-i.i 0) c.loop-i.product c.count_at-count.result
+    product_more counts_in c.args.arguments.now c.args.numbers.now c.loop-i.i c.index-arguments-i.result
+    (get_or c.args.numbers.now c.loop-i.i 0) c.loop-i.product c.count_at-count.result
     c.times-product.result c.if-arguments-numbers.false c.loop-i-test.true c.index-arguments-i.is refl
     (c.count_at-count.ensures
-    ∙ ap (λ xs. count_at xs (get_or c.args.numbers.now c.loop-i.i 0)) (c.as_slice.ensures ∙ ap counts_in (sym c.index-arguments-i.is))) c.times-product.ensures c.loop-i.invariant
+    ∙ ap (λ xs. count_at xs (get_or c.args.numbers.now c.loop-i.i 0))
+    (c.as_slice.ensures ∙ ap counts_in (sym c.index-arguments-i.is))) c.times-product.ensures c.loop-i.invariant

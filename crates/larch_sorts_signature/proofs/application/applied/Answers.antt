@@ -6,4 +6,5 @@ use Rattle.larch_sorts_signature.proofs.application.applied.Goals as goal
 
 pub returns-in_ok-table-in-Some : goal.returns-in_ok-table-in-Some
 returns-in_ok-table-in-Some c =
-    subst (IsMade c.in_ok-table-in-Some.table.found.value.entries (map (λ t. t.found.value.entries) c.args.tables.now)) (sym (ap (λ o. kept (option_copied o)) c.in-Some.is)) c.in_ok-table-in-Some.ensures
+    subst (IsMade c.in_ok-table-in-Some.table.found.value.entries (map (λ t. t.found.value.entries) c.args.tables.now))
+    (sym (ap (λ o. kept (option_copied o)) c.in-Some.is)) c.in_ok-table-in-Some.ensures

@@ -6,4 +6,5 @@ use Rattle.larch_sorts_signature.proofs.places.keep.Given as goal
 
 -- the operator stands behind those at the places of its first sorts
 abbrev pub invariant-loop-position : goal.invariant-loop-position
-invariant-loop-position l = (p : Place) → kept_at l.kept.entries p ≡ kept_at l.initial.kept.entries p ++ kept_first l.position l.operator p
+invariant-loop-position l =
+    (p : Place) → kept_at l.kept.entries p ≡ kept_at l.initial.kept.entries p ++ kept_first l.position l.operator p

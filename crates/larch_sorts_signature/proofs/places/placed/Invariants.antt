@@ -5,4 +5,6 @@ use Rattle.larch_sorts_signature.proofs.places.placed.Given as goal
 
 -- the operators of each place that are kept, with those that are left, are all
 abbrev pub invariant-loop-operator : goal.invariant-loop-operator
-invariant-loop-operator l = (p : Place) → kept_at l.kept.entries p ++ filter (takes_at p) (drop l.operator-index l.operators) ≡ filter (takes_at p) l.operators
+invariant-loop-operator l =
+    (p : Place) → kept_at l.kept.entries p ++ filter (takes_at p) (drop l.operator-index l.operators)
+    ≡ filter (takes_at p) l.operators

@@ -4,4 +4,5 @@ use Rattle.larch_sorts_signature.proofs.signature.by_name.Given as goal
 
 -- the operators of each name that are kept, with those that are left, are all
 abbrev pub invariant-loop-operator : goal.invariant-loop-operator
-invariant-loop-operator l = (n : List ℕ) → kept_under l.index.entries n ++ named n (drop l.operator-index l.operators) ≡ named n l.operators
+invariant-loop-operator l =
+    (n : List ℕ) → kept_under l.index.entries n ++ named n (drop l.operator-index l.operators) ≡ named n l.operators

@@ -4,4 +4,5 @@ use Rattle.larch_sorts_signature.proofs.signature.overloads_of.Given as goal
 
 -- each name is left, or its operators are kept under it
 abbrev pub invariant-loop-name : goal.invariant-loop-name
-invariant-loop-name l = (n : List ℕ) → Contains l.name-iterator n ⊎ (kept_under l.index.entries n ≡ kept_under l.named.entries n)
+invariant-loop-name l =
+    (n : List ℕ) → Contains l.name-iterator n ⊎ (kept_under l.index.entries n ≡ kept_under l.named.entries n)

@@ -6,8 +6,8 @@ use Rattle.larch_term.specs.Statement.{IsStatementOver}
 use Rattle.larch_term.specs.declared.statement.Statement.TheVariants.{Equation}
 use Rattle.larch_calculus.specs.Derivable.{axiom_}
 use Rattle.larch_calculus.specs.Formula.{constant}
-use Rattle.larch_calculus.specs.Freed.{freed}
-use Rattle.larch_calculus.specs.Theories.{extended}
+use Rattle.larch_calculus.specs.Freed.{free_constants}
+use Rattle.larch_calculus.specs.Theories.{extend}
 use Rattle.larch_soundness.specs.Counterexamples.{no_tables, constant_a, constant_b, variable_x, equal_constants}
 use Rattle.larch_models.specs.Examples.{two_values}
 use Rattle.larch_soundness.proofs.Counterexamples.{refutes, one, constants_over}
@@ -17,8 +17,8 @@ pub returns : goal.returns
 unfolding same_operator
 returns c =
     let t = equal_constants in
-    let u = extended t (constant_a ∷ []) [] in
-    let side : PlainOperator → Tree = λ d. freed (constant_a ∷ []) (variable_x ∷ []) (constant d) in
+    let u = extend t (constant_a ∷ []) [] in
+    let side : PlainOperator → Tree = λ d. free_constants (constant_a ∷ []) (variable_x ∷ []) (constant d) in
     record {
       premises = record {
         constants = one (λ f. f.domain ≡ []) constant_a refl;

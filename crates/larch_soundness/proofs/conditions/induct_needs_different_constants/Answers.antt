@@ -1,4 +1,5 @@
-use Rattle.std.proofs.Common.{◌≡◌, ℕ, zero, suc, inl, List, [], ◌∷◌, ◌++◌, map, All, codes, Some, refl, ap, subst, arith}
+use Rattle.std.proofs.Common.{◌≡◌, ℕ, zero, suc, inl, List, [], ◌∷◌, ◌++◌, map, All, codes, Some, refl, ap, subst}
+use Rattle.std.proofs.Common.{arith}
 use Rattle.larch_term.specs.OperatorKey.{same_operator}
 use Rattle.std.specs.List.{slice_get}
 use Rattle.std.proofs.lemmas.List.Elements.{All-nil, All-cons}
@@ -10,12 +11,13 @@ use Rattle.larch_term.specs.Tree.{Tree, app}
 use Rattle.larch_term.specs.declared.substitution.Entry.{Entry}
 use Rattle.larch_term.specs.declared.statement.Statement.TheVariants.{Generated}
 use Rattle.larch_calculus.specs.Derivable.{Derivable, axiom_, instance}
-use Rattle.larch_calculus.specs.Formula.{constant, applied, joined}
+use Rattle.larch_calculus.specs.Formula.{constant, apply_one, apply_two}
 use Rattle.larch_calculus.specs.Generation.{only, constant_terms, equation_at, induction_hypotheses}
-use Rattle.larch_calculus.specs.Theories.{IsNewName, AreConstants, extended}
+use Rattle.larch_calculus.specs.Theories.{IsNewName, AreConstants, extend}
 use Rattle.larch_calculus.proofs.Names.{box_is_new}
 use Rattle.larch_calculus.proofs.Sorted.{only_fits}
-use Rattle.larch_soundness.specs.Counterexamples.{sort_n, constant_a, constant_b, term_x, operator_p, operator_q, sent_to_a, equal_pairs, pair_tables, box_constant, one_twice}
+use Rattle.larch_soundness.specs.Counterexamples.{sort_n, constant_a, constant_b, term_x, operator_p, operator_q}
+use Rattle.larch_soundness.specs.Counterexamples.{sent_to_a, equal_pairs, pair_tables, box_constant, one_twice}
 use Rattle.larch_soundness.proofs.Counterexamples.{refutes, one, both}
 use Rattle.larch_soundness.proofs.conditions.induct_needs_different_constants.Goals as goal
 
@@ -37,7 +39,7 @@ a_over cs = ((refl, tt), (inl (0, omega arith, refl), tt))
 b_over : (cs : List PlainOperator) → IsTermOver (own ++ cs) (constant constant_b)
 b_over cs = ((refl, tt), (inl (1, omega arith, refl), tt))
 
-pair_over : (cs : List PlainOperator) → IsTermOver (own ++ cs) (joined operator_p term_x term_x)
+pair_over : (cs : List PlainOperator) → IsTermOver (own ++ cs) (apply_two operator_p term_x term_x)
 pair_over cs = ((refl, (tt, (tt, tt))), (inl (2, omega arith, refl), (tt, (tt, tt))))
 
 generated_over : IsStatementOver own (Generated sort_n (constant_a ∷ constant_b ∷ operator_p ∷ []))
@@ -69,9 +71,9 @@ sorts (suc (suc (suc i))) f e = cc
 -- the case of a generator
 abbrev Case : List PlainOperator → PlainOperator → Type 0
 Case cs f =
-    Derivable (extended equal_pairs cs
-    (induction_hypotheses (codes "x") sort_n (applied operator_q term_x) (constant constant_a) cs))
-    (equation_at (codes "x") sort_n (applied operator_q term_x) (constant constant_a) (app f (constant_terms cs)))
+    Derivable (extend equal_pairs cs
+    (induction_hypotheses (codes "x") sort_n (apply_one operator_q term_x) (constant constant_a) cs))
+    (equation_at (codes "x") sort_n (apply_one operator_q term_x) (constant constant_a) (app f (constant_terms cs)))
 
 pair_case : Case (box_constant 0 ∷ box_constant 0 ∷ []) operator_p
 pair_case =
@@ -80,7 +82,7 @@ pair_case =
     let entry : Entry = record { name = codes "x"; sort = sort_n; term = constant c } in
     instance (only (codes "x") sort_n (constant c)) (only_fits (codes "x") sort_n (constant c) (refl, tt) refl)
     (one (λ e. IsOver (own ++ cs) e.term) entry (inl (4, omega arith, refl), tt))
-    (axiom_ (4, omega arith, refl) (sent_over cs (joined operator_p term_x term_x) (pair_over cs) refl)) refl refl
+    (axiom_ (4, omega arith, refl) (sent_over cs (apply_two operator_p term_x term_x) (pair_over cs) refl)) refl refl
 
 derived : (i : ℕ) (f : PlainOperator) → slice_get generators i ≡ Some f → Case (one_twice i) f
 derived zero f e =
@@ -96,7 +98,7 @@ returns c =
     let P = IsStatementOver own in
     let first = sent_to_a (constant constant_a) in
     let second = sent_to_a (constant constant_b) in
-    let third = sent_to_a (joined operator_p term_x term_x) in
+    let third = sent_to_a (apply_two operator_p term_x term_x) in
     record {
       premises = record {
         generated = axiom_ (1, omega arith, refl) generated_over;
@@ -111,5 +113,5 @@ returns c =
           (All-cons P first (second ∷ third ∷ []) (sent_over [] (constant constant_a) (a_over []) refl)
           (both P second third
           (sent_over [] (constant constant_b) (b_over []) refl)
-          (sent_over [] (joined operator_p term_x term_x) (pair_over []) refl)))) refl refl;
+          (sent_over [] (apply_two operator_p term_x term_x) (pair_over []) refl)))) refl refl;
     }

@@ -11,9 +11,10 @@ use Rattle.larch_term.specs.declared.statement.Statement.TheVariants.{Equation, 
 use Rattle.larch_term.specs.declared.variable.Variable.{Variable}
 use Rattle.larch_calculus.specs.Derivable.{Derivable, axiom_}
 use Rattle.larch_calculus.specs.Formula.{constant}
-use Rattle.larch_calculus.specs.Observation.{Observation, observations_of, observed, other_variables}
+use Rattle.larch_calculus.specs.Observation.{Observation, observations_of, observer_term, other_variables}
 use Rattle.larch_soundness.specs.Conditions.{OccursNot}
-use Rattle.larch_soundness.specs.Counterexamples.{sort_n, sort_m, constant_a, constant_b, named_z, observer_of_triples, observed_twice, observed_with_one, one_tables}
+use Rattle.larch_soundness.specs.Counterexamples.{sort_n, sort_m, constant_a, constant_b, named_z, observer_of_triples}
+use Rattle.larch_soundness.specs.Counterexamples.{observed_twice, observed_with_one, one_tables}
 use Rattle.larch_models.specs.Examples.{two_values}
 use Rattle.larch_soundness.proofs.Counterexamples.{refutes, one, both, got_one, constants_over}
 use Rattle.larch_soundness.proofs.conditions.observe_needs_different_variables.Goals as goal
@@ -43,10 +44,10 @@ stated_over = (twice_over constant_a sides_over.0 refl, twice_over constant_b si
 
 derived : (i : ℕ) (w : Observation) → slice_get (observations_of sort_n (observer_of_triples ∷ [])) i ≡ Some w
     → Derivable observed_with_one
-    (Equation (observed (named_z i) w (constant constant_a)) (observed (named_z i) w (constant constant_b)))
+    (Equation (observer_term (named_z i) w (constant constant_a)) (observer_term (named_z i) w (constant constant_b)))
 derived i w e =
     subst (λ w. Derivable observed_with_one
-    (Equation (observed (named_z i) w (constant constant_a)) (observed (named_z i) w (constant constant_b))))
+    (Equation (observer_term (named_z i) w (constant constant_a)) (observer_term (named_z i) w (constant constant_b))))
     (got_one observation w i e) (axiom_ (2, omega arith, refl) stated_over)
 
 -- nothing occurs in a constant

@@ -5,17 +5,18 @@ use Rattle.larch_calculus.specs.Derivable.{axiom_}
 use Rattle.larch_calculus.specs.Formula.{constant}
 use Rattle.larch_calculus.specs.Generation.{place_name}
 use Rattle.larch_calculus.specs.Observation.{observations}
-use Rattle.larch_calculus.specs.Theories.{extended}
+use Rattle.larch_calculus.specs.Theories.{extend}
 use Rattle.larch_soundness.specs.Counterexamples.{sort_n, constant_a, constant_b, predicate, no_tables, alike}
 use Rattle.larch_models.specs.Examples.{two_values}
-use Rattle.larch_soundness.proofs.Counterexamples.{refutes, both, constants_over, names_differ, alike_well_sorted, predicate_over}
+use Rattle.larch_soundness.proofs.Counterexamples.{refutes, both, constants_over, names_differ, alike_well_sorted}
+use Rattle.larch_soundness.proofs.Counterexamples.{predicate_over}
 use Rattle.larch_soundness.proofs.conditions.partitioned_needs_newness.Goals as goal
 
 pub returns : goal.returns
 unfolding same_operator
 returns c =
     let cs = constant_a ∷ constant_b ∷ [] in
-    let u = extended alike cs
+    let u = extend alike cs
     (observations place_name sort_n (predicate ∷ []) (constant constant_a) (constant constant_b)) in
     record {
       premises = record {

@@ -3,28 +3,36 @@ use Rattle.larch_store.specs.Numbered.{Numbered, number_of, term_of}
 use Rattle.larch_store.specs.SharedView.{view_shared}
 use Rattle.larch_store.specs.declared.key.Key.{Key}
 use Rattle.larch_store.specs.declared.shared.SharedNode.TheVariants.{Application}
-use Rattle.larch_store.proofs.Standing.{found_in, found_belongs, found_application, application_store, branch_term, pushed_belongs, pushed_grows, number_viewed}
+use Rattle.larch_store.proofs.Standing.{found_in, found_belongs, found_application, application_store, branch_term}
+use Rattle.larch_store.proofs.Standing.{pushed_belongs, pushed_grows, number_viewed}
 use Rattle.larch_store.proofs.keeping.keep_application.Goals as goal
 
 pub returns-in-Some-clause-term : goal.returns-in-Some-clause-term
 returns-in-Some-clause-term c =
-    let w = found_in c.args.keys.now.keys c.in_ok-key.key c.args.shared.now.items c.as_slice.result.now c.in-Ok.kept c.in-Some.found
+    let w =
+    found_in c.args.keys.now.keys c.in_ok-key.key c.args.shared.now.items c.as_slice.result.now c.in-Ok.kept
+    c.in-Some.found
     c.in-Ok.ensures.found c.in-Some.is c.as_slice.ensures.value in
     rw c.let_go-in-Some.ensures
-    (found_application c.args.keys.now.keys c.args.shared.now.items w.0 c.in-Some.found c.args.operator.now c.args.arguments.now c.requires.store
+    (found_application c.args.keys.now.keys c.args.shared.now.items w.0 c.in-Some.found c.args.operator.now
+    c.args.arguments.now c.requires.store
     c.requires.arguments (w.1 ∙ ap Some c.in_ok-key.ensures) w.2)
 
 pub returns-in-Some-clause-belongs : goal.returns-in-Some-clause-belongs
 returns-in-Some-clause-belongs c =
-    let w = found_in c.args.keys.now.keys c.in_ok-key.key c.args.shared.now.items c.as_slice.result.now c.in-Ok.kept c.in-Some.found
+    let w =
+    found_in c.args.keys.now.keys c.in_ok-key.key c.args.shared.now.items c.as_slice.result.now c.in-Ok.kept
+    c.in-Some.found
     c.in-Ok.ensures.found c.in-Some.is c.as_slice.ensures.value in
-    rw c.let_go-in-Some.ensures (found_belongs c.args.keys.now.keys c.args.shared.now.items w.0 c.in-Some.found c.requires.store w.2)
+    rw c.let_go-in-Some.ensures (found_belongs c.args.keys.now.keys c.args.shared.now.items w.0 c.in-Some.found
+    c.requires.store w.2)
 
 pub returns-clause-store : goal.returns-clause-store
 returns-clause-store c =
     let ks : List Key = c.args.keys.now.keys in
     let s : List Numbered = c.args.shared.now.items in
-    application_store ks c.put_application.new.keys.keys s c.put_application.new.shared.items c.args.size c.args.operator.now c.args.arguments.now c.requires.store
+    application_store ks c.put_application.new.keys.keys s c.put_application.new.shared.items c.args.size
+    c.args.operator.now c.args.arguments.now c.requires.store
     c.requires.arguments c.requires.size c.requires.small
     (c.in_ok-new.ensures.keys ∙ ap (λ k. ks ++ k ∷ []) c.in_ok-key.ensures)
     c.in_ok-new.ensures.shared
@@ -40,9 +48,12 @@ returns-clause-belongs c =
     let s : List Numbered = c.args.shared.now.items in
     pushed_belongs s c.put_application.new.shared.items c.in_ok-new.new
     (c.in_ok-new.ensures.shared ∙ ap (λ x. s ++ x ∷ []) (sym c.in_ok-new.ensures.result))
-    (ap number_of c.in_ok-new.ensures.result ∙ number_viewed (length s) c.args.size (Application c.args.operator.now c.args.arguments.now))
+    (ap number_of c.in_ok-new.ensures.result
+    ∙ number_viewed (length s) c.args.size (Application c.args.operator.now c.args.arguments.now))
 
 pub returns-clause-grows : goal.returns-clause-grows
 returns-clause-grows c =
     let s : List Numbered = c.args.shared.now.items in
-    pushed_grows s c.put_application.new.shared.items (view_shared (length s) c.args.size (Application c.args.operator.now c.args.arguments.now)) c.in_ok-new.ensures.shared
+    pushed_grows s c.put_application.new.shared.items
+    (view_shared (length s) c.args.size (Application c.args.operator.now c.args.arguments.now))
+    c.in_ok-new.ensures.shared

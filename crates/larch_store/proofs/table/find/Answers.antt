@@ -9,5 +9,6 @@ returns-clause-found c =
     let lt : i < length c.args.shared.now = omega (arith, c.in-Some.ensures.within, c.requires) in (
       i,
       stands_under c.args.keys.now.keys c.args.key.now i (sym c.in-Some.ensures.index),
-      slice_get-get_or c.args.shared.now i c.index-shared-index.result lt ∙ ap Some (sym (c.in_ok-found.ensures ∙ c.index-shared-index.is)),
+      slice_get-get_or c.args.shared.now i c.index-shared-index.result lt
+          ∙ ap Some (sym (c.in_ok-found.ensures ∙ c.index-shared-index.is)),
     )

@@ -6,4 +6,5 @@ use Rattle.larch_term.proofs.variable.+add_variables.Given as goal
 -- the variables of the terms that are left, put behind those found, are all
 abbrev pub invariant-add_all_variables-loop-term : goal.invariant-add_all_variables-loop-term
 invariant-add_all_variables-loop-term l =
-    fold with_variable l.found (occurrences_in (forest_of (drop l.term-index l.term-items))) ≡ fold with_variable l.initial.found (occurrences_in (forest_of l.term-items))
+    fold with_variable l.found (occurrences_in (forest_of (drop l.term-index l.term-items)))
+    ≡ fold with_variable l.initial.found (occurrences_in (forest_of l.term-items))

@@ -1,6 +1,6 @@
 use Rattle.std.proofs.Common.{◌≡◌, ◌<◌, length, arith}
-use Rattle.larch_past.specs.Past.{stated_in}
-use Rattle.larch_past.proofs.Staying.{stated_stays, stated_same}
+use Rattle.larch_verify_history.specs.Past.{stated_in}
+use Rattle.larch_verify_history.proofs.Staying.{stated_stays, stated_same}
 use Rattle.larch_verify.proofs.Ends.{open_ends, nothing_ends, said_ends}
 use Rattle.larch_verify.proofs.ending.ends_with.Goals as goal
 

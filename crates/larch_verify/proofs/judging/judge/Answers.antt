@@ -1,8 +1,8 @@
 use Rattle.std.proofs.Common.{◌∷◌, sym, ◌∙◌, ap}
 use Rattle.std.specs.List.{slice_get}
 use Rattle.larch_term.specs.Statement.{statement_zero}
-use Rattle.larch_lines.specs.Run.{judge}
-use Rattle.larch_past.specs.Past.{history_of}
+use Rattle.larch_verify_meaning.specs.Run.{judge}
+use Rattle.larch_verify_history.specs.Past.{history_of}
 use Rattle.larch_verify.proofs.judging.judge.Goals as goal
 
 pub returns-in_ok-stated-in-Axiom-clause-within : goal.returns-in_ok-stated-in-Axiom-clause-within

@@ -1,5 +1,5 @@
 use Rattle.std.proofs.Common.{◌≡◌, map, take, slice_get, Some}
-use Rattle.larch_pool.specs.Pooled.{Grows}
+use Rattle.larch_verify_pool.specs.Pooled.{Grows}
 use Rattle.larch_verify.proofs.keeping.intern_operators.Given as goal
 
 abbrev pub invariant-loop-operator : goal.invariant-loop-operator

@@ -1,8 +1,8 @@
 use Rattle.std.proofs.Common.{◌≡◌, ◌+◌, ◌++◌, ◌∷◌, [], take, map, All, sym, ◌∙◌, ap, subst, arith}
 use Rattle.std.proofs.lemmas.Grind.{common_steps}
 use Rattle.std.proofs.lemmas.List.{take_more}
-use Rattle.larch_pool.proofs.Front.{grows_trans}
-use Rattle.larch_past.specs.Past.{IsStated, stated_in}
+use Rattle.larch_verify_pool.proofs.Front.{grows_trans}
+use Rattle.larch_verify_history.specs.Past.{IsStated, stated_in}
 use Rattle.larch_verify.proofs.Kept.{statements_within, statements_more}
 use Rattle.larch_verify.proofs.keeping.intern_statements.Goals as goal
 
@@ -18,10 +18,12 @@ loop-statement-preserved c =
       grows = grows_trans c.args.pool.now c.loop-statement.pool c.intern_statement.new.pool
           c.loop-statement.invariant.grows c.in_ok-next.ensures.grows;
       within = subst (All (IsStated c.intern_statement.new.pool)) (sym p)
-          (statements_within c.loop-statement.pool c.intern_statement.new.pool c.loop-statement.stated.items c.in_ok-next.next
+          (statements_within c.loop-statement.pool c.intern_statement.new.pool c.loop-statement.stated.items
+          c.in_ok-next.next
           c.in_ok-next.ensures.grows c.loop-statement.invariant.within c.in_ok-next.ensures.within);
       says = ap (map (stated_in c.intern_statement.new.pool)) p
-          ∙ statements_more c.loop-statement.pool c.intern_statement.new.pool c.loop-statement.stated.items c.in_ok-next.next
+          ∙ statements_more c.loop-statement.pool c.intern_statement.new.pool c.loop-statement.stated.items
+          c.in_ok-next.next
           (take c.loop-statement.statement-index c.args.statements.now) c.statement-item.result
           c.in_ok-next.ensures.grows c.loop-statement.invariant.within c.loop-statement.invariant.says
           c.in_ok-next.ensures.says

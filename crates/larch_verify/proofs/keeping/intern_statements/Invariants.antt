@@ -1,6 +1,6 @@
 use Rattle.std.proofs.Common.{◌≡◌, All, map, take}
-use Rattle.larch_pool.specs.Pooled.{Grows}
-use Rattle.larch_past.specs.Past.{IsStated, stated_in}
+use Rattle.larch_verify_pool.specs.Pooled.{Grows}
+use Rattle.larch_verify_history.specs.Past.{IsStated, stated_in}
 use Rattle.larch_verify.proofs.keeping.intern_statements.Given as goal
 
 abbrev pub invariant-loop-statement : goal.invariant-loop-statement

@@ -1,6 +1,6 @@
 use Rattle.std.proofs.Common.{◌+◌, ◌∷◌, drop, sym, ◌∙◌, ap}
 use Rattle.std.proofs.lemmas.List.{drop_more}
-use Rattle.larch_lines.specs.Acceptance.{verdict_from}
+use Rattle.larch_verify_meaning.specs.Acceptance.{verdict_from}
 use Rattle.larch_verify.specs.Checking.{state_of}
 use Rattle.larch_verify.proofs.Kept.{statements_stay}
 use Rattle.larch_verify.proofs.Taken.{verdict_on}
@@ -18,5 +18,6 @@ loop-line-preserved c = record {
       ∙ ap (λ x. x ∷ drop (c.loop-line.line-index + 1) c.args.lines.now) (sym c.line-item.is))
       ∙ verdict_on c.args.theory.now s (state_of c.loop-line.pool c.loop-line.past)
       (state_of c.take_line.new.pool c.take_line.new.past) c.line-item.result
-      (drop (c.loop-line.line-index + 1) c.args.lines.now) c.in_ok-good.good c.in_ok-good.ensures.step c.if-not-good.false;
+      (drop (c.loop-line.line-index + 1) c.args.lines.now) c.in_ok-good.good c.in_ok-good.ensures.step
+      c.if-not-good.false;
 }

@@ -1,7 +1,7 @@
 use Rattle.std.proofs.Common.{◌≡◌, drop}
 use Rattle.larch_term.specs.declared.statement.Statement.{Statement}
-use Rattle.larch_lines.specs.Acceptance.{verdict_from}
-use Rattle.larch_past.specs.Past.{IsPast}
+use Rattle.larch_verify_meaning.specs.Acceptance.{verdict_from}
+use Rattle.larch_verify_history.specs.Past.{IsPast}
 use Rattle.larch_verify.specs.Checking.{AreStatements, state_of}
 use Rattle.larch_verify.proofs.steps.take_lines.Given as goal
 

@@ -1,4 +1,4 @@
-use Rattle.larch_past.proofs.Staying.{past_stays}
+use Rattle.larch_verify_history.proofs.Staying.{past_stays}
 use Rattle.larch_verify.specs.Checking.{state_of}
 use Rattle.larch_verify.specs.Verdict.{refusal}
 use Rattle.larch_verify.proofs.Taken.{begun, bad_verdict, good_verdict}

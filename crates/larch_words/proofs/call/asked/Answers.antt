@@ -9,9 +9,11 @@ pub returns-in_ok-call-in-Some : goal.returns-in_ok-call-in-Some
 returns-in_ok-call-in-Some c =
     let request : Request = request_in (rows_of (found_of c.args.matches.now)) in
     let none : has_option request ≡ false = search rules in
-    asks_for request c.command_in-command.result.now (map (λ word. word.now) c.in-Some.words.now) c.in_ok-call-in-Some.call
+    asks_for request c.command_in-command.result.now
+    (map (λ word. word.now) c.in-Some.words.now) c.in_ok-call-in-Some.call
     none c.command_in-command.ensures
-    (all_taken (λ s. map (λ word. word.now) s.now) (found_of c.args.matches.now) (codes "WORD") c.get_strs.result c.in-Some.words
+    (all_taken (λ s. map (λ word. word.now) s.now) (found_of c.args.matches.now)
+    (codes "WORD") c.get_strs.result c.in-Some.words
     c.in-Some.is c.get_strs.ensures) c.in_ok-call-in-Some.ensures
 
 pub returns-in-None : goal.returns-in-None

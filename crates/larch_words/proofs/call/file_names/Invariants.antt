@@ -1,6 +1,6 @@
 use Rattle.std.proofs.Common.{◌≡◌, map, take, true}
 use Rattle.std.specs.List.{list_all}
-use Rattle.larch_base.specs.FileNames.{is_file_name}
+use Rattle.larch_base.specs.FileName.{is_file_name}
 use Rattle.larch_words.proofs.call.file_names.Given as goal
 
 abbrev pub invariant-loop-word : goal.invariant-loop-word

@@ -5,4 +5,5 @@ use Rattle.larch_words.proofs.call.is_given.Goals as goal
 
 pub returns : goal.returns
 returns c =
-    c.is_some.ensures ∙ given (λ s. s.now) (found_of c.args.matches.now) c.args.id.now c.get_str.result c.get_str.ensures
+    c.is_some.ensures ∙ given (λ s. s.now)
+    (found_of c.args.matches.now) c.args.id.now c.get_str.result c.get_str.ensures

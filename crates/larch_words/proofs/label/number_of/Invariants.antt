@@ -1,5 +1,5 @@
 use Rattle.std.proofs.Common.{◌≡◌, ◌<◌, drop}
-use Rattle.larch_words.specs.Labels.{with_digits}
+use Rattle.larch_words.specs.Label.{with_digits}
 use Rattle.larch_words.proofs.label.number_of.Given as goal
 
 abbrev pub invariant-loop-digit : goal.invariant-loop-digit

@@ -43,13 +43,17 @@ invariant-is_above_all-loop-other l =
 
 abbrev pub invariant-multiset_greater-loop-other : goal.invariant-multiset_greater-loop-other
 invariant-multiset_greater-loop-other l =
-    list_all (λ u. not (remains l.others l.terms u) || some_beats l.self (forest_of l.terms) l.terms l.others u) (drop l.other-index l.others)
-    ≡ list_all (λ u. not (remains l.others l.terms u) || some_beats l.self (forest_of l.terms) l.terms l.others u) l.others
+    list_all (λ u. not (remains l.others l.terms u) || some_beats l.self (forest_of l.terms) l.terms l.others u)
+    (drop l.other-index l.others)
+    ≡ list_all (λ u. not (remains l.others l.terms u) || some_beats l.self (forest_of l.terms) l.terms l.others u)
+    l.others
 
 abbrev pub invariant-some_beats-loop-term : goal.invariant-some_beats-loop-term
 invariant-some_beats-loop-term l =
-    some_beats l.self (forest_of (drop l.term-index l.terms)) l.terms l.others l.other ≡ some_beats l.self (forest_of l.terms) l.terms l.others l.other
+    some_beats l.self (forest_of (drop l.term-index l.terms)) l.terms l.others l.other
+    ≡ some_beats l.self (forest_of l.terms) l.terms l.others l.other
 
 abbrev pub invariant-some_reaches-loop-term : goal.invariant-some_reaches-loop-term
 invariant-some_reaches-loop-term l =
-    some_reaches l.self (forest_of (drop l.term-index l.terms)) l.other ≡ some_reaches l.self (forest_of l.terms) l.other
+    some_reaches l.self (forest_of (drop l.term-index l.terms)) l.other
+    ≡ some_reaches l.self (forest_of l.terms) l.other

@@ -8,5 +8,6 @@ returns-clause-removed c =
 
 pub invariant_of-self : goal.invariant_of-self
 invariant_of-self c =
-    rules_removed _ _ _ _ _ _ c.self.inside.kept _ _ c.in_ok-others.ensures c.remove.ensures.by_index.2 c.as_slice.ensures.value
+    rules_removed _ _ _ _ _ _ c.self.inside.kept _ _ c.in_ok-others.ensures c.remove.ensures.by_index.2
+    c.as_slice.ensures.value
     c.in-Some.ensures.some c.cut.ensures c.self.invariant.0 c.self.invariant.1

@@ -12,5 +12,6 @@ returns-in_default-clause-refused c =
 pub returns-clause-small : goal.returns-clause-small
 returns-clause-small c =
     let e = c.sizes_are_told.ensures.all c.args.operator.now c.args.children.now c.requires in
-    let m : (c.in-Some.size ≡ 1 + sum_by size_of c.args.children.now) × (c.in-Some.size ≤ most_nodes) = rw c.as_slice.ensures at c.in-Some.ensures.some in
+    let m : (c.in-Some.size ≡ 1 + sum_by size_of c.args.children.now) × (c.in-Some.size ≤ most_nodes) =
+    rw c.as_slice.ensures at c.in-Some.ensures.some in
     omega (arith, e, m.0, m.1)

@@ -1,4 +1,0 @@
-pub mod Holding
-pub mod Exchanging
-pub mod Applying
-pub mod Encodings

@@ -1,7 +1,0 @@
-use Rattle.std.proofs.Common.{refl}
-use Rattle.larch_claims.specs.Examples.{computing}
-use Rattle.larch_claims.proofs.examples.a_converted_operator_is_its_copy.Goals as goal
-
-pub returns : goal.returns
-unfolding computing
-returns c = refl

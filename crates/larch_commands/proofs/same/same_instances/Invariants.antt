@@ -1,7 +1,0 @@
-use Rattle.std.proofs.Common.{◌≡◌, map, take}
-use Rattle.larch_commands.specs.Bare.{bare_instance}
-use Rattle.larch_commands.proofs.same.same_instances.Given as goal
-
--- what was compared so far is equal
-abbrev pub invariant-loop-i : goal.invariant-loop-i
-invariant-loop-i l = map bare_instance (take l.i l.left) ≡ map bare_instance (take l.i l.right)

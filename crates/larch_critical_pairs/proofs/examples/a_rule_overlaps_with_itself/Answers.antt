@@ -1,7 +1,0 @@
-use Rattle.std.proofs.Common.{refl}
-use Rattle.larch_critical_pairs.specs.Examples.{computing}
-use Rattle.larch_critical_pairs.proofs.examples.a_rule_overlaps_with_itself.Goals as goal
-
-pub returns : goal.returns
-unfolding computing
-returns c = refl

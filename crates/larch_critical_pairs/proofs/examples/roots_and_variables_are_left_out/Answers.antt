@@ -1,7 +1,0 @@
-use Rattle.std.proofs.Common.{refl}
-use Rattle.larch_critical_pairs.specs.Examples.{computing}
-use Rattle.larch_critical_pairs.proofs.examples.roots_and_variables_are_left_out.Goals as goal
-
-pub returns : goal.returns
-unfolding computing
-returns c = refl

@@ -1,7 +1,0 @@
-use Rattle.std.proofs.Common.{refl}
-use Rattle.larch_critical_pairs.specs.Examples.{computing}
-use Rattle.larch_critical_pairs.proofs.examples.variables_are_set_apart.Goals as goal
-
-pub returns : goal.returns
-unfolding computing
-returns c = refl

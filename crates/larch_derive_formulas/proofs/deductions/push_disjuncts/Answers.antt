@@ -1,0 +1,74 @@
+use Rattle.std.specs.Prelude.{[], ◌∷◌, refl}
+use Rattle.larch_calculus.specs.Formula.{disjunction, falsity}
+use Rattle.larch_term.specs.BuiltIn.{bool_sort, built_in}
+use Rattle.larch_term.specs.declared.built_in.BuiltIn.TheVariants.{Implies}
+use Rattle.larch_derive.proofs.Growth.{extends_trans, stays_said}
+use Rattle.larch_derive_formulas.proofs.Deduced.{left_disjunct, left_to_falsity, right_disjunct, right_to_falsity}
+use Rattle.larch_derive_formulas.proofs.deductions.push_disjuncts.Goals as goal
+
+pub returns-in_err-first-clause-extends : goal.returns-in_err-first-clause-extends
+returns-in_err-first-clause-extends c e =
+    c.in_err-first.ensures.extends (built_in Implies bool_sort) (c.args.left.now ∷ []) []
+    (disjunction c.args.left.now c.args.right.now) falsity
+    (left_disjunct _ _ c.args.left.now c.args.right.now falsity e) refl e
+    (left_to_falsity _ _ c.args.left.now c.args.right.now falsity e)
+
+pub returns-in_err-second-clause-extends : goal.returns-in_err-second-clause-extends
+returns-in_err-second-clause-extends c e =
+    let d =
+    (stays_said _ _ _ _ (c.in_ok-first.ensures.extends (built_in Implies bool_sort) (c.args.left.now ∷ []) []
+    (disjunction c.args.left.now c.args.right.now) falsity
+    (left_disjunct _ _ c.args.left.now c.args.right.now falsity e) refl e
+    (left_to_falsity _ _ c.args.left.now c.args.right.now falsity e)) e) in
+    extends_trans _ _ _ (c.in_ok-first.ensures.extends (built_in Implies bool_sort) (c.args.left.now ∷ []) []
+    (disjunction c.args.left.now c.args.right.now) falsity
+    (left_disjunct _ _ c.args.left.now c.args.right.now falsity e) refl e
+    (left_to_falsity _ _ c.args.left.now c.args.right.now falsity e))
+    (c.in_err-second.ensures.extends (built_in Implies bool_sort) (c.args.right.now ∷ []) []
+    (disjunction c.args.left.now c.args.right.now) falsity
+    (right_disjunct _ _ c.args.left.now c.args.right.now falsity d) refl d
+    (right_to_falsity _ _ c.args.left.now c.args.right.now falsity d))
+
+pub returns-clause-first : goal.returns-clause-first
+returns-clause-first c e =
+    let d =
+    (stays_said _ _ _ _ (c.in_ok-first.ensures.extends (built_in Implies bool_sort) (c.args.left.now ∷ []) []
+    (disjunction c.args.left.now c.args.right.now) falsity
+    (left_disjunct _ _ c.args.left.now c.args.right.now falsity e) refl e
+    (left_to_falsity _ _ c.args.left.now c.args.right.now falsity e)) e) in
+    stays_said _ _ _ _ (c.in_ok-second.ensures.extends (built_in Implies bool_sort) (c.args.right.now ∷ []) []
+    (disjunction c.args.left.now c.args.right.now) falsity
+    (right_disjunct _ _ c.args.left.now c.args.right.now falsity d) refl d
+    (right_to_falsity _ _ c.args.left.now c.args.right.now falsity d))
+    (c.in_ok-first.ensures.says (built_in Implies bool_sort) (c.args.left.now ∷ []) []
+    (disjunction c.args.left.now c.args.right.now) falsity
+    (left_disjunct _ _ c.args.left.now c.args.right.now falsity e) refl e
+    (left_to_falsity _ _ c.args.left.now c.args.right.now falsity e))
+
+pub returns-clause-second : goal.returns-clause-second
+returns-clause-second c e =
+    let d =
+    (stays_said _ _ _ _ (c.in_ok-first.ensures.extends (built_in Implies bool_sort) (c.args.left.now ∷ []) []
+    (disjunction c.args.left.now c.args.right.now) falsity
+    (left_disjunct _ _ c.args.left.now c.args.right.now falsity e) refl e
+    (left_to_falsity _ _ c.args.left.now c.args.right.now falsity e)) e) in
+    c.in_ok-second.ensures.says (built_in Implies bool_sort) (c.args.right.now ∷ []) []
+    (disjunction c.args.left.now c.args.right.now) falsity
+    (right_disjunct _ _ c.args.left.now c.args.right.now falsity d) refl d
+    (right_to_falsity _ _ c.args.left.now c.args.right.now falsity d)
+
+pub returns-clause-extends : goal.returns-clause-extends
+returns-clause-extends c e =
+    let d =
+    (stays_said _ _ _ _ (c.in_ok-first.ensures.extends (built_in Implies bool_sort) (c.args.left.now ∷ []) []
+    (disjunction c.args.left.now c.args.right.now) falsity
+    (left_disjunct _ _ c.args.left.now c.args.right.now falsity e) refl e
+    (left_to_falsity _ _ c.args.left.now c.args.right.now falsity e)) e) in
+    extends_trans _ _ _ (c.in_ok-first.ensures.extends (built_in Implies bool_sort) (c.args.left.now ∷ []) []
+    (disjunction c.args.left.now c.args.right.now) falsity
+    (left_disjunct _ _ c.args.left.now c.args.right.now falsity e) refl e
+    (left_to_falsity _ _ c.args.left.now c.args.right.now falsity e))
+    (c.in_ok-second.ensures.extends (built_in Implies bool_sort) (c.args.right.now ∷ []) []
+    (disjunction c.args.left.now c.args.right.now) falsity
+    (right_disjunct _ _ c.args.left.now c.args.right.now falsity d) refl d
+    (right_to_falsity _ _ c.args.left.now c.args.right.now falsity d))

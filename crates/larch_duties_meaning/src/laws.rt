@@ -1,0 +1,29 @@
+//! What holds of all duties, for crates above to cite. No function here does anything.
+ghost use Rattle.std.specs.Prelude.{◌≡◌, ◌≤◌, ℕ, length, List, All, Ok};
+ghost use Rattle.larch_calculus.specs.Renaming.{HasPlainNames};
+ghost use Rattle.larch_flat_meaning.specs.Files.{Files};
+ghost use Rattle.larch_flat_meaning.specs.Flat.{FlatTrait, flat};
+ghost use Rattle.larch_flat_meaning.specs.Laws.{AreAmong, AreWorded, IsTold};
+ghost use Rattle.larch_duties_meaning.specs.Duties.{Duties, all_duties, duties};
+ghost use Rattle.larch_duties_meaning.specs.Laws.{IsSoundDuty};
+
+/// The theory of each duty is a theory, and its statement is well sorted over the theory's operators, where all files
+/// are written with words; clauses in both name these operators alone, and each sort in both is Bool or stands in one
+/// of them.
+pub fn duties_are_sound()
+    ensures { (files : Files) → AreWorded files → (limit : ℕ) (name : List ℕ) (own : FlatTrait) (d : Duties)
+        → flat limit files name ≡ Ok own → duties limit files own ≡ Ok d → All IsSoundDuty (all_duties d) }
+{}
+
+/// No operator of a duty's theory has the name of a constant of a box.
+pub fn duties_have_plain_names()
+    ensures { (files : Files) (limit : ℕ) (name : List ℕ) (own : FlatTrait) (d : Duties)
+        → flat limit files name ≡ Ok own → duties limit files own ≡ Ok d
+        → All (λ duty. HasPlainNames duty.theory) (all_duties d) }
+{}
+
+/// References that are followed as deep as there are files tell the duties of a trait, or what is wrong with them.
+pub fn duties_are_told()
+    ensures { (files : Files) (all : List (List ℕ)) → AreAmong files all → (limit : ℕ) → length all ≤ limit
+        → (own : FlatTrait) → IsTold (duties limit files own) }
+{}

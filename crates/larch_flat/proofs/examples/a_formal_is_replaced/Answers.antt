@@ -1,7 +1,0 @@
-use Rattle.std.proofs.Common.{refl}
-use Rattle.larch_flat.specs.Examples.{computing}
-use Rattle.larch_flat.proofs.examples.a_formal_is_replaced.Goals as goal
-
-pub returns : goal.returns
-unfolding computing
-returns c = refl

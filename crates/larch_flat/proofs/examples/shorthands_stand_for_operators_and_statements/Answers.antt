@@ -1,7 +1,0 @@
-use Rattle.std.proofs.Common.{refl}
-use Rattle.larch_flat.specs.Examples.{computing}
-use Rattle.larch_flat.proofs.examples.shorthands_stand_for_operators_and_statements.Goals as goal
-
-pub returns : goal.returns
-unfolding computing
-returns c = refl

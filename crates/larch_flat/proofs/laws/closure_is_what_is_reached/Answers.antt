@@ -1,5 +1,0 @@
-use Rattle.larch_flat.proofs.Closures.{closure_tells}
-use Rattle.larch_flat.proofs.laws.closure_is_what_is_reached.Goals as goal
-
-pub returns : goal.returns
-returns c = closure_tells

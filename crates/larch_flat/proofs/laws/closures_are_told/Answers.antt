@@ -1,5 +1,0 @@
-use Rattle.larch_flat.proofs.Shrinking.{told_closure}
-use Rattle.larch_flat.proofs.laws.closures_are_told.Goals as goal
-
-pub returns : goal.returns
-returns c = told_closure

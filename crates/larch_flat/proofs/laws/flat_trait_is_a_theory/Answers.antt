@@ -1,5 +1,0 @@
-use Rattle.larch_flat.proofs.Theory.{flat_theory}
-use Rattle.larch_flat.proofs.laws.flat_trait_is_a_theory.Goals as goal
-
-pub returns : goal.returns
-returns c = flat_theory

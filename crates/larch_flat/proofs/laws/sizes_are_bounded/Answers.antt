@@ -1,8 +1,0 @@
-use Rattle.larch_flat.proofs.Sizes.{flat_bounded, rest_bounded}
-use Rattle.larch_flat.proofs.laws.sizes_are_bounded.Goals as goal
-
-pub returns-clause-reference : goal.returns-clause-reference
-returns-clause-reference c = flat_bounded
-
-pub returns-clause-rest : goal.returns-clause-rest
-returns-clause-rest c = rest_bounded

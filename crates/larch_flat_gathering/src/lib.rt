@@ -1,0 +1,11 @@
+//! What is gathered for a flat trait, in code: operators and statements, each where it occurs first, until a limit is
+//! passed for certain.
+#![tactic(auto)]
+
+mod expanding;
+mod flat;
+mod store;
+mod trait_;
+
+pub use flat::Flat;
+pub use store::Gathering;

@@ -1,0 +1,7 @@
+use Rattle.std.proofs.Common.{refl}
+use Rattle.larch_flat_meaning.specs.Examples.{computing}
+use Rattle.larch_flat_meaning.proofs.examples.what_comes_twice_is_there_once.Goals as goal
+
+pub returns : goal.returns
+unfolding computing
+returns c = refl

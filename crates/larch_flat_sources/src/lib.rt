@@ -1,0 +1,14 @@
+//! The texts of trait files as they were read, by number, and which of them lead to which.
+#![tactic(auto)]
+
+mod building;
+mod laws;
+mod links;
+mod marks;
+mod search;
+mod sources;
+
+pub use laws::sources_are_among;
+pub use links::{Links, links_of};
+pub use marks::MarkedFiles;
+pub use sources::Sources;

@@ -1,0 +1,8 @@
+-- The test tells exactly what is equal.
+use Rattle.larch_term.proofs.Decided.{statements_told}
+use Rattle.larch_flat_statements.proofs.key.StatementKeyPartialEq.eq.Goals as goal
+
+pub returns : goal.returns
+returns c =
+    statements_told (c.args.self.now.statement)
+    (c.args.other.now.statement) c.same_statement.result c.same_statement.ensures

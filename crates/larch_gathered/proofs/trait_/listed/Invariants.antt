@@ -1,6 +1,0 @@
-use Rattle.std.proofs.Common.{◌≡◌, ◌++◌}
-use Rattle.larch_gathered.proofs.trait_.listed.Given as goal
-
--- the operators so far, with those that are left, are all
-abbrev pub invariant-loop-operator : goal.invariant-loop-operator
-invariant-loop-operator l = l.listed ++ l.operator-iterator ≡ l.initial.operator-iterator

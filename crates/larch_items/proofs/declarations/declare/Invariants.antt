@@ -1,8 +1,0 @@
-use Rattle.std.proofs.Common.{◌≡◌, drop}
-use Rattle.larch_items.specs.Declarations.{declared, declared_by}
-use Rattle.larch_items.specs.Steps.{all_behind, all_taken}
-use Rattle.larch_items.proofs.declarations.declare.Given as goal
-
--- the operators so far, with those of the declarations that are left, are all
-abbrev pub invariant-loop-decl : goal.invariant-loop-decl
-invariant-loop-decl l = all_taken (λ d. all_behind (declared_by d)) (drop l.decl-index l.decls) l.operators ≡ declared l.decls

@@ -1,8 +1,0 @@
-use Rattle.std.proofs.Common.{◌≡◌, [], drop}
-use Rattle.larch_items.specs.Steps.{all_taken}
-use Rattle.larch_items.specs.Variables.{with_declared}
-use Rattle.larch_items.proofs.variables.scope_of.Given as goal
-
--- the variables so far, with those that are left, are all
-abbrev pub invariant-loop-variable : goal.invariant-loop-variable
-invariant-loop-variable l = all_taken with_declared (drop l.variable-index l.variables) l.scope ≡ all_taken with_declared l.variables []

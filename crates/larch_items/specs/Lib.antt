@@ -1,9 +1,0 @@
-pub mod Declarations
-pub mod Index
-pub mod Items
-pub mod Laws
-pub mod Presentation
-pub mod References
-pub mod Refusals
-pub mod Steps
-pub mod Variables

@@ -1,8 +1,0 @@
-use Rattle.std.proofs.Common.{refl}
-use Rattle.larch_term.specs.Equality.{same_tree, same_statement}
-use Rattle.larch_term.specs.OperatorKey.{same_operator}
-use Rattle.larch_lines.proofs.examples.variables_and_cases.Goals as goal
-
-pub returns : goal.returns
-unfolding same_operator same_tree same_statement
-returns c = record { fresh = refl; predicate = refl; supposing = refl; one_variable = refl; cases = refl; with_variable = refl; one_case = refl }

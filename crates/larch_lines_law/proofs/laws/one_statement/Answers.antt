@@ -1,5 +1,0 @@
-use Rattle.larch_lines_law.proofs.Verdicts.{one_statement}
-use Rattle.larch_lines_law.proofs.laws.one_statement.Goals as goal
-
-pub returns : goal.returns
-returns c = one_statement

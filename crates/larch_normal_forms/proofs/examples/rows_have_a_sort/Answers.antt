@@ -1,7 +1,0 @@
-use Rattle.std.specs.Prelude.{refl}
-use Rattle.larch_normal_forms.specs.Example.{normalising}
-use Rattle.larch_normal_forms.proofs.examples.rows_have_a_sort.Goals as goal
-
-pub returns : goal.returns
-unfolding normalising
-returns c = refl

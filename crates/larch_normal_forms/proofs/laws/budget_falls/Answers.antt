@@ -1,5 +1,0 @@
-use Rattle.larch_normal_forms.proofs.laws.budget_falls.Goals as goal
-use Rattle.larch_normal_forms.proofs.NormalForms.{normal_most}
-
-pub returns : goal.returns
-returns c rules t b = normal_most rules t b

@@ -1,9 +1,0 @@
-use Rattle.std.proofs.Common.{◌≡◌, ◌+◌, drop}
-use Rattle.larch_replay.specs.Plans.{observers}
-use Rattle.larch_plans.proofs.clauses.partitioning_clause.Given as goal
-
--- the number is that of the next statement, and none so far is of the sort
-abbrev pub invariant-loop-statement : goal.invariant-loop-statement
-invariant-loop-statement l =
-    (l.number ≡ 1 + l.statement-index)
-    × (observers l.sort (drop l.statement-index l.statements) ≡ observers l.sort l.statements)

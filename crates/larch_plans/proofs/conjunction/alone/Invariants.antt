@@ -1,8 +1,0 @@
-use Rattle.std.proofs.Common.{◌≡◌, ◌++◌, map}
-use Rattle.larch_plans.specs.Planning.{alone}
-use Rattle.larch_plans.proofs.conjunction.alone.Given as goal
-
--- the subgoals so far
-abbrev pub invariant-loop-goal : goal.invariant-loop-goal
-invariant-loop-goal l =
-    (l.subgoals ≡ map alone l.yielded) × (l.fn.goals.items ≡ l.yielded ++ l.goal-iterator.rest.items)

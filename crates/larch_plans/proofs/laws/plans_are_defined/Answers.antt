@@ -1,7 +1,0 @@
-use Rattle.larch_replay.specs.Plans as defined
-use Rattle.larch_plans.specs.Planning.{method_of, setting_over}
-use Rattle.larch_plans.proofs.Defined.{is_defined}
-use Rattle.larch_plans.proofs.laws.plans_are_defined.Goals as goal
-
-pub returns : goal.returns
-returns c t taken goal method made e = is_defined (defined.plan (setting_over t taken) goal (method_of method)) made e

@@ -1,0 +1,16 @@
+//! What holds of plans, for crates above to cite. No function here does anything.
+ghost use Rattle.std.specs.Prelude.{◌≡◌, ℕ, List, Ok};
+ghost use Rattle.larch_prove_plans.specs.Planning.{method_of, plan_of, plan_answer, setting_over};
+ghost use Rattle.larch_prove_plans.specs.declared.subgoals.Method.{Method};
+ghost use Rattle.larch_prove_plans.specs.declared.subgoals.Plan.{Plan};
+ghost use Rattle.larch_prove_meaning.specs.Plans as defined;
+ghost use Rattle.larch_term.specs.Tree.{Tree};
+ghost use Rattle.larch_term.specs.declared.statement.Theory.{Theory};
+
+/// A plan that is answered is the defined one.
+pub fn plans_are_defined()
+    ensures { (t : Theory) (taken : List (List ℕ)) (goal : Tree) (method : Method) (made : Plan)
+        → plan_answer t taken goal method ≡ Ok made
+        → (p : defined.Plan) × ((defined.plan (setting_over t taken) goal (method_of method) ≡ Ok p)
+        × (made ≡ plan_of p)) }
+{}

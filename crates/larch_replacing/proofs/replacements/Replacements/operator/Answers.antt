@@ -1,9 +1,0 @@
-use Rattle.std.proofs.Common.{sym, ◌∙◌, ap}
-use Rattle.larch_flat.specs.Replacements.{new_operator}
-use Rattle.larch_replacing.proofs.Nothing.{nothing_new}
-use Rattle.larch_replacing.proofs.replacements.Replacements.operator.Goals as goal
-
-pub returns-then-is_none : goal.returns-then-is_none
-returns-then-is_none c =
-    let f = c.args.operator.now in
-    c.in_ok-same.ensures ∙ sym (nothing_new f) ∙ ap (λ by. new_operator by f) (sym (c.is_none.ensures.0 c.if-is_none.true))

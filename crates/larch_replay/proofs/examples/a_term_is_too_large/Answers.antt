@@ -1,7 +1,0 @@
-use Rattle.std.specs.Prelude.{refl}
-use Rattle.larch_replay.specs.Computing.{replaying}
-use Rattle.larch_replay.proofs.examples.a_term_is_too_large.Goals as goal
-
-pub returns : goal.returns
-unfolding replaying
-returns c = refl

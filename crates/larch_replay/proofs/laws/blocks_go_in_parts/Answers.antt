@@ -1,5 +1,0 @@
-use Rattle.larch_replay.proofs.Blocks.{stepped_in_parts}
-use Rattle.larch_replay.proofs.laws.blocks_go_in_parts.Goals as goal
-
-pub returns : goal.returns
-returns c cs ds p = stepped_in_parts cs ds p

@@ -1,5 +1,0 @@
-use Rattle.larch_replay.proofs.Redone.{redo_most}
-use Rattle.larch_replay.proofs.laws.redoing_is_bounded.Goals as goal
-
-pub returns : goal.returns
-returns c before now = redo_most before now

@@ -1,0 +1,4 @@
+pub mod Applying
+pub mod Encoding
+pub mod Exchanging
+pub mod Holding

@@ -1,5 +1,0 @@
-use Rattle.larch_term_laws.proofs.Places.{at-append, at_put, put_same}
-use Rattle.larch_term_laws.proofs.laws.places_compose.Goals as goal
-
-pub returns : goal.returns
-returns c = record { front = at-append; put = at_put; same = put_same }

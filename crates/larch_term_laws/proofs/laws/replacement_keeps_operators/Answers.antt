@@ -1,5 +1,0 @@
-use Rattle.larch_term_laws.proofs.Places.{at_over, put_over}
-use Rattle.larch_term_laws.proofs.laws.replacement_keeps_operators.Goals as goal
-
-pub returns : goal.returns
-returns c = record { subterm = at_over; whole = put_over }

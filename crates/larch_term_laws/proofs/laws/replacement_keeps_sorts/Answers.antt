@@ -1,5 +1,0 @@
-use Rattle.larch_term_laws.proofs.Places.{at_well_sorted, put_sort, put_well_sorted}
-use Rattle.larch_term_laws.proofs.laws.replacement_keeps_sorts.Goals as goal
-
-pub returns : goal.returns
-returns c = record { subterm = at_well_sorted; sort = put_sort; well_sorted = put_well_sorted }

@@ -1,5 +1,0 @@
-use Rattle.larch_term_laws.proofs.Substitutions.{nodes_substituted}
-use Rattle.larch_term_laws.proofs.laws.substituted_size.Goals as goal
-
-pub returns : goal.returns
-returns c = nodes_substituted

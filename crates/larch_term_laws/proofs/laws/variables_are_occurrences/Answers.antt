@@ -1,5 +1,0 @@
-use Rattle.larch_term_laws.proofs.Occurring.{listed_occurs, listed_once, variable_Decides}
-use Rattle.larch_term_laws.proofs.laws.variables_are_occurrences.Goals as goal
-
-pub returns : goal.returns
-returns c = record { members = listed_occurs; once = listed_once; test = variable_Decides }

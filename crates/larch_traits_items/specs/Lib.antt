@@ -1,0 +1,9 @@
+pub mod Declarations
+pub mod Index
+pub mod Items
+pub mod Laws
+pub mod Presentation
+pub mod References
+pub mod Refusal
+pub mod Steps
+pub mod Variables

@@ -1,0 +1,11 @@
+pub mod Acceptance
+pub mod BoxRules
+pub mod Certificates
+pub mod ClauseRules
+pub mod Context
+pub mod Decoding
+pub mod Events
+pub mod Examples
+pub mod Matching
+pub mod Rules
+pub mod Run
