@@ -18,7 +18,7 @@ pub(crate) fn contradiction(alloc: Global, taken: &[Name], goal: &Term) -> Resul
 {
     let constants = constants_of(alloc, taken, goal, goal)?;
     let by = closing(alloc, goal, constants.as_slice())?;
-    let subgoal = denied(alloc, &by, goal)?;
+    let subgoal = denial_subgoal(alloc, &by, goal)?;
     let subgoals = only(alloc, subgoal)?;
     Ok(Plan {
         constants,
@@ -26,7 +26,7 @@ pub(crate) fn contradiction(alloc: Global, taken: &[Name], goal: &Term) -> Resul
     })
 }
 
-fn denied(alloc: Global, by: &Substitution, goal: &Term) -> Result<Subgoal, Memory>
+fn denial_subgoal(alloc: Global, by: &Substitution, goal: &Term) -> Result<Subgoal, Memory>
     ensures { IfOk result (λ s. s ≡ subgoal_of (shared_subgoal (fails (instance_of by.now goal.now) ∷ []) falsity)) }
 {
     let value = falsity(alloc)?;

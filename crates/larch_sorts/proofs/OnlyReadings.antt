@@ -22,7 +22,7 @@ use Rattle.larch_sorts_meaning.specs.Parts.{in_sides, parts, sides}
 use Rattle.larch_sorts_meaning.specs.Read.{read_equation}
 use Rattle.larch_sorts_meaning.specs.Scope.{Variables}
 use Rattle.larch_sorts.specs.Sides.{ReadsSides}
-use Rattle.larch_sorts_meaning.specs.Signature.{named, taking_part}
+use Rattle.larch_sorts_meaning.specs.Signature.{operators_named, taking_part}
 use Rattle.larch_sorts_meaning.specs.Unknown.{unknown_sort}
 use Rattle.larch_sorts_meaning.specs.declared.found.Found.TheVariants.{One}
 use Rattle.larch_sorts.specs.declared.found.Sides.{Sides}
@@ -139,15 +139,15 @@ same_making n m s z e d = λ i. making (e i) (d i)
 pub maker_only : (fs : List PlainOperator) (vs : Variables) (n : List ℕ) (raws : List RawTree) (p : Pos) (s : List ℕ)
     (f : PlainOperator) (found : Option (List Tree)) (reading : Option Tree)
     → variable_sort vs n (raw_forest raws) ≡ None
-    → Some (One f) ≡ maker_among (making (length raws) s) (named n (taking_part fs))
+    → Some (One f) ≡ maker_among (making (length raws) s) (operators_named n (taking_part fs))
     → IfSome found (IsOnly (ReadAt fs vs raws f.domain)) → reading ≡ application_of f found
     → IfSome reading (IsOnly (ReadsAt fs vs (apply n (raw_forest raws) p) s))
 maker_only fs vs n raws p s f None reading unbound e h is =
     subst (λ o. IfSome o (IsOnly (ReadsAt fs vs (apply n (raw_forest raws) p) s))) (sym is) tt
 maker_only fs vs n raws p s f (Some ts) reading unbound e h is =
     let told =
-    subst (λ o. Tells o (λ g. Contains (named n (taking_part fs)) g × (made_place g ≡ making (length raws) s)))
-    (sym e) (makers_tell (making (length raws) s) (named n (taking_part fs))) in
+    subst (λ o. Tells o (λ g. Contains (operators_named n (taking_part fs)) g × (made_place g ≡ making (length raws) s)))
+    (sym e) (makers_tell (making (length raws) s) (operators_named n (taking_part fs))) in
     subst (λ o. IfSome o (IsOnly (ReadsAt fs vs (apply n (raw_forest raws) p) s))) (sym is) (
       (
         to_reads fs vs n raws p (app f (forest_of ts)) unbound (f, told.0.0, (ts, h.0, refl)),
@@ -167,7 +167,7 @@ maker_only fs vs n raws p s f (Some ts) reading unbound e h is =
 -- a name of one operator has the sort that it makes
 pub one_sort : (fs : List PlainOperator) (vs : Variables) (n : List ℕ) (raws : List RawTree) (p : Pos)
     (f : PlainOperator) → variable_sort vs n (raw_forest raws) ≡ None
-    → named n (taking_part fs) ≡ f ∷ [] → (t : Tree) → Reads fs vs (apply n (raw_forest raws) p) t → sort_of t ≡ f.range
+    → operators_named n (taking_part fs) ≡ f ∷ [] → (t : Tree) → Reads fs vs (apply n (raw_forest raws) p) t → sort_of t ≡ f.range
 one_sort fs vs n raws p f unbound e t r =
     let b = from_reads fs vs n raws (raw_forest raws) p t refl unbound r in
     let same : b.0 ≡ f =

@@ -11,7 +11,7 @@ use Rattle.larch_sorts_meaning.specs.Found.{Tells}
 use Rattle.larch_sorts_signature.specs.Makers.{made_place, maker_among, making}
 use Rattle.larch_sorts_meaning.specs.Readings.{ReadAt, ReadsAt, IsOnly, all_read, of_sort, variable_sort}
 use Rattle.larch_sorts_meaning.specs.Scope.{Variables}
-use Rattle.larch_sorts_meaning.specs.Signature.{named, taking_part}
+use Rattle.larch_sorts_meaning.specs.Signature.{operators_named, taking_part}
 use Rattle.larch_sorts_meaning.specs.declared.found.Found.TheVariants.{One}
 use Rattle.larch_sorts_signature.proofs.MakersTold.{makers_tell}
 use Rattle.larch_sorts.proofs.OnlyReadings.{take_all, variable_only}
@@ -75,7 +75,7 @@ picked_taken fs vs raws ss i ts same over h =
 -- an operator that makes a sort, with arguments that read at its domain
 pub operator_picked : (fs : List PlainOperator) (vs : Variables) (n : List ℕ) (raws : List RawTree) (p : Pos)
     (s : List ℕ) (f : PlainOperator) (ts : List Tree) → variable_sort vs n (raw_forest raws) ≡ None
-    → Contains (named n (taking_part fs)) f × (f.range ≡ s) → ReadAt fs vs raws f.domain ts
+    → Contains (operators_named n (taking_part fs)) f × (f.range ≡ s) → ReadAt fs vs raws f.domain ts
     → ReadsAt fs vs (apply n (raw_forest raws) p) s (app f (forest_of ts))
 operator_picked fs vs n raws p s f ts unbound h r =
     (to_reads fs vs n raws p (app f (forest_of ts)) unbound (f, h.0, (ts, r, refl)), h.1)

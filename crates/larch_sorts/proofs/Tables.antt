@@ -14,13 +14,13 @@ use Rattle.larch_term.specs.Tree.{Tree, var, app, forest_of}
 use Rattle.larch_term.proofs.TreeLists.{forest_of_inj}
 use Rattle.larch_term.specs.Equality.{same_tree}
 use Rattle.larch_term.proofs.Decided.{tree_Decides}
-use Rattle.larch_sorts_meaning.specs.Signature.{taking_part, named}
+use Rattle.larch_sorts_meaning.specs.Signature.{taking_part, operators_named}
 use Rattle.larch_sorts_meaning.specs.Scope.{Variables}
 use Rattle.larch_sorts_meaning.specs.Readings.{variable_sort, Reads, a_variable, of_sort, all_read, ReadAt}
 use Rattle.larch_sorts_signature.specs.Table.{Entries, reading_at, application}
 use Rattle.larch_sorts_meaning.specs.Found.{Tells}
 use Rattle.larch_sorts.specs.Tabulate.{TableTells, AllTell}
-use Rattle.larch_sorts_signature.specs.Operators.{with_argument, arguments_at, extended, with_operator, operators_at}
+use Rattle.larch_sorts_signature.specs.Operators.{with_argument, arguments_at, extend_found, with_operator, operators_at}
 use Rattle.larch_sorts_signature.specs.Overloads.{AreEnough, IsMade}
 use Rattle.larch_sorts_meaning.specs.declared.found.Found.{Found}
 use Rattle.larch_sorts_meaning.specs.declared.found.Found.TheVariants.{One, Several}
@@ -126,7 +126,7 @@ module _ (fs : List PlainOperator) (vs : Variables) (tables : List Entries) (raw
   extended_tells : (P : Tree → Type 0) (before : Option (Found Tree)) (f : PlainOperator)
       (arguments : Option (Found (List Tree)))
       → Tells before P → Tells arguments (ReadAt fs vs raws f.domain)
-      → Tells (extended before f arguments) (λ t. P t ⊎ ByOperator fs vs raws f t)
+      → Tells (extend_found before f arguments) (λ t. P t ⊎ ByOperator fs vs raws f t)
   extended_tells P before f None h k =
       tells_same P (λ t. P t ⊎ ByOperator fs vs raws f t) (λ t p. inl p)
       (λ t p. elim p [ inl a ↦ a | inr b ↦ absurd (k b.0 b.1) ]) before h
@@ -138,13 +138,13 @@ module _ (fs : List PlainOperator) (vs : Variables) (tables : List Entries) (raw
 
   stepped : (P : Tree → Type 0) (before : Option (Found Tree)) (f : PlainOperator) (b : Bool) → bytes_eq f.range s ≡ b
       → Tells before P
-      → Tells (cond b (extended before f (arguments_at tables f.domain)) before)
+      → Tells (cond b (extend_found before f (arguments_at tables f.domain)) before)
       (λ t. P t ⊎ (ByOperator fs vs raws f t × (sort_of t ≡ s)))
   stepped P before f true e h =
       tells_same (λ t. P t ⊎ ByOperator fs vs raws f t) (λ t. P t ⊎ (ByOperator fs vs raws f t × (sort_of t ≡ s)))
       (λ t p. elim p [ inl a ↦ inl a | inr b ↦ inr (b, ap sort_of b.2 ∙ (bytes_eq-Decides f.range s).0 e) ])
       (λ t p. elim p [ inl a ↦ inl a | inr b ↦ inr b.0 ])
-      (extended before f (arguments_at tables f.domain))
+      (extend_found before f (arguments_at tables f.domain))
       (extended_tells P before f (arguments_at tables f.domain) h (arguments_tell fs vs tables raws f.domain told))
   stepped P before f false e h =
       tells_same P (λ t. P t ⊎ (ByOperator fs vs raws f t × (sort_of t ≡ s))) (λ t p. inl p)
@@ -209,16 +209,16 @@ all_made fs vs raws tables hs gs t told enough b = (
 pub application_tells : (fs : List PlainOperator) (vs : Variables) (n : List ℕ) (raws : List RawTree) (p : Pos)
     (es : Entries) (tables : List Entries)
     → variable_sort vs n (raw_forest raws) ≡ None → AllTell fs vs tables raws
-    → IsMade es tables (named n (taking_part fs)) → TableTells es (Reads fs vs (apply n (raw_forest raws) p))
+    → IsMade es tables (operators_named n (taking_part fs)) → TableTells es (Reads fs vs (apply n (raw_forest raws) p))
 application_tells fs vs n raws p es tables unbound told made = λ s.
     tells_same (λ t. ByOperators fs vs raws made.0 t × (sort_of t ≡ s))
     (λ t. Reads fs vs (apply n (raw_forest raws) p) t × (sort_of t ≡ s))
     (λ t q. (
-      to_reads fs vs n raws p t unbound (fewer fs vs raws tables (named n (taking_part fs)) made.0 t made.1 q.0),
+      to_reads fs vs n raws p t unbound (fewer fs vs raws tables (operators_named n (taking_part fs)) made.0 t made.1 q.0),
       q.1,
     ))
     (λ t q. (
-      all_made fs vs raws tables (named n (taking_part fs)) made.0 t told made.1
+      all_made fs vs raws tables (operators_named n (taking_part fs)) made.0 t told made.1
           (from_reads fs vs n raws (raw_forest raws) p t refl unbound q.0),
       q.1,
     )) (reading_at es s)

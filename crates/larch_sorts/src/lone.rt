@@ -3,7 +3,7 @@ ghost use Rattle.std.specs.Option.{option_copied};
 ghost use Rattle.larch_term.specs.Sorts.{WellSorted, IsOver};
 ghost use Rattle.larch_sorts_meaning.specs.Read.{read_term, first_unread};
 ghost use Rattle.larch_base.specs.Answering.{Answers};
-ghost use Rattle.larch_sorts_meaning.specs.Refusal.{told, Unread};
+ghost use Rattle.larch_sorts_meaning.specs.Refusal.{cause_of, Unread};
 ghost use Rattle.larch_sorts_meaning.specs.Scope.{HasVariablesOf};
 ghost use Rattle.larch_sorts_meaning.specs.Unknown.{unknown_sort};
 ghost use Rattle.larch_sorts_meaning.specs.Stands.{Stands};
@@ -30,12 +30,12 @@ pub fn read_lone(
     sort: Option<&Sort>,
 ) -> Result<Term, ReadRefusal>
     requires { raw.now.right ≡ None }
-    ensures answers { Answers told result (read_term signature.now scope.now (option_copied sort.entry) raw.now) }
+    ensures answers { Answers cause_of result (read_term signature.now scope.now (option_copied sort.entry) raw.now) }
 
     // The same in terms of readings.
     ensures known { IfOk result (λ _. unknown_sort signature.now raw.now ≡ None) }
     ensures only { IfOk result (IsOnly (ReadsLone signature.now scope.now (option_copied sort.entry) raw.now)) }
-    ensures stands { IfErr result (λ refusal. IfSome (told refusal)
+    ensures stands { IfErr result (λ refusal. IfSome (cause_of refusal)
         (Stands signature.now scope.now raw.now
         (ReadsLone signature.now scope.now (option_copied sort.entry) raw.now))) }
 
@@ -55,7 +55,7 @@ fn lone(
     sort: Option<&Sort>,
 ) -> Result<Term, ReadRefusal>
     requires { raw.now.right ≡ None }
-    ensures { Answers told result (read_term signature.now scope.now (option_copied sort.entry) raw.now) }
+    ensures { Answers cause_of result (read_term signature.now scope.now (option_copied sort.entry) raw.now) }
 {
     if let Some(pos) = unknown_sort(signature, raw) {
         return Err(ReadRefusal::UnknownSort(pos));
@@ -101,9 +101,9 @@ fn lone_by_counts(
     sort: Option<&Sort>,
 ) -> Result<Option<Option<Found<Reading>>>, ReadRefusal>
     requires { raw.now.right ≡ None }
-    ensures tells { IfOk result (λ told. IfSome told (λ found. Tells found
+    ensures tells { IfOk result (λ cause_of. IfSome cause_of (λ found. Tells found
         (ReadsLone signature.now scope.now (option_copied sort.entry) raw.now))) }
-    ensures read { IfOk result (λ told. IfSome told (λ _. first_unread signature.now scope.now raw.now ≡ None)) }
+    ensures read { IfOk result (λ cause_of. IfSome cause_of (λ _. first_unread signature.now scope.now raw.now ≡ None)) }
     ensures unread { IfErr result (λ refusal. Unread refusal (first_unread signature.now scope.now raw.now)) }
 {
     match sort {

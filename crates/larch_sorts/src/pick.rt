@@ -1,7 +1,7 @@
 ghost use Rattle.std.specs.Option.{option_copied};
 ghost use Rattle.std.specs.Prelude.{◌≡◌, Contains, IfOk, IfSome};
 ghost use Rattle.larch_sorts_meaning.specs.Readings.{ReadAt, ReadsAt};
-ghost use Rattle.larch_sorts_meaning.specs.Signature.{named, taking_part};
+ghost use Rattle.larch_sorts_meaning.specs.Signature.{operators_named, taking_part};
 
 use crate::narrow::variable_at;
 use larch_base::{Memory, Name, Sequence};
@@ -101,7 +101,7 @@ fn operator_at(
     sort: &Sort,
 ) -> Result<Option<Operator>, Memory>
     ensures { IfOk result (λ found. IfSome found (λ f.
-        Contains (named name.now (taking_part signature.now)) f × (f.range ≡ sort.now))) }
+        Contains (operators_named name.now (taking_part signature.now)) f × (f.range ≡ sort.now))) }
 {
     match maker_of(signature, name, arguments.len(), sort)? {
         None => Ok(None),
@@ -121,7 +121,7 @@ fn operator_by_counts(
     sort: &Sort,
 ) -> Result<Option<Operator>, Memory>
     ensures { IfOk result (λ found. IfSome found (λ f.
-        Contains (named name.now (taking_part signature.now)) f × (f.range ≡ sort.now))) }
+        Contains (operators_named name.now (taking_part signature.now)) f × (f.range ≡ sort.now))) }
 {
     let (Some(numbers), Some(overloads)) = (signature.numbers(), signature.named(name)) else {
         return Ok(None);

@@ -12,8 +12,8 @@ ghost use Rattle.larch_sorts_signature.specs.Table.{reading_at};
 use larch_base::{Memory, Name, Sequence};
 use larch_raw::{RawNode, RawTerm, RawTerms};
 use larch_sorts_meaning::{Found, ReadRefusal, Scope, head_of, variable_sort};
-use larch_sorts_signature::application::applied;
-use larch_sorts_signature::table::{narrowed, single};
+use larch_sorts_signature::application::apply_named;
+use larch_sorts_signature::table::{narrow_to, single};
 use larch_sorts_signature::{Reading, Signature, Table};
 use larch_term::Sort;
 use std::alloc::Global;
@@ -61,12 +61,12 @@ fn table_from_parts(
                 return Ok(table);
             }
             let tables = tables_of(alloc, signature, scope, arguments)?;
-            let table = applied(alloc, tables.as_slice(), signature.named(name))?;
+            let table = apply_named(alloc, tables.as_slice(), signature.named(name))?;
             Ok(table)
         }
         RawNode::Qualified(term, sort, _) => {
             let table = table_of(alloc, signature, scope, term)?;
-            let narrow = narrowed(alloc, &table, &sort.name)?;
+            let narrow = narrow_to(alloc, &table, &sort.name)?;
             Ok(narrow)
         }
     }

@@ -17,9 +17,9 @@ use Rattle.larch_sorts_counts.specs.Count.{IsCount, alone, blank, count_at, coun
 use Rattle.larch_sorts_counts.specs.Count.{with_count}
 use Rattle.larch_sorts_counts.specs.Counts.{AllCounts, AreCounts, CountsTell, AreRead, TellsUnread}
 use Rattle.larch_sorts_meaning.specs.Readings.{ReadAt, ReadsAt, Reads, a_variable, all_read, of_sort, variable_sort}
-use Rattle.larch_sorts_counts.specs.Numbers.{AreDifferent, AreNumbers, number_of, numbered, numbers_under}
+use Rattle.larch_sorts_counts.specs.Numbers.{AreDifferent, AreNumbers, number_of, as_numbers, numbers_under}
 use Rattle.larch_sorts_meaning.specs.Scope.{Variables}
-use Rattle.larch_sorts_meaning.specs.Signature.{named, taking_part}
+use Rattle.larch_sorts_meaning.specs.Signature.{operators_named, taking_part}
 use Rattle.larch_sorts_counts.specs.declared.count.Count.{Count}
 use Rattle.larch_sorts_counts.specs.declared.count.Count.TheVariants.{Never, Once}
 use Rattle.larch_sorts_counts.specs.declared.numbers.Numbers.{Numbers}
@@ -127,7 +127,7 @@ module _ (ss : List (List ℕ)) (fs : List PlainOperator) (vs : Variables) (raws
     (told : (zs : List (List ℕ)) → IsCount (product all (map (number_of ss) zs)) (ReadAt fs vs raws zs)) where
   stepped : (P : Tree → Type 0) (cs : List Count) (g : PlainOperator) → number_of ss g.range < length cs
       → IsCount (count_at cs i) P → ((t : Tree) → P t → ByOperator fs vs raws g t → ⊥)
-      → IsCount (count_at (with_count all cs (numbered ss g)) i)
+      → IsCount (count_at (with_count all cs (as_numbers ss g)) i)
       (λ t. P t ⊎ (ByOperator fs vs raws g t × (number_of ss (sort_of t) ≡ i)))
   stepped P cs g l h apart =
       let made : Count = product all (map (number_of ss) g.domain) in
@@ -153,7 +153,7 @@ module _ (ss : List (List ℕ)) (fs : List PlainOperator) (vs : Variables) (raws
   folded : (P : Tree → Type 0) (cs : List Count) (hs : List PlainOperator) → length cs ≡ suc (length ss)
       → IsCount (count_at cs i) P
       → ((t : Tree) (g : PlainOperator) → Contains hs g → P t → ByOperator fs vs raws g t → ⊥) → AreDifferent hs
-      → IsCount (count_at (fold (with_count all) cs (map (numbered ss) hs)) i)
+      → IsCount (count_at (fold (with_count all) cs (map (as_numbers ss) hs)) i)
       (λ t. P t ⊎ (ByOperators fs vs raws hs t × (number_of ss (sort_of t) ≡ i)))
   folded P cs [] long h apart d =
       count_same P (λ t. P t ⊎ (ByOperators fs vs raws [] t × (number_of ss (sort_of t) ≡ i))) (λ t p. inl p)
@@ -173,9 +173,9 @@ module _ (ss : List (List ℕ)) (fs : List PlainOperator) (vs : Variables) (raws
           | inr c ↦ inr ((b.0.0, c, b.0.2), b.1)
         ]
       ])
-      (count_at (fold (with_count all) (with_count all cs (numbered ss g)) (map (numbered ss) hs)) i)
+      (count_at (fold (with_count all) (with_count all cs (as_numbers ss g)) (map (as_numbers ss) hs)) i)
       (folded (λ t. P t ⊎ (ByOperator fs vs raws g t × (number_of ss (sort_of t) ≡ i)))
-      (with_count all cs (numbered ss g)) hs
+      (with_count all cs (as_numbers ss g)) hs
       (length-set cs (number_of ss g.range)
       (plus (count_at cs (number_of ss g.range)) (product all (map (number_of ss) g.domain))) ∙ long)
       (stepped P cs g (subst (λ m. number_of ss g.range < m) (sym long) (below_next g.range ss)) h
@@ -187,13 +187,13 @@ module _ (ss : List (List ℕ)) (fs : List PlainOperator) (vs : Variables) (raws
 
   -- what different operators make of arguments
   pub made_counted : (hs : List PlainOperator) → AreDifferent hs
-      → IsCount (count_at (counts_made (length ss) all (map (numbered ss) hs)) i)
+      → IsCount (count_at (counts_made (length ss) all (map (as_numbers ss) hs)) i)
       (λ t. ByOperators fs vs raws hs t × (number_of ss (sort_of t) ≡ i))
   made_counted hs d =
       count_same (λ t. ⊥ ⊎ (ByOperators fs vs raws hs t × (number_of ss (sort_of t) ≡ i)))
       (λ t. ByOperators fs vs raws hs t × (number_of ss (sort_of t) ≡ i))
       (λ t p. elim p [ inl a ↦ absurd a | inr b ↦ b ]) (λ t p. inr p)
-      (count_at (counts_made (length ss) all (map (numbered ss) hs)) i)
+      (count_at (counts_made (length ss) all (map (as_numbers ss) hs)) i)
       (folded (λ t. ⊥) (blank (length ss)) hs (length-replicate (suc (length ss)) Never)
       (subst (λ c. IsCount {A = Tree} c (λ t. ⊥)) (sym (blank_at (length ss) i)) (λ t p. p)) (λ t g c p b. p) d)
 
@@ -208,13 +208,13 @@ application_counted numbers vs n raws p all counts unbound h is = λ fs are i.
     subst (λ cs. IsCount (count_at cs i)
     (λ t. Reads fs vs (apply n (raw_forest raws) p) t × (number_of ss (sort_of t) ≡ i)))
     (sym (is ∙ ap (counts_made (length ss) all) (are.0 n)))
-    (count_same (λ t. ByOperators fs vs raws (named n (taking_part fs)) t × (number_of ss (sort_of t) ≡ i))
+    (count_same (λ t. ByOperators fs vs raws (operators_named n (taking_part fs)) t × (number_of ss (sort_of t) ≡ i))
     (λ t. Reads fs vs (apply n (raw_forest raws) p) t × (number_of ss (sort_of t) ≡ i))
     (λ t q. (to_reads fs vs n raws p t unbound q.0, q.1))
     (λ t q. (from_reads fs vs n raws (raw_forest raws) p t refl unbound q.0, q.1))
-    (count_at (counts_made (length ss) all (map (numbered ss) (named n (taking_part fs)))) i)
+    (count_at (counts_made (length ss) all (map (as_numbers ss) (operators_named n (taking_part fs)))) i)
     (made_counted ss fs vs raws all i (λ zs. arguments_counted numbers vs fs raws all zs h are)
-    (named n (taking_part fs)) (different_filter (λ f. same_name f.name (plain n)) (taking_part fs) are.1.0)))
+    (operators_named n (taking_part fs)) (different_filter (λ f. same_name f.name (plain n)) (taking_part fs) are.1.0)))
 
 -- the counts of a word that are kept
 pub word_counted : (numbers : Numbers) (vs : Variables) (n : List ℕ) (raws : List RawTree) (p : Pos)

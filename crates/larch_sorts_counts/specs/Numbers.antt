@@ -4,7 +4,7 @@ use Rattle.std.specs.Map.{lookup}
 use Rattle.std.specs.Prelude.{Contains, IfSome, List, None, Option, Some, [], bytes_eq, length, map, ℕ, ◌∷◌, ◌≡◌}
 use Rattle.larch_term.specs.Operator.{PlainOperator}
 use Rattle.larch_sorts_counts.specs.Count.{counts_made}
-use Rattle.larch_sorts_meaning.specs.Signature.{named}
+use Rattle.larch_sorts_meaning.specs.Signature.{operators_named}
 use Rattle.larch_sorts_counts.specs.declared.count.Count.{Count}
 use Rattle.larch_sorts_counts.specs.declared.numbers.Numbered.{Numbered}
 use Rattle.larch_sorts_counts.specs.declared.numbers.Numbers.{Numbers}
@@ -14,8 +14,8 @@ abbrev pub number_of : List (List ℕ) → List ℕ → ℕ
 number_of ss s = position_or_len (bytes_eq s) ss
 
 -- an operator as the numbers of its sorts
-abbrev pub numbered : List (List ℕ) → PlainOperator → Numbered
-numbered ss f = record { domain = map (number_of ss) f.domain; range = number_of ss f.range }
+abbrev pub as_numbers : List (List ℕ) → PlainOperator → Numbered
+as_numbers ss f = record { domain = map (number_of ss) f.domain; range = number_of ss f.range }
 
 -- what is kept under a name, if anything is
 abbrev pub kept_numbers : Option (List Numbered) → List Numbered
@@ -39,5 +39,5 @@ AreWords count names words =
 -- these are operators, each once, as numbers by name, with the counts of what they make of no arguments
 abbrev pub AreNumbers : Numbers → List PlainOperator → Type 0
 AreNumbers numbers fs =
-    ((n : List ℕ) → numbers_under numbers.names.entries n ≡ map (numbered numbers.sorts.keys) (named n fs))
+    ((n : List ℕ) → numbers_under numbers.names.entries n ≡ map (as_numbers numbers.sorts.keys) (operators_named n fs))
     × (AreDifferent fs × AreWords (length numbers.sorts.keys) numbers.names.entries numbers.words.entries)

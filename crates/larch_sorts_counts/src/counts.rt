@@ -88,7 +88,7 @@ fn counts_from_parts(
             let Some(arguments) = counts_of_all(alloc, numbers, scope, arguments)? else {
                 return Ok(None);
             };
-            let counted = applied(alloc, numbers, name, arguments)?;
+            let counted = apply_counts(alloc, numbers, name, arguments)?;
             Ok(Some(counted))
         }
         RawNode::Qualified(term, sort, _) => {
@@ -164,7 +164,7 @@ fn counts_of_variable(alloc: Global, numbers: &Numbers, sort: &Sort) -> Result<C
 }
 
 // How often the operators of a name make each sort of arguments.
-fn applied(
+fn apply_counts(
     alloc: Global,
     numbers: &Numbers,
     name: &Name,

@@ -1,7 +1,7 @@
 ghost use Rattle.std.specs.Map.{lookup};
 ghost use Rattle.std.specs.Option.{option_copied};
 ghost use Rattle.std.specs.Prelude.{◌≡◌, ℕ, List, IfOk, IsTrue, bytes_eq, length, map, slice_get};
-ghost use Rattle.larch_sorts_counts.specs.Numbers.{AreDifferent, AreWords, number_of, numbered, numbers_under};
+ghost use Rattle.larch_sorts_counts.specs.Numbers.{AreDifferent, AreWords, number_of, as_numbers, numbers_under};
 ghost use Rattle.larch_sorts_meaning.specs.Signature.{kept_under};
 
 use crate::count::Count;
@@ -47,7 +47,7 @@ impl Numbers {
     ) -> Result<Numbers, Memory>
         ensures names { IfOk result (λ numbers. (n : List ℕ)
             → numbers_under numbers.names.entries n
-            ≡ map (numbered numbers.sorts.keys) (kept_under index.now.entries n)) }
+            ≡ map (as_numbers numbers.sorts.keys) (kept_under index.now.entries n)) }
         ensures words { IfOk result (λ numbers.
             AreWords (length numbers.sorts.keys) numbers.names.entries numbers.words.entries) }
     {
@@ -133,7 +133,7 @@ fn names_of(
     index: &IndexMap<Name, Operators>,
 ) -> Result<IndexMap<Name, Sequence<Numbered>>, Memory>
     ensures { IfOk result (λ names. (n : List ℕ)
-        → numbers_under names.entries n ≡ map (numbered sorts.now.keys) (kept_under index.now.entries n)) }
+        → numbers_under names.entries n ≡ map (as_numbers sorts.now.keys) (kept_under index.now.entries n)) }
 {
     let mut names = IndexMap::new(alloc);
     for name in index.keys() {
@@ -151,7 +151,7 @@ fn numbers_of(
     index: &IndexMap<Name, Operators>,
     name: &Name,
 ) -> Result<Sequence<Numbered>, Memory>
-    ensures { IfOk result (λ all. all ≡ map (numbered sorts.now.keys) (kept_under index.now.entries name.now)) }
+    ensures { IfOk result (λ all. all ≡ map (as_numbers sorts.now.keys) (kept_under index.now.entries name.now)) }
 {
     match index.get(name) {
         Some(operators) => {
@@ -168,7 +168,7 @@ fn all_numbered(
     sorts: &IndexSet<Sort>,
     operators: &[Operator],
 ) -> Result<Sequence<Numbered>, Memory>
-    ensures { IfOk result (λ all. all ≡ map (numbered sorts.now.keys) operators.now) }
+    ensures { IfOk result (λ all. all ≡ map (as_numbers sorts.now.keys) operators.now) }
 {
     let mut all = Vec::with_capacity(alloc, operators.len())?;
     for operator in operators {

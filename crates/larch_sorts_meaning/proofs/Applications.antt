@@ -10,7 +10,7 @@ use Rattle.larch_term.specs.Tree.{Tree, var, app, forest_of, list_of}
 use Rattle.larch_term.proofs.TreeLists.{forest_of-list_of}
 use Rattle.larch_term.specs.Equality.{same_name}
 use Rattle.larch_term.proofs.Decided.{name_Decides}
-use Rattle.larch_sorts_meaning.specs.Signature.{taking_part, named}
+use Rattle.larch_sorts_meaning.specs.Signature.{taking_part, operators_named}
 use Rattle.larch_sorts_meaning.specs.Scope.{Variables}
 use Rattle.larch_sorts_meaning.specs.Readings.{variable_sort, Reads, a_variable, an_operator, of_sort, AllRead}
 use Rattle.larch_sorts_meaning.specs.Readings.{all_read, one_read, ReadAt}
@@ -60,7 +60,7 @@ ByOperators fs vs raws gs t = (f : PlainOperator) × Contains gs f × ByOperator
 
 pub from_reads : (fs : List PlainOperator) (vs : Variables) (n : List ℕ) (raws : List RawTree) (rs : RawForest)
     (p : Pos) (t : Tree) → rs ≡ raw_forest raws → variable_sort vs n rs ≡ None
-    → Reads fs vs (apply n rs p) t → ByOperators fs vs raws (named n (taking_part fs)) t
+    → Reads fs vs (apply n rs p) t → ByOperators fs vs raws (operators_named n (taking_part fs)) t
 from_reads fs vs n raws rs p (var m s) i unbound (a_variable e) = cc
 from_reads fs vs n raws rs p (app f ts) i unbound (an_operator e c d all sorts) =
     let back = forest_of-list_of ts in (
@@ -78,7 +78,7 @@ from_reads fs vs n raws rs p (app f ts) i unbound (an_operator e c d all sorts) 
 
 pub to_reads : (fs : List PlainOperator) (vs : Variables) (n : List ℕ) (raws : List RawTree) (p : Pos) (t : Tree)
     → variable_sort vs n (raw_forest raws) ≡ None
-    → ByOperators fs vs raws (named n (taking_part fs)) t → Reads fs vs (apply n (raw_forest raws) p) t
+    → ByOperators fs vs raws (operators_named n (taking_part fs)) t → Reads fs vs (apply n (raw_forest raws) p) t
 to_reads fs vs n raws p t unbound b =
     let c = contained_in_filter (λ g. same_name g.name (plain n)) (taking_part fs) b.0 b.1 in
     subst (Reads fs vs (apply n (raw_forest raws) p)) (sym b.2.2)

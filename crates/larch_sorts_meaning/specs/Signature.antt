@@ -11,8 +11,8 @@ abbrev pub taking_part : List PlainOperator → List PlainOperator
 taking_part fs = fs ++ built_ins_at (existing_sorts fs)
 
 -- the operators of a name
-abbrev pub named : List ℕ → List PlainOperator → List PlainOperator
-named n fs = filter (λ f. same_name f.name (plain n)) fs
+abbrev pub operators_named : List ℕ → List PlainOperator → List PlainOperator
+operators_named n fs = filter (λ f. same_name f.name (plain n)) fs
 
 -- what is kept under a name, if anything is
 abbrev pub kept : Option (List PlainOperator) → List PlainOperator
@@ -25,4 +25,4 @@ kept_under entries n = kept (lookup (bytes_eq n) entries)
 
 -- each operator is kept under its name
 abbrev pub IsIndex : List (List ℕ × List PlainOperator) → List PlainOperator → Type 0
-IsIndex entries fs = (n : List ℕ) → kept_under entries n ≡ named n fs
+IsIndex entries fs = (n : List ℕ) → kept_under entries n ≡ operators_named n fs

@@ -8,7 +8,7 @@ use Rattle.std.proofs.lemmas.Slice.Eq.{bytes_eq-Decides}
 use Rattle.larch_base.proofs.Members.{contains_here, contains_later}
 use Rattle.larch_term.specs.Tree.{Tree}
 use Rattle.larch_sorts_signature.specs.Table.{Entries, reading_at, sorts_in}
-use Rattle.larch_sorts_signature.specs.Operators.{arguments_at, with_argument, resumed}
+use Rattle.larch_sorts_signature.specs.Operators.{arguments_at, with_argument, resume_arguments}
 use Rattle.larch_sorts_meaning.specs.declared.found.Found.{Found}
 use Rattle.larch_sorts_meaning.specs.declared.found.Found.TheVariants.{One, Several}
 
@@ -26,7 +26,7 @@ found_in_entry (e ∷ es) s x h = found_or_later s e es x (bytes_eq s e.0) refl 
 
 -- one argument more is put behind those so far
 pub resumed_one : (ts : List Tree) (several : Bool) (t : Tree) (rest : Option (Found (List Tree)))
-    → resumed (ts ++ t ∷ []) several rest ≡ resumed ts several (with_argument (Some (One t)) rest)
+    → resume_arguments (ts ++ t ∷ []) several rest ≡ resume_arguments ts several (with_argument (Some (One t)) rest)
 resumed_one ts several t None = refl
 resumed_one ts true t (Some (One us)) = refl
 resumed_one ts true t (Some Several) = refl
@@ -34,7 +34,7 @@ resumed_one ts false t (Some Several) = refl
 resumed_one ts false t (Some (One us)) = ap (λ vs. Some (One vs)) (append_assoc ts (t ∷ []) us)
 
 pub resumed_several : (ts : List Tree) (several : Bool) (rest : Option (Found (List Tree)))
-    → resumed ts true rest ≡ resumed ts several (with_argument (Some Several) rest)
+    → resume_arguments ts true rest ≡ resume_arguments ts several (with_argument (Some Several) rest)
 resumed_several ts several None = refl
 resumed_several ts true (Some rest) = refl
 resumed_several ts false (Some rest) = refl
@@ -71,25 +71,25 @@ module _ {X : Type 0} (f : X → Entries) (tables : List X) (ss : List (List ℕ
   -- where nothing is found there are no arguments
   pub nothing_found : length tables ≡ length ss → i < length ss → t ≡ get_or tables i t → s ≡ get_or ss i s
       → None ≡ reading_at (f t) s
-      → resumed ts several (arguments_at (drop i (map f tables)) (drop i ss)) ≡ arguments_at (map f tables) ss
+      → resume_arguments ts several (arguments_at (drop i (map f tables)) (drop i ss)) ≡ arguments_at (map f tables) ss
       → None ≡ arguments_at (map f tables) ss
   nothing_found same lt e d found invariant =
       let long = length-map tables f in
       let is = unrolled (map f tables) ss i (f t) s (omega arith) lt (entries_at f tables i t (omega arith) e) d in
-      ap (λ rest. resumed ts several
+      ap (λ rest. resume_arguments ts several
       (with_argument rest (arguments_at (drop (i + 1) (map f tables)) (drop (i + 1) ss)))) found
-      ∙ sym (ap (resumed ts several) is) ∙ invariant
+      ∙ sym (ap (resume_arguments ts several) is) ∙ invariant
 
   -- what is found goes behind the arguments so far
   pub next_found : (found : Found Tree) (us : List Tree) (now : Bool) → length tables ≡ length ss → i < length ss
       → t ≡ get_or tables i t → s ≡ get_or ss i s → Some found ≡ reading_at (f t) s
       → ((rest : Option (Found (List Tree)))
-      → resumed us now rest ≡ resumed ts several (with_argument (Some found) rest))
-      → resumed ts several (arguments_at (drop i (map f tables)) (drop i ss)) ≡ arguments_at (map f tables) ss
-      → resumed us now (arguments_at (drop (i + 1) (map f tables)) (drop (i + 1) ss)) ≡ arguments_at (map f tables) ss
+      → resume_arguments us now rest ≡ resume_arguments ts several (with_argument (Some found) rest))
+      → resume_arguments ts several (arguments_at (drop i (map f tables)) (drop i ss)) ≡ arguments_at (map f tables) ss
+      → resume_arguments us now (arguments_at (drop (i + 1) (map f tables)) (drop (i + 1) ss)) ≡ arguments_at (map f tables) ss
   next_found found us now same lt e d is goes invariant =
       let long = length-map tables f in
       let next = unrolled (map f tables) ss i (f t) s (omega arith) lt (entries_at f tables i t (omega arith) e) d in
       goes (arguments_at (drop (i + 1) (map f tables)) (drop (i + 1) ss))
-      ∙ ap (λ x. resumed ts several (with_argument x (arguments_at (drop (i + 1) (map f tables)) (drop (i + 1) ss)))) is
-      ∙ sym (ap (resumed ts several) next) ∙ invariant
+      ∙ ap (λ x. resume_arguments ts several (with_argument x (arguments_at (drop (i + 1) (map f tables)) (drop (i + 1) ss)))) is
+      ∙ sym (ap (resume_arguments ts several) next) ∙ invariant

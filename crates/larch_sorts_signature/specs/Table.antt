@@ -17,8 +17,8 @@ abbrev pub reading_at : Entries → List ℕ → Option (Found Tree)
 reading_at es s = lookup (bytes_eq s) es
 
 -- what was found of terms before together with what was found now
-abbrev pub merged : Option (Found Tree) → Found Tree → Found Tree
-merged before now = merged_by same_tree before now
+abbrev pub merge : Option (Found Tree) → Found Tree → Found Tree
+merge before now = merged_by same_tree before now
 
 -- an operator with the arguments that were found
 abbrev pub application : PlainOperator → Found (List Tree) → Found Tree

@@ -31,7 +31,7 @@ struct Choice {
 }
 
 /// What the operators of one name make of the arguments in tables.
-pub fn applied(
+pub fn apply_named(
     alloc: Global,
     tables: &[Table],
     overloads: Option<&Overloads>,

@@ -75,7 +75,7 @@ fn put(
         (maker_at kept.old.entries p)) }
 {
     let operator = operator.copy()?;
-    let now = joined(kept.get(&place), operator);
+    let now = join_found(kept.get(&place), operator);
     kept.insert(place, now)?;
     Ok(())
 }
@@ -91,7 +91,7 @@ pub(crate) fn maker_among(
     for operator in operators {
         if makes(operator, place) {
             let operator = operator.copy()?;
-            found = Some(joined(found.as_ref(), operator));
+            found = Some(join_found(found.as_ref(), operator));
         }
     }
     Ok(found)
@@ -105,7 +105,7 @@ fn makes(operator: &Operator, place: &Place) -> bool
 }
 
 // What was found before together with one operator.
-fn joined(before: Option<&Found<Operator>>, operator: Operator) -> Found<Operator>
+fn join_found(before: Option<&Found<Operator>>, operator: Operator) -> Found<Operator>
     ensures { result ≡ merged_by same_operator (option_copied before.entry) (One operator) }
 {
     match before {

@@ -2,7 +2,7 @@ ghost use Rattle.std.specs.Prelude.{◌≡◌, ℕ, List, Option, Some, IfOk, On
 ghost use Rattle.larch_term.specs.Tree.{Tree};
 ghost use Rattle.larch_sorts_meaning.specs.declared.found.Found.{Found};
 ghost use Rattle.larch_sorts_signature.specs.Table.{reading_at};
-ghost use Rattle.larch_sorts_signature.specs.Operators.{arguments_at, operators_at, with_operator, with_argument, resumed};
+ghost use Rattle.larch_sorts_signature.specs.Operators.{arguments_at, operators_at, with_operator, with_argument, resume_arguments};
 
 use crate::reading::Reading;
 use crate::table::{Table, add, at};
@@ -97,7 +97,8 @@ fn push_found(
     arguments: &mut Sequence<Reading>,
 ) -> Result<bool, Memory>
     ensures { IfOk result (λ now. (rest : Option (Found (List Tree)))
-        → resumed arguments.new now rest ≡ resumed arguments.old several (with_argument (Some found.now) rest)) }
+        → resume_arguments arguments.new now rest
+        ≡ resume_arguments arguments.old several (with_argument (Some found.now) rest)) }
 {
     match found {
         Found::Several => Ok(true),

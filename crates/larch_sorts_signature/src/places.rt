@@ -25,7 +25,7 @@ impl Places {
         ensures { IfOk result (λ places. IsPlaced places.kept.entries operators.now
             × IsByDomain places.domains.kept.entries operators.now) }
     {
-        let kept = placed(alloc, operators)?;
+        let kept = operators_by_place(alloc, operators)?;
         let domains = Domains::of(alloc, operators)?;
         Ok(Places { kept, domains })
     }
@@ -71,7 +71,10 @@ impl Places {
 }
 
 // Each operator at each of its places.
-fn placed(alloc: Global, operators: &[Operator]) -> Result<IndexMap<Place, Operators>, Memory>
+fn operators_by_place(
+    alloc: Global,
+    operators: &[Operator],
+) -> Result<IndexMap<Place, Operators>, Memory>
     ensures { IfOk result (λ kept. IsPlaced kept.entries operators.now) }
 {
     let mut kept = IndexMap::new(alloc);

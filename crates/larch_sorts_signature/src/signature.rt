@@ -1,8 +1,8 @@
 ghost use Rattle.std.specs.Prelude.{◌≡◌, ℕ, List, ◌++◌, ◌∷◌, [], IfOk, IfSome, OnOk, length, map};
 ghost use Rattle.std.specs.Option.{option_copied};
-ghost use Rattle.larch_sorts_meaning.specs.Signature.{kept, kept_under, taking_part, named};
+ghost use Rattle.larch_sorts_meaning.specs.Signature.{kept, kept_under, taking_part, operators_named};
 ghost use Rattle.larch_sorts_known.specs.Sorts.{exists_sort};
-ghost use Rattle.larch_sorts_counts.specs.Numbers.{AreDifferent, AreNumbers, AreWords, numbered, numbers_under};
+ghost use Rattle.larch_sorts_counts.specs.Numbers.{AreDifferent, AreNumbers, AreWords, as_numbers, numbers_under};
 ghost use Rattle.larch_sorts_signature.specs.Makers.{maker_among, making};
 
 use crate::overloads::Overloads;
@@ -103,7 +103,7 @@ impl Signature {
 
     /// The operators of a name that take part. It takes no memory.
     pub fn named(&self, name: &Name) -> Option<&Overloads>
-        ensures { kept (option_copied result) ≡ named name.now (taking_part self.now) }
+        ensures { kept (option_copied result) ≡ operators_named name.now (taking_part self.now) }
     {
         self.index.get(name)
     }
@@ -127,7 +127,7 @@ pub fn maker_of(
     sort: &Sort,
 ) -> Result<Option<Found<Operator>>, Memory>
     ensures { IfOk result (λ found. found
-        ≡ maker_among (making arity sort.now) (named name.now (taking_part signature.now))) }
+        ≡ maker_among (making arity sort.now) (operators_named name.now (taking_part signature.now))) }
 {
     let Some(overloads) = signature.named(name) else {
         return Ok(None);
@@ -150,7 +150,7 @@ fn numbers_of(
     named: &IndexMap<Name, Operators>,
 ) -> Result<Option<Numbers>, Memory>
     ensures { IfOk result (λ found. IfSome found (λ numbers. ((n : List ℕ)
-        → numbers_under numbers.names.entries n ≡ map (numbered numbers.sorts.keys) (kept_under named.now.entries n))
+        → numbers_under numbers.names.entries n ≡ map (as_numbers numbers.sorts.keys) (kept_under named.now.entries n))
         × (AreDifferent operators.now
         × AreWords (length numbers.sorts.keys) numbers.names.entries numbers.words.entries))) }
 {
@@ -197,7 +197,7 @@ fn kept_operators(
 
 // Each operator under its name.
 fn by_name(alloc: Global, operators: &[Operator]) -> Result<IndexMap<Name, Operators>, Memory>
-    ensures { IfOk result (λ index. (n : List ℕ) → kept_under index.entries n ≡ named n operators.now) }
+    ensures { IfOk result (λ index. (n : List ℕ) → kept_under index.entries n ≡ operators_named n operators.now) }
 {
     let mut index = IndexMap::new(alloc);
     for operator in operators {
@@ -213,7 +213,7 @@ fn keep(
     operator: &Operator,
 ) -> Result<(), Memory>
     ensures { OnOk result ((n : List ℕ)
-        → kept_under index.new.entries n ≡ kept_under index.old.entries n ++ named n (operator.now ∷ [])) }
+        → kept_under index.new.entries n ≡ kept_under index.old.entries n ++ operators_named n (operator.now ∷ [])) }
 {
     let mut operators = match index.swap_remove(operator.name()) {
         Some(operators) => operators,

@@ -2,7 +2,7 @@ ghost use Rattle.std.specs.Prelude.{◌≡◌, ℕ, List, IfOk, OnOk, cond, byte
 ghost use Rattle.std.specs.Option.{option_copied};
 ghost use Rattle.larch_term.specs.Equality.{same_tree};
 ghost use Rattle.larch_sorts_meaning.specs.declared.found.Found.TheVariants.{One};
-ghost use Rattle.larch_sorts_signature.specs.Table.{reading_at, merged, application};
+ghost use Rattle.larch_sorts_signature.specs.Table.{reading_at, merge, application};
 
 use crate::reading::{Reading, same_reading};
 use indexmap::IndexMap;
@@ -64,7 +64,7 @@ pub(crate) fn add(
     ensures { OnOk result ((s : List ℕ)
         → reading_at entries.new.entries s
         ≡ cond (bytes_eq operator.now.range s)
-        (Some (merged (reading_at entries.old.entries s) (application operator.now arguments)))
+        (Some (merge (reading_at entries.old.entries s) (application operator.now arguments)))
         (reading_at entries.old.entries s)) }
 {
     let added = apply(alloc, operator, arguments)?;
@@ -94,7 +94,7 @@ fn apply(
 
 /// What was found before together with what was found now.
 pub fn join(before: Option<&Found<Reading>>, now: Found<Reading>) -> Found<Reading>
-    ensures { result ≡ merged (option_copied before.entry) now }
+    ensures { result ≡ merge (option_copied before.entry) now }
 {
     match before {
         None => now,
@@ -105,7 +105,7 @@ pub fn join(before: Option<&Found<Reading>>, now: Found<Reading>) -> Found<Readi
 
 // One reading together with what was found now.
 fn join_one(reading: &Reading, now: Found<Reading>) -> Found<Reading>
-    ensures { result ≡ merged (Some (One reading.now)) now }
+    ensures { result ≡ merge (Some (One reading.now)) now }
 {
     match now {
         Found::Several => Found::Several,
@@ -152,7 +152,7 @@ pub fn single(alloc: Global, sort: &Sort, found: Found<Reading>) -> Result<Table
 }
 
 /// What a table has of a sort.
-pub fn narrowed(alloc: Global, table: &Table, sort: &Sort) -> Result<Table, Memory>
+pub fn narrow_to(alloc: Global, table: &Table, sort: &Sort) -> Result<Table, Memory>
     ensures { IfOk result (λ narrow. (s : List ℕ)
         → reading_at narrow.found.value.entries s
         ≡ cond (bytes_eq sort.now s) (reading_at table.now.found.value.entries sort.now) None) }

@@ -5,7 +5,7 @@ use Rattle.larch_raw.specs.RawTree.{apply, qualified, raw_forest}
 use Rattle.larch_raw.specs.RawView.{view_node}
 use Rattle.larch_sorts_signature.specs.Makers.{maker_among, making}
 use Rattle.larch_sorts_meaning.specs.Readings.{ReadAt, ReadsAt, IsOnly}
-use Rattle.larch_sorts_meaning.specs.Signature.{named, taking_part}
+use Rattle.larch_sorts_meaning.specs.Signature.{operators_named, taking_part}
 use Rattle.larch_sorts.proofs.OnlyReadings.{OnlyAll, maker_only, not_false, only_next, only_taken, qualified_only}
 use Rattle.larch_sorts.proofs.OnlyReadings.{variable_only}
 use Rattle.larch_sorts.proofs.narrow.+narrow.Goals as goal
@@ -55,7 +55,7 @@ only_at-returns-in_ok-found-in-Some-One-2 t c =
     (sym c.variable_sort.ensures ∙ ap option_copied c.in_default.is)
     (sym (c.in-Some-One.is ∙ ap Some c.in-Some-One.field-0-is) ∙ c.in_ok-maker_of-in-Apply.ensures
     ∙ ap (λ rs. maker_among (making (length rs) c.args.sort.now)
-    (named c.in-Apply.name (taking_part c.args.signature.now))) c.as_slice.ensures)
+    (operators_named c.in-Apply.name (taking_part c.args.signature.now))) c.as_slice.ensures)
     (subst (λ ss. IfSome c.in_ok-found-in-Some-One.found
     (IsOnly (ReadAt c.args.signature.now c.args.scope.now c.in-Apply.arguments ss))) c.domain.ensures
     c.in_ok-found-in-Some-One.ensures)

@@ -5,7 +5,7 @@ use Rattle.larch_raw.specs.RawTree.{apply, raw_forest}
 use Rattle.larch_raw.specs.RawView.{view_node}
 use Rattle.larch_term.specs.Tree.{app, forest_of}
 use Rattle.larch_sorts_meaning.specs.Readings.{ReadAt, ReadsAt}
-use Rattle.larch_sorts_meaning.specs.Signature.{named, taking_part}
+use Rattle.larch_sorts_meaning.specs.Signature.{operators_named, taking_part}
 use Rattle.larch_sorts.proofs.OnlyReadings.{not_false}
 use Rattle.larch_sorts.proofs.Picked.{operator_picked, picked_next, picked_taken, qualified_picked, variable_picked}
 use Rattle.larch_sorts.proofs.pick.+pick.Goals as goal
@@ -47,7 +47,7 @@ picked_at-returns-in_ok-reading-in-Apply t c =
     c.args.sort.now c.in-Some-2.operator c.in-Some-3.readings
     (sym c.variable_sort.ensures ∙ ap option_copied c.in_default.is)
     (subst
-    (λ o. IfSome o (λ f. Contains (named c.in-Apply.name (taking_part c.args.signature.now)) f
+    (λ o. IfSome o (λ f. Contains (operators_named c.in-Apply.name (taking_part c.args.signature.now)) f
     × (f.range ≡ c.args.sort.now))) c.in-Some-2.is c.in_ok-operator-in-Apply.ensures)
     (subst (λ ss. ReadAt c.args.signature.now c.args.scope.now c.in-Apply.arguments ss c.in-Some-3.readings)
     c.domain-domain.ensures

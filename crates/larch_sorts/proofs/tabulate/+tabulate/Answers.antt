@@ -8,7 +8,7 @@ use Rattle.larch_sorts_meaning.specs.Parts.{parts_of, inner_parts}
 use Rattle.larch_sorts_meaning.specs.Readings.{Reads}
 use Rattle.larch_sorts.specs.Tabulate.{TableTells}
 use Rattle.larch_sorts_signature.specs.Overloads.{IsMade}
-use Rattle.larch_sorts_meaning.specs.Signature.{named, taking_part}
+use Rattle.larch_sorts_meaning.specs.Signature.{operators_named, taking_part}
 use Rattle.larch_base.specs.declared.code.Code.TheVariants.{NoReading}
 use Rattle.larch_sorts_meaning.specs.Faults.{fault, fault_at}
 use Rattle.larch_sorts.proofs.Tables.{application_tells, variable_tells, narrowed_tells, unread_here, read_here}
@@ -46,7 +46,7 @@ table_from_parts-returns-in_ok-table-in-Apply-2-clause-tells t c =
     (map (λ t. t.found.value.entries) c.in_ok-tables-in-Apply.tables)
     (sym c.variable_sort.ensures ∙ ap option_copied c.in_default.is) c.in_ok-tables-in-Apply.ensures.tell
     (subst (λ ts. IsMade c.in_ok-table-in-Apply-2.table.found.value.entries (map (λ t. t.found.value.entries) ts)
-    (named c.in-Apply.name (taking_part c.args.signature.now))) c.as_slice.ensures
+    (operators_named c.in-Apply.name (taking_part c.args.signature.now))) c.as_slice.ensures
     (subst (IsMade c.in_ok-table-in-Apply-2.table.found.value.entries
     (map (λ t. t.found.value.entries) c.as_slice.result.now)) c.named.ensures c.in_ok-table-in-Apply-2.ensures)))
 

@@ -1,5 +1,5 @@
 use Rattle.std.proofs.Common.{◌∙◌, Contains, inl, inr, ap, map, subst, sym}
-use Rattle.larch_sorts_counts.specs.Numbers.{numbered, numbers_under}
+use Rattle.larch_sorts_counts.specs.Numbers.{as_numbers, numbers_under}
 use Rattle.larch_sorts_meaning.proofs.Kept.{named_or_nothing}
 use Rattle.larch_sorts_counts.proofs.numbers.names_of.Goals as goal
 
@@ -11,5 +11,5 @@ loop-name-init c = λ n.
           (sym (c.into_iter-name-iterator.ensures.into_iter_gives ∙ c.keys-name-items.ensures.rest)) k)
       | inr h ↦
           inr (ap (λ es. numbers_under es n) c.new-names.ensures.empty
-          ∙ sym (ap (map (numbered c.args.sorts.now.keys)) h))
+          ∙ sym (ap (map (as_numbers c.args.sorts.now.keys)) h))
     ]

@@ -1,5 +1,5 @@
 use Rattle.std.proofs.Common.{◌≡◌, ◌⊎◌, ℕ, List, Contains, map}
-use Rattle.larch_sorts_counts.specs.Numbers.{numbered, numbers_under}
+use Rattle.larch_sorts_counts.specs.Numbers.{as_numbers, numbers_under}
 use Rattle.larch_sorts_meaning.specs.Signature.{kept_under}
 use Rattle.larch_sorts_counts.proofs.numbers.names_of.Given as goal
 
@@ -7,4 +7,4 @@ use Rattle.larch_sorts_counts.proofs.numbers.names_of.Given as goal
 abbrev pub invariant-loop-name : goal.invariant-loop-name
 invariant-loop-name l =
     (n : List ℕ) → Contains l.name-iterator n
-    ⊎ (numbers_under l.names.entries n ≡ map (numbered l.sorts.keys) (kept_under l.index.entries n))
+    ⊎ (numbers_under l.names.entries n ≡ map (as_numbers l.sorts.keys) (kept_under l.index.entries n))

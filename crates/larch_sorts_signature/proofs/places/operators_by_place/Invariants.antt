@@ -1,7 +1,7 @@
 use Rattle.std.proofs.Common.{◌≡◌, ◌++◌, drop, filter}
 use Rattle.larch_sorts_signature.specs.Places.{kept_at, takes_at}
 use Rattle.larch_sorts_signature.specs.declared.place.Place.{Place}
-use Rattle.larch_sorts_signature.proofs.places.placed.Given as goal
+use Rattle.larch_sorts_signature.proofs.places.operators_by_place.Given as goal
 
 -- the operators of each place that are kept, with those that are left, are all
 abbrev pub invariant-loop-operator : goal.invariant-loop-operator

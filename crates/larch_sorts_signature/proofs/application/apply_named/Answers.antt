@@ -2,7 +2,7 @@ use Rattle.std.proofs.Common.{map, sym, ap, subst}
 use Rattle.std.specs.Option.{option_copied}
 use Rattle.larch_sorts_signature.specs.Overloads.{IsMade}
 use Rattle.larch_sorts_meaning.specs.Signature.{kept}
-use Rattle.larch_sorts_signature.proofs.application.applied.Goals as goal
+use Rattle.larch_sorts_signature.proofs.application.apply_named.Goals as goal
 
 pub returns-in_ok-table-in-Some : goal.returns-in_ok-table-in-Some
 returns-in_ok-table-in-Some c =
