@@ -1,13 +1,14 @@
 #!/usr/bin/env python3
 """Builds the program `larch`, with as many crates proved side by side as the machine has cores.
 
-`rt` locks the folders of all crates below the one that it proves, so two runs in one checkout wait for each other. What
-one checkout proved another takes over in a second. So the crates are proved in as many copies of the tree as there are
-cores, the longest chain of crates first, and the checkout takes them at the end. A crate is begun as soon as those that
-it stands on are built; it gets the cores that no other crate waits for. `rt` keeps what it proved, so a later run does
-only what changed, also after one that was cut off. Says on standard error which crate is begun and which is done; ends
-with 1 where a crate is not proved. `--crates` has it prove every crate of crates.txt, programs left out, in place of
-those of the program.
+`rt` locks the folders of all crates below the one that it proves, so two runs in one checkout wait for each other. So the
+crates are proved in as many copies of the tree as there are cores, the longest chain of crates first; what one copy built
+is linked into all others and into the checkout, where `rt` takes it by its stamp, a sum of what it was made of. A crate is
+begun as soon as those that it stands on are built; it gets the cores that no other crate waits for. `rt` keeps what it
+proved, so a later run does only what changed, also after one that was cut off. Says on standard error which crate is begun
+and which is done; ends with 1 where a crate is not proved. `--crates` has it prove every crate of crates.txt, programs left
+out, in place of those of the program. `--all` goes on where a crate fails, with those that don't stand on it; with
+`--log FOLDER` what `rt` said of each crate that fails goes into FOLDER/CRATE.log.
 """
 import concurrent.futures
 import os
@@ -104,22 +105,51 @@ def prove(top, crate, jobs):
     return "" if run.returncode == (2 if program else 0) else run.stdout
 
 
-def prove_side_by_side(crates, copies):
+def share(crate, copy, others):
+    """Links what a copy built of a crate into the others, which take it by its stamp."""
+    built = pathlib.Path("crates", crate, "out", "rlib")
+    for other in others:
+        if other != copy:
+            shutil.rmtree(other / built, ignore_errors=True)
+            (other / built).parent.mkdir(parents=True, exist_ok=True)
+            shutil.copytree(copy / built, other / built, copy_function=link)
+
+
+def link(source, to):
+    """A file under a second name, or a copy where the two lie on different disks."""
+    try:
+        os.link(source, to)
+    except OSError:
+        shutil.copy2(source, to)
+
+
+def copy_for(crate, free):
+    """A free copy of the tree: the one in which an earlier run began with the crate, if it is among them."""
+    begun = [copy for copy in free if (copy / "crates" / crate / "out" / "incremental").is_dir()]
+    chosen = begun[-1] if begun else free[-1]
+    free.remove(chosen)
+    return chosen
+
+
+def prove_side_by_side(crates, copies, goes_on=False):
     """Proves the crates, each once those below it are proved; what failed, with what was printed."""
     cores = len(copies)
     chain, free, left = weights(crates), list(copies), dict(crates)
     done, failed, running = set(), {}, {}
     with concurrent.futures.ThreadPoolExecutor(cores) as pool:
-        while running or (left and not failed):
+        while running or (left and (goes_on or not failed)):
             ready = sorted((crate for crate in left if done.issuperset(left[crate])), key=lambda it: -chain[it])
+            if not ready and not running:
+                break
             longest = max(chain[crate] for crate in crates if crate not in done)
             for at, crate in enumerate(ready):
                 idle = cores - sum(jobs for _, _, jobs in running.values())
-                if failed or idle <= 0 or not free:
+                if (failed and not goes_on) or idle <= 0 or not free:
                     break
                 del left[crate]
                 # All waits for the longest chain, so its crate gets a second core even where none is idle.
-                jobs, copy = max(2 if chain[crate] == longest else 1, idle // (len(ready) - at)), free.pop()
+                jobs = max(2 if chain[crate] == longest else 1, idle // (len(ready) - at))
+                copy = copy_for(crate, free)
                 say(f"proving {crate}" + (f" on {jobs} cores" if jobs > 1 else ""))
                 running[pool.submit(prove, copy, crate, jobs)] = crate, copy, jobs
             for it in concurrent.futures.wait(running, return_when=concurrent.futures.FIRST_COMPLETED).done:
@@ -127,10 +157,20 @@ def prove_side_by_side(crates, copies):
                 free.append(copy)
                 if it.result():
                     failed[crate] = it.result()
+                    say(f"{crate} is NOT proved")
+                    keep_log(crate, it.result())
                 else:
                     done.add(crate)
+                    share(crate, copy, [*copies, TOP])
                     say(f"{crate} is proved, {len(done)} of {len(crates)}")
     return failed
+
+
+def keep_log(crate, printed):
+    if "--log" in sys.argv[1:]:
+        folder = pathlib.Path(sys.argv[sys.argv.index("--log") + 1])
+        folder.mkdir(parents=True, exist_ok=True)
+        (folder / f"{crate}.log").write_text(printed)
 
 
 def build(crates):
@@ -141,7 +181,7 @@ def build(crates):
     for copy in copies:
         copy.mkdir(parents=True, exist_ok=True)
         copy_tree(copy)
-    failed = prove_side_by_side(libraries, copies)
+    failed = prove_side_by_side(libraries, copies, goes_on="--all" in sys.argv[1:])
     if not failed:
         say("proving and linking the program")
         failed = {PROGRAM: printed for printed in [prove(TOP, PROGRAM, cores)] if printed}
