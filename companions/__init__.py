@@ -14,7 +14,7 @@ what it has found. Places are offsets of bytes, `start` and `end`; a change has 
     explain       the texts of the codes, which stand in docs/TRAITS.md
     tokens, declarations, scope, terms    a light reading of traits, which takes any bytes
     cases         a refusal with all that is known of it, and the questions to the program
-    lexical, syntax (structure, shapes, habits), reading (undeclared), items, referring
+    lexical, syntax (structure, shapes, shapes_of_terms, habits), reading (undeclared), items, referring
                   the causes, by what codes are about
     further       what is wrong behind the first refusal
     spelling, wording, showing    names that are near, pieces of titles, and how all is shown in a terminal

@@ -60,8 +60,9 @@ def quantifiers(case, first, last):
             yield Try(f"`{text} {behind}` is written `\\forall`", number, number + 1, "write `\\forall`",
                       (case.replace(number, "\\forall", number + 1),))
         elif text in ("var", "vars", "variables"):
-            yield Try(f"`{text}` is written `\\forall`", number, number, "write `\\forall`",
-                      (case.replace(number, "\\forall"),))
+            first = number - (case.text.text(number - 1) in ("declare", "let"))
+            yield Try(f"`{case.text.between(first, number + 1)}` is written `\\forall`", first, number,
+                      "write `\\forall`", (case.replace(first, "\\forall", number),))
 
 
 def in_groups(case, first, last):

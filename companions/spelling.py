@@ -19,7 +19,8 @@ def distance(one, other, most=3):
 
 def nearest(name, known):
     """The name that another one was most likely meant to be, or nothing: the same but for capitals, or one or two
-    letters away. Names of one or two letters are near no other name but for capitals."""
+    letters away. Names of one or two letters are near no other name but for capitals, and short ones only one letter
+    away, unless they begin alike."""
     others = sorted({other for other in known if other != name})
     for other in others:
         if other.lower() == name.lower():
@@ -27,6 +28,8 @@ def nearest(name, known):
     allowed = 0 if len(name) < 3 else 1 if len(name) < 5 else 2
     far, best = min(((distance(name.lower(), other.lower()), other) for other in others if len(other) > 2),
                     default=(3, None))
+    if best and len(name) == 4 and len(best) > 4 and name[:3].lower() == best[:3].lower():
+        allowed = 2  # as `Graf` for `Graph`
     return best if far <= allowed else None
 
 

@@ -10,6 +10,10 @@ FORALL = frozenset(["\\A", "\\all", "\\for", "\\Forall", "\\ForAll", "\\FORALL",
                     "\\every", "forall", "Forall", "ForAll", "FORALL", "forAll"])
 EXISTS = frozenset(["\\exists", "\\E", "\\Exists", "\\some", "\\exist", "exists"])
 
+# Words of terms that other languages have.
+NOT_THERE = frozenset(["let", "case", "match", "where", "lambda", "\\lambda", "return", "yield", "unless", "when",
+                       "provided", "while", "until"])
+
 
 def region(case):
     """The numbers of the tokens that may be at fault: from the item's, the declaration's or the line's beginning."""
@@ -109,9 +113,10 @@ def not_there(case):
     """Words of terms that other languages have."""
     first, last = region(case)
     known = {operator.name for operator in case.operators}
+    known |= {case.text.text(name) for item in case.trait.items for name, _ in item.variables}
     for number in range(first, min(last, len(case.tokens))):
         text = case.text.text(number)
-        if text in ("let", "case", "match", "where", "lambda", "\\lambda") and text not in known \
+        if text in NOT_THERE and text not in known \
                 and case.part in ("asserts", "implies"):
             return Found(f"`{text}` isn't there: terms have `if`, operators and variables alone", number, number)
     return None
@@ -137,6 +142,9 @@ def declared_otherwise(case):
         return Found(f"`{text(at)}` has a meaning of its own and isn't declared", at, at)
     if text(at) == "(" and at and case.tokens[at - 1].is_name and text(case.text.closing(at) + 1) in (":", "->"):
         return arguments_named(case)
+    found = attributes(case, at)
+    if found:
+        return found
     if text(at - 1) in ("[", "<") and at > 1 and case.tokens[at - 2].is_name and text(at - 3) in (":", ",", "->"):
         return sort_with_brackets(case)
     return None
@@ -169,3 +177,15 @@ def sort_with_brackets(case):
     change = case.probes.change(f"write `{word}`", [case.replace(number, word, number + len(wanted) - 1)
                                                     for number in starts[:100]])
     return Found(f"a sort is one word, without brackets: `{word}` for `{''.join(wanted)}`", first, last, change)
+
+
+def attributes(case, at):
+    """`join: A, A -> A [assoc comm]`."""
+    opened = at - 1
+    if case.text.text(opened) != "[" or case.text.text(opened - 2) != "->" \
+            or case.tokens[opened - 1].end == case.tokens[opened].start:
+        return None
+    close = case.text.closing(opened)
+    return Found(f"a declaration has no attributes: `{case.text.between(opened, close + 1)}`", opened, close,
+                 case.probes.change("take them out", [case.remove(opened, close)]), (
+                     "What they say stands in `asserts`, as an equation.",))

@@ -50,7 +50,7 @@ def alone(case, term, name):
     if term.span[1] - term.span[0] != 1:
         return None
     behind = case.text.text(term.span[1])
-    if behind in ("is", "are") and case.trait.begins_clause(term.span[1], len(case.tokens)):
+    if behind in ("is", "are", "freely") and case.trait.begins_clause(term.span[1], len(case.tokens)):
         change = case.probes.change(f"take `{behind}` out", [case.remove(term.span[1])])
         return Found(f"a clause has no `{behind}`: `{name} {case.text.text(term.span[1] + 1)} by ..`", term.span[1],
                      term.span[1], change)
@@ -278,6 +278,8 @@ def unknown(case, term, name):
         sorts = [term.sorts(part) for part in term.node.arguments]
         if all(len(sort) == 1 for sort in sorts):
             more = (f"A declaration of it would begin `{name}: {', '.join(next(iter(sort)) for sort in sorts)} ->`.",)
+    if name[:3] in ("__[", "__{"):
+        return Found(f"`{name}` isn't declared: brackets behind a term are an operator", case.at, case.at, more=more)
     return Found(f"`{symbol(name) or name}` isn't declared", case.at, case.at, more=more)
 
 

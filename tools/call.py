@@ -6,7 +6,6 @@ call.py why STATUS WORD..   says on standard error what the program's line for t
 call.py help [WORD]         what there is; of a command what docs/COMMANDS.md says, of a code what it means
 call.py --version           which sources the program is of, and where it lies"""
 import os
-import pathlib
 import re
 import subprocess
 import sys
@@ -70,6 +69,11 @@ def cut(words):
     return words[0], rest[:number], rest[number:], wants
 
 
+def bare(words):
+    """Words without a first `--`, which is no word of its own."""
+    return words[words[:1] == ["--"]:]
+
+
 # The folder of a call ----------------------------------------------------------------------------
 
 class Files:
@@ -99,9 +103,9 @@ def one_folder(files):
 
 def words_there(words):
     """The folder and the words of the call there; nothing where the words are left as they are."""
-    command, front, files, wants = cut(words)
-    if command not in COMMANDS:
+    if not words or words[0] not in COMMANDS:
         return None
+    command, front, files, wants = cut(words)
     folder, _ = one_folder(files)
     if folder is None:
         return None
@@ -212,7 +216,7 @@ def why(status, words):
     if status == "1":
         say(why_wrong(words))
     elif status == "6":
-        say(f"that is a line of the certificate {cut(words)[1][2]}; {TOP}/docs/CERTIFICATES.md has its grammar")
+        say(f"that is a line of the certificate {cut(words)[1][2]}; docs/CERTIFICATES.md has its grammar")
     elif status == "7":
         say(f"{why_too_large(words)}; {TOP}/docs/SCALE.md says how more is checked")
     else:
@@ -267,11 +271,11 @@ def sources():
 def main():
     what, rest = sys.argv[1], sys.argv[2:]
     if what == "words":
-        found = words_there(rest)
+        found = words_there(bare(rest))
         sys.stdout.buffer.write(b"".join(os.fsencode(word) + b"\0" for word in found or ()))
         return 0
     if what == "why":
-        return why(rest[0], rest[1:])
+        return why(rest[0], bare(rest[1:]))
     if what == "--version":
         return version()
     if rest:

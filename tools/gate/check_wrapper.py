@@ -28,6 +28,8 @@ CERTIFIED = ("Natural.lsl", "Natural.imply.1.cert")
 CALLS = [
     ("check a/Two.lsl", "check Two.lsl", "a", ""),
     ("check ./a/Two.lsl a/Wrong.lsl", "check Two.lsl Wrong.lsl", "a", ""),
+    ("-- check a/Two.lsl", "check Two.lsl", "a", ""),
+    ("-- chekc Two.lsl", "-- chekc Two.lsl", "a", "`chekc`: did you mean `check`?"),
     ("check -- a/Two.lsl", "check Two.lsl", "a", ""),
     ("obligations a/Two.lsl", "obligations Two.lsl", "a", ""),
     ("check --with-included a/One.lsl", "check One.lsl Two.lsl", "a", ""),

@@ -1,0 +1,4 @@
+trait HeadWithTraitFirst
+  introduces
+    a: -> A
+end
