@@ -15,7 +15,7 @@ use std::alloc::Global;
 
 /// The tokens of a text, or the position of the first byte that begins none. The law `one_lexing` says that this is
 /// the one answer of the token table.
-#[tactic(auto, unfolding(crate::specs::Lexing::lexed), using(crate::proofs::Positions::line_ends_within))]
+#[tactic(auto, unfolding(crate::specs::Lexing::lexing_of), using(crate::proofs::Positions::line_ends_within))]
 pub fn lex_lsl(alloc: Global, text: &[u8]) -> Result<Tokens, LexRefusal>
     requires { length text.now ≤ MAX_FILE_BYTES }
     ensures { Answers cause result (lexing_of text.now) }
