@@ -87,7 +87,7 @@ pub fn qualified(alloc: Global, term: RawTerm, sort: RawWord, pos: Pos) -> Resul
     ensures { IfOk result (λ whole. whole ≡ qualified term sort pos) }
 {
     let term = Box::new(alloc, term)?;
-    Ok(RawTerm::qualified(term, sort, pos))
+    Ok(RawTerm::qualify(term, sort, pos))
 }
 
 /// A word with its arguments.
