@@ -15,8 +15,8 @@ use Rattle.larch_verify_pool.specs.declared.node.PoolNode.TheVariants.{Var, App}
 use Rattle.larch_verify_pool.specs.declared.symbol.PoolSymbol.{PoolSymbol}
 use Rattle.larch_verify_pool.specs.declared.symbol.SymbolName.{SymbolName}
 use Rattle.larch_verify_pool.specs.declared.symbol.SymbolName.TheVariants.{Plain, Boxed}
-use Rattle.larch_verify_pool.specs.contracts.node.NodePartialEq.TheImpl as node_eq
-use Rattle.larch_verify_pool.specs.contracts.symbol.SymbolPartialEq.TheImpl as symbol_eq
+use Rattle.larch_verify_pool.specs.contracts.node.PoolNodePartialEq.TheImpl as node_eq
+use Rattle.larch_verify_pool.specs.contracts.symbol.PoolSymbolPartialEq.TheImpl as symbol_eq
 use Rattle.larch_verify_pool.proofs.Same.{self_node, self_symbol}
 use Rattle.larch_verify_pool.proofs.Trees.{tree_behind, stands_at, length_behind}
 

@@ -8,7 +8,7 @@ use Rattle.larch_verify_pool.specs.Pooled.{pool_of, operator_of, trees_behind, A
 use Rattle.larch_verify_pool.specs.declared.node.Marks.{Marks}
 use Rattle.larch_verify_pool.specs.declared.node.PoolNode.{PoolNode}
 use Rattle.larch_verify_pool.specs.declared.symbol.PoolSymbol.{PoolSymbol}
-use Rattle.larch_verify_pool.specs.contracts.symbol.SymbolPartialEq.TheImpl as symbol_eq
+use Rattle.larch_verify_pool.specs.contracts.symbol.PoolSymbolPartialEq.TheImpl as symbol_eq
 use Rattle.larch_verify_pool.proofs.Front.{front_refl}
 use Rattle.larch_verify_pool.proofs.Same.{same_symbol_key}
 use Rattle.larch_verify_pool.proofs.Trees.{behind_front, stand_later}

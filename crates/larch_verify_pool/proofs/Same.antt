@@ -6,8 +6,8 @@ use Rattle.std.proofs.lemmas.Bool.Decides.{Decides-eqb}
 use Rattle.std.proofs.lemmas.Slice.Eq.{slice_eq-Decides}
 use Rattle.larch_verify_pool.specs.declared.node.PoolNode.{PoolNode}
 use Rattle.larch_verify_pool.specs.declared.node.PoolNode.TheVariants.{Var, App}
-use Rattle.larch_verify_pool.specs.contracts.node.NodePartialEq.TheImpl as node_eq
-use Rattle.larch_verify_pool.specs.contracts.symbol.SymbolPartialEq.TheImpl as symbol_eq
+use Rattle.larch_verify_pool.specs.contracts.node.PoolNodePartialEq.TheImpl as node_eq
+use Rattle.larch_verify_pool.specs.contracts.symbol.PoolSymbolPartialEq.TheImpl as symbol_eq
 use Rattle.larch_verify_pool.specs.contracts.symbol.SymbolNamePartialEq.TheImpl as name_eq
 use Rattle.larch_verify_pool.specs.declared.symbol.PoolSymbol.{PoolSymbol}
 use Rattle.larch_verify_pool.specs.declared.symbol.SymbolName.{SymbolName}

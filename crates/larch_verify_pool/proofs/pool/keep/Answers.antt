@@ -3,7 +3,7 @@ use Rattle.std.proofs.Common.{arith, inl, inr}
 use Rattle.std.specs.List.{list_any, position_or_len}
 use Rattle.std.proofs.lemmas.Grind.{common_steps}
 use Rattle.larch_verify_pool.specs.declared.node.PoolNode.{PoolNode}
-use Rattle.larch_verify_pool.specs.contracts.node.NodePartialEq.TheImpl as node_eq
+use Rattle.larch_verify_pool.specs.contracts.node.PoolNodePartialEq.TheImpl as node_eq
 use Rattle.larch_verify_pool.proofs.Same.{same_node}
 use Rattle.larch_verify_pool.proofs.pool.keep.Goals.{then-not-is_new, else-not-is_new}
 use Rattle.larch_verify_pool.proofs.pool.keep.Goals as goal
