@@ -146,7 +146,8 @@ maker_only fs vs n raws p s f None reading unbound e h is =
     subst (λ o. IfSome o (IsOnly (ReadsAt fs vs (apply n (raw_forest raws) p) s))) (sym is) tt
 maker_only fs vs n raws p s f (Some ts) reading unbound e h is =
     let told =
-    subst (λ o. Tells o (λ g. Contains (operators_named n (taking_part fs)) g × (made_place g ≡ making (length raws) s)))
+    subst
+    (λ o. Tells o (λ g. Contains (operators_named n (taking_part fs)) g × (made_place g ≡ making (length raws) s)))
     (sym e) (makers_tell (making (length raws) s) (operators_named n (taking_part fs))) in
     subst (λ o. IfSome o (IsOnly (ReadsAt fs vs (apply n (raw_forest raws) p) s))) (sym is) (
       (
@@ -167,7 +168,8 @@ maker_only fs vs n raws p s f (Some ts) reading unbound e h is =
 -- a name of one operator has the sort that it makes
 pub one_sort : (fs : List PlainOperator) (vs : Variables) (n : List ℕ) (raws : List RawTree) (p : Pos)
     (f : PlainOperator) → variable_sort vs n (raw_forest raws) ≡ None
-    → operators_named n (taking_part fs) ≡ f ∷ [] → (t : Tree) → Reads fs vs (apply n (raw_forest raws) p) t → sort_of t ≡ f.range
+    → operators_named n (taking_part fs) ≡ f ∷ [] → (t : Tree) → Reads fs vs (apply n (raw_forest raws) p) t
+    → sort_of t ≡ f.range
 one_sort fs vs n raws p f unbound e t r =
     let b = from_reads fs vs n raws (raw_forest raws) p t refl unbound r in
     let same : b.0 ≡ f =

@@ -20,7 +20,8 @@ use Rattle.larch_sorts_meaning.specs.Readings.{variable_sort, Reads, a_variable,
 use Rattle.larch_sorts_signature.specs.Table.{Entries, reading_at, application}
 use Rattle.larch_sorts_meaning.specs.Found.{Tells}
 use Rattle.larch_sorts.specs.Tabulate.{TableTells, AllTell}
-use Rattle.larch_sorts_signature.specs.Operators.{with_argument, arguments_at, extend_found, with_operator, operators_at}
+use Rattle.larch_sorts_signature.specs.Operators.{with_argument, arguments_at, extend_found, with_operator}
+use Rattle.larch_sorts_signature.specs.Operators.{operators_at}
 use Rattle.larch_sorts_signature.specs.Overloads.{AreEnough, IsMade}
 use Rattle.larch_sorts_meaning.specs.declared.found.Found.{Found}
 use Rattle.larch_sorts_meaning.specs.declared.found.Found.TheVariants.{One, Several}
@@ -214,7 +215,8 @@ application_tells fs vs n raws p es tables unbound told made = λ s.
     tells_same (λ t. ByOperators fs vs raws made.0 t × (sort_of t ≡ s))
     (λ t. Reads fs vs (apply n (raw_forest raws) p) t × (sort_of t ≡ s))
     (λ t q. (
-      to_reads fs vs n raws p t unbound (fewer fs vs raws tables (operators_named n (taking_part fs)) made.0 t made.1 q.0),
+      to_reads fs vs n raws p t unbound
+          (fewer fs vs raws tables (operators_named n (taking_part fs)) made.0 t made.1 q.0),
       q.1,
     ))
     (λ t q. (

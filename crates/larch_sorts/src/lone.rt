@@ -101,9 +101,9 @@ fn lone_by_counts(
     sort: Option<&Sort>,
 ) -> Result<Option<Option<Found<Reading>>>, ReadRefusal>
     requires { raw.now.right ≡ None }
-    ensures tells { IfOk result (λ cause_of. IfSome cause_of (λ found. Tells found
+    ensures tells { IfOk result (λ answer. IfSome answer (λ found. Tells found
         (ReadsLone signature.now scope.now (option_copied sort.entry) raw.now))) }
-    ensures read { IfOk result (λ cause_of. IfSome cause_of (λ _. first_unread signature.now scope.now raw.now ≡ None)) }
+    ensures read { IfOk result (λ answer. IfSome answer (λ _. first_unread signature.now scope.now raw.now ≡ None)) }
     ensures unread { IfErr result (λ refusal. Unread refusal (first_unread signature.now scope.now raw.now)) }
 {
     match sort {
