@@ -1,14 +1,14 @@
 #!/usr/bin/env python3
 """Builds the program `larch`, with as many crates proved side by side as the machine has cores.
 
-`rt` locks the folders of all crates below the one that it proves, so two runs in one checkout wait for each other. So the
-crates are proved in as many copies of the tree as there are cores, the longest chain of crates first; what one copy built
-is linked into all others and into the checkout, where `rt` takes it by its stamp, a sum of what it was made of. A crate is
-begun as soon as those that it stands on are built; it gets the cores that no other crate waits for. `rt` keeps what it
-proved, so a later run does only what changed, also after one that was cut off. Says on standard error which crate is begun
-and which is done; ends with 1 where a crate is not proved. `--crates` has it prove every crate of crates.txt, programs left
-out, in place of those of the program. `--all` goes on where a crate fails, with those that don't stand on it; with
-`--log FOLDER` what `rt` said of each crate that fails goes into FOLDER/CRATE.log.
+`rt` locks the folders of all crates below the one that it proves, so two runs in one checkout wait for each other. So
+the crates are proved in as many copies of the tree as there are cores, the longest chain of crates first; what one copy
+built is linked into all others and into the checkout, where `rt` takes it by its stamp, a sum of what it was made of. A
+crate is begun as soon as those that it stands on are built; it gets the cores that no other crate waits for. `rt` keeps
+what it proved, so a later run does only what changed, also after one that was cut off. Says on standard error which
+crate is begun and which is done; ends with 1 where a crate is not proved. `--crates` has it prove every crate of
+crates.txt, programs left out, in place of those of the program. `--all` goes on where a crate fails, with those that
+don't stand on it; with `--log FOLDER` what `rt` said of each crate that fails goes into FOLDER/CRATE.log.
 """
 import concurrent.futures
 import os
