@@ -3,18 +3,19 @@ use Rattle.std.proofs.Common.{◌≡◌, ◌==◌, if◌then◌else◌, ℕ, zer
 use Rattle.std.proofs.Common.{All, slice_get, Some, None, refl, sym, ◌∙◌, ap, subst, arith}
 use Rattle.std.specs.Prelude.{reverse}
 use Rattle.std.proofs.lemmas.List.{reverse-append, length-reverse, length_push, get_or_push, get_or_append_left}
-use Rattle.std.proofs.lemmas.List.Elements.{All-push}
+use Rattle.std.proofs.lemmas.List.Elements.{All-push, All-pop}
 use Rattle.std.proofs.lemmas.Option.{slice_get-get_or, slice_get_within, get_or_from_slice_get, none-some}
 use Rattle.larch_base.specs.ByNumber.{numbered}
 use Rattle.larch_term.specs.declared.statement.Theory.{Theory}
 use Rattle.larch_verify_pool.specs.Pooled.{Pooled}
-use Rattle.larch_verify_history.specs.Past.{IsPast, IsStated, IsBox, IsHappened, IsIndexed, event_in, history_in}
+use Rattle.larch_verify_history.specs.Past.{IsPast, IsStated, IsEquated, IsBox, IsHappened, IsIndexed, event_in, history_in}
 use Rattle.larch_verify_history.specs.Past.{number_of, open_levels}
 use Rattle.larch_verify_history.proofs.LookUps.{not_same}
 use Rattle.larch_verify_history.specs.declared.event.KeptEvent.{KeptEvent}
 use Rattle.larch_verify_history.specs.declared.event.KeptEvent.TheVariants.{Says, Opens}
 use Rattle.larch_verify_history.specs.declared.event.KnownBox.{KnownBox}
 use Rattle.larch_verify_history.specs.declared.past.KeptHistory.{KeptHistory}
+use Rattle.larch_verify_history.specs.declared.stated.Equated.{Equated}
 use Rattle.larch_verify_history.specs.declared.stated.Stated.{Stated}
 
 reverse_push : {X : Type 0} (xs : List X) (x : X) → reverse (xs ++ x ∷ []) ≡ x ∷ reverse xs
@@ -96,4 +97,30 @@ opened t p a b k own places events level is h w =
           (index_push a.places.items a.events.items (Opens k) is h.index));
       levels = ap (λ es. open_levels (reverse es)) events ∙ open_push a.events.items (Opens k)
           ∙ (λ i. grown i ∷ h.levels i) ∙ sym (ap reverse level ∙ reverse_push a.levels.items (length b.events.items));
+    }
+
+-- the box that was opened last gets its hypotheses
+pub supposed : (t : Theory) (p : Pooled) (a c : KeptHistory) (es : List KeptEvent) (b : KnownBox) (hs : List Equated)
+    → a.events.items ≡ es ++ Opens b ∷ []
+    → c.events.items ≡ es ++ Opens (record { number = b.number; parts = b.parts; hypotheses = hs }) ∷ []
+    → c.own ≡ a.own → c.places ≡ a.places → c.levels ≡ a.levels
+    → IsPast t p a → All (IsEquated p) hs → IsPast t p c
+supposed t p a c es b hs q r o l v x h =
+    let d : KnownBox = record { number = b.number; parts = b.parts; hypotheses = hs } in
+    let front =
+    All-pop (IsHappened p) (es ++ Opens b ∷ []) es (Some (Opens b)) refl (subst (All (IsHappened p)) q x.within) in
+    let i : IsIndexed a.places.items (Opens b ∷ reverse es) =
+    subst (IsIndexed a.places.items) (ap reverse q ∙ reverse_push es (Opens b)) x.index in
+    let k : suc (length (reverse es)) ∷ open_levels (reverse es) ≡ reverse a.levels.items =
+    sym (ap (λ e. open_levels (reverse e)) q ∙ ap open_levels (reverse_push es (Opens b))) ∙ x.levels in
+    record
+    { own = subst (λ w. map (slice_get p.operators) w.items ≡ map Some t.operators) (sym o) x.own
+    ; within =
+    subst (All (IsHappened p)) (sym r) (All-push (IsHappened p) es (Opens d) front.0 h)
+    ; index =
+    subst (λ w. IsIndexed w.items (reverse c.events.items)) (sym l)
+    (subst (IsIndexed a.places.items) (sym (ap reverse r ∙ reverse_push es (Opens d))) (i.0, i.1))
+    ; levels =
+    ap (λ e. open_levels (reverse e)) r ∙ ap open_levels (reverse_push es (Opens d)) ∙ k
+    ∙ ap (λ w. reverse w.items) (sym v)
     }

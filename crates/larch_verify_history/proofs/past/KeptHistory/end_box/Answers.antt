@@ -32,17 +32,17 @@ returns-clause-past c = λ _ t p h.
     let lv : c.args.self.now.levels.items ≡ c.pop-2.new.self.items ++ c.in-Some.level ∷ [] =
     grind (arith, common_steps) in
     let tk : take c.in-Some.level c.pop.new.self.items
-    ≡ c.take_opening.new.events.items ++ Opens c.take_opening.result ∷ [] = grind (arith, common_steps) in
+    ≡ c.take_opening-known.new.events.items ++ Opens c.take_opening-known.result ∷ [] = grind (arith, common_steps) in
     let pl : c.push.new.self.items ≡ c.args.self.now.places.items ++ c.in-Some.level ∷ [] =
     grind (arith, common_steps) in
     let pe : c.push-2.new.self.items
-    ≡ c.take_opening.new.events.items ++ Closes c.take_opening.result c.in-Some-Says.stated ∷ [] =
+    ≡ c.take_opening-known.new.events.items ++ Closes c.take_opening-known.result c.in-Some-Says.stated ∷ [] =
     grind (arith, common_steps) in
-    ended t p c.args.self.now b c.in-Some-Says.field-0-0 c.in-Some-Says.stated c.take_opening.new.events.items
-    c.take_opening.result c.pop-2.new.self.items c.in-Some.level
+    ended t p c.args.self.now b c.in-Some-Says.field-0-0 c.in-Some-Says.stated c.take_opening-known.new.events.items
+    c.take_opening-known.result c.pop-2.new.self.items c.in-Some.level
     (cut_known t p c.args.self.now c.pop.new.self.items c.in-Some-Says.field-0-0 c.in-Some-Says.stated
-    c.pop-2.new.self.items c.in-Some.level c.take_opening.new.events.items
-    c.take_opening.result h ev lv tk)
+    c.pop-2.new.self.items c.in-Some.level c.take_opening-known.new.events.items
+    c.take_opening-known.result h ev lv tk)
     refl pl pe refl h
 
 pub returns-clause-history : goal.returns-clause-history
@@ -53,19 +53,19 @@ returns-clause-history c = λ t p h.
     let lv : c.args.self.now.levels.items ≡ c.pop-2.new.self.items ++ c.in-Some.level ∷ [] =
     grind (arith, common_steps) in
     let tk : take c.in-Some.level c.pop.new.self.items
-    ≡ c.take_opening.new.events.items ++ Opens c.take_opening.result ∷ [] = grind (arith, common_steps) in
+    ≡ c.take_opening-known.new.events.items ++ Opens c.take_opening-known.result ∷ [] = grind (arith, common_steps) in
     let pe : c.push-2.new.self.items
-    ≡ c.take_opening.new.events.items ++ Closes c.take_opening.result c.in-Some-Says.stated ∷ [] =
+    ≡ c.take_opening-known.new.events.items ++ Closes c.take_opening-known.result c.in-Some-Says.stated ∷ [] =
     grind (arith, common_steps) in
     (cut_known t p c.args.self.now c.pop.new.self.items c.in-Some-Says.field-0-0 c.in-Some-Says.stated
-    c.pop-2.new.self.items c.in-Some.level c.take_opening.new.events.items
-    c.take_opening.result h ev lv tk).history
+    c.pop-2.new.self.items c.in-Some.level c.take_opening-known.new.events.items
+    c.take_opening-known.result h ev lv tk).history
     ∙ ap Some
-    (sym (ap (history_in p) pe ∙ history_push p c.take_opening.new.events.items
-    (Closes c.take_opening.result c.in-Some-Says.stated)))
+    (sym (ap (history_in p) pe ∙ history_push p c.take_opening-known.new.events.items
+    (Closes c.take_opening-known.result c.in-Some-Says.stated)))
 
-pub take_opening-requires : goal.take_opening-requires
-take_opening-requires c =
+pub take_opening-known-requires : goal.take_opening-known-requires
+take_opening-known-requires c =
     let ev : c.args.self.now.events.items
     ≡ c.pop.new.self.items ++ Says c.in-Some-Says.field-0-0 c.in-Some-Says.stated ∷ [] =
     grind (arith, common_steps) in
