@@ -67,9 +67,12 @@ fn generated_by(alloc: Global, sort: &Sort, generators: &[Known]) -> Result<Stat
 fn have_range(sort: &Sort, operators: &[Known]) -> bool
     ensures { result ≡ list_all (λ f. bytes_eq f.range sort.now) (operators_in operators.now) }
 {
-    operators
-        .iter()
-        .all(|known| *known.operator.range() == *sort)
+    for known in operators {
+        if known.operator.range() != sort {
+            return false;
+        }
+    }
+    true
 }
 
 // Whether a box shows that operators generate a sort: it has a predicate on the sort, supposes that their values

@@ -73,9 +73,12 @@ fn partitioned_by(alloc: Global, sort: &Sort, observers: &[Known]) -> Result<Sta
 fn take_sort(sort: &Sort, operators: &[Known]) -> bool
     ensures { result ≡ list_all (λ o. list_any (bytes_eq sort.now) o.domain) (operators_in operators.now) }
 {
-    operators
-        .iter()
-        .all(|known| has_sort(sort, known.operator.domain()))
+    for known in operators {
+        if !has_sort(sort, known.operator.domain()) {
+            return false;
+        }
+    }
+    true
 }
 
 // Whether a sort stands among others.

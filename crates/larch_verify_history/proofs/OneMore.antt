@@ -113,14 +113,14 @@ supposed t p a c es b hs q r o l v x h =
     subst (IsIndexed a.places.items) (ap reverse q ∙ reverse_push es (Opens b)) x.index in
     let k : suc (length (reverse es)) ∷ open_levels (reverse es) ≡ reverse a.levels.items =
     sym (ap (λ e. open_levels (reverse e)) q ∙ ap open_levels (reverse_push es (Opens b))) ∙ x.levels in
-    record
-    { own = subst (λ w. map (slice_get p.operators) w.items ≡ map Some t.operators) (sym o) x.own
-    ; within =
-    subst (All (IsHappened p)) (sym r) (All-push (IsHappened p) es (Opens d) front.0 h)
-    ; index =
-    subst (λ w. IsIndexed w.items (reverse c.events.items)) (sym l)
-    (subst (IsIndexed a.places.items) (sym (ap reverse r ∙ reverse_push es (Opens d))) (i.0, i.1))
-    ; levels =
-    ap (λ e. open_levels (reverse e)) r ∙ ap open_levels (reverse_push es (Opens d)) ∙ k
-    ∙ ap (λ w. reverse w.items) (sym v)
+    record {
+      own = subst (λ w. map (slice_get p.operators) w.items ≡ map Some t.operators) (sym o) x.own;
+      within =
+          subst (All (IsHappened p)) (sym r) (All-push (IsHappened p) es (Opens d) front.0 h);
+      index =
+          subst (λ w. IsIndexed w.items (reverse c.events.items)) (sym l)
+          (subst (IsIndexed a.places.items) (sym (ap reverse r ∙ reverse_push es (Opens d))) (i.0, i.1));
+      levels =
+          ap (λ e. open_levels (reverse e)) r ∙ ap open_levels (reverse_push es (Opens d)) ∙ k
+          ∙ ap (λ w. reverse w.items) (sym v);
     }
