@@ -160,7 +160,7 @@ class Coloured(unittest.TestCase):
 
     def test_extension_starts_the_server(self):
         given, said = self.extension('{ vscode: { window, workspace }, "vscode-languageclient/node": '
-                                     '{ LanguageClient } }')
+                                     "{ LanguageClient } }")
         self.assertEqual(given[2:], [
             {"command": str(TOP / "editors/larch-lsp"), "args": ["--larch", "a/larch"]},
             {"documentSelector": [{"scheme": "file", "language": "lsl"}], "initializationOptions": {"hints": False}}])

@@ -3,8 +3,8 @@
 
 Lists, in `crates/`, the lines of code, clauses, definitions and proofs above so many columns (120), the functions with
 more than so many parameters (6, `alloc` among them), the files with more than so many lines (500), the functions and
-definitions whose whole name is a participle (`joined`, `taken`), and forms that only hand on: `Ok(x) => Ok(x)`, `Err(x)
-=> return Err(x)`, and `let x = f()?; Ok(x)` at the end of a body. Of the programs in Python it lists the lines above
+definitions whose whole name is a participle (`joined`, `taken`), and, where there are more of them than now, forms that
+only hand on: `Ok(x) => Ok(x)`, `Err(x) => return Err(x)`, and `let x = f()?; Ok(x)` at the end of a body. Of the programs in Python it lists the lines above
 120 columns and the texts in single quotes. In code, lines that only name what is cited don't count, `ghost use` and the
 lemmas of a `tactic`, nor do texts in quotes; in proofs, an import of a single name. Files and functions of which
 docs/DECISIONS.md says why they stay as they are, are left out. Ends with a line that counts what was found and looked
@@ -23,8 +23,9 @@ TEXT = re.compile(r'b?"(?:[^"\\]|\\.)*"')
 OPEN, CLOSED = "([{<", ")]}>"
 # Files that are longer, for the reasons in docs/DECISIONS.md.
 LONG = {"larch_certificate_text/proofs/LineLaws.antt", "larch_grammar/specs/Machine.antt",
-        "larch_grammar/proofs/Words.antt",
-        "larch_prove_meaning/specs/Worked.antt", "larch_prove_meaning/src/examples.rt"}
+        "larch_grammar/proofs/CompleteTraits.antt", "larch_grammar/proofs/Ends.antt", "larch_grammar/proofs/Words.antt",
+        "larch_shorthand/proofs/Expansions.antt", "larch_prove_meaning/specs/Worked.antt",
+        "larch_prove_meaning/src/examples.rt"}
 # What ends as a participle does and is none, and participles that are names of their own.
 NO_PARTICIPLES = {"between", "even", "feed", "flatten", "heighten", "len", "need", "open", "read", "seed", "speed",
                   "token", "weaken"}
@@ -33,18 +34,21 @@ DEFINITION = re.compile(r"^ *(?:abbrev |unfoldable |pattern )*pub (?:abbrev )?([
 AGAIN = re.compile(r"\bOk\((\w+)\) => Ok\(\1\)|\bErr\((\w+)\) => return Err\(\2\)")
 HANDED_ON = re.compile(r"let (\w+) = [^;]*\?;\s*Ok\(\1\)\s*\}")
 # Names that stay, as crate:name: mostly of functions whose answer a caller keeps under the same name.
-LEFT = {"larch_pairs_critical:marked", "larch_pairs_critical:named", "larch_pairs_critical:numbered",
-        "larch_derive_tests:printed", "larch_duties:implied", "larch_duties:renamed", "larch_flat_gathering:listed",
+LEFT = {"larch_base:numbered", "larch_pairs_critical:marked", "larch_pairs_critical:named",
+        "larch_pairs_critical:numbered", "larch_derive_tests:printed", "larch_duties:implied", "larch_duties:renamed", "larch_flat_gathering:listed",
         "larch_grammar:named", "larch_grammar:qualified", "larch_io:taken", "larch_method_table:planned",
         "larch_method_table:told", "larch_methods:supposed", "larch_pairs:replaced", "larch_prove_plans:joined",
-        "larch_verify_pool:copied", "larch_verify_pool:numbered", "larch_rewrite_match:turned", "larch_flat_replacing:renamed",
+        "larch_verify_pool:copied", "larch_verify_pool:numbered", "larch_rewrite_match:turned",
+        "larch_flat_replacing:renamed",
         "larch_rewrite:lined", "larch_rewrite_table:told", "larch_shorthand:generated", "larch_shorthand:injected",
-        "larch_shorthand:partitioned", "larch_sorts:copied", "larch_sorts:named", "larch_syntax:counted",
+        "larch_shorthand:partitioned", "larch_sorts_counts:copied", "larch_sorts_counts:named",
+        "larch_sorts_signature:named", "larch_syntax:counted",
         "larch_syntax:refused", "larch_tables:numbered", "larch_term_table:prepared", "larch_term_tests:exchanged",
         "larch_term_tests:partitioned", "larch_term_tests:replaced", "larch_tests:called", "larch_tests:counted",
         "larch_traits_tests:marked", "larch_words:asked"}
-# Functions that end with `let x = f()?; Ok(x)`, as crate/source.rt:function, for the reasons in docs/DECISIONS.md.
-HAND_ON = set()
+# So many functions end with `let x = f()?; Ok(x)`, for the reason in docs/DECISIONS.md, and so many arms wrap again
+# what they unwrapped: no more of them.
+HANDED_ON_AT_MOST, AGAIN_AT_MOST = 390, 11
 
 
 def parts(text, start):
@@ -98,11 +102,19 @@ def participles(path, text):
 def handed_on(name, text):
     """The forms of a source that only hand on what they were given, each with its line."""
     text = re.sub("//[^\n]*", lambda comment: " " * len(comment[0]), text)
-    heads = [(head.start(), head[1]) for head in re.finditer(r"\bfn (\w+)", text)]
     for form in [*AGAIN.finditer(text), *HANDED_ON.finditer(text)]:
-        function = [word for start, word in heads if start < form.start()][-1:]
-        if form.re is AGAIN or f"{name.replace('/src/', '/')}:{''.join(function)}" not in HAND_ON:
-            yield text.count("\n", 0, form.start()) + 1, " ".join(form[0].split())
+        number, words = text.count("\n", 0, form.start()) + 1, " ".join(form[0].split())
+        yield form.re, f"{name}:{number}: hands on: {words[:60]}"
+
+
+def too_many_handed_on(files):
+    """The forms that only hand on, where there are more of a kind than there may be."""
+    found = [form for path in files if path.suffix == ".rt"
+             for form in handed_on(str(path.relative_to(TOP / "crates")), path.read_text(encoding="utf-8"))]
+    for kind, most in ((HANDED_ON, HANDED_ON_AT_MOST), (AGAIN, AGAIN_AT_MOST)):
+        said = [text for of, text in found if of is kind]
+        if len(said) > most:
+            yield from [*said, f"{len(said)} forms that hand on, and at most {most} may be"]
 
 
 def python_form(path, columns):
@@ -145,8 +157,6 @@ def looked_at(path, limits):
     if path.suffix == ".rt":
         for number, columns in long_lines(text, limits.columns):
             yield f"{name}:{number}: {columns} columns"
-        for number, form in handed_on(name, text):
-            yield f"{name}:{number}: hands on: {form[:60]}"
         for number, function, parameters in functions(text):
             if len(parameters) > limits.parameters:
                 yield f"{name}:{number}: {function} has {len(parameters)} parameters: {', '.join(parameters)}"
@@ -164,7 +174,7 @@ def main():
     limits = words.parse_args()
     files = [path for folder in sorted((TOP / "crates").iterdir()) for kind in ("src", "specs", "proofs")
              for path in sorted((folder / kind).rglob("*")) if path.suffix in (".rt", ".antt")]
-    said = [line for path in files for line in looked_at(path, limits)]
+    said = [*(line for path in files for line in looked_at(path, limits)), *too_many_handed_on(files)]
     beside = list(programs())
     said += [line for path in beside for line in python_form(path, limits.columns)]
     print("\n".join(said + [f"{len(said)} found in {len(files) + len(beside)} files"]))

@@ -2,9 +2,11 @@
 """Writes examples of replays for the definitions of the prover, with the outcomes that another reading of the language
 computes.
 
-    tools/make/replay_examples.py rows EVALUATOR        the kept examples: specs and contracts of crates/larch_prove_meaning
+    tools/make/replay_examples.py rows EVALUATOR   the kept examples: specs and contracts of
+                                                   crates/larch_prove_meaning
     tools/make/replay_examples.py random EVALUATOR SEED COUNT [--small | --wide]
-                                                   random blocks as lemmas, crates/larch_prove_meaning/proofs/Random.antt;
+                                                   random blocks as lemmas,
+                                                   crates/larch_prove_meaning/proofs/Random.antt;
                                                    with --small under rewriting limits from 1 to 8, so that many
                                                    are refused with LIMIT, with --wide over traits whose terms grow,
                                                    so that many are refused with SIZE
@@ -140,7 +142,7 @@ class Writer:
         head = self.operator(t.op)
         arguments = [self.term(a) for a in t.args]
         if len(arguments) <= 2:
-            return Call(["constant", "applied", "joined"][len(arguments)], head, *arguments)
+            return Call(["constant", "apply_one", "apply_two"][len(arguments)], head, *arguments)
         return Call("app", head, Call("forest_of", Items(arguments)))
 
     def statement(self, s):
@@ -446,7 +448,7 @@ use Rattle.larch_term.specs.Truth.{truth}
 use Rattle.larch_term.specs.declared.built_in.BuiltIn.TheVariants.{False, Not, Or, Implies, Equal, If}
 use Rattle.larch_term.specs.declared.statement.Statement.TheVariants.{Equation, Generated, Partitioned}
 use Rattle.larch_term.specs.declared.statement.Theory.{Theory}
-use Rattle.larch_calculus.specs.Formula.{constant, applied, joined}
+use Rattle.larch_calculus.specs.Formula.{constant, apply_one, apply_two}
 use Rattle.larch_prove_meaning.specs.Replays.{Duty}
 
 """
@@ -459,9 +461,10 @@ ghost use Rattle.larch_base.specs.declared.code.Code.TheVariants as refusal;
 ghost use Rattle.larch_term.specs.Tree.{var, app, forest_of};
 ghost use Rattle.larch_term.specs.BuiltIn.{built_in, bool_sort};
 ghost use Rattle.larch_term.specs.declared.built_in.BuiltIn.TheVariants.{And, Or, Not, Equal, Iff, Implies, If, False};
-ghost use Rattle.larch_calculus.specs.Formula.{constant, applied, joined};
-ghost use Rattle.larch_prove_meaning.specs.Commands.{said, no_spelling, spelling, SetLimit, BoxChecking, Prove, ByCases, \
-ByImplication, ByContradiction, ByInduction, ByPartition, Instantiate, CriticalPairs, Normalize, Qed, Mark};
+ghost use Rattle.larch_calculus.specs.Formula.{constant, apply_one, apply_two};
+ghost use Rattle.larch_prove_meaning.specs.Commands.{said, no_spelling, spelling, SetLimit, BoxChecking, Prove, ByCases};
+ghost use Rattle.larch_prove_meaning.specs.Commands.{ByImplication, ByContradiction, ByInduction, ByPartition, Instantiate};
+ghost use Rattle.larch_prove_meaning.specs.Commands.{CriticalPairs, Normalize, Qed, Mark};
 ghost use Rattle.larch_base.specs.declared.fact_name.FactLetter.TheVariants.{Axiom, Derived, Hypothesis};
 ghost use Rattle.larch_prove_meaning.specs.Facts.{whole_name};
 ghost use Rattle.larch_prove_meaning.specs.Replays.{replay, Proved, Suspended, Refused, AtOpening, AtCommand};
@@ -888,9 +891,10 @@ RANDOM_HEAD = re.sub(r"(BuiltIn\.TheVariants\.)\{.*\}", lambda m: m.group(1) + A
     "-- Random blocks.") + """use Rattle.std.specs.Prelude.{◌≡◌, refl, true, false, None, Some}
 use Rattle.larch_base.specs.declared.code.Code.TheVariants as refusal
 use Rattle.larch_base.specs.declared.way.Way.TheVariants.{LeftToRight, RightToLeft, Multiset}
-use Rattle.larch_prove_meaning.specs.Commands.{said, said_of, no_spelling, spelling, Declare, SetLimit, BoxChecking, Height}
-use Rattle.larch_prove_meaning.specs.Commands.{SetStatus, Prove, ByCases, ByImplication, ByConjunction, ByContradiction}
-use Rattle.larch_prove_meaning.specs.Commands.{ByInduction, ByPartition, Instantiate, CriticalPairs, Normalize, Qed, Mark, Bad}
+use Rattle.larch_prove_meaning.specs.Commands.{said, said_of, no_spelling, spelling, Declare, SetLimit, BoxChecking}
+use Rattle.larch_prove_meaning.specs.Commands.{Height, SetStatus, Prove, ByCases, ByImplication, ByConjunction, ByContradiction}
+use Rattle.larch_prove_meaning.specs.Commands.{ByInduction, ByPartition, Instantiate, CriticalPairs, Normalize, Qed, Mark}
+use Rattle.larch_prove_meaning.specs.Commands.{Bad}
 use Rattle.larch_prove_meaning.specs.Computing.{replaying}
 use Rattle.larch_base.specs.declared.fact_name.FactLetter.TheVariants.{Axiom, Derived, Hypothesis, Lemma}
 use Rattle.larch_prove_meaning.specs.Facts.{whole_name}

@@ -46,7 +46,7 @@ subgoal_of s = record { constants = s.constants; hypotheses = map equate s.hypot
 
 -- a goal by itself
 abbrev pub alone : Tree → Subgoal
-alone goal = subgoal_of (defined.shared [] goal)
+alone goal = subgoal_of (defined.shared_subgoal [] goal)
 
 -- a plan with such subgoals
 abbrev pub plan_of : defined.Plan → Plan
