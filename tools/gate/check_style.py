@@ -1,14 +1,14 @@
 #!/usr/bin/env python3
 """Looks at the form of the sources: python3 tools/gate/check_style.py [--columns N] [--parameters N] [--lines N]
 
-Lists, in `crates/`, the lines of code, clauses, definitions and proofs above so many columns (120), the functions with
-more than so many parameters (6, `alloc` among them), the files with more than so many lines (500), the functions and
-definitions whose whole name is a participle (`joined`, `taken`), and, where there are more of them than now, forms that
-only hand on: `Ok(x) => Ok(x)`, `Err(x) => return Err(x)`, and `let x = f()?; Ok(x)` at the end of a body. Of the programs in Python it lists the lines above
-120 columns and the texts in single quotes. In code, lines that only name what is cited don't count, `ghost use` and the
-lemmas of a `tactic`, nor do texts in quotes; in proofs, an import of a single name. Files and functions of which
-docs/DECISIONS.md says why they stay as they are, are left out. Ends with a line that counts what was found and looked
-at, and with status 1 where something was found."""
+Lists, in `crates/`, the lines of code, clauses, definitions and proofs above so many columns (120), the functions
+with more than so many parameters (6, `alloc` among them), the files with more than so many lines (500), the functions
+and definitions whose whole name is a participle (`joined`, `taken`), and, where there are more of them than now,
+forms that only hand on: `Ok(x) => Ok(x)`, `Err(x) => return Err(x)`, and `let x = f()?; Ok(x)` at the end of a body.
+Of the programs in Python it lists the lines above 120 columns and the texts in single quotes. In code, lines that
+only name what is cited don't count, `ghost use` and the lemmas of a `tactic`, nor do texts in quotes; in proofs, an
+import of a single name. Files and functions of which docs/DECISIONS.md says why they stay as they are, are left out.
+Ends with a line that counts what was found and looked at, and with status 1 where something was found."""
 import argparse
 import io
 import pathlib
@@ -35,17 +35,17 @@ AGAIN = re.compile(r"\bOk\((\w+)\) => Ok\(\1\)|\bErr\((\w+)\) => return Err\(\2\
 HANDED_ON = re.compile(r"let (\w+) = [^;]*\?;\s*Ok\(\1\)\s*\}")
 # Names that stay, as crate:name: mostly of functions whose answer a caller keeps under the same name.
 LEFT = {"larch_base:numbered", "larch_pairs_critical:marked", "larch_pairs_critical:named",
-        "larch_pairs_critical:numbered", "larch_derive_tests:printed", "larch_duties:implied", "larch_duties:renamed", "larch_flat_gathering:listed",
-        "larch_grammar:named", "larch_grammar:qualified", "larch_io:taken", "larch_method_table:planned",
-        "larch_method_table:told", "larch_methods:supposed", "larch_pairs:replaced", "larch_prove_plans:joined",
-        "larch_verify_pool:copied", "larch_verify_pool:numbered", "larch_rewrite_match:turned",
-        "larch_flat_replacing:renamed",
-        "larch_rewrite:lined", "larch_rewrite_table:told", "larch_shorthand:generated", "larch_shorthand:injected",
+        "larch_pairs_critical:numbered", "larch_derive_tests:printed", "larch_duties:implied", "larch_duties:renamed",
+        "larch_flat_gathering:listed", "larch_grammar:named", "larch_grammar:qualified", "larch_io:taken",
+        "larch_method_table:planned", "larch_method_table:told", "larch_methods:supposed", "larch_pairs:replaced",
+        "larch_prove_plans:joined", "larch_verify_pool:copied", "larch_verify_pool:numbered",
+        "larch_rewrite_match:turned", "larch_flat_replacing:renamed", "larch_rewrite:lined",
+        "larch_rewrite_table:told", "larch_shorthand:generated", "larch_shorthand:injected",
         "larch_shorthand:partitioned", "larch_sorts_counts:copied", "larch_sorts_counts:named",
-        "larch_sorts_signature:named", "larch_syntax:counted",
-        "larch_syntax:refused", "larch_tables:numbered", "larch_term_table:prepared", "larch_term_tests:exchanged",
-        "larch_term_tests:partitioned", "larch_term_tests:replaced", "larch_tests:called", "larch_tests:counted",
-        "larch_traits_tests:marked", "larch_words:asked"}
+        "larch_sorts_signature:named", "larch_syntax:counted", "larch_syntax:refused", "larch_tables:numbered",
+        "larch_term_table:prepared", "larch_term_tests:exchanged", "larch_term_tests:partitioned",
+        "larch_term_tests:replaced", "larch_tests:called", "larch_tests:counted", "larch_traits_tests:marked",
+        "larch_words:asked"}
 # So many functions end with `let x = f()?; Ok(x)`, for the reason in docs/DECISIONS.md, and so many arms wrap again
 # what they unwrapped: no more of them.
 HANDED_ON_AT_MOST, AGAIN_AT_MOST = 390, 11

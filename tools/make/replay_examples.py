@@ -462,9 +462,9 @@ ghost use Rattle.larch_term.specs.Tree.{var, app, forest_of};
 ghost use Rattle.larch_term.specs.BuiltIn.{built_in, bool_sort};
 ghost use Rattle.larch_term.specs.declared.built_in.BuiltIn.TheVariants.{And, Or, Not, Equal, Iff, Implies, If, False};
 ghost use Rattle.larch_calculus.specs.Formula.{constant, apply_one, apply_two};
-ghost use Rattle.larch_prove_meaning.specs.Commands.{said, no_spelling, spelling, SetLimit, BoxChecking, Prove, ByCases};
-ghost use Rattle.larch_prove_meaning.specs.Commands.{ByImplication, ByContradiction, ByInduction, ByPartition, Instantiate};
-ghost use Rattle.larch_prove_meaning.specs.Commands.{CriticalPairs, Normalize, Qed, Mark};
+ghost use Rattle.larch_prove_meaning.specs.Commands.{said, no_spelling, spelling, SetLimit, BoxChecking, Prove};
+ghost use Rattle.larch_prove_meaning.specs.Commands.{ByCases, ByImplication, ByContradiction, ByInduction, ByPartition};
+ghost use Rattle.larch_prove_meaning.specs.Commands.{Instantiate, CriticalPairs, Normalize, Qed, Mark};
 ghost use Rattle.larch_base.specs.declared.fact_name.FactLetter.TheVariants.{Axiom, Derived, Hypothesis};
 ghost use Rattle.larch_prove_meaning.specs.Facts.{whole_name};
 ghost use Rattle.larch_prove_meaning.specs.Replays.{replay, Proved, Suspended, Refused, AtOpening, AtCommand};
@@ -892,9 +892,9 @@ RANDOM_HEAD = re.sub(r"(BuiltIn\.TheVariants\.)\{.*\}", lambda m: m.group(1) + A
 use Rattle.larch_base.specs.declared.code.Code.TheVariants as refusal
 use Rattle.larch_base.specs.declared.way.Way.TheVariants.{LeftToRight, RightToLeft, Multiset}
 use Rattle.larch_prove_meaning.specs.Commands.{said, said_of, no_spelling, spelling, Declare, SetLimit, BoxChecking}
-use Rattle.larch_prove_meaning.specs.Commands.{Height, SetStatus, Prove, ByCases, ByImplication, ByConjunction, ByContradiction}
-use Rattle.larch_prove_meaning.specs.Commands.{ByInduction, ByPartition, Instantiate, CriticalPairs, Normalize, Qed, Mark}
-use Rattle.larch_prove_meaning.specs.Commands.{Bad}
+use Rattle.larch_prove_meaning.specs.Commands.{Height, SetStatus, Prove, ByCases, ByImplication, ByConjunction}
+use Rattle.larch_prove_meaning.specs.Commands.{ByContradiction, ByInduction, ByPartition, Instantiate, CriticalPairs}
+use Rattle.larch_prove_meaning.specs.Commands.{Normalize, Qed, Mark, Bad}
 use Rattle.larch_prove_meaning.specs.Computing.{replaying}
 use Rattle.larch_base.specs.declared.fact_name.FactLetter.TheVariants.{Axiom, Derived, Hypothesis, Lemma}
 use Rattle.larch_prove_meaning.specs.Facts.{whole_name}
