@@ -22,8 +22,8 @@ use larch_traits_items::TraitRefusal;
 use std::alloc::Global;
 use std::marker::Model;
 
-/// The duties of a trait whose flat trait is borrowed. Contracts see them as `larch_duties_meaning` defines them; copies
-/// and theories aren't kept.
+/// The duties of a trait whose flat trait is borrowed. Contracts see them as `larch_duties_meaning` defines them;
+/// copies and theories aren't kept.
 pub struct Duties<'a> {
     pub(crate) flat: &'a Flat,
     pub(crate) implied: Statements,
