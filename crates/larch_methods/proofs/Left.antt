@@ -225,7 +225,7 @@ induction_left b setting goal n v fs clause made boxes h e g st own z k =
     let p = induction_planned setting goal n v fs made h e g in
     record {
       generators = fs;
-      equate = st;
+      stated = st;
       shown = cases_shown b v goal (taken_beside setting.taken goal) fs boxes (subst (All (Own b)) p own)
           (subst (λ ss. AllZip (λ (s : Subgoal) y. IsShownIn b s (holds s.goal) y) ss boxes) p z);
       formula = k;
@@ -292,7 +292,7 @@ partition_left b setting goal l r os clause made boxes h e g st own c z kl kr q 
     )) in
     record {
       observers = os;
-      equate = st;
+      stated = st;
       shown_by = observed_left b l r (taken_beside setting.taken goal) ws boxes known (subst (All (Own b)) p own)
           (subst (λ ss. HaveConstants ss boxes) p c) z;
       left = kl;
