@@ -18,7 +18,7 @@ pub record State : Type 0 where
   -- its files
   pub files : Table
   -- how many bytes were taken
-  pub bytes_taken : ℕ
+  pub taken : ℕ
   -- whether the last report said of nothing that it is wrong
   pub good : Bool
 
