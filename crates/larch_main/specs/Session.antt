@@ -56,7 +56,7 @@ Spells (reported lines) written = written ≡ report_text lines
 
 -- what is written where the input leaves the grammar: the number of bytes before the line
 abbrev pub malformed_reply : ℕ → Reply
-malformed_reply before = said (codes "malformed_reply at byte " ++ decimal before ++ codes "\n")
+malformed_reply before = said (codes "malformed at byte " ++ decimal before ++ codes "\n")
 
 abbrev pub too_large : Reply
 too_large = said (codes "too large\n")

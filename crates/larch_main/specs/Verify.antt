@@ -40,7 +40,7 @@ verdict_told (Some number) = said (codes "refused " ++ (decimal number ++ codes 
 
 -- the text of the certificate is outside the grammar from this line on
 abbrev pub malformed_answer : ℕ → Answer
-malformed_answer number = said (codes "malformed_answer at line " ++ (decimal number ++ codes "\n")) Malformed
+malformed_answer number = said (codes "malformed at line " ++ (decimal number ++ codes "\n")) Malformed
 
 -- the verdict on a certificate for a duty, if there is one
 abbrev pub verdict_of : Option Duty → List Line → Answer
