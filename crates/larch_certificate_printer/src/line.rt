@@ -250,7 +250,8 @@ fn write_induct(
 // The variable and the goal of an induction.
 fn write_aim(alloc: Global, text: &mut Text, here: Here, aim: &Aim) -> Result<(), Memory>
     ensures { OnOk result (text.new ≡ text.old
-        ++ (part_with_label here (codes "var") (variable_text aim.now.variable.now) ++ (32 ∷ goal_text here aim.now.goal.now))) }
+        ++ (part_with_label here (codes "var") (variable_text aim.now.variable.now)
+        ++ (32 ∷ goal_text here aim.now.goal.now))) }
 {
     write_variable_part(text, here, b"var", aim.variable)?;
     text.push(b' ')?;

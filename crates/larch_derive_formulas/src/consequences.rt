@@ -160,7 +160,8 @@ fn places_under<'a>(
 ) -> Result<Option<Places<'a>>, Memory>
     ensures some { IfOk result (λ o. IfSome o (λ p.
         deduction_left deduction (sort_within term.now) p.first.now p.second.now ≡ term.now)) }
-    ensures none { IfOk result (λ o. IfNone o ((s : List ℕ) (t u : Tree) → deduction_left deduction s t u ≡ term.now → ⊥)) }
+    ensures none { IfOk result (λ o. IfNone o ((s : List ℕ) (t u : Tree)
+        → deduction_left deduction s t u ≡ term.now → ⊥)) }
 {
     let Node::App(operator, arguments) = term.node() else {
         return Ok(None);

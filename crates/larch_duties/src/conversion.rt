@@ -5,7 +5,7 @@ ghost use Rattle.larch_traits_items.specs.References.{all_same, exact_of, is_mea
 ghost use Rattle.larch_traits_items.specs.Refusal.{cause};
 ghost use Rattle.larch_traits_items.specs.Steps.{all_taken, each};
 ghost use Rattle.larch_sorts_meaning.specs.Read.{read_term};
-ghost use Rattle.larch_sorts_meaning.specs.Refusal.{cause_of as read_told};
+ghost use Rattle.larch_sorts_meaning.specs.Refusal.{cause as read_told};
 ghost use Rattle.larch_duties_meaning.specs.Implied.{is_among};
 ghost use Rattle.larch_duties_meaning.specs.Conversions.{conversion_of, take_converted, take_exempted};
 

@@ -3,7 +3,7 @@ ghost use Rattle.std.specs.Option.{option_copied};
 ghost use Rattle.larch_term.specs.Sorts.{WellSorted, IsOver};
 ghost use Rattle.larch_sorts_meaning.specs.Read.{read_term, first_unread};
 ghost use Rattle.larch_base.specs.Answering.{Answers};
-ghost use Rattle.larch_sorts_meaning.specs.Refusal.{cause_of, Unread};
+ghost use Rattle.larch_sorts_meaning.specs.Refusal.{cause, Unread};
 ghost use Rattle.larch_sorts_meaning.specs.Scope.{HasVariablesOf};
 ghost use Rattle.larch_sorts_meaning.specs.Unknown.{unknown_sort};
 ghost use Rattle.larch_sorts_meaning.specs.Stands.{Stands};
@@ -30,12 +30,12 @@ pub fn read_lone(
     sort: Option<&Sort>,
 ) -> Result<Term, ReadRefusal>
     requires { raw.now.right ≡ None }
-    ensures answers { Answers cause_of result (read_term signature.now scope.now (option_copied sort.entry) raw.now) }
+    ensures answers { Answers cause result (read_term signature.now scope.now (option_copied sort.entry) raw.now) }
 
     // The same in terms of readings.
     ensures known { IfOk result (λ _. unknown_sort signature.now raw.now ≡ None) }
     ensures only { IfOk result (IsOnly (ReadsLone signature.now scope.now (option_copied sort.entry) raw.now)) }
-    ensures stands { IfErr result (λ refusal. IfSome (cause_of refusal)
+    ensures stands { IfErr result (λ refusal. IfSome (cause refusal)
         (Stands signature.now scope.now raw.now
         (ReadsLone signature.now scope.now (option_copied sort.entry) raw.now))) }
 
@@ -55,7 +55,7 @@ fn lone(
     sort: Option<&Sort>,
 ) -> Result<Term, ReadRefusal>
     requires { raw.now.right ≡ None }
-    ensures { Answers cause_of result (read_term signature.now scope.now (option_copied sort.entry) raw.now) }
+    ensures { Answers cause result (read_term signature.now scope.now (option_copied sort.entry) raw.now) }
 {
     if let Some(pos) = unknown_sort(signature, raw) {
         return Err(ReadRefusal::UnknownSort(pos));

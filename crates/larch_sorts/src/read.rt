@@ -3,7 +3,7 @@ ghost use Rattle.larch_term.specs.Statement.{IsStatementOver};
 ghost use Rattle.larch_term.specs.declared.statement.Statement.TheVariants.{Equation};
 ghost use Rattle.larch_sorts_meaning.specs.Read.{read_equation, first_unread};
 ghost use Rattle.larch_base.specs.Answering.{Answers};
-ghost use Rattle.larch_sorts_meaning.specs.Refusal.{cause_of, Unread};
+ghost use Rattle.larch_sorts_meaning.specs.Refusal.{cause, Unread};
 ghost use Rattle.larch_sorts_meaning.specs.Scope.{IsInScope};
 ghost use Rattle.larch_sorts_meaning.specs.Unknown.{unknown_sort};
 ghost use Rattle.larch_sorts_meaning.specs.Stands.{Stands};
@@ -31,12 +31,12 @@ pub fn read_in(
     scope: &Scope,
     raw: &RawEquation,
 ) -> Result<Statement, ReadRefusal>
-    ensures answers { Answers cause_of result (read_equation signature.now scope.now raw.now) }
+    ensures answers { Answers cause result (read_equation signature.now scope.now raw.now) }
 
     // The same in terms of readings.
     ensures known { IfOk result (λ _. unknown_sort signature.now raw.now ≡ None) }
     ensures only { IfOk result (IsOnly (ReadsEquation signature.now scope.now raw.now)) }
-    ensures stands { IfErr result (λ refusal. IfSome (cause_of refusal)
+    ensures stands { IfErr result (λ refusal. IfSome (cause refusal)
         (Stands signature.now scope.now raw.now (ReadsEquation signature.now scope.now raw.now))) }
 
     // What a statement that is read is made of.
@@ -53,7 +53,7 @@ fn statement(
     scope: &Scope,
     raw: &RawEquation,
 ) -> Result<Statement, ReadRefusal>
-    ensures { Answers cause_of result (read_equation signature.now scope.now raw.now) }
+    ensures { Answers cause result (read_equation signature.now scope.now raw.now) }
 {
     if let Some(pos) = unknown_sort(signature, raw) {
         return Err(ReadRefusal::UnknownSort(pos));
@@ -78,7 +78,7 @@ fn by_sides(
     raw: &RawEquation,
 ) -> Result<Statement, ReadRefusal>
     requires { unknown_sort signature.now raw.now ≡ None }
-    ensures { Answers cause_of result (read_equation signature.now scope.now raw.now) }
+    ensures { Answers cause result (read_equation signature.now scope.now raw.now) }
 {
     match sides_of(alloc, signature, scope, raw)? {
         None => Err(ReadRefusal::NoReading(equation_head(raw))),

@@ -13,7 +13,7 @@ use Rattle.larch_term.specs.declared.statement.Statement.{Statement}
 use Rattle.larch_term.specs.Equality.{same_tree, same_statement}
 use Rattle.larch_term.proofs.Decided.{tree_Decides, statement_Decides}
 use Rattle.larch_sorts_meaning.specs.Faults.{fault, fault_at}
-use Rattle.larch_sorts_meaning.specs.Refusal.{cause_of, Unread}
+use Rattle.larch_sorts_meaning.specs.Refusal.{cause, Unread}
 use Rattle.larch_sorts_meaning.proofs.Refusals.{told_weaker}
 use Rattle.larch_sorts_meaning.specs.Read.{first_unread, read_equation, read_term}
 use Rattle.larch_sorts_meaning.specs.Scope.{HasVariablesOf, IsInScope, Variables}
@@ -47,7 +47,7 @@ module _ (fs : List PlainOperator) (vs : Variables) (raw : RawEquation) where
   -- what a refusal tells of the parts is what is wrong with the whole
   pub equation_unread_told : (refusal : ReadRefusal) → unknown_sort fs raw ≡ None
       → Unread refusal (first_unread fs vs raw)
-      → IfSome (cause_of refusal) (λ f. read_equation fs vs raw ≡ Err f)
+      → IfSome (cause refusal) (λ f. read_equation fs vs raw ≡ Err f)
   equation_unread_told refusal e u =
       told_weaker refusal (λ f. fault_at NoReading (first_unread fs vs raw) ≡ Some f)
       (λ f. read_equation fs vs raw ≡ Err f)
@@ -67,28 +67,28 @@ module _ (fs : List PlainOperator) (vs : Variables) (raw : RawEquation) where
       (equation_readings fs vs raw) (equation_reads fs vs raw) (equation_listed fs vs raw) f e
 
   -- the clauses of a result
-  pub result_known : (r : Result Statement ReadRefusal) → Answers cause_of r (read_equation fs vs raw)
+  pub result_known : (r : Result Statement ReadRefusal) → Answers cause r (read_equation fs vs raw)
       → IfOk r (λ _. unknown_sort fs raw ≡ None)
   result_known (Ok s) h = (equation_ok s h).0
   result_known (Err e) h = tt
 
-  pub result_only : (r : Result Statement ReadRefusal) → Answers cause_of r (read_equation fs vs raw)
+  pub result_only : (r : Result Statement ReadRefusal) → Answers cause r (read_equation fs vs raw)
       → IfOk r (IsOnly (ReadsEquation fs vs raw))
   result_only (Ok s) h = (equation_ok s h).1
   result_only (Err e) h = tt
 
-  pub result_stands : (r : Result Statement ReadRefusal) → Answers cause_of r (read_equation fs vs raw)
-      → IfErr r (λ refusal. IfSome (cause_of refusal) (Stands fs vs raw (ReadsEquation fs vs raw)))
+  pub result_stands : (r : Result Statement ReadRefusal) → Answers cause r (read_equation fs vs raw)
+      → IfErr r (λ refusal. IfSome (cause refusal) (Stands fs vs raw (ReadsEquation fs vs raw)))
   result_stands (Ok s) h = tt
   result_stands (Err e) h =
       told_weaker e (λ f. read_equation fs vs raw ≡ Err f) (Stands fs vs raw (ReadsEquation fs vs raw)) equation_err h
 
-  pub result_over : (r : Result Statement ReadRefusal) → Answers cause_of r (read_equation fs vs raw)
+  pub result_over : (r : Result Statement ReadRefusal) → Answers cause r (read_equation fs vs raw)
       → IfOk r (IsStatementOver fs)
   result_over (Ok s) h = statement_over fs vs raw s (equation_ok s h).1.0
   result_over (Err e) h = tt
 
-  pub result_in_scope : (r : Result Statement ReadRefusal) → Answers cause_of r (read_equation fs vs raw)
+  pub result_in_scope : (r : Result Statement ReadRefusal) → Answers cause r (read_equation fs vs raw)
       → IfOk r (IsInScope vs)
   result_in_scope (Ok s) h = statement_in_scope fs vs raw s (equation_ok s h).1.0
   result_in_scope (Err e) h = tt
@@ -110,7 +110,7 @@ module _ (fs : List PlainOperator) (vs : Variables) (wanted : Option (List ℕ))
 
   -- what a refusal tells of the parts is what is wrong with the whole
   pub term_unread_told : (refusal : ReadRefusal) → unknown_sort fs raw ≡ None → Unread refusal (first_unread fs vs raw)
-      → IfSome (cause_of refusal) (λ f. read_term fs vs wanted raw ≡ Err f)
+      → IfSome (cause refusal) (λ f. read_term fs vs wanted raw ≡ Err f)
   term_unread_told refusal e u =
       told_weaker refusal (λ f. fault_at NoReading (first_unread fs vs raw) ≡ Some f)
       (λ f. read_term fs vs wanted raw ≡ Err f)
@@ -137,28 +137,28 @@ module _ (fs : List PlainOperator) (vs : Variables) (wanted : Option (List ℕ))
       (lone_readings fs vs wanted raw) (lone_reads fs vs wanted raw) (lone_listed fs vs wanted raw) f e
 
   -- the clauses of a result
-  pub lone_known : (r : Result Tree ReadRefusal) → Answers cause_of r (read_term fs vs wanted raw)
+  pub lone_known : (r : Result Tree ReadRefusal) → Answers cause r (read_term fs vs wanted raw)
       → IfOk r (λ _. unknown_sort fs raw ≡ None)
   lone_known (Ok s) h = (term_ok s h).0
   lone_known (Err e) h = tt
 
-  pub lone_only : (r : Result Tree ReadRefusal) → Answers cause_of r (read_term fs vs wanted raw)
+  pub lone_only : (r : Result Tree ReadRefusal) → Answers cause r (read_term fs vs wanted raw)
       → IfOk r (IsOnly (ReadsLone fs vs wanted raw))
   lone_only (Ok s) h = (term_ok s h).1
   lone_only (Err e) h = tt
 
-  pub lone_stands : (r : Result Tree ReadRefusal) → Answers cause_of r (read_term fs vs wanted raw)
-      → IfErr r (λ refusal. IfSome (cause_of refusal) (Stands fs vs raw (ReadsLone fs vs wanted raw)))
+  pub lone_stands : (r : Result Tree ReadRefusal) → Answers cause r (read_term fs vs wanted raw)
+      → IfErr r (λ refusal. IfSome (cause refusal) (Stands fs vs raw (ReadsLone fs vs wanted raw)))
   lone_stands (Ok s) h = tt
   lone_stands (Err e) h =
       told_weaker e (λ f. read_term fs vs wanted raw ≡ Err f) (Stands fs vs raw (ReadsLone fs vs wanted raw)) term_err h
 
-  pub lone_over : (r : Result Tree ReadRefusal) → Answers cause_of r (read_term fs vs wanted raw)
+  pub lone_over : (r : Result Tree ReadRefusal) → Answers cause r (read_term fs vs wanted raw)
       → IfOk r (λ t. WellSorted t × IsOver fs t)
   lone_over (Ok s) h = well_sorted fs vs raw.left s (term_ok s h).1.0.0
   lone_over (Err e) h = tt
 
-  pub lone_in_scope : (r : Result Tree ReadRefusal) → Answers cause_of r (read_term fs vs wanted raw)
+  pub lone_in_scope : (r : Result Tree ReadRefusal) → Answers cause r (read_term fs vs wanted raw)
       → IfOk r (HasVariablesOf vs)
   lone_in_scope (Ok s) h = in_scope fs vs raw.left s (term_ok s h).1.0.0
   lone_in_scope (Err e) h = tt

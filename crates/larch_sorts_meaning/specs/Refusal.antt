@@ -9,12 +9,12 @@ use Rattle.larch_sorts_meaning.specs.declared.refusal.ReadRefusal.TheVariants.{U
 use Rattle.larch_sorts_meaning.specs.declared.refusal.ReadRefusal.TheVariants.{Memory}
 
 -- the fault that a refusal tells; out of memory is none
-abbrev pub cause_of : ReadRefusal → Option Fault
-cause_of (UnknownSort pos) = Some (fault code.UnknownSort pos)
-cause_of (NoReading pos) = Some (fault code.NoReading pos)
-cause_of (Ambiguous pos) = Some (fault code.Ambiguous pos)
-cause_of Memory = None
+abbrev pub cause : ReadRefusal → Option Fault
+cause (UnknownSort pos) = Some (fault code.UnknownSort pos)
+cause (NoReading pos) = Some (fault code.NoReading pos)
+cause (Ambiguous pos) = Some (fault code.Ambiguous pos)
+cause Memory = None
 
 -- why a term has no table: a fault that the refusal tells is NO-READING, at the first part that has no reading
 abbrev pub Unread : ReadRefusal → Option Pos → Type 0
-Unread refusal pos = IfSome (cause_of refusal) (λ f. fault_at code.NoReading pos ≡ Some f)
+Unread refusal pos = IfSome (cause refusal) (λ f. fault_at code.NoReading pos ≡ Some f)

@@ -86,10 +86,12 @@ module _ {X : Type 0} (f : X → Entries) (tables : List X) (ss : List (List ℕ
       → ((rest : Option (Found (List Tree)))
       → resume_arguments us now rest ≡ resume_arguments ts several (with_argument (Some found) rest))
       → resume_arguments ts several (arguments_at (drop i (map f tables)) (drop i ss)) ≡ arguments_at (map f tables) ss
-      → resume_arguments us now (arguments_at (drop (i + 1) (map f tables)) (drop (i + 1) ss)) ≡ arguments_at (map f tables) ss
+      → resume_arguments us now (arguments_at (drop (i + 1) (map f tables)) (drop (i + 1) ss))
+      ≡ arguments_at (map f tables) ss
   next_found found us now same lt e d is goes invariant =
       let long = length-map tables f in
       let next = unrolled (map f tables) ss i (f t) s (omega arith) lt (entries_at f tables i t (omega arith) e) d in
       goes (arguments_at (drop (i + 1) (map f tables)) (drop (i + 1) ss))
-      ∙ ap (λ x. resume_arguments ts several (with_argument x (arguments_at (drop (i + 1) (map f tables)) (drop (i + 1) ss)))) is
+      ∙ ap (λ x. resume_arguments ts several
+      (with_argument x (arguments_at (drop (i + 1) (map f tables)) (drop (i + 1) ss)))) is
       ∙ sym (ap (resume_arguments ts several) next) ∙ invariant

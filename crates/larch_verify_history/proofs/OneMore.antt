@@ -8,7 +8,8 @@ use Rattle.std.proofs.lemmas.Option.{slice_get-get_or, slice_get_within, get_or_
 use Rattle.larch_base.specs.ByNumber.{numbered}
 use Rattle.larch_term.specs.declared.statement.Theory.{Theory}
 use Rattle.larch_verify_pool.specs.Pooled.{Pooled}
-use Rattle.larch_verify_history.specs.Past.{IsPast, IsStated, IsEquated, IsBox, IsHappened, IsIndexed, event_in, history_in}
+use Rattle.larch_verify_history.specs.Past.{IsPast, IsStated, IsEquated, IsBox, IsHappened, IsIndexed, event_in}
+use Rattle.larch_verify_history.specs.Past.{history_in}
 use Rattle.larch_verify_history.specs.Past.{number_of, open_levels}
 use Rattle.larch_verify_history.proofs.LookUps.{not_same}
 use Rattle.larch_verify_history.specs.declared.event.KeptEvent.{KeptEvent}

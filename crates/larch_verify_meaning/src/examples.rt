@@ -91,8 +91,9 @@ pub fn statements_and_rows()
 /// Variables take the places of a box's constants where it supposes nothing; they may be equal. Cases are those of a
 /// formula without variables.
 pub fn variables_and_cases()
-    ensures fresh { verdict numbers (statement.Equation (apply_two plus x_number x_number) (apply_two plus x_number x_number))
-        (sums_are_equal []) ≡ None }
+    ensures fresh { verdict numbers
+        (statement.Equation (apply_two plus x_number x_number) (apply_two plus x_number x_number)) (sums_are_equal [])
+        ≡ None }
     ensures supposing { verdict numbers
         (statement.Equation (apply_two plus x_number x_number) (apply_two plus x_number x_number))
         (sums_are_equal (coded_equation coded_nought coded_nought ∷ [])) ≡ Some 4 }
