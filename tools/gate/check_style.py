@@ -44,7 +44,7 @@ LEFT = {"larch_base:numbered", "larch_pairs_critical:marked", "larch_pairs_criti
         "larch_shorthand:partitioned", "larch_sorts_counts:copied", "larch_sorts_counts:named",
         "larch_sorts_signature:named", "larch_syntax:counted", "larch_syntax:refused", "larch_tables:numbered",
         "larch_term_table:prepared", "larch_term_tests:exchanged", "larch_term_tests:partitioned",
-        "larch_term_tests:replaced", "larch_tests:called", "larch_tests:counted", "larch_traits_tests:marked",
+        "larch_term_tests:replaced", "larch_traits_tests:marked",
         "larch_words:asked"}
 # So many functions end with `let x = f()?; Ok(x)`, for the reason in docs/DECISIONS.md, and so many arms wrap again
 # what they unwrapped: no more of them.

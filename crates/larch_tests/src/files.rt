@@ -23,7 +23,7 @@ const ONE_ALONE: &[u8] =
     b"trait One\ntotal 1 traits, 0 errors, 0 proved, 0 suspended, 0 refused\nend\n";
 
 // The status of a call with these words over this folder, its steps being counted in a ledger of their own.
-fn counted<L: Ledger>(
+fn status_over<L: Ledger>(
     rt: &HostRuntime,
     blank: Blank,
     words: &[String],
@@ -46,7 +46,7 @@ fn status_of(
     folder: &mut MemoryFolder,
     sink: &mut MemorySink,
 ) -> Result<Status, Memory> {
-    counted::<Brand>(rt, Blank::new(1), words, folder, sink)
+    status_over::<Brand>(rt, Blank::new(1), words, folder, sink)
 }
 
 // These words.
@@ -94,14 +94,18 @@ fn called_with(
 }
 
 // The same, where no write fails.
-fn called(rt: &HostRuntime, texts: &[&str], looks: &[u64]) -> Result<(Status, MemorySink), Memory> {
+fn call_status(
+    rt: &HostRuntime,
+    texts: &[&str],
+    looks: &[u64],
+) -> Result<(Status, MemorySink), Memory> {
     called_with(rt, texts, looks, &[])
 }
 
 // The first look below a number at which a fault isn't told, or something is written all the same.
 fn first_wrong_look(rt: &HostRuntime, texts: &[&str], behind: u64) -> Result<Option<u64>, Memory> {
     for look in 1..behind {
-        let (status, sink) = called(rt, texts, &[look])?;
+        let (status, sink) = call_status(rt, texts, &[look])?;
         if status != Status::ReadFault || !sink.bytes().is_empty() {
             return Ok(Some(look));
         }
@@ -127,7 +131,7 @@ fn first_wrong_write(
 
 #[test]
 fn checks_files(rt: HostRuntime) -> Result<(), Fail> {
-    let (status, sink) = called(&rt, &["check", "Two.lsl", "One.lp", "One.lsl"], &[])?;
+    let (status, sink) = call_status(&rt, &["check", "Two.lsl", "One.lp", "One.lsl"], &[])?;
     assert_eq!(rt; status, Status::Remains);
     assert_eq!(rt; sink.bytes(), BOTH);
     Ok(())
@@ -136,7 +140,7 @@ fn checks_files(rt: HostRuntime) -> Result<(), Fail> {
 // A name that comes again isn't looked at again: the third look would fail.
 #[test]
 fn looks_once(rt: HostRuntime) -> Result<(), Fail> {
-    let (status, sink) = called(&rt, &["check", "One.lsl", "One.lp", "One.lsl"], &[3])?;
+    let (status, sink) = call_status(&rt, &["check", "One.lsl", "One.lp", "One.lsl"], &[3])?;
     assert_eq!(rt; status, Status::Good);
     assert_eq!(rt; sink.bytes(), ONE_ALONE);
     Ok(())
@@ -144,7 +148,7 @@ fn looks_once(rt: HostRuntime) -> Result<(), Fail> {
 
 #[test]
 fn tells_what_is_absent(rt: HostRuntime) -> Result<(), Fail> {
-    let (status, sink) = called(&rt, &["check", "One.lsl", "Nope.lsl", "No.lsl"], &[3])?;
+    let (status, sink) = call_status(&rt, &["check", "One.lsl", "Nope.lsl", "No.lsl"], &[3])?;
     assert_eq!(rt; status, Status::NoFile);
     assert_eq!(rt; sink.bytes(), b"no file Nope.lsl\n".as_slice());
     Ok(())
@@ -176,7 +180,7 @@ fn keeps_a_front_where_a_write_fails(rt: HostRuntime) -> Result<(), Fail> {
 #[test]
 fn verifies(rt: HostRuntime) -> Result<(), Fail> {
     let words = ["verify", "One", "imply.1", "One.cert", "One.lsl"];
-    let (status, sink) = called(&rt, &words, &[])?;
+    let (status, sink) = call_status(&rt, &words, &[])?;
     assert_eq!(rt; status, Status::Good);
     assert_eq!(rt; sink.bytes(), b"accepted\n".as_slice());
     Ok(())
@@ -184,7 +188,7 @@ fn verifies(rt: HostRuntime) -> Result<(), Fail> {
 
 #[test]
 fn lists_obligations(rt: HostRuntime) -> Result<(), Fail> {
-    let (status, sink) = called(&rt, &["obligations", "Two.lsl", "One.lsl"], &[])?;
+    let (status, sink) = call_status(&rt, &["obligations", "Two.lsl", "One.lsl"], &[])?;
     assert_eq!(rt; status, Status::Remains);
     assert_eq!(rt; sink.bytes(), LISTED);
     Ok(())
@@ -194,7 +198,7 @@ fn lists_obligations(rt: HostRuntime) -> Result<(), Fail> {
 #[test]
 fn looks_for_the_certificate_first(rt: HostRuntime) -> Result<(), Fail> {
     let words = ["verify", "One", "imply.1", "No.cert", "Nope.lsl"];
-    let (status, sink) = called(&rt, &words, &[2])?;
+    let (status, sink) = call_status(&rt, &words, &[2])?;
     assert_eq!(rt; status, Status::NoFile);
     assert_eq!(rt; sink.bytes(), b"no file No.cert\n".as_slice());
     let (status, _) = call_status(&rt, &words, &[1])?;
