@@ -1,5 +1,5 @@
 -- What is reached over all references decides duties.
-use Rattle.std.proofs.Common.{◌≡◌, refl, ℕ, ◌≤◌, length, List, [], ◌∷◌, ◌++◌, map, Contains, Option, Some, Result, Ok, Err}
+use Rattle.std.proofs.Common.{◌≡◌, refl, ℕ, ◌≤◌, length, List, [], ◌++◌, map, Contains, Result, Ok, Err}
 use Rattle.std.proofs.Common.{ap, sym, subst, ◌∙◌}
 use Rattle.std.specs.Prelude.{is_none}
 use Rattle.larch_base.specs.declared.code.Code.TheVariants.{UnknownTrait}
@@ -8,11 +8,11 @@ use Rattle.larch_raw.specs.declared.reference.RawRef.{RawRef}
 use Rattle.larch_term.specs.declared.statement.Statement.{Statement}
 use Rattle.larch_traits_items.specs.Items.{items_state}
 use Rattle.larch_traits_items.specs.Steps.{after}
-use Rattle.larch_flat_meaning.specs.Files.{Files, here, target}
+use Rattle.larch_flat_meaning.specs.Files.{Files, target}
 use Rattle.larch_flat_meaning.specs.Flat.{FlatTrait, at_reference, flat}
-use Rattle.larch_flat_meaning.specs.Laws.{AgreeFrom, AreAmong}
+use Rattle.larch_flat_meaning.specs.Laws.{AreAmong}
 use Rattle.larch_flat_meaning.specs.Reached.{AgreeOn, AreReached, all_targets_in, implied_target}
-use Rattle.larch_flat_meaning.specs.Stops.{Stop, stopped_if, surely}
+use Rattle.larch_flat_meaning.specs.Stops.{stopped_if, surely}
 use Rattle.larch_flat_meaning.proofs.Agreement.{all_same, flat_reached_only}
 use Rattle.larch_flat_meaning.proofs.Closures.{Names}
 use Rattle.larch_flat_meaning.proofs.Every.{every_contained}

@@ -1,5 +1,5 @@
 -- Each sort and each variable in a duty is a word, where files are written with words.
-use Rattle.std.proofs.Common.{◌≡◌, ℕ, suc, Bool, not, List, [], ◌∷◌, ◌++◌, map, All, Contains, Ok, subst}
+use Rattle.std.proofs.Common.{◌≡◌, ℕ, suc, not, List, [], ◌∷◌, ◌++◌, map, All, Ok, subst}
 use Rattle.std.specs.Prelude.{codes, decimal, filter, is_some, None}
 use Rattle.std.proofs.lemmas.List.Elements.{All-nil, All-append, All-contains, All-map, All-push, All-weaker}
 use Rattle.larch_base.specs.declared.code.Code.TheVariants.{Exempt}

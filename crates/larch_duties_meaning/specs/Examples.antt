@@ -1,8 +1,7 @@
 -- What the examples of duties are written with.
-use Rattle.std.specs.Prelude.{ℕ, Bool, true, false, codes, List, [], ◌∷◌, ◌++◌, map, replicate, None, Result, Ok, Err}
+use Rattle.std.specs.Prelude.{ℕ, false, codes, List, [], ◌∷◌, ◌++◌, map, replicate, None, Result, Ok, Err}
 use Rattle.std.specs.Fmt.{digits}
 use Rattle.larch_base.specs.declared.code.Code.{Code}
-use Rattle.larch_base.specs.declared.label.Label.{Label}
 use Rattle.larch_base.specs.declared.label.Label.TheVariants.{Imply}
 use Rattle.larch_raw.specs.RawTree.{RawTree}
 use Rattle.larch_raw.specs.declared.declared.RawDecl.{RawDecl}
@@ -15,7 +14,6 @@ use Rattle.larch_raw.specs.declared.equation.RawItem.TheVariants.{Clause}
 use Rattle.larch_raw.specs.declared.equation.RawTrait.{RawTrait}
 use Rattle.larch_raw.specs.declared.reference.RawActual.{RawActual}
 use Rattle.larch_raw.specs.declared.reference.RawRef.{RawRef}
-use Rattle.larch_raw.specs.declared.reference.RawReference.{RawReference}
 use Rattle.larch_term.specs.BuiltIn.{is_built_in}
 use Rattle.larch_term.specs.Equality.{same_tree, same_statement}
 use Rattle.larch_term.specs.Operator.{PlainOperator}

@@ -5,7 +5,7 @@ ghost use Rattle.larch_base.specs.declared.code.Code.TheVariants.{Rename, Size, 
 ghost use Rattle.larch_base.specs.declared.label.Label.TheVariants.{Assume, Convert, Imply};
 ghost use Rattle.larch_raw.specs.declared.reference.RawActual.TheVariants.{Plain};
 ghost use Rattle.larch_shorthand.specs.Operators.{operator};
-ghost use Rattle.larch_flat_meaning.specs.Examples.{base, base_statement, base_theory, call, a_trait, bare, declares};
+ghost use Rattle.larch_flat_meaning.specs.Examples.{base_statement, base_theory, call, a_trait, bare, declares};
 ghost use Rattle.larch_flat_meaning.specs.Examples.{for_old, including_one};
 ghost use Rattle.larch_duties_meaning.specs.Duties.{not_too_many};
 ghost use Rattle.larch_duties_meaning.specs.Examples.{alone_at, among_traits, claiming, converting, converts, implies_trait};

@@ -1,5 +1,5 @@
 -- What is reached over all references decides.
-use Rattle.std.proofs.Common.{◌≡◌, ◌≢◌, refl, ℕ, zero, suc, ◌≤◌, ◌+◌, ◌-◌, Bool, true, false, length, ap, sym, subst, ◌∙◌}
+use Rattle.std.proofs.Common.{◌≡◌, ◌≢◌, refl, ℕ, zero, suc, ◌≤◌, ◌+◌, ◌-◌, true, false, length, ap, sym, subst, ◌∙◌}
 use Rattle.std.proofs.Common.{arith, inl, inr, ◌⊎◌, ◌↔◌, Option, Some, None, List, [], ◌∷◌, ◌++◌, map, Contains, Result, Ok, Err}
 use Rattle.std.specs.Prelude.{AllPairs, bytes_eq}
 use Rattle.std.specs.List.{list_any}

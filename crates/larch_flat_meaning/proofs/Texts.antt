@@ -1,5 +1,5 @@
 -- A flat trait has the text of its file.
-use Rattle.std.proofs.Common.{◌≡◌, ℕ, suc, Bool, not, List, Option, Some, None, Result, Ok, Err, ap, sym}
+use Rattle.std.proofs.Common.{◌≡◌, ℕ, suc, not, List, Option, Some, None, Result, Ok, Err, ap}
 use Rattle.std.specs.Prelude.{bytes_eq}
 use Rattle.larch_base.specs.declared.code.Code.TheVariants.{TraitName}
 use Rattle.larch_base.specs.declared.fault.Fault.{Fault}

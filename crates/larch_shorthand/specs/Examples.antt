@@ -7,7 +7,6 @@ use Rattle.larch_raw.specs.declared.shorthand.RawShorthand.{RawShorthand}
 use Rattle.larch_raw.specs.declared.shorthand.RawShorthand.TheVariants.{Tuple}
 use Rattle.larch_term.specs.Operator.{PlainOperator}
 use Rattle.larch_term.specs.Tree.{Tree, app, forest_of, var}
-use Rattle.larch_term.specs.declared.statement.Statement.{Statement}
 use Rattle.larch_term.specs.declared.statement.Statement.TheVariants.{Equation, Generated, Partitioned}
 use Rattle.larch_shorthand.specs.Operators.{operator, on, on_two}
 use Rattle.larch_shorthand.specs.declared.expansion.Expansion.{Expansion}
