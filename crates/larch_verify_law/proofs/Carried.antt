@@ -26,7 +26,8 @@ use Rattle.larch_verify_meaning.specs.Context.{find_line, find_open, find_closed
 use Rattle.larch_verify_meaning.specs.Decoding.{each, decode, decode_equation, decode_binding}
 use Rattle.larch_verify_meaning.specs.Events.{PlainBox, Event, Said, Opened, Closed, State}
 use Rattle.larch_verify_meaning.specs.Matching.{all_different, variable_of}
-use Rattle.larch_verify_meaning.specs.Rules.{exchange_sides, instance_by, replaced_variable, replace_right, stated_equal}
+use Rattle.larch_verify_meaning.specs.Rules.{exchange_sides, instance_by, replaced_variable, replace_right}
+use Rattle.larch_verify_meaning.specs.Rules.{stated_equal}
 use Rattle.larch_verify_meaning.specs.Run.{judge, box_opens, done_closes, happens, step, run}
 use Rattle.larch_verify_law.specs.Carrying.{IsEquation, IsMove, KeepsCited, NamesAlike, IsEarly, Matches, outermost}
 use Rattle.larch_verify_law.specs.Carrying.{inside, EndsAlike, EndsMoved, Follows, EachLine}
@@ -46,7 +47,8 @@ use Rattle.larch_verify_law.proofs.Told.{option_map_some, cond_then}
 closed_of : (m : Move) (h g : List Event) → NamesAlike m h g → ClosedMoved m h g
 closed_of m h g n b c q e = n.closed_boxes b c.0 c.1 q e
 
-own_moved : (m : Move) (t u : Theory) → IsMove m t u → (ks : List ℕ) (fs : List PlainOperator) → own_operators t ks ≡ Some fs
+own_moved : (m : Move) (t u : Theory) → IsMove m t u → (ks : List ℕ) (fs : List PlainOperator)
+    → own_operators t ks ≡ Some fs
     → own_operators u (map m.operator ks) ≡ Some (map m.renaming.operator fs)
 own_moved m t u x ks fs e =
     each_moved (numbered t.operators) (numbered u.operators) m.operator m.renaming.operator x.operators ks fs e
@@ -82,7 +84,8 @@ judge_moved m t u x h g n (Inst k bs) kept s e =
     let cs = map (moved_binding m) bs in
     let go : List Entry → Option Statement = λ es. option_and_then (instance_by es) (find_line h k) in
     let go_new : List Entry → Option Statement = λ es. option_and_then (instance_by es) (find_line g (m.line k)) in
-    let c = cond_then (all_different (map replaced_variable bs)) (option_and_then go (each (decode_binding f) bs)) s e in
+    let c = cond_then (all_different (map replaced_variable bs)) (option_and_then go (each
+    (decode_binding f) bs)) s e in
     let variables : map replaced_variable cs ≡ map (renamed_variable r) (map replaced_variable bs) =
     map_map replaced_variable (moved_binding m) bs ∙ sym (map_map (renamed_variable r) replaced_variable bs) in
     ap (λ y. cond y (option_and_then go_new (each (decode_binding f_new) cs)) None)
@@ -506,7 +509,8 @@ run_carried t u instead R P k (l ∷ ls) st su last all r e =
     (λ next p q.
     let one = k st su next l r all.0 p in
     let n = step_count t st next l p in
-    let rest = run_carried t u instead R P k ls next one.0 last (subst (λ i. EachLine P (suc i) ls) (sym n) all.1) one.2 q in (
+    let rest = run_carried t u instead R P k ls next one.0 last (subst (λ i. EachLine P (suc i) ls)
+    (sym n) all.1) one.2 q in (
       rest.0,
       run_append u su (instead (suc st.count) l) (carried instead (suc (suc st.count)) ls)
           ∙ ap (option_and_then (λ v. run u v (carried instead (suc (suc st.count)) ls))) one.1

@@ -101,7 +101,8 @@ observed_moved m f h g k ns (Equation a b) (Partitioned s os) z e =
     chosen (bytes_eq (sort_of left) (r.sort s) && new) (Equation left right)
     (and_both (bytes_eq (sort_of left) (r.sort s)) new
     (same_bytes (sort_of left) (r.sort s)
-    (renamed_sort r f.signatures a ∙ ap r.sort (bytes_told (sort_of a) s (and_left (bytes_eq (sort_of a) s) shown c.0))))
+    (renamed_sort r f.signatures a ∙ ap r.sort (bytes_told (sort_of a) s (and_left (bytes_eq
+    (sort_of a) s) shown c.0))))
     (ap (λ ws. show_same g left right ws (map m.line ns)) (observations_of_renamed r f s os)
     ∙ shown_moved m f h g k a b (observations_of s os) ns (and_right (bytes_eq (sort_of a) s) shown c.0)))
     ∙ ap (λ w. Some (renamed_statement r w)) c.1
@@ -123,7 +124,8 @@ holds_moved r h p s (Equation a b) e =
       subst (λ ns. same_statement given (new ns) ≡ true) (sym (argument_moved r a))
           (is_same given (new (argument_name a))
           (statement_moved r (Equation a b) old e
-          ∙ (λ i. Equation (apply_one (r.operator p) (var (argument_name a 1) (r.sort s))) (truth_renamed r h.built_in i)))),
+          ∙ (λ i. Equation (apply_one (r.operator p) (var (argument_name a 1) (r.sort s)))
+          (truth_renamed r h.built_in i)))),
     )
 holds_moved r h p s (Generated z fs) e = cc
 holds_moved r h p s (Partitioned z fs) e = cc
@@ -177,7 +179,8 @@ generated_moved m t u x s c fs z e =
           (and_both (list_all test gs) shown_new
           (all_mapped test r.operator fs
           ∙ all_alike (λ f. test (r.operator f)) (λ f. bytes_eq f.range s)
-          (λ f. ap (λ q. bytes_eq q (r.sort s)) (x.faithful.signatures.range f) ∙ sort_test r x.faithful.apart f.range s) fs
+          (λ f. ap (λ q. bytes_eq q (r.sort s)) (x.faithful.signatures.range f)
+          ∙ sort_test r x.faithful.apart f.range s) fs
           ∙ and_left ranges shown w.0) v.1)
           ∙ ap (λ q. Some (renamed_statement r q)) w.1,
     )

@@ -73,7 +73,8 @@ replace_moved r p (Equation a b) (Equation u v) z e =
     chosen (stands_at (rename_tree r b) p x) (Equation (rename_tree r a) (put (rename_tree r b) p (rename_tree r v)))
     (ap (λ o. option_map_or (λ w. same_tree w x) o false) (renamed_at r b p u (place_told b p u c.0))
     ∙ (tree_Decides x x).1 refl)
-    ∙ (λ i. Some (Equation (rename_tree r a) (sym (renamed_put r b p v) i))) ∙ ap (λ w. Some (renamed_statement r w)) c.1
+    ∙ (λ i. Some (Equation (rename_tree r a) (sym (renamed_put r b p v) i))) ∙ ap (λ w. Some
+    (renamed_statement r w)) c.1
 replace_moved r p (Equation a b) (Generated s fs) z e = cc
 replace_moved r p (Equation a b) (Partitioned s fs) z e = cc
 replace_moved r p (Generated s fs) q z e = cc
@@ -298,7 +299,8 @@ case_moved m t u x v a b f c e =
     let left = rename_tree r a in
     let right = rename_tree r b in
     let hs_new = induction_hypotheses v.name (r.sort v.sort) left right (operators_of d) in
-    let goal_new = equation_at v.name (r.sort v.sort) left right (app (r.operator f) (constant_terms (operators_of d))) in
+    let goal_new = equation_at v.name (r.sort v.sort) left right (app (r.operator f) (constant_terms
+    (operators_of d))) in
     let constants = has_constants c.0 f.domain in
     let supposed = same_statements c.0.hypotheses hs in
     let shown = same_statement c.1 goal in

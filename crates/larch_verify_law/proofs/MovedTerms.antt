@@ -76,7 +76,8 @@ applied_moved : (r : Renaming) → FitsSignatures r → (ts : Forest) (o : Plain
     → applied_to ts o ≡ Some t → applied_to (renamed_all r ts) (r.operator o) ≡ Some (rename_tree r t)
 applied_moved r h ts o t e =
     let c = cond_some (pointwise bytes_eq (sorts_of ts) o.domain) (app o ts) t e in
-    chosen (pointwise bytes_eq (sorts_of (renamed_all r ts)) (r.operator o).domain) (app (r.operator o) (renamed_all r ts))
+    chosen (pointwise bytes_eq (sorts_of (renamed_all r ts)) (r.operator o).domain) (app (r.operator o)
+    (renamed_all r ts))
     (same_sorts (sorts_of (renamed_all r ts)) (r.operator o).domain
     (renamed_sorts r h ts ∙ ap (map r.sort) ((sorts_Decides (sorts_of ts) o.domain).0 c.0) ∙ sym (h.domain o)))
     ∙ ap (λ y. Some (rename_tree r y)) c.1

@@ -13,7 +13,8 @@ ghost use Rattle.larch_verify_meaning.specs.Acceptance.{Accepts, verdict};
 ghost use Rattle.larch_verify_meaning.specs.Context.{theory_of, find_line, find_closed};
 ghost use Rattle.larch_verify_meaning.specs.Events.{PlainBox, operators_of, Event, Said, State, start};
 ghost use Rattle.larch_verify_meaning.specs.Run.{judge, step, run, bad_from, first_bad};
-ghost use Rattle.larch_verify_law.specs.Carrying.{IsMove, KeepsCited, NamesAlike, Matches, EndsAlike, Follows, EachLine};
+ghost use Rattle.larch_verify_law.specs.Carrying.{IsMove, KeepsCited, NamesAlike, Matches, EndsAlike, Follows};
+ghost use Rattle.larch_verify_law.specs.Carrying.{EachLine};
 ghost use Rattle.larch_verify_law.specs.FirstBad.{IsFirstBad};
 ghost use Rattle.larch_verify_law.specs.Moves.{Move, moved_line};
 
@@ -79,9 +80,9 @@ pub fn first_bad_line()
 {}
 
 /// Along a move from a theory to another one lines are carried: a line says moved what it said, where what can be named
-/// can be named moved; behind a line that isn't bad states match that matched before it. Of closed boxes only those count
-/// whose result is an equation, and a cited statement of the theory is to be kept: so no constant of a box may stand in
-/// it.
+/// can be named moved; behind a line that isn't bad states match that matched before it. Of closed boxes only those
+/// count whose result is an equation, and a cited statement of the theory is to be kept: so no constant of a box may
+/// stand in it.
 pub fn moved_lines()
     ensures says { (m : Move) (t u : Theory) → IsMove m t u → (h g : List Event) → NamesAlike m h g → (line : Line)
         → KeepsCited m t u line → (s : Statement) → judge t h line ≡ Some s
