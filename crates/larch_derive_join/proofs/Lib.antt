@@ -1,0 +1,8 @@
+-- Lemmas.
+pub mod Behind
+pub mod Ending
+pub mod Accepted
+pub mod Lengths
+pub mod Numbers
+pub mod Plain
+pub mod Writable
