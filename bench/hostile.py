@@ -169,7 +169,8 @@ def one_way(size):
 def words(bytes_each, size):
     """As many different sorts as there is room for, each with so many bytes more than its three letters."""
     letters = string.ascii_letters
-    every = (a + b + c for a in letters for b in string.ascii_uppercase + string.digits for c in letters + string.digits)
+    every = (a + b + c for a in letters for b in string.ascii_uppercase + string.digits
+             for c in letters + string.digits)
     return list(itertools.islice(every, size // (3 + bytes_each)))
 
 

@@ -25,7 +25,8 @@ OPEN, CLOSED = "([{<", ")]}>"
 LONG = {"larch_certificate_text/proofs/LineLaws.antt", "larch_grammar/specs/Machine.antt",
         "larch_grammar/proofs/CompleteTraits.antt", "larch_grammar/proofs/Ends.antt", "larch_grammar/proofs/Words.antt",
         "larch_shorthand/proofs/Expansions.antt", "larch_prove_meaning/specs/Worked.antt",
-        "larch_prove_meaning/src/examples.rt"}
+        "larch_prove_meaning/src/examples.rt", "larch_verify_law/proofs/Carried.antt",
+        "larch_derive_join/proofs/Accepted.antt"}
 # What ends as a participle does and is none, and participles that are names of their own.
 NO_PARTICIPLES = {"between", "even", "feed", "flatten", "heighten", "len", "need", "open", "read", "seed", "speed",
                   "token", "weaken"}

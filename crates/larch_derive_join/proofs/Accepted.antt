@@ -45,7 +45,7 @@ use Rattle.larch_verify_law.proofs.Runs.{run_append, run_parts, run_count}
 use Rattle.larch_verify_law.proofs.Told.{option_map_some, numbered_contains}
 use Rattle.larch_verify_law.specs.Carrying.{IsEquation, IsMove, KeepsCited, NamesAlike, IsEarly, Matches, outermost}
 use Rattle.larch_verify_law.specs.Carrying.{inside, EndsAlike, EndsMoved, Follows, EachLine}
-use Rattle.larch_verify_law.specs.Moves.{Move, moved_line, carried}
+use Rattle.larch_verify_law.specs.Moves.{Move, moved_line, carry_lines}
 use Rattle.larch_derive_join.proofs.Behind.{Grows, no_growth, still_found, step_grows}
 use Rattle.larch_derive_join.proofs.Ending.{says_equation, says_clause, ends_at}
 use Rattle.larch_derive_join.proofs.Lengths.{from_nought, grows_longer}
@@ -531,7 +531,7 @@ module _ (b : Theory) (base : State) (lemmas : List Lemma) (earlier : List State
         grows = no_growth base.count base.history;
       }
 
-  one_each : (f : Line → Line) (n : ℕ) (ls : List Line) → carried (λ k l. f l ∷ []) n ls ≡ map f ls
+  one_each : (f : Line → Line) (n : ℕ) (ls : List Line) → carry_lines (λ k l. f l ∷ []) n ls ≡ map f ls
   one_each f n [] = refl
   one_each f n (l ∷ ls) = ap (λ ks. f l ∷ ks) (one_each f (suc n) ls)
 

@@ -16,7 +16,8 @@ use Rattle.larch_flat_meaning.specs.Gathered.{new_among}
 use Rattle.larch_flat_meaning.proofs.Proper.{refused_if_was}
 use Rattle.larch_flat_meaning.proofs.Theory.{all_left, all_new}
 use Rattle.larch_duties_meaning.specs.Conversions.{Clause, Conversion, clause_over, clause_theory, conversion_of}
-use Rattle.larch_duties_meaning.specs.Duties.{Duties, Duty, all_duties, clause_duties, duties_of, is_its_copy, label_all}
+use Rattle.larch_duties_meaning.specs.Duties.{Duties, Duty, all_duties, clause_duties, duties_of, is_its_copy}
+use Rattle.larch_duties_meaning.specs.Duties.{label_all}
 use Rattle.larch_duties_meaning.specs.Duties.{not_too_many, with_clauses}
 
 module _ (P : Theory → Statement → Type 0) where

@@ -146,4 +146,5 @@ duties_plain files limit name own d f e =
     let h : HasPlainNames t = flat_plain files limit name own f in
     let p = after_was (implied_statements limit files own) (λ ss. surely (with_clauses own ss)) d e in
     duties_have IsPlainOver own Any (all_any own.raw.conversions) (all_plain t h own.discharge)
-    (λ raw c _ s. clause_plain t h (clause_over t c)) p.0 d (all_plain t h p.0) (surely_was (with_clauses own p.0) d p.2)
+    (λ raw c _ s. clause_plain t h (clause_over t c)) p.0 d (all_plain t h p.0)
+    (surely_was (with_clauses own p.0) d p.2)

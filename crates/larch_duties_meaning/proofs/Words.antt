@@ -37,7 +37,8 @@ use Rattle.larch_flat_meaning.proofs.Theory.{all_left}
 use Rattle.larch_flat_meaning.proofs.Variables.{Binds, Named, Says, both_hold, flat_says, item_words, of_number}
 use Rattle.larch_flat_meaning.proofs.Variables.{renamed_binds, renamed_marks, renamed_says, variables_words}
 use Rattle.larch_flat_meaning.proofs.Words.{operators_words, stated_words}
-use Rattle.larch_duties_meaning.specs.Conversions.{Conversion, Copied, by_copies, bytes_of, clause_over, clause_theory, copies}
+use Rattle.larch_duties_meaning.specs.Conversions.{Conversion, Copied, by_copies, bytes_of, clause_over, clause_theory}
+use Rattle.larch_duties_meaning.specs.Conversions.{copies}
 use Rattle.larch_duties_meaning.specs.Conversions.{conversion_of, copy_of, has_one_of, names_one_of, take_converted}
 use Rattle.larch_duties_meaning.specs.Conversions.{take_exempted}
 use Rattle.larch_duties_meaning.specs.Duties.{Duties, Duty, all_duties, arguments, duties, is_its_copy, with_clauses}

@@ -90,7 +90,7 @@ with_clauses own ss =
 unfoldable pub duties : ℕ → Files → FlatTrait → Result Duties Stop
 duties limit files own = after (implied_statements limit files own) (λ ss. surely (with_clauses own ss))
 
--- the duties of the trait of a name among at most so many files, or what is wrong first: its flat trait comes before its
--- claims
+-- the duties of the trait of a name among at most so many files, or what is wrong first: its flat trait comes before
+-- its claims
 abbrev pub duties_named : ℕ → Files → List ℕ → Result Duties Stop
 duties_named limit files name = after (flat limit files name) (duties limit files)

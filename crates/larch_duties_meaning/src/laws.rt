@@ -17,8 +17,8 @@ pub fn duties_are_sound()
         → flat limit files name ≡ Ok own → duties limit files own ≡ Ok d → All IsSoundDuty (all_duties d) }
 {}
 
-/// Each sort and each variable in a duty, in its theory and in its statement, is a word, where all files are written with
-/// words.
+/// Each sort and each variable in a duty, in its theory and in its statement, is a word, where all files are written
+/// with words.
 pub fn duties_are_in_words()
     ensures { (files : Files) → AreWorded files → (limit : ℕ) (name : List ℕ) (own : FlatTrait) (d : Duties)
         → flat limit files name ≡ Ok own → duties limit files own ≡ Ok d → All IsDutyInWords (all_duties d) }

@@ -1,6 +1,7 @@
 -- What is reached over all references decides.
 use Rattle.std.proofs.Common.{◌≡◌, ◌≢◌, refl, ℕ, zero, suc, ◌≤◌, ◌+◌, ◌-◌, true, false, length, ap, sym, subst, ◌∙◌}
-use Rattle.std.proofs.Common.{arith, inl, inr, ◌⊎◌, ◌↔◌, Option, Some, None, List, [], ◌∷◌, ◌++◌, map, Contains, Result, Ok, Err}
+use Rattle.std.proofs.Common.{arith, inl, inr, ◌⊎◌, ◌↔◌, Option, Some, None, List, [], ◌∷◌, ◌++◌, map, Contains, Result}
+use Rattle.std.proofs.Common.{Ok, Err}
 use Rattle.std.specs.Prelude.{AllPairs, bytes_eq}
 use Rattle.std.specs.List.{list_any}
 use Rattle.std.proofs.lemmas.List.Quantifiers.{all_pairs_push}
@@ -161,7 +162,8 @@ module _ (files : Files) where
 
   -- each name is reached once
   pub reached_different : (name : List ℕ) (names : Names) → AreReached files name names → AllPairs (λ a b. a ≢ b) names
-  reached_different name names v = still_different [] (name ∷ []) names v (λ i j d lt within. absurd (omega (arith, within)))
+  reached_different name names v =
+      still_different [] (name ∷ []) names v (λ i j d lt within. absurd (omega (arith, within)))
 
   -- in one order
   pub reached_one : (name : List ℕ) (names others : Names) → AreReached files name names

@@ -1,5 +1,6 @@
 -- What examples are written with, and the traits of the examples.
-use Rattle.std.specs.Prelude.{ℕ, zero, suc, Bool, true, false, bytes_eq, codes, List, [], ◌∷◌, map, Some, None, Result, Ok, Err}
+use Rattle.std.specs.Prelude.{ℕ, zero, suc, Bool, true, false, bytes_eq, codes, List, [], ◌∷◌, map, Some, None, Result}
+use Rattle.std.specs.Prelude.{Ok, Err}
 use Rattle.std.specs.Prelude.{replicate}
 use Rattle.std.specs.Fmt.{digits}
 use Rattle.std.specs.Map.{lookup}

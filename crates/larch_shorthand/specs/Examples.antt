@@ -45,8 +45,8 @@ abbrev pub set_b : PlainOperator
 set_b = operator (codes "set_b") (codes "P" ∷ codes "B" ∷ []) (codes "P")
 
 -- the tuple of two terms
-abbrev pub paired : Tree → Tree → Tree
-paired a b = app pair (forest_of (a ∷ b ∷ []))
+abbrev pub pair_term : Tree → Tree → Tree
+pair_term a b = app pair (forest_of (a ∷ b ∷ []))
 
 -- variables of both sorts
 abbrev pub of_a : List ℕ → Tree
@@ -58,7 +58,7 @@ of_b name = var name (codes "B")
 -- what such a tuple stands for
 abbrev pub made_pair : Expansion
 made_pair =
-    let whole : Tree = paired (of_a (codes "x1")) (of_b (codes "x2")) in
+    let whole : Tree = pair_term (of_a (codes "x1")) (of_b (codes "x2")) in
     record {
       operators = pair ∷ get_a ∷ get_b ∷ set_a ∷ set_b ∷ [];
       statements =
@@ -66,8 +66,8 @@ made_pair =
           ∷ Partitioned (codes "P") (get_a ∷ get_b ∷ [])
           ∷ Equation (on get_a whole) (of_a (codes "x1"))
           ∷ Equation (on get_b whole) (of_b (codes "x2"))
-          ∷ Equation (on_two set_a whole (of_a (codes "z"))) (paired (of_a (codes "z")) (of_b (codes "x2")))
-          ∷ Equation (on_two set_b whole (of_b (codes "z"))) (paired (of_a (codes "x1")) (of_b (codes "z")))
+          ∷ Equation (on_two set_a whole (of_a (codes "z"))) (pair_term (of_a (codes "z")) (of_b (codes "x2")))
+          ∷ Equation (on_two set_b whole (of_b (codes "z"))) (pair_term (of_a (codes "x1")) (of_b (codes "z")))
           ∷ [];
     }
 

@@ -8,13 +8,13 @@ use larch_term::BuiltIn;
 // So many sorts of one term are many: a table of them is large.
 const MANY: usize = 64;
 
-// Counts go through all operators of a name, tables through those that can take the arguments: where a name has more than
-// so many times as many operators as any part has sorts, tables take less.
+// Counts go through all operators of a name, tables through those that can take the arguments: where a name has more
+// than so many times as many operators as any part has sorts, tables take less.
 const SHARE: usize = 16;
 
 // At how many sorts a term reads at most, as far as names and known sorts tell; whether the table of it, or that of one
-// of its parts, may be large; at how many sorts any part reads at most; and how many operators a name with arguments has
-// at most. Names without arguments have their tables before.
+// of its parts, may be large; at how many sorts any part reads at most; and how many operators a name with arguments
+// has at most. Names without arguments have their tables before.
 #[derive(Clone, Copy)]
 struct Width {
     sorts: usize,

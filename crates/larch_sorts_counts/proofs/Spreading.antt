@@ -45,7 +45,8 @@ spread_held (suc n) zero [] (suc i) k e l = spread_held n zero [] i i (omega ari
 spread_held (suc n) zero (c ∷ held) zero zero e l = refl
 spread_held (suc n) zero (c ∷ held) zero (suc k) e l = absurd (omega (arith, e))
 spread_held (suc n) zero (c ∷ held) (suc i) zero e l = absurd (omega (arith, e))
-spread_held (suc n) zero (c ∷ held) (suc i) (suc k) e l = spread_held n zero held i k (omega (arith, e)) (omega (arith, l))
+spread_held (suc n) zero (c ∷ held) (suc i) (suc k) e l =
+    spread_held n zero held i k (omega (arith, e)) (omega (arith, l))
 spread_held (suc n) (suc first) held zero k e l = absurd (omega (arith, e))
 spread_held (suc n) (suc first) held (suc i) k e l = spread_held n first held i k (omega (arith, e)) (omega (arith, l))
 

@@ -156,7 +156,7 @@ pub(crate) fn made_between(numbers: usize, operators: &[Numbered]) -> (usize, us
     let mut first = numbers;
     let mut end = 0;
     for operator in operators {
-        let (least, most) = widened(first, end, numbers, operator.range);
+        let (least, most) = range_with(first, end, numbers, operator.range);
         first = least;
         end = most;
     }
@@ -164,7 +164,7 @@ pub(crate) fn made_between(numbers: usize, operators: &[Numbered]) -> (usize, us
 }
 
 // The two numbers, so that one more lies between them.
-fn widened(first: usize, end: usize, numbers: usize, number: usize) -> (usize, usize)
+fn range_with(first: usize, end: usize, numbers: usize, number: usize) -> (usize, usize)
     ensures first { result.0 ≤ first }
     ensures end { end ≤ result.1 }
     ensures within { end ≤ numbers → result.1 ≤ numbers }

@@ -32,7 +32,7 @@ use Rattle.larch_verify_meaning.specs.Run.{judge, box_opens, done_closes, happen
 use Rattle.larch_verify_law.specs.Carrying.{IsEquation, IsMove, KeepsCited, NamesAlike, IsEarly, Matches, outermost}
 use Rattle.larch_verify_law.specs.Carrying.{inside, EndsAlike, EndsMoved, Follows, EachLine}
 use Rattle.larch_verify_law.specs.Moves.{Move, moved_equation, moved_binding, moved_part, moved_variable}
-use Rattle.larch_verify_law.specs.Moves.{moved_line, moved_box, carried}
+use Rattle.larch_verify_law.specs.Moves.{moved_line, moved_box, carry_lines}
 use Rattle.larch_verify_law.proofs.MovedClauses.{observed_moved, generated_moved, partitioned_moved}
 use Rattle.larch_verify_law.proofs.MovedRules.{exchange_moved, instance_moved, replace_moved, stated_moved, fresh_moved}
 use Rattle.larch_verify_law.proofs.MovedRules.{moved_closed, cases_moved, ClosedMoved, induct_moved}
@@ -502,7 +502,7 @@ pub run_carried : (t u : Theory) (instead : ℕ → Line → List Line) (R : Sta
     → ((st su next : State) (l : Line) → R st su → P (suc st.count) l → step t st l ≡ Some next
     → (other : State) × (run u su (instead (suc st.count) l) ≡ Some other) × R next other)
     → (ls : List Line) (st su last : State) → EachLine P (suc st.count) ls → R st su → run t st ls ≡ Some last
-    → (other : State) × (run u su (carried instead (suc st.count) ls) ≡ Some other) × R last other
+    → (other : State) × (run u su (carry_lines instead (suc st.count) ls) ≡ Some other) × R last other
 run_carried t u instead R P k [] st su last all r e = (su, refl, subst (λ z. R z su) (some_inj e) r)
 run_carried t u instead R P k (l ∷ ls) st su last all r e =
     option_and_then_some (λ v. run t v ls) (step t st l) last e
@@ -512,9 +512,9 @@ run_carried t u instead R P k (l ∷ ls) st su last all r e =
     let rest = run_carried t u instead R P k ls next one.0 last (subst (λ i. EachLine P (suc i) ls)
     (sym n) all.1) one.2 q in (
       rest.0,
-      run_append u su (instead (suc st.count) l) (carried instead (suc (suc st.count)) ls)
-          ∙ ap (option_and_then (λ v. run u v (carried instead (suc (suc st.count)) ls))) one.1
-          ∙ ap (λ i. run u one.0 (carried instead (suc i) ls)) (sym n) ∙ rest.1,
+      run_append u su (instead (suc st.count) l) (carry_lines instead (suc (suc st.count)) ls)
+          ∙ ap (option_and_then (λ v. run u v (carry_lines instead (suc (suc st.count)) ls))) one.1
+          ∙ ap (λ i. run u one.0 (carry_lines instead (suc i) ls)) (sym n) ∙ rest.1,
       rest.2,
     ))
 
@@ -533,7 +533,7 @@ next_along : (m : Move) (st su next other : State) → next.count ≡ suc st.cou
 next_along m st su next other p q f k i =
     ap f (omega (arith, p)) ∙ k (suc i) ∙ omega (arith, q)
 
-moved_each : (f : Line → Line) (n : ℕ) (ls : List Line) → carried (λ k l. f l ∷ []) n ls ≡ map f ls
+moved_each : (f : Line → Line) (n : ℕ) (ls : List Line) → carry_lines (λ k l. f l ∷ []) n ls ≡ map f ls
 moved_each f n [] = refl
 moved_each f n (l ∷ ls) = ap (λ ks. f l ∷ ks) (moved_each f (suc n) ls)
 

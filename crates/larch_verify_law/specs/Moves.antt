@@ -85,6 +85,6 @@ moved_box m b =
 
 -- lines, the first having a number, each with other lines in its stead: one where it is moved, none where it is left
 -- out, several where some are put in
-abbrev pub carried : (ℕ → Line → List Line) → ℕ → List Line → List Line
-carried f n [] = []
-carried f n (l ∷ ls) = f n l ++ carried f (suc n) ls
+abbrev pub carry_lines : (ℕ → Line → List Line) → ℕ → List Line → List Line
+carry_lines f n [] = []
+carry_lines f n (l ∷ ls) = f n l ++ carry_lines f (suc n) ls

@@ -4,12 +4,12 @@ use Rattle.larch_sorts_counts.proofs.tally.made_between.Goals as goal
 
 pub loop-operator-preserved : goal.loop-operator-preserved
 loop-operator-preserved c = record {
-  first = let a = c.widened-least.ensures.first in let b = c.loop-operator.invariant.first in omega arith;
-  end = c.widened-least.ensures.within c.loop-operator.invariant.end;
+  first = let a = c.range_with-least.ensures.first in let b = c.loop-operator.invariant.first in omega arith;
+  end = c.range_with-least.ensures.within c.loop-operator.invariant.end;
   lie = lie_more c.args.operators.now c.args.numbers c.loop-operator.operator-index c.operator-item.result
-      c.loop-operator.first c.loop-operator.end c.widened-least.result.0 c.widened-least.result.1
-      c.loop-operator-test.true c.operator-item.is c.widened-least.ensures.first c.widened-least.ensures.end
-      c.widened-least.ensures.lies c.loop-operator.invariant.lie;
+      c.loop-operator.first c.loop-operator.end c.range_with-least.result.0 c.range_with-least.result.1
+      c.loop-operator-test.true c.operator-item.is c.range_with-least.ensures.first c.range_with-least.ensures.end
+      c.range_with-least.ensures.lies c.loop-operator.invariant.lie;
 }
 
 pub returns-clause-lie : goal.returns-clause-lie
