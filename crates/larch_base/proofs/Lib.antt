@@ -1,4 +1,5 @@
 pub mod Bools
 pub mod Lists
 pub mod Members
+pub mod Numbers
 pub mod Options

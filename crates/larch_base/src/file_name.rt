@@ -128,8 +128,8 @@ impl Ord for FileName {
     }
 }
 
-/// Whether the bytes are a stem: 1 to 64 letters, digits and `_`.
-fn is_stem(bytes: &[u8]) -> bool
+/// Whether the bytes are a stem: 1 to 64 letters, digits and `_`. It takes no memory.
+pub fn is_stem(bytes: &[u8]) -> bool
     ensures { result ≡ is_stem bytes.now }
 {
     0 < bytes.len() && bytes.len() <= MAX_STEM_BYTES as usize && all_stem_bytes(bytes)

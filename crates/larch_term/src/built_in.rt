@@ -55,8 +55,7 @@ impl BuiltIn {
         let domain = self.domain(alloc, &truth, sort)?;
         let range = self.range(&truth, sort)?;
         let name = Name::new(alloc, self.name())?;
-        let operator = Operator::new(alloc, name, domain, range)?;
-        Ok(operator)
+        Operator::new(alloc, name, domain, range)
     }
 
     /// The operator at `Bool` as a term without arguments: of `True` and of `False` the truth value.
@@ -74,22 +73,13 @@ impl BuiltIn {
     {
         match self {
             BuiltIn::True | BuiltIn::False => Ok(Sequence::new(alloc)),
-            BuiltIn::Not => {
-                let sorts = sorts_of(alloc, &[truth])?;
-                Ok(sorts)
-            }
-            BuiltIn::And | BuiltIn::Or | BuiltIn::Implies | BuiltIn::Iff => {
-                let sorts = sorts_of(alloc, &[truth, truth])?;
-                Ok(sorts)
-            }
-            BuiltIn::Equal | BuiltIn::Unequal => {
-                let sorts = sorts_of(alloc, &[sort, sort])?;
-                Ok(sorts)
-            }
-            BuiltIn::If => {
-                let sorts = sorts_of(alloc, &[truth, sort, sort])?;
-                Ok(sorts)
-            }
+            BuiltIn::Not => sorts_of(alloc, &[truth]),
+            BuiltIn::And | BuiltIn::Or | BuiltIn::Implies | BuiltIn::Iff => sorts_of(
+                alloc,
+                &[truth, truth],
+            ),
+            BuiltIn::Equal | BuiltIn::Unequal => sorts_of(alloc, &[sort, sort]),
+            BuiltIn::If => sorts_of(alloc, &[truth, sort, sort]),
         }
     }
 
@@ -98,14 +88,8 @@ impl BuiltIn {
         ensures { IfOk result (λ range. range ≡ built_in_range self sort.now) }
     {
         match self {
-            BuiltIn::If => {
-                let range = sort.copy()?;
-                Ok(range)
-            }
-            _ => {
-                let range = truth.copy()?;
-                Ok(range)
-            }
+            BuiltIn::If => sort.copy(),
+            _ => truth.copy(),
         }
     }
 }
@@ -261,8 +245,7 @@ fn are_three(sorts: &[Sort], name: &[u8], second: &[u8], third: &[u8]) -> bool
 pub fn bool_sort(alloc: Global) -> Result<Sort, Memory>
     ensures { IfOk result (λ sort. sort ≡ bool_sort) }
 {
-    let sort = Name::new(alloc, b"Bool")?;
-    Ok(sort)
+    Name::new(alloc, b"Bool")
 }
 
 // A list of copies.

@@ -13,10 +13,7 @@ pub fn copy(alloc: Global, term: &Term) -> Result<Term, Memory>
     ensures { IfOk result (λ t. t ≡ term.now) }
 {
     match &term.node {
-        Node::Var(name, sort) => {
-            let copied = copy_variable(name, sort)?;
-            Ok(copied)
-        }
+        Node::Var(name, sort) => copy_variable(name, sort),
         Node::App(operator, arguments) => {
             let arguments = copy_all(alloc, arguments)?;
             let operator = operator.copy()?;

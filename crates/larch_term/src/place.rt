@@ -81,10 +81,7 @@ fn put(alloc: Global, term: &Term, place: &[u32], by: &Term) -> Result<Term, Mem
         return Ok(copied);
     };
     match &term.node {
-        Node::Var(name, sort) => {
-            let copied = copy_variable(name, sort)?;
-            Ok(copied)
-        }
+        Node::Var(name, sort) => copy_variable(name, sort),
         Node::App(operator, arguments) => {
             let arguments = put_in(alloc, arguments, *number, rest, by)?;
             let operator = operator.copy()?;

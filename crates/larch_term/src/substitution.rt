@@ -77,8 +77,7 @@ impl Substitution {
 pub fn substitute(alloc: Global, term: &Term, by: &Substitution) -> Result<Term, Memory>
     ensures { IfOk result (λ t. t ≡ instance_of by.now term.now) }
 {
-    let substituted = substitute_by(alloc, term, by.as_slice())?;
-    Ok(substituted)
+    substitute_by(alloc, term, by.as_slice())
 }
 
 #[cycle(substitute)]
@@ -87,10 +86,7 @@ fn substitute_by(alloc: Global, term: &Term, by: &[Entry]) -> Result<Term, Memor
     ensures { IfOk result (λ t. t ≡ instance_of by.now term.now) }
 {
     match &term.node {
-        Node::Var(name, sort) => {
-            let image = image(alloc, by, name, sort)?;
-            Ok(image)
-        }
+        Node::Var(name, sort) => image(alloc, by, name, sort),
         Node::App(operator, arguments) => {
             let arguments = substitute_all(alloc, arguments, by)?;
             let operator = operator.copy()?;
@@ -121,6 +117,5 @@ fn image(alloc: Global, by: &[Entry], name: &Name, sort: &Sort) -> Result<Term, 
             return Ok(image);
         }
     }
-    let kept = copy_variable(name, sort)?;
-    Ok(kept)
+    copy_variable(name, sort)
 }
