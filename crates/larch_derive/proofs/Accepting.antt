@@ -1,7 +1,8 @@
 -- What the last line says where no box is open is what the certificate is accepted for.
-use Rattle.std.proofs.Common.{◌≡◌, ◌≤◌, ◌<◌, ◌-◌, ◌==◌, ℕ, suc, cond, List, [], ◌∷◌, ◌++◌, map, length, All, Contains}
+use Rattle.std.proofs.Common.{◌≡◌, ◌≤◌, ◌<◌, ◌-◌, ◌==◌, ℕ, suc, false, cond, List, [], ◌∷◌, ◌++◌, map, length, All, Contains}
 use Rattle.std.proofs.Common.{Option, Some, None, refl, sym, ◌∙◌, ap, subst, arith}
-use Rattle.std.specs.Option.{option_map}
+use Rattle.std.specs.Option.{option_map, option_map_or}
+use Rattle.std.proofs.lemmas.List.{length-append}
 use Rattle.std.proofs.lemmas.Option.{option_and_then_some}
 use Rattle.std.proofs.lemmas.List.Elements.{All-head, All-tail}
 use Rattle.larch_base.proofs.Options.{some_inj}
@@ -25,11 +26,18 @@ use Rattle.larch_verify_meaning.specs.Acceptance.{Accepts, last_statement}
 use Rattle.larch_verify_meaning.specs.Context.{theory_of, find_line, find_symbol, innermost}
 use Rattle.larch_verify_meaning.specs.Decoding.{each, decode_equation}
 use Rattle.larch_verify_meaning.specs.Events.{PlainBox, Event, Said, Opened, Closed, State, start}
+use Rattle.larch_verify_meaning.specs.LastLine.{is_clause, states_clause, ends_with_stated_clause}
+use Rattle.larch_verify_meaning.specs.LastLine.{EndsWithoutStatedClause}
+use Rattle.larch_verify_meaning.specs.Rules.{axiom_says}
 use Rattle.larch_verify_meaning.specs.Run.{judge, happens, done_closes, box_opens, run, step}
 use Rattle.larch_derive.specs.declared.builder.Builder.{Builder}
 use Rattle.larch_derive.specs.OpenBox.{in_lines, naming}
 use Rattle.larch_derive.specs.Predicates.{shapes_of, written_term, written_statement, SaysIn, HasStatement}
+use Rattle.larch_derive.specs.Finished.{IsFinished}
+use Rattle.larch_derive.specs.Builder.{IsPushed}
 use Rattle.larch_derive.proofs.Decoding.{known_plain, stays_in_lines}
+use Rattle.larch_derive.proofs.Growth.{said_stands}
+use Rattle.larch_derive.proofs.Words.{writable}
 use Rattle.larch_derive.proofs.Runs.{mapped_some, run_count}
 
 -- ---- no box
@@ -219,3 +227,80 @@ accepted b n s (st, x) e is =
       last = last_found st.count st.history s (ends_run b.theory b.lines start st h.stand.runs tt)
           (ap (find_line st.history) (sym last) ∙ h.says ∙ ap Some same);
     }
+
+-- ---- what the last line is
+
+one_ends : (t : Theory) (line : Line) (st u : State) (l r : Tree) → step t st line ≡ Some u
+    → find_line u.history u.count ≡ Some (Equation l r) → states_clause t line ≡ false
+one_ends t (Axiom k) st u l r e f =
+    mapped_some (λ h. record { count = suc st.count; history = h })
+    (option_map (λ s. Said (suc st.count) s ∷ st.history) (axiom_says t k)) u e
+    (λ h p q.
+    mapped_some (λ s. Said (suc st.count) s ∷ st.history) (axiom_says t k) h p
+    (λ s a b.
+    let found : find_line (Said (suc st.count) s ∷ st.history) (suc st.count) ≡ Some (Equation l r) =
+    ap (λ y. find_line y (suc st.count)) b ∙ ap (λ w. find_line w.history w.count) q ∙ f in
+    let here : Some s ≡ Some (Equation l r) =
+    sym (same_number (suc st.count) (suc st.count) s (find_line st.history (suc st.count)) refl) ∙ found in
+    ap (λ o. option_map_or is_clause o false) (a ∙ here)))
+one_ends t (Hyp b k) st u l r e f = refl
+one_ends t (Row k z) st u l r e f = refl
+one_ends t (Refl x) st u l r e f = refl
+one_ends t (Sym m) st u l r e f = refl
+one_ends t (Inst m bs) st u l r e f = refl
+one_ends t (Repl m p k) st u l r e f = refl
+one_ends t (Equal m) st u l r e f = refl
+one_ends t (BoxLine ps es) st u l r e f = refl
+one_ends t Done st u l r e f = refl
+one_ends t (Fresh b vs) st u l r e f = refl
+one_ends t (Cases b d) st u l r e f = refl
+one_ends t (Induct m x q bs) st u l r e f = refl
+one_ends t (Observe m q ns) st u l r e f = refl
+one_ends t (GeneratedLine b z ks) st u l r e f = refl
+one_ends t (PartitionedLine b z ks) st u l r e f = refl
+
+-- where the line with the number of the last one says an equation, the last one is no axiom line of a clause
+all_end : (t : Theory) (ls : List Line) (st u : State) (l r : Tree) → run t st ls ≡ Some u
+    → find_line u.history u.count ≡ Some (Equation l r) → EndsWithoutStatedClause t ls
+all_end t [] st u l r e f = refl
+all_end t (x ∷ []) st u l r e f =
+    option_and_then_some (λ w. run t w []) (step t st x) u e
+    (λ v p q. one_ends t x st v l r p (ap (λ w. find_line w.history w.count) (some_inj q) ∙ f))
+all_end t (x ∷ y ∷ ys) st u l r e f =
+    option_and_then_some (λ w. run t w (y ∷ ys)) (step t st x) u e (λ v p q. all_end t (y ∷ ys) v u l r q f)
+
+pub equation_ends : (b : Builder) (n : ℕ) (l r : Tree) → HasStatement b n (Equation l r) → n ≡ length b.lines
+    → EndsWithoutStatedClause b.theory b.lines
+unfolding HasStatement
+equation_ends b n l r (st, h) is =
+    let count = run_count b.theory b.lines start st h.stand.runs in
+    let last : n ≡ st.count = omega (arith, count, is) in
+    all_end b.theory b.lines start st (written_term b.boxes l) (written_term b.boxes r) h.stand.runs
+    (ap (find_line st.history) (sym last) ∙ h.says)
+
+last_of : (t : Theory) (ls : List Line) (line : Line)
+    → ends_with_stated_clause t (ls ++ line ∷ []) ≡ states_clause t line
+last_of t [] line = refl
+last_of t (x ∷ []) line = refl
+last_of t (x ∷ y ∷ ys) line = last_of t (y ∷ ys) line
+
+pub pushed_ends : (a b : Builder) (line : Line) (n : ℕ) → IsPushed a b line n → states_clause a.theory line ≡ false
+    → EndsWithoutStatedClause b.theory b.lines
+pushed_ends a b line n p e =
+    ap (λ t. ends_with_stated_clause t b.lines) p.theory ∙ ap (ends_with_stated_clause a.theory) p.lines
+    ∙ last_of a.theory a.lines line ∙ e
+
+pub pushed_last : (a b : Builder) (line : Line) (n : ℕ) → IsPushed a b line n → n ≡ length b.lines
+pushed_last a b line n p =
+    let long = length-append a.lines (line ∷ []) in
+    let number = p.number in
+    let same = ap length p.lines in omega (arith, long, number, same)
+
+pub clause_finished : (b : Builder) (n : ℕ) (s : Statement) → HasStatement b n s → b.boxes ≡ [] → n ≡ length b.lines
+    → EndsWithoutStatedClause b.theory b.lines → IsFinished b.theory s b.lines
+clause_finished b n s h e is ends =
+    record { accepted = accepted b n s h e is; writable = writable b (said_stands b n s h); ends = ends }
+
+pub equation_finished : (b : Builder) (n : ℕ) (l r : Tree) → HasStatement b n (Equation l r) → b.boxes ≡ []
+    → n ≡ length b.lines → IsFinished b.theory (Equation l r) b.lines
+equation_finished b n l r h e is = clause_finished b n (Equation l r) h e is (equation_ends b n l r h is)

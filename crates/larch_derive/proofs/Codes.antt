@@ -18,7 +18,7 @@ use Rattle.larch_term.specs.declared.statement.Statement.{Statement}
 use Rattle.larch_term.specs.declared.statement.Statement.TheVariants.{Equation, Generated, Partitioned}
 use Rattle.larch_certificate.specs.Coded.{CodedTree, coded_forest_of}
 use Rattle.larch_certificate.specs.declared.line.CodedEquation.{CodedEquation}
-use Rattle.larch_derive.specs.Coding.{IsSymbolOf, IsCodeOf, AreCodesOf, AreCodesOfEquations}
+use Rattle.larch_derive.specs.Coding.{IsNameOf, IsCodeOf, AreCodesOf, AreCodesOfEquations}
 use Rattle.larch_derive.specs.declared.open_box.OpenBox.{OpenBox}
 
 pub codes_push : (bs : List OpenBox) (fs : List PlainOperator) (ts : List Tree) (cs : List CodedTree) (t : Tree)
@@ -146,9 +146,9 @@ numbered_at xs k x le e = cond-false (k == 0) None (slice_get xs (k - 1)) (not_z
     not_zero (suc k) le = grind arith
 
 pub own_symbol : (bs : List OpenBox) (fs : List PlainOperator) (f : PlainOperator) (k : ℕ) → constant_of bs f ≡ None
-    → (IsBuiltIn f → ⊥) → place_from 1 fs f ≡ Some k → IsSymbolOf bs fs f (Own k)
+    → (IsBuiltIn f → ⊥) → place_from 1 fs f ≡ Some k → IsNameOf bs fs f (Own k)
 own_symbol bs fs f k a b e = let p = place_got 1 fs f k e in (a, b, λ c. numbered_at fs k f p.0 p.1)
 
 pub no_symbol : (bs : List OpenBox) (fs : List PlainOperator) (f : PlainOperator) (k : ℕ) → constant_of bs f ≡ None
-    → (IsBuiltIn f → ⊥) → place_from 1 fs f ≡ None → IsSymbolOf bs fs f (Own k)
+    → (IsBuiltIn f → ⊥) → place_from 1 fs f ≡ None → IsNameOf bs fs f (Own k)
 no_symbol bs fs f k a b e = (a, b, λ c. absurd (place_none 1 fs f e c))

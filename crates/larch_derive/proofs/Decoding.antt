@@ -25,7 +25,7 @@ use Rattle.larch_verify_meaning.specs.Context.{theory_of, find_open, find_symbol
 use Rattle.larch_verify_meaning.specs.Decoding.{decode, decode_all, applied_to}
 use Rattle.larch_verify_meaning.specs.Events.{PlainBox, Event, Said, Opened, Closed, operators_of, operators_from}
 use Rattle.larch_verify_meaning.specs.Events.{part_operator}
-use Rattle.larch_derive.specs.Coding.{IsSymbolOf, IsCodeOf, AreCodesOf}
+use Rattle.larch_derive.specs.Coding.{IsNameOf, IsCodeOf, AreCodesOf}
 use Rattle.larch_derive.specs.OpenBox.{constant_of, in_lines, name_in_lines, naming}
 use Rattle.larch_derive.specs.declared.open_box.OpenBox.{OpenBox}
 use Rattle.larch_derive.proofs.Codes.{numbered_at}
@@ -179,7 +179,7 @@ known_plain t p h c bs f g e w = by_name f.name refl
     by_name (boxed b k) q = absurd (refuted b k q)
 
 pub symbol_means : (t : Theory) → HasPlainNames t → (h : List Event) (c : ℕ) (bs : List OpenBox) (f : PlainOperator)
-    (g : Symbol) → GoDown c h → IsSymbolOf bs t.operators f g → IsKnown (theory_of t h).operators (in_lines bs f)
+    (g : Symbol) → GoDown c h → IsNameOf bs t.operators f g → IsKnown (theory_of t h).operators (in_lines bs f)
     → find_symbol t h g f.domain ≡ Some (in_lines bs f)
 symbol_means t p h c bs f (Constant b k) d e w =
     let z : (in_lines bs f).name ≡ boxed b k = ap (λ o. name_in_lines o f.name) e in
@@ -222,7 +222,7 @@ mutual
       let us = renamed_all (naming bs) ts in
       let sorts : sorts_of us ≡ f.domain = w.0.0 in
       let found : find_symbol t h x (sorts_of us) ≡ Some (in_lines bs f) =
-      ap (find_symbol t h x) sorts ∙ symbol_means t p h c bs f x g e.0 w.1.0 in
+      ap (find_symbol t h x) sorts ∙ symbol_means t p h c bs f x g e.0.0 w.1.0 in
       ap (option_and_then (λ vs. option_and_then (applied_to vs) (find_symbol t h x (sorts_of vs))))
       (all_written_mean t p h c bs g ts ds e.1 (w.0.1, w.1.1))
       ∙ ap (option_and_then (applied_to us)) found

@@ -107,7 +107,8 @@ leads_twice P later t st xs ys x y =
     }
 
 pub grows_refl : (P : ℕ → Event → Type 0) (t : Theory) (ls : List Line) → GrowsBy P t ls ls
-grows_refl P t ls = record { more = []; lines = sym (append-nil ls); leads = λ st r. nothing_leads P t st }
+grows_refl P t ls =
+    record { more = []; lines = sym (append-nil ls); leads = λ st r. nothing_leads P t st; fits = λ w. w }
 
 pub grows_twice : (P : ℕ → Event → Type 0) → ((c d : ℕ) → c ≤ d → (e : Event) → P d e → P c e)
     → (t : Theory) (ls ks js : List Line) → GrowsBy P t ls ks → GrowsBy P t ks js → GrowsBy P t ls js
@@ -119,6 +120,7 @@ grows_twice P later t ls ks js x y =
           let m = x.leads st r in
           leads_twice P later t st x.more y.more m
           (y.leads m.state (ap (run t start) x.lines ∙ run_further t start st m.state ls x.more r m.runs));
+      fits = λ w. y.fits (x.fits w);
     }
 
 pub grows_as : (P Q : ℕ → Event → Type 0) → ((c : ℕ) (e : Event) → P c e → Q c e)
@@ -137,6 +139,7 @@ grows_as P Q h t ls ks x =
             history = m.history;
             behind = All-weaker (P st.count) (Q st.count) (h st.count) m.events m.behind;
           };
+      fits = x.fits;
     }
 
 -- ---- what stays
@@ -172,6 +175,9 @@ later_stand t bs ls ks st h x =
       opened = later_shapes t bs ls ks st h x;
       plain = h.plain;
       others = h.others;
+      worded = h.worded;
+      parts = h.parts;
+      fits = x.fits h.fits;
     }
 
 pub stays_stand : (t : Theory) (bs : List OpenBox) (ls ks : List Line) → ((st : State) × StandIn t bs ls st)
@@ -192,6 +198,7 @@ stays_in t bs ls ks n s (st, h) x =
         within = omega (arith, a, b);
         over = subst (λ u. IsStatementOver u.operators (written_statement bs s))
             (sym (later_theory t ls ks st h.stand.runs x)) h.over;
+        words = h.words;
       },
     )
 
@@ -203,6 +210,7 @@ known_in_later t bs ls ks a (st, h) x = (
     stand = later_stand t bs ls ks st h.stand x;
     over = subst (λ u. IsTermOver u.operators (written_term bs a))
         (sym (later_theory t ls ks st h.stand.runs x)) h.over;
+    words = h.words;
   },
 )
 
@@ -276,11 +284,11 @@ stays_known a b t x h = grown_known a b t (extends_grows a b x) h
 
 pub known_left : (a : Builder) (n : ℕ) (l r : Tree) → HasStatement a n (Equation l r) → Known a l
 unfolding HasStatement Known
-known_left a n l r (st, h) = (st, record { stand = h.stand; over = h.over.0 })
+known_left a n l r (st, h) = (st, record { stand = h.stand; over = h.over.0; words = h.words.0 })
 
 pub known_right : (a : Builder) (n : ℕ) (l r : Tree) → HasStatement a n (Equation l r) → Known a r
 unfolding HasStatement Known
-known_right a n l r (st, h) = (st, record { stand = h.stand; over = h.over.1 })
+known_right a n l r (st, h) = (st, record { stand = h.stand; over = h.over.1; words = h.words.1 })
 
 pub known_stands : (a : Builder) (t : Tree) → Known a t → HasNoBadLine a
 unfolding Known HasNoBadLine

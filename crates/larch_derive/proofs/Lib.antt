@@ -6,3 +6,4 @@ pub mod Pushing
 pub mod Runs
 pub mod Start
 pub mod Unchanged
+pub mod Words

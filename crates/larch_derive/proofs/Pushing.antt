@@ -1,6 +1,6 @@
 -- Lines that say something: what they say, and that they extend a builder.
 use Rattle.std.proofs.Common.{◌≡◌, ◌==◌, ℕ, suc, false, cond, List, [], ◌∷◌, Option, Some, None, refl, sym, ◌∙◌, ap}
-use Rattle.std.proofs.Common.{subst, arith}
+use Rattle.std.proofs.Common.{ap₂, subst, arith}
 use Rattle.std.specs.Option.{option_map, option_map_or, option_and_then}
 use Rattle.std.proofs.lemmas.Bool.{cond-true}
 use Rattle.larch_base.proofs.Options.{some_inj}
@@ -13,15 +13,17 @@ use Rattle.larch_term.specs.declared.statement.Statement.{Statement}
 use Rattle.larch_term.specs.declared.statement.Statement.TheVariants.{Equation}
 use Rattle.larch_term.specs.declared.statement.Theory.{Theory}
 use Rattle.larch_term_law.proofs.Places.{put_sort, put_well_sorted, put_over}
+use Rattle.larch_term_law.proofs.Substitutions.{substituted_nil}
 use Rattle.larch_renaming.specs.Renaming.{rename_tree}
 use Rattle.larch_renaming.proofs.Renamed.{at_renamed, renamed_put}
 use Rattle.larch_certificate.specs.Coded.{CodedTree}
 use Rattle.larch_certificate.specs.declared.line.Line.{Line}
-use Rattle.larch_certificate.specs.declared.line.Line.TheVariants.{Refl, Sym, Repl}
+use Rattle.larch_certificate.specs.declared.line.Line.TheVariants.{Refl, Sym, Inst, Repl}
+use Rattle.larch_certificate_text.specs.LineText.{FitLine}
 use Rattle.larch_verify_meaning.specs.Context.{find_line, find_symbol}
 use Rattle.larch_verify_meaning.specs.Decoding.{decode}
 use Rattle.larch_verify_meaning.specs.Events.{State, start}
-use Rattle.larch_verify_meaning.specs.Rules.{exchange_sides, replace_right, stands_at}
+use Rattle.larch_verify_meaning.specs.Rules.{exchange_sides, instance_by, replace_right, stands_at}
 use Rattle.larch_verify_meaning.specs.Run.{judge, run}
 use Rattle.larch_derive.specs.declared.builder.Builder.{Builder}
 use Rattle.larch_derive.specs.declared.open_box.OpenBox.{OpenBox}
@@ -33,6 +35,8 @@ use Rattle.larch_derive.proofs.Growth.{carried, run_further}
 use Rattle.larch_derive.proofs.Runs.{after_saying, run_said, run_count, leads_said, still_open_said, down_run}
 use Rattle.larch_derive.proofs.Decoding.{written_means}
 use Rattle.larch_derive.proofs.Unchanged.{own_written, over_in_boxes}
+use Rattle.larch_derive.proofs.Words.{pushed_fits, term_fits, place_fits, put_worded}
+use Rattle.larch_derive.specs.Words.{IsWordedStatement}
 
 -- a line that says something keeps the theory and the open boxes
 pushed_alike : (a b : Builder) (line : Line) (n : ℕ) (st : State) (s : Statement) → IsPushed a b line n
@@ -41,9 +45,9 @@ pushed_alike a b line n st s p j =
     record { theory = p.theory; boxes = p.boxes ∙ still_open_said a.theory st.history line s j a.boxes }
 
 pub pushed_extends : (a b : Builder) (line : Line) (n : ℕ) (st : State) (s : Statement) → IsPushed a b line n
-    → run a.theory start a.lines ≡ Some st → judge a.theory st.history line ≡ Some s → Extends a b
+    → run a.theory start a.lines ≡ Some st → judge a.theory st.history line ≡ Some s → FitLine line → Extends a b
 unfolding Extends
-pushed_extends a b line n st s p r j = (
+pushed_extends a b line n st s p r j f = (
   pushed_alike a b line n st s p j,
   record {
     more = line ∷ [];
@@ -51,6 +55,7 @@ pushed_extends a b line n st s p r j = (
     leads = λ u q.
         subst (λ w. LeadsOn IsSaidBehind a.theory w (line ∷ [])) (some_inj (sym r ∙ q))
         (leads_said a.theory st line s j);
+    fits = pushed_fits a b line n p f;
   },
 )
 
@@ -59,9 +64,10 @@ found_at m n s o e = grind (arith, e)
 
 pub pushed_says : (a b : Builder) (line : Line) (n : ℕ) (st : State) (s : Statement) → IsPushed a b line n
     → StandIn a.theory a.boxes a.lines st → judge a.theory st.history line ≡ Some (written_statement a.boxes s)
-    → IsStatementOver (operators_at a.theory st) (written_statement a.boxes s) → HasStatement b n s
+    → IsStatementOver (operators_at a.theory st) (written_statement a.boxes s) → FitLine line → IsWordedStatement s
+    → HasStatement b n s
 unfolding HasStatement
-pushed_says a b line n st s p h j w =
+pushed_says a b line n st s p h j w f ws =
     let count = run_count a.theory a.lines start st h.runs in
     let number = p.number in
     let new : n ≡ suc st.count = omega (arith, count, number) in
@@ -77,21 +83,25 @@ pushed_says a b line n st s p h j w =
           opened = h.opened;
           plain = h.plain;
           others = h.others;
+          worded = h.worded;
+          parts = h.parts;
+          fits = pushed_fits a b line n p f h.fits;
         };
         says = found_at (suc st.count) n (written_statement a.boxes s) (find_line st.history n) (sym new);
         within = omega (arith, new);
         over = w;
+        words = ws;
       },
     )
 
 -- a line that says a statement over the theory's own operators
 pub own_says : (a b : Builder) (line : Line) (n : ℕ) (st : State) (s : Statement) → IsPushed a b line n
     → StandIn a.theory a.boxes a.lines st → judge a.theory st.history line ≡ Some s
-    → IsStatementOver a.theory.operators s → HasStatement b n s
-own_says a b line n st s p h j w =
+    → IsStatementOver a.theory.operators s → FitLine line → IsWordedStatement s → HasStatement b n s
+own_says a b line n st s p h j w f ws =
     let e = own_written a.theory a.boxes s h.plain h.others w in
     pushed_says a b line n st s p h (j ∙ ap Some (sym e))
-    (subst (IsStatementOver (operators_at a.theory st)) (sym e) (over_in_boxes a.theory st.history s w))
+    (subst (IsStatementOver (operators_at a.theory st)) (sym e) (over_in_boxes a.theory st.history s w)) f ws
 
 -- ---- refl
 
@@ -110,13 +120,14 @@ pub refl_says : (a b : Builder) (t : Tree) (c : CodedTree) (n : ℕ) → IsCodeI
 unfolding Known
 refl_says a b t c n d p (st, k) =
     pushed_says a b (Refl c) n st (Equation t t) p k.stand (refl_judged a st t c k d) (k.over, k.over, refl)
+    (term_fits a.boxes a.theory.operators t c d k.words) (k.words, k.words)
 
 pub refl_extends : (a b : Builder) (t : Tree) (c : CodedTree) (n : ℕ) → IsCodeIn a t c → IsPushed a b (Refl c) n
     → Known a t → Extends a b
 unfolding Known
 refl_extends a b t c n d p (st, k) =
     pushed_extends a b (Refl c) n st (written_statement a.boxes (Equation t t)) p k.stand.runs
-    (refl_judged a st t c k d)
+    (refl_judged a st t c k d) (term_fits a.boxes a.theory.operators t c d k.words)
 
 -- ---- sym
 
@@ -130,13 +141,14 @@ pub sym_says : (a b : Builder) (m n : ℕ) (l r : Tree) → IsPushed a b (Sym m)
 unfolding HasStatement
 sym_says a b m n l r p (st, h) =
     pushed_says a b (Sym m) n st (Equation r l) p h.stand (sym_judged a st m l r h)
-    (h.over.1, h.over.0, sym h.over.2)
+    (h.over.1, h.over.0, sym h.over.2) p.numbers (h.words.1, h.words.0)
 
 pub sym_extends : (a b : Builder) (m n : ℕ) (l r : Tree) → IsPushed a b (Sym m) n → HasStatement a m (Equation l r)
     → Extends a b
 unfolding HasStatement
 sym_extends a b m n l r p (st, h) =
     pushed_extends a b (Sym m) n st (written_statement a.boxes (Equation r l)) p h.stand.runs (sym_judged a st m l r h)
+    p.numbers
 
 -- ---- repl
 
@@ -186,6 +198,10 @@ repl_over a st m k q l r u v h i e =
       w.2 ∙ sym (put_sort (written_term a.boxes r) q (written_term a.boxes u) (written_term a.boxes v) here (sym x.2)),
     )
 
+repl_fits : (a b : Builder) (m k n : ℕ) (q : List ℕ) (r u : Tree) → IsPushed a b (Repl m q k) n → at r q ≡ Some u
+    → FitLine (Repl m q k)
+repl_fits a b m k n q r u p e = (p.numbers.0, (place_fits r q u e p.numbers.1, p.numbers.2))
+
 pub repl_says : (a b : Builder) (m k n : ℕ) (q : List ℕ) (l r u v : Tree) → IsPushed a b (Repl m q k) n
     → HasStatement a m (Equation l r) → HasStatement a k (Equation u v) → at r q ≡ Some u
     → HasStatement b n (Equation l (put r q v))
@@ -194,7 +210,8 @@ repl_says a b m k n q l r u v p (st, h) (su, i) e =
     let j = subst (λ z. SaysIn a.theory a.boxes a.lines z k (Equation u v))
     (one_state a.theory a.lines st su h.stand.runs i.stand.runs) i in
     pushed_says a b (Repl m q k) n st (Equation l (put r q v)) p h.stand (repl_judged a st m k q l r u v h j e)
-    (repl_over a st m k q l r u v h j e)
+    (repl_over a st m k q l r u v h j e) (repl_fits a b m k n q r u p e)
+    (h.words.0, put_worded r q v h.words.1 j.words.1)
 
 pub repl_extends : (a b : Builder) (m k n : ℕ) (q : List ℕ) (l r u v : Tree) → IsPushed a b (Repl m q k) n
     → HasStatement a m (Equation l r) → HasStatement a k (Equation u v) → at r q ≡ Some u → Extends a b
@@ -203,7 +220,7 @@ repl_extends a b m k n q l r u v p (st, h) (su, i) e =
     let j = subst (λ z. SaysIn a.theory a.boxes a.lines z k (Equation u v))
     (one_state a.theory a.lines st su h.stand.runs i.stand.runs) i in
     pushed_extends a b (Repl m q k) n st (written_statement a.boxes (Equation l (put r q v))) p h.stand.runs
-    (repl_judged a st m k q l r u v h j e)
+    (repl_judged a st m k q l r u v h j e) (repl_fits a b m k n q r u p e)
 
 -- ---- trans: repl at the root
 
@@ -214,3 +231,26 @@ trans_says a b m k n l r v p h i = repl_says a b m k n [] l r r v p h i refl
 pub trans_extends : (a b : Builder) (m k n : ℕ) (l r v : Tree) → IsPushed a b (Repl m [] k) n
     → HasStatement a m (Equation l r) → HasStatement a k (Equation r v) → Extends a b
 trans_extends a b m k n l r v p h i = repl_extends a b m k n [] l r r v p h i refl
+
+-- ---- inst without replacements: what a line says is said once more
+
+pub said_again : (t : Theory) (bs : List OpenBox) (ls : List Line) (st : State) (m : ℕ) (l r : Tree)
+    → SaysIn t bs ls st m (Equation l r)
+    → judge t st.history (Inst m []) ≡ Some (written_statement bs (Equation l r))
+said_again t bs ls st m l r h =
+    ap (option_and_then (instance_by [])) h.says
+    ∙ ap₂ (λ x y. Some (Equation x y)) (substituted_nil (written_term bs l)) (substituted_nil (written_term bs r))
+
+pub again_says : (a b : Builder) (m n : ℕ) (l r : Tree) → IsPushed a b (Inst m []) n → HasStatement a m (Equation l r)
+    → HasStatement b n (Equation l r)
+unfolding HasStatement
+again_says a b m n l r p (st, h) =
+    pushed_says a b (Inst m []) n st (Equation l r) p h.stand (said_again a.theory a.boxes a.lines st m l r h) h.over
+    (p.numbers, tt) h.words
+
+pub again_extends : (a b : Builder) (m n : ℕ) (l r : Tree) → IsPushed a b (Inst m []) n
+    → HasStatement a m (Equation l r) → Extends a b
+unfolding HasStatement
+again_extends a b m n l r p (st, h) =
+    pushed_extends a b (Inst m []) n st (written_statement a.boxes (Equation l r)) p h.stand.runs
+    (said_again a.theory a.boxes a.lines st m l r h) (p.numbers, tt)

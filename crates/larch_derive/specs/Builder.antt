@@ -11,6 +11,7 @@ use Rattle.larch_certificate.specs.declared.line.Line.{Line}
 use Rattle.larch_certificate.specs.declared.line.Line.TheVariants.{Axiom, Hyp, Row, Refl, Sym, Inst, Repl, Equal}
 use Rattle.larch_certificate.specs.declared.line.Line.TheVariants.{BoxLine, Done, Fresh, Cases, Induct, Observe}
 use Rattle.larch_certificate.specs.declared.line.Line.TheVariants.{Generated, Partitioned}
+use Rattle.larch_certificate_text.specs.Parts.{IsSmall, Each}
 use Rattle.larch_derive.specs.declared.builder.Builder.{Builder}
 use Rattle.larch_derive.specs.declared.open_box.OpenBox.{OpenBox}
 use Rattle.larch_derive.specs.Coding.{IsCodeOf, AreCodesOfEquations}
@@ -69,6 +70,25 @@ still_open (Observe m e ns) bs = bs
 still_open (Generated b s ks) bs = bs
 still_open (Partitioned b s ks) bs = bs
 
+-- the numbers of the line that don't stand in its terms are below 2 ^ 64
+abbrev pub HasSmallNumbers : Line → Type 0
+HasSmallNumbers (Axiom k) = IsSmall k
+HasSmallNumbers (Hyp b k) = IsSmall b × IsSmall k
+HasSmallNumbers (Row k s) = IsSmall k
+HasSmallNumbers (Refl c) = Unit {0}
+HasSmallNumbers (Sym m) = IsSmall m
+HasSmallNumbers (Inst m bs) = IsSmall m
+HasSmallNumbers (Repl m p k) = IsSmall m × Each IsSmall p × IsSmall k
+HasSmallNumbers (Equal m) = IsSmall m
+HasSmallNumbers (BoxLine ps es) = Unit {0}
+HasSmallNumbers Done = Unit {0}
+HasSmallNumbers (Fresh b vs) = IsSmall b
+HasSmallNumbers (Cases b c) = IsSmall b × IsSmall c
+HasSmallNumbers (Induct m x e bs) = IsSmall m × Each IsSmall bs
+HasSmallNumbers (Observe m e ns) = IsSmall m × Each IsSmall ns
+HasSmallNumbers (Generated b s ks) = IsSmall b × Each IsSmall ks
+HasSmallNumbers (Partitioned b s ks) = IsSmall b × Each IsSmall ks
+
 -- a builder of the theory without lines
 abbrev pub IsEmpty : Theory → Builder → Type 0
 IsEmpty t b = (b.theory ≡ t) × (b.lines ≡ []) × (b.boxes ≡ [])
@@ -77,12 +97,14 @@ IsEmpty t b = (b.theory ≡ t) × (b.lines ≡ []) × (b.boxes ≡ [])
 abbrev pub IsPushedOnto : Builder → Builder → Line → List OpenBox → Type 0
 IsPushedOnto a b line boxes = (b.theory ≡ a.theory) × (b.lines ≡ a.lines ++ line ∷ []) × (b.boxes ≡ boxes)
 
--- the second builder has one line more, which has the number
+-- the second builder has one line more, which has the number; all these numbers are below 2 ^ 64
 pub record IsPushed (a b : Builder) (line : Line) (n : ℕ) : Type 0 where
   pub theory : b.theory ≡ a.theory
   pub lines : b.lines ≡ a.lines ++ line ∷ []
   pub boxes : b.boxes ≡ still_open line a.boxes
   pub number : n ≡ suc (length a.lines)
+  pub small : IsSmall n
+  pub numbers : HasSmallNumbers line
 
 -- what a line says that a box has for an operator that stands for one of its constants: a constant, or a predicate
 -- on the one sort of its domain
@@ -109,4 +131,5 @@ pub record IsOpened (a b : Builder) (cs : List PlainOperator) (hs : List Stateme
   pub lines : b.lines ≡ a.lines ++ line ∷ []
   pub boxes : b.boxes ≡ a.boxes ++ record { number = n; constants = cs } ∷ []
   pub number : n ≡ suc (length a.lines)
+  pub small : IsSmall n
   pub says : IsBoxLine b.boxes a.theory.operators cs hs line

@@ -10,16 +10,21 @@ use Rattle.larch_certificate.specs.Coded.{CodedTree, CodedForest, coded_var, cod
 use Rattle.larch_certificate.specs.declared.line.CodedEquation.{CodedEquation}
 use Rattle.larch_certificate.specs.declared.symbol.Symbol.{Symbol}
 use Rattle.larch_certificate.specs.declared.symbol.Symbol.TheVariants.{Own, Constant, BuiltIn}
+use Rattle.larch_certificate_text.specs.SymbolText.{FitSymbol}
 use Rattle.larch_derive.specs.declared.open_box.OpenBox.{OpenBox}
 use Rattle.larch_derive.specs.OpenBox.{constant_of}
 
 -- the symbol names the operator in lines where boxes are open: as a constant of a box, as a built-in operator, or as
 -- one of the theory's by its number, if it is one
-abbrev pub IsSymbolOf : List OpenBox → List PlainOperator → PlainOperator → Symbol → Type 0
-IsSymbolOf bs fs f (Constant b k) = constant_of bs f ≡ Some (b, k)
-IsSymbolOf bs fs f (BuiltIn b) = (constant_of bs f ≡ None) × IsBuiltInAs b f
-IsSymbolOf bs fs f (Own k) =
+abbrev pub IsNameOf : List OpenBox → List PlainOperator → PlainOperator → Symbol → Type 0
+IsNameOf bs fs f (Constant b k) = constant_of bs f ≡ Some (b, k)
+IsNameOf bs fs f (BuiltIn b) = (constant_of bs f ≡ None) × IsBuiltInAs b f
+IsNameOf bs fs f (Own k) =
     (constant_of bs f ≡ None) × (IsBuiltIn f → ⊥) × (Contains fs f → numbered fs k ≡ Some f)
+
+-- it names the operator, and has a text
+abbrev pub IsSymbolOf : List OpenBox → List PlainOperator → PlainOperator → Symbol → Type 0
+IsSymbolOf bs fs f g = IsNameOf bs fs f g × FitSymbol g
 
 abbrev mutual
   -- the coded term is the term, with such a symbol for each operator

@@ -12,6 +12,7 @@ use Rattle.larch_renaming.specs.Renaming.{rename_tree, renamed_statement}
 use Rattle.larch_calculus.specs.Renaming.{HasPlainNames}
 use Rattle.larch_certificate.specs.declared.line.BoxPart.{BoxPart}
 use Rattle.larch_certificate.specs.declared.line.Line.{Line}
+use Rattle.larch_certificate_text.specs.CertificateText.{Writable}
 use Rattle.larch_verify_meaning.specs.Context.{theory_of, find_line}
 use Rattle.larch_verify_meaning.specs.Events.{Event, Said, Opened, Closed, State, start}
 use Rattle.larch_verify_meaning.specs.Run.{run}
@@ -19,6 +20,7 @@ use Rattle.larch_derive.specs.declared.builder.Builder.{Builder}
 use Rattle.larch_derive.specs.declared.open_box.OpenBox.{OpenBox}
 use Rattle.larch_derive.specs.Builder.{shape_of}
 use Rattle.larch_derive.specs.OpenBox.{naming}
+use Rattle.larch_derive.specs.Words.{AreWordedOperators, IsWordedTerm, IsWordedStatement, IsWordedTheory}
 
 -- the operators of a theory and of the boxes that are open in a state
 abbrev pub operators_at : Theory → State → List PlainOperator
@@ -42,31 +44,38 @@ shapes_of (Said n s ∷ h) = shapes_of h
 shapes_of (Opened b ∷ h) = shapes_of h ++ (b.number, b.parts) ∷ []
 shapes_of (Closed b s ∷ h) = shapes_of h
 
--- the lines lead to the state, so none is bad, and the boxes are those that are open there; no operator of the theory
--- has the name of a box's constant, and what stands for constants of open boxes is neither the theory's nor built in
+-- the lines lead to the state, so none is bad, and they have texts; the boxes are those that are open there; no operator
+-- of the theory has the name of a box's constant, and what stands for constants of open boxes is neither the theory's nor
+-- built in; the theory is in words, and so are the sorts of those constants
 pub record StandIn (t : Theory) (bs : List OpenBox) (ls : List Line) (st : State) : Type 0 where
   pub runs : run t start ls ≡ Some st
   pub opened : shapes_of st.history ≡ map shape_of bs
   pub plain : HasPlainNames t
   pub others : All (λ x. AreOthers t x.constants) bs
+  pub worded : IsWordedTheory t
+  pub parts : All (λ x. AreWordedOperators x.constants) bs
+  pub fits : Writable ls
 
--- and the term is well sorted there
+-- and the term is well sorted there, and in words
 pub record KnownIn (t : Theory) (bs : List OpenBox) (ls : List Line) (st : State) (a : Tree) : Type 0 where
   pub stand : StandIn t bs ls st
   pub over : IsTermOver (operators_at t st) (written_term bs a)
+  pub words : IsWordedTerm a
 
--- and the line with a number, which stands in an open box or in none, says the statement
+-- and the line with a number, which stands in an open box or in none, says the statement, which is in words
 pub record SaysIn (t : Theory) (bs : List OpenBox) (ls : List Line) (st : State) (n : ℕ) (s : Statement) : Type 0 where
   pub stand : StandIn t bs ls st
   pub says : find_line st.history n ≡ Some (written_statement bs s)
   pub within : n ≤ st.count
   pub over : IsStatementOver (operators_at t st) (written_statement bs s)
+  pub words : IsWordedStatement s
 
--- no line of the builder is bad
+-- no line of the builder is bad, and its lines have texts
 unfoldable pub HasNoBadLine : Builder → Type 0
 HasNoBadLine b = (st : State) × StandIn b.theory b.boxes b.lines st
 
--- and the term is well sorted over the operators of the theory and those that stand for constants of open boxes
+-- and the term is in words and well sorted over the operators of the theory and those that stand for constants of open
+-- boxes
 unfoldable pub Known : Builder → Tree → Type 0
 Known b a = (st : State) × KnownIn b.theory b.boxes b.lines st a
 
@@ -101,11 +110,12 @@ pub record LeadsOn (P : ℕ → Event → Type 0) (t : Theory) (st : State) (ls 
   pub behind : All (P st.count) events
 
 -- the second builder has the first one's lines and more; where none of the first one's is bad, none of the further is,
--- and all that these leave behind is of a kind
+-- and all that these leave behind is of a kind; where the first one's lines have texts, so have the second one's
 pub record GrowsBy (P : ℕ → Event → Type 0) (t : Theory) (ls ks : List Line) : Type 0 where
   pub more : List Line
   pub lines : ks ≡ ls ++ more
   pub leads : (st : State) → run t start ls ≡ Some st → LeadsOn P t st more
+  pub fits : Writable ls → Writable ks
 
 -- the builders have one theory and the same open boxes
 pub record AreAlike (a b : Builder) : Type 0 where

@@ -1,7 +1,9 @@
 ghost use Rattle.std.specs.Prelude.{◌≡◌, suc, ◌-◌, ◌++◌, ◌∷◌, [], IfOk, OnErr, OnOk, false, length, map, take, All};
 ghost use Rattle.larch_calculus.specs.Renaming.{IsPlainName};
+ghost use Rattle.larch_certificate_text.specs.Parts.{IsSmall};
 ghost use Rattle.larch_derive.specs.Coding.{IsSymbolOf};
 ghost use Rattle.larch_derive.specs.Predicates.{HasNoBadLine};
+ghost use Rattle.larch_derive.specs.Words.{IsWordedTheory};
 ghost use Rattle.larch_derive.specs.Builder.{IsEmpty, IsPushed, IsPushedOnto, IsOpened, IsBoxLine, IsCodeIn};
 ghost use Rattle.larch_derive.specs.Builder.{opens_box, still_open, part_for, boxes_in, lines_in, theory_in};
 
@@ -10,6 +12,7 @@ use crate::copying::copy_line;
 use crate::open_box::{OpenBox, OpenBoxes, copy_boxes};
 use crate::shared_list::ChunkedList;
 use crate::shared_theory::SharedTheory;
+use crate::small::{number_is_small, numbers_of_line_are_small};
 use larch_base::{Memory, Sequence, let_go};
 use larch_certificate::{BoxPart, BoxParts, Certificate, Coded, Line, Symbol};
 use larch_term::{Operator, Operators, Statements, Term, Theory, copy_operators};
@@ -26,11 +29,12 @@ pub struct Builder {
 }
 
 impl Builder {
-    /// A builder without lines, over this theory.
+    /// A builder without lines, over this theory. None of its lines will be bad or without a text where the theory is
+    /// in words.
     #[tactic(auto, using(crate::proofs::Start::empty_stands))]
     pub fn new(alloc: Global, theory: &Theory) -> Result<Builder, Memory>
         ensures empty { IfOk result (IsEmpty theory.now) }
-        ensures stands { IfOk result HasNoBadLine }
+        ensures stands { IfOk result (λ builder. IsWordedTheory theory.now → HasNoBadLine builder) }
     {
         names_are_plain(theory.operators.as_slice());
         let theory = SharedTheory::new(alloc, theory)?;
@@ -97,6 +101,7 @@ impl Builder {
         ensures ok { IfOk result (IsPushed self.old self.new line) }
         ensures err { OnErr result (self.new ≡ self.old) }
     {
+        numbers_of_line_are_small(&line);
         match self.next_number() {
             Ok(number) => self.push_numbered(number, line),
             Err(memory) => Err(let_go(memory, line)),
@@ -146,10 +151,14 @@ impl Builder {
 
     // The number of the next line.
     fn next_number(&self) -> Result<u64, Memory>
-        ensures { IfOk result (λ n. n ≡ suc (length (lines_in self.now))) }
+        ensures next { IfOk result (λ n. n ≡ suc (length (lines_in self.now))) }
+        ensures small { IfOk result IsSmall }
     {
         match self.lines.len().checked_add(1) {
-            Some(number) => Ok(number),
+            Some(number) => {
+                number_is_small(number);
+                Ok(number)
+            }
             None => Err(Memory),
         }
     }

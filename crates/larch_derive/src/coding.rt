@@ -1,7 +1,8 @@
 ghost use Rattle.std.specs.Prelude.{IfOk};
 ghost use Rattle.larch_term.specs.Tree.{forest_of};
 ghost use Rattle.larch_certificate.specs.Coded.{coded_forest_of};
-ghost use Rattle.larch_derive.specs.Coding.{IsSymbolOf, IsCodeOf, AreCodesOf, AreCodesOfEquations};
+ghost use Rattle.larch_certificate_text.specs.SymbolText.{FitSymbol};
+ghost use Rattle.larch_derive.specs.Coding.{IsNameOf, IsCodeOf, AreCodesOf, AreCodesOfEquations};
 
 use crate::open_box::{OpenBox, constant_of};
 use crate::shared_theory::SharedTheory;
@@ -12,7 +13,8 @@ use std::alloc::Global;
 
 // What names an operator in lines.
 pub(crate) fn symbol_of(theory: &SharedTheory, boxes: &[OpenBox], operator: &Operator) -> Symbol
-    ensures { IsSymbolOf boxes.now theory.now.operators operator.now result }
+    ensures name { IsNameOf boxes.now theory.now.operators operator.now result }
+    ensures fits { FitSymbol result }
 {
     if let Some((number, place)) = constant_of(boxes, operator) {
         return Symbol::Constant(number, place);

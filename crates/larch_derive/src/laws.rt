@@ -1,17 +1,24 @@
 //! What holds of builders, for crates above to cite. No function here does anything.
-ghost use Rattle.std.specs.Prelude.{◌≡◌, ℕ, List, [], Some, length};
+ghost use Rattle.std.specs.Prelude.{◌≡◌, ℕ, false, List, [], Some, length};
 ghost use Rattle.larch_certificate.specs.Coded.{CodedTree};
+ghost use Rattle.larch_certificate.specs.declared.line.Line.{Line};
 ghost use Rattle.larch_certificate.specs.declared.line.Line.TheVariants.{Refl, Sym, Repl};
+ghost use Rattle.larch_certificate_text.specs.CertificateText.{Writable};
+ghost use Rattle.larch_certificate_text.specs.LineText.{IsWord};
 ghost use Rattle.larch_term.specs.Place.{at, put};
 ghost use Rattle.larch_derive.specs.Builder.{IsEmpty, IsPushed, IsCodeIn, theory_in, lines_in, boxes_in};
 ghost use Rattle.larch_calculus.specs.Renaming.{HasPlainNames};
 ghost use Rattle.larch_verify_meaning.specs.Acceptance.{Accepts};
-ghost use Rattle.larch_term.specs.Sorts.{IsTermOver};
+ghost use Rattle.larch_verify_meaning.specs.LastLine.{states_clause, EndsWithoutStatedClause};
+ghost use Rattle.larch_term.specs.Sorts.{sort_of, IsTermOver};
 ghost use Rattle.larch_term.specs.declared.statement.Theory.{Theory};
 ghost use Rattle.larch_term.specs.Tree.{Tree};
 ghost use Rattle.larch_term.specs.declared.statement.Statement.{Statement};
+ghost use Rattle.larch_term.specs.declared.statement.Statement.TheVariants.{Equation};
 ghost use Rattle.larch_derive.specs.declared.builder.Builder.{Builder};
+ghost use Rattle.larch_derive.specs.Finished.{IsFinished};
 ghost use Rattle.larch_derive.specs.Predicates.{HasNoBadLine, Known, HasStatement, HasEquation, Extends, Grows};
+ghost use Rattle.larch_derive.specs.Words.{IsWordedTerm, IsWordedStatement, IsWordedTheory};
 
 /// A builder extends itself, and what extends one that extends it.
 pub fn extending()
@@ -73,15 +80,49 @@ pub fn replacing()
         → HasEquation a m l r → HasEquation a k r v → Extends a b }
 {}
 
-/// A builder without lines stands where no operator of the theory has the name of a box's constant, and no operator of
-/// the code has one. A term over the theory is known where no line is bad.
+/// A builder without lines stands where the theory is in words and none of its operators has the name of a box's
+/// constant, and no operator of the code has one. A term over the theory in words is known where no line is bad.
 pub fn beginning()
-    ensures stands { (t : Theory) (b : Builder) → IsEmpty t b → HasPlainNames t → HasNoBadLine b }
-    ensures known { (b : Builder) (a : Tree) → HasNoBadLine b → IsTermOver (theory_in b).operators a → Known b a }
+    ensures stands { (t : Theory) (b : Builder) → IsEmpty t b → HasPlainNames t → IsWordedTheory t → HasNoBadLine b }
+    ensures known { (b : Builder) (a : Tree) → HasNoBadLine b → IsTermOver (theory_in b).operators a → IsWordedTerm a
+        → Known b a }
+{}
+
+/// What is known, what lines say and the theory are in words.
+pub fn words()
+    ensures theory { (b : Builder) → HasNoBadLine b → IsWordedTheory (theory_in b) }
+    ensures known { (b : Builder) (t : Tree) → Known b t → IsWordedTerm t }
+    ensures sort { (b : Builder) (t : Tree) → Known b t → IsWord (sort_of t) }
+    ensures said { (b : Builder) (n : ℕ) (s : Statement) → HasStatement b n s → IsWordedStatement s }
+{}
+
+/// Where no line is bad, the lines have a text.
+pub fn writing()
+    ensures { (b : Builder) → HasNoBadLine b → Writable (lines_in b) }
 {}
 
 /// Where no box is open, the lines are a certificate that is accepted for what the last of them says.
 pub fn accepting()
     ensures { (b : Builder) (n : ℕ) (s : Statement) → HasStatement b n s → boxes_in b ≡ [] → n ≡ length (lines_in b)
         → Accepts (theory_in b) s (lines_in b) }
+{}
+
+/// The last line isn't an axiom line of a clause where it says an equation, and where it was pushed as another line. A
+/// pushed line is the last.
+pub fn ending()
+    ensures equation { (b : Builder) (n : ℕ) (l r : Tree) → HasEquation b n l r → n ≡ length (lines_in b)
+        → EndsWithoutStatedClause (theory_in b) (lines_in b) }
+    ensures pushed { (a b : Builder) (line : Line) (n : ℕ) → IsPushed a b line n
+        → states_clause (theory_in a) line ≡ false → EndsWithoutStatedClause (theory_in b) (lines_in b) }
+    ensures last { (a b : Builder) (line : Line) (n : ℕ) → IsPushed a b line n → n ≡ length (lines_in b) }
+{}
+
+/// Where no box is open, the lines are a certificate that can be handed over for what the last of them says: for an
+/// equation, and for a clause that isn't said as a statement of the theory.
+pub fn finishing()
+    ensures equation { (b : Builder) (n : ℕ) (l r : Tree) → HasEquation b n l r → boxes_in b ≡ []
+        → n ≡ length (lines_in b) → IsFinished (theory_in b) (Equation l r) (lines_in b) }
+    ensures clause { (b : Builder) (n : ℕ) (s : Statement) → HasStatement b n s → boxes_in b ≡ []
+        → n ≡ length (lines_in b) → EndsWithoutStatedClause (theory_in b) (lines_in b)
+        → IsFinished (theory_in b) s (lines_in b) }
 {}

@@ -8,6 +8,7 @@ pub mod laws;
 mod open_box;
 mod shared_list;
 mod shared_theory;
+mod small;
 
 pub use builder::Builder;
 pub use open_box::{OpenBox, OpenBoxes};

@@ -135,7 +135,7 @@ cases_says a b x y n f l r p (st, g) (su, k) d e v =
     let h = subst (λ z. ResultIn a.theory a.boxes a.lines z y (Equation f falsity ∷ []) (Equation l r))
     (one_state a.theory a.lines st su g.stand.runs k.stand.runs) k in
     pushed_says a b (Cases x.number y.number) n st (Equation l r) p g.stand (cases_judged a st x y f l r g h d e v)
-    (over_outside a.theory st a.boxes x (Equation l r) d g.over)
+    (over_outside a.theory st a.boxes x (Equation l r) d g.over) p.numbers g.words
 
 pub cases_extends : (a b : Builder) (x y : OpenBox) (n : ℕ) (f l r : Tree) → IsPushed a b (Cases x.number y.number) n
     → HasResult a x (Equation f truth ∷ []) (Equation l r) → HasResult a y (Equation f falsity ∷ []) (Equation l r)
@@ -145,7 +145,7 @@ cases_extends a b x y n f l r p (st, g) (su, k) d e v =
     let h = subst (λ z. ResultIn a.theory a.boxes a.lines z y (Equation f falsity ∷ []) (Equation l r))
     (one_state a.theory a.lines st su g.stand.runs k.stand.runs) k in
     pushed_extends a b (Cases x.number y.number) n st (written_statement a.boxes (Equation l r)) p g.stand.runs
-    (cases_judged a st x y f l r g h d e v)
+    (cases_judged a st x y f l r g h d e v) p.numbers
 
 -- the same, where the boxes' numbers are told
 pub cases_line_says : (a b : Builder) (i j n : ℕ) (x y : OpenBox) (f l r : Tree) → IsPushed a b (Cases i j) n

@@ -1,6 +1,6 @@
 -- Closing a box: its result stays, and the builder has grown.
 use Rattle.std.proofs.Common.{◌≡◌, ◌≤◌, ◌<◌, ◌+◌, ◌-◌, ◌==◌, ℕ, suc, cond, List, [], ◌∷◌, ◌++◌, map, length, take, All}
-use Rattle.std.proofs.Common.{Option, Some, refl, sym, ◌∙◌, ap, ap₂, subst, arith}
+use Rattle.std.proofs.Common.{Option, Some, refl, sym, ◌∙◌, ap, subst, arith}
 use Rattle.std.specs.Option.{option_map, option_and_then}
 use Rattle.std.proofs.lemmas.List.{append_assoc, length-append}
 use Rattle.std.proofs.Math.Seq.{take-append_seam}
@@ -10,21 +10,21 @@ use Rattle.larch_term.specs.Tree.{Tree}
 use Rattle.larch_term.specs.declared.statement.Statement.{Statement}
 use Rattle.larch_term.specs.declared.statement.Statement.TheVariants.{Equation}
 use Rattle.larch_term.specs.declared.statement.Theory.{Theory}
-use Rattle.larch_term_law.proofs.Substitutions.{substituted_nil}
 use Rattle.larch_calculus.specs.Theories.{AreNew}
 use Rattle.larch_certificate.specs.declared.line.Line.{Line}
 use Rattle.larch_certificate.specs.declared.line.Line.TheVariants.{Inst, Done}
+use Rattle.larch_certificate_text.specs.CertificateText.{Writable}
 use Rattle.larch_verify_meaning.specs.Context.{theory_of, find_closed, innermost}
 use Rattle.larch_verify_meaning.specs.Events.{PlainBox, Event, Said, Opened, Closed, State, start, operators_of}
-use Rattle.larch_verify_meaning.specs.Rules.{instance_by}
-use Rattle.larch_verify_meaning.specs.Run.{run, judge}
+use Rattle.larch_verify_meaning.specs.Run.{run}
 use Rattle.larch_derive.specs.declared.builder.Builder.{Builder}
 use Rattle.larch_derive.specs.declared.open_box.OpenBox.{OpenBox}
 use Rattle.larch_derive.specs.Builder.{IsPushed}
-use Rattle.larch_derive.specs.Predicates.{written_term, written_statement, StandIn, SaysIn, IsBehind, GrowsBy, AreAlike}
-use Rattle.larch_derive.specs.Predicates.{Grows, HasStatement}
+use Rattle.larch_derive.specs.Predicates.{written_statement, StandIn, SaysIn, IsBehind, GrowsBy, AreAlike}
+use Rattle.larch_derive.specs.Predicates.{Extends, Grows, HasStatement}
 use Rattle.larch_derive.proofs.Growth.{carried, run_append, run_further, theory_behind, later_stand}
-use Rattle.larch_derive.proofs.Pushing.{one_state}
+use Rattle.larch_derive.proofs.Pushing.{one_state, said_again, again_extends}
+use Rattle.larch_derive.proofs.Words.{pushed_fits}
 use Rattle.larch_derive.proofs.Runs.{after_saying, run_said, run_count, down_run}
 use Rattle.larch_derive_boxes.proofs.Newness.{constants_new}
 use Rattle.larch_derive_boxes.specs.Boxes.{box_of, operators_inside, OpensIn, Opens, ResultIn, HasResult, Closes}
@@ -35,15 +35,7 @@ inner_behind (Said m s ∷ es) h c b = inner_behind es h c (All-tail (IsBehind c
 inner_behind (Opened y ∷ es) h c b = absurd (All-head (IsBehind c) (Opened y) es b)
 inner_behind (Closed y s ∷ es) h c b = inner_behind es h c (All-tail (IsBehind c) (Closed y s) es b)
 
--- an equation is said once more
-said_again : (t : Theory) (bs : List OpenBox) (ls : List Line) (st : State) (m : ℕ) (l r : Tree)
-    → SaysIn t bs ls st m (Equation l r)
-    → judge t st.history (Inst m []) ≡ Some (written_statement bs (Equation l r))
-said_again t bs ls st m l r h =
-    ap (option_and_then (instance_by [])) h.says
-    ∙ ap₂ (λ x y. Some (Equation x y)) (substituted_nil (written_term bs l)) (substituted_nil (written_term bs r))
-
--- and with it the innermost box is closed
+-- with an equation that was said the innermost box is closed
 done_runs : (t : Theory) (st : State) (s : Statement) (p : PlainBox × List Event) → innermost st.history ≡ Some p
     → run t (after_saying st s) (Done ∷ [])
     ≡ Some (record { count = suc (suc st.count); history = Closed p.0 s ∷ p.1 })
@@ -123,6 +115,7 @@ record ClosesIn (a d : Builder) (x : OpenBox) (hs : List Statement) (l r : Tree)
   grows : GrowsBy IsBehind a.theory bls cls
   says : SaysIn a.theory (a.boxes ++ x ∷ []) cls state line (Equation l r)
   lines : d.lines ≡ (cls ++ Inst line [] ∷ []) ++ Done ∷ []
+  fits : Writable a.lines → Writable d.lines
 
 closes_in : (a d : Builder) (x : OpenBox) (hs : List Statement) (l r : Tree) → Closes a d x hs l r
     → ClosesIn a d x hs l r
@@ -147,6 +140,10 @@ closes_in a d x hs l r c =
       says = subst (λ bs. SaysIn a.theory bs c.grown.lines c.says.0 c.line (Equation l r)) boxes
           (subst (λ t. SaysIn t c.grown.boxes c.grown.lines c.says.0 c.line (Equation l r)) theory c.says.1);
       lines = c.closes.lines ∙ ap (λ ls. ls ++ Done ∷ []) c.repeats.lines;
+      fits = λ w.
+          pushed_fits c.again d Done c.last c.closes tt
+          (pushed_fits c.grown c.again (Inst c.line []) c.first c.repeats (c.repeats.numbers, tt)
+          (g.1.fits (o.box.fits w)));
     }
 
 closes_grows_in : (a d : Builder) (x : OpenBox) (hs : List Statement) (l r : Tree) → ClosesIn a d x hs l r
@@ -186,6 +183,7 @@ closes_grows_in a d x hs l r c =
                 All-cons (IsBehind st.count) (Closed box s) [] (omega (arith, count, number))
                 (All-nil (IsBehind st.count));
           };
+      fits = c.fits;
     }
 
 pub closes_grows : (a d : Builder) (x : OpenBox) (hs : List Statement) (l r : Tree) → Closes a d x hs l r → Grows a d
@@ -224,6 +222,9 @@ closes_result a d x hs l r c =
           opened = h.opened;
           plain = h.plain;
           others = h.others;
+          worded = h.worded;
+          parts = h.parts;
+          fits = i.fits h.fits;
         };
         result = box_found x.number x.number (box, s) (find_closed st.history x.number) refl;
         within = omega (arith, number, count, opened, grown);
@@ -234,6 +235,8 @@ closes_result a d x hs l r c =
             inside_over_said t bs a.lines i.bls i.cls x hs i.line
             (Equation l r) st i.state h.runs i.opens i.grows i.says;
         supposed = i.opens.over st h.runs;
+        parts = i.opens.parts;
+        words = i.says.words;
       },
     )
 
@@ -272,6 +275,11 @@ close_result a b c e d x hs m n k l r p q o g h =
       repeats = p;
       closes = q;
     })
+
+-- where a box isn't closed, perhaps its equation was said once more
+pub unclosed : (a b c : Builder) (m n : ℕ) (l r : Tree) → IsPushed a b (Inst m []) n → c ≡ b
+    → HasStatement a m (Equation l r) → Extends a c
+unclosed a b c m n l r p e h = subst (Extends a) (sym e) (again_extends a b m n l r p h)
 
 -- ---- results stay
 
@@ -315,5 +323,7 @@ grown_result a b x hs s g (st, h) =
             subst (λ u. All (λ q. IsStatementOver (u.operators ++ operators_of (box_of x [])) (written_statement bs q))
             hs)
             (sym theory) h.supposed;
+        parts = h.parts;
+        words = h.words;
       },
     )

@@ -26,6 +26,8 @@ use Rattle.larch_calculus.specs.Theories.{AreConstants, AreNew}
 use Rattle.larch_calculus.proofs.Freeing.{freed_constants}
 use Rattle.larch_certificate.specs.declared.line.CodedVar.{CodedVar}
 use Rattle.larch_certificate.specs.declared.line.Line.TheVariants.{Fresh}
+use Rattle.larch_certificate_text.specs.LineText.{IsWord, FitVariable}
+use Rattle.larch_certificate_text.specs.Parts.{Each}
 use Rattle.larch_verify_meaning.specs.BoxRules.{freed_equation, freed_result}
 use Rattle.larch_verify_meaning.specs.Context.{theory_of}
 use Rattle.larch_verify_meaning.specs.Events.{State, start, operators_of, operators_from, part_operator}
@@ -37,6 +39,7 @@ use Rattle.larch_derive.specs.Builder.{IsPushed, part_for, part_sort}
 use Rattle.larch_derive.specs.OpenBox.{place_from, constant_of, in_lines, naming}
 use Rattle.larch_derive.specs.Predicates.{AreOthers, written_term, written_statement, StandIn, KnownIn, Known}
 use Rattle.larch_derive.specs.Predicates.{HasStatement, Extends}
+use Rattle.larch_derive.specs.Words.{IsWordedOperator, AreWordedOperators}
 use Rattle.larch_derive.proofs.Pushing.{pushed_says, pushed_extends, one_state}
 use Rattle.larch_derive.proofs.Runs.{down_run}
 use Rattle.larch_derive_boxes.specs.Boxes.{box_of, ResultIn, HasResult, AreOwnConstants, with_constants}
@@ -182,25 +185,40 @@ unfolding Known
 known_at a st t h (su, k) =
     subst (λ z. KnownIn a.theory a.boxes a.lines z t) (one_state a.theory a.lines st su h.runs k.stand.runs) k
 
+-- variables with words as names that have the sorts of constants in words have texts
+variables_fit : (cs : List PlainOperator) (ws : List CodedVar) → AreWordedOperators cs
+    → map (λ c. c.range) cs ≡ map (λ v. v.sort) (map variable_of ws) → All (λ w. IsWord w.name) ws → Each FitVariable ws
+variables_fit cs [] h e n = tt
+variables_fit [] (w ∷ ws) h e n = cc
+variables_fit (c ∷ cs) (w ∷ ws) h e n =
+    let here : c.range ≡ w.sort = cc in
+    let rest : map (λ c. c.range) cs ≡ map (λ v. v.sort) (map variable_of ws) = cc in (
+      (All-head (λ w. IsWord w.name) w ws n, subst IsWord here (All-head IsWordedOperator c cs h).1),
+      variables_fit cs ws (All-tail IsWordedOperator c cs h) rest (All-tail (λ w. IsWord w.name) w ws n),
+    )
+
 pub fresh_says : (a b : Builder) (j n : ℕ) (ws : List CodedVar) (x : OpenBox) (l r : Tree) → IsPushed a b (Fresh j ws) n
     → x.number ≡ j → HasResult a x [] (Equation (with_constants ws x l) (with_constants ws x r))
     → AreOwnConstants a.boxes x → map (λ c. c.range) x.constants ≡ map (λ v. v.sort) (map variable_of ws)
-    → Known a l → Known a r → sort_of l ≡ sort_of r → HasStatement b n (Equation l r)
+    → Known a l → Known a r → sort_of l ≡ sort_of r → All (λ w. IsWord w.name) ws → HasStatement b n (Equation l r)
 unfolding HasResult
-fresh_says a b j n ws x l r p e (st, h) own sorts kl kr q =
+fresh_says a b j n ws x l r p e (st, h) own sorts kl kr q names =
     let il = known_at a st l h.stand kl in
     let ir = known_at a st r h.stand kr in
-    pushed_says a b (Fresh x.number ws) n st (Equation l r) (subst (λ m. IsPushed a b (Fresh m ws) n) (sym e) p) h.stand
+    let pushed = subst (λ m. IsPushed a b (Fresh m ws) n) (sym e) p in
+    pushed_says a b (Fresh x.number ws) n st (Equation l r) pushed h.stand
     (fresh_judged a st x ws l r h own sorts il ir)
     (il.over, ir.over, sort_written a.boxes l ∙ q ∙ sym (sort_written a.boxes r))
+    (pushed.numbers, variables_fit x.constants ws h.parts sorts names) (il.words, ir.words)
 
 pub fresh_extends : (a b : Builder) (j n : ℕ) (ws : List CodedVar) (x : OpenBox) (l r : Tree)
     → IsPushed a b (Fresh j ws) n
     → x.number ≡ j → HasResult a x [] (Equation (with_constants ws x l) (with_constants ws x r))
     → AreOwnConstants a.boxes x → map (λ c. c.range) x.constants ≡ map (λ v. v.sort) (map variable_of ws)
-    → Known a l → Known a r → Extends a b
+    → Known a l → Known a r → All (λ w. IsWord w.name) ws → Extends a b
 unfolding HasResult
-fresh_extends a b j n ws x l r p e (st, h) own sorts kl kr =
-    pushed_extends a b (Fresh x.number ws) n st (written_statement a.boxes (Equation l r))
-    (subst (λ m. IsPushed a b (Fresh m ws) n) (sym e) p) h.stand.runs
+fresh_extends a b j n ws x l r p e (st, h) own sorts kl kr names =
+    let pushed = subst (λ m. IsPushed a b (Fresh m ws) n) (sym e) p in
+    pushed_extends a b (Fresh x.number ws) n st (written_statement a.boxes (Equation l r)) pushed h.stand.runs
     (fresh_judged a st x ws l r h own sorts (known_at a st l h.stand kl) (known_at a st r h.stand kr))
+    (pushed.numbers, variables_fit x.constants ws h.parts sorts names)

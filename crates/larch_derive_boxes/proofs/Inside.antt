@@ -40,6 +40,10 @@ use Rattle.larch_derive.specs.Predicates.{AreOthers, shapes_of, written_term, wr
 use Rattle.larch_derive.specs.Predicates.{HasNoBadLine, Known}
 use Rattle.larch_derive.proofs.Growth.{known_stands}
 use Rattle.larch_derive.proofs.Pushing.{one_state}
+use Rattle.larch_derive.proofs.Words.{instance_worded}
+use Rattle.larch_derive.specs.Words.{IsWordedOperator, AreWordedOperators, IsWordedTerm, IsWordedStatement}
+use Rattle.larch_derive.specs.Words.{AreWordedStatements}
+use Rattle.larch_derive_boxes.proofs.Words.{constant_worded, generation_worded, observations_worded}
 use Rattle.larch_derive.proofs.Runs.{down_run}
 use Rattle.larch_derive.proofs.Unchanged.{own_in_lines, known_in_boxes, naming_faithful}
 use Rattle.larch_derive_boxes.specs.Boxes.{box_of, operators_inside, IsEquation, IsPart, KnownInsideIn, KnownInside}
@@ -60,6 +64,7 @@ known_outside a x t o (st, k) = (
     stand = k.stand;
     over = (inside_over a.theory k.stand.plain st.history st.count a.boxes x
         (down_run a.theory a.lines start st k.stand.runs tt) o (Equation t t) (k.over, k.over, refl)).0;
+    words = k.words;
   },
 )
 
@@ -88,9 +93,9 @@ inside_carries t bs h x p others opened o parts f (inl c) =
     ]
 
 pub known_own : (a : Builder) (x : OpenBox) (t : Tree) → HasNoBadLine a → AreOthers a.theory x.constants
-    → All IsPart x.constants → IsTermOver (a.theory.operators ++ x.constants) t → KnownInside a x t
+    → All IsPart x.constants → IsTermOver (a.theory.operators ++ x.constants) t → IsWordedTerm t → KnownInside a x t
 unfolding HasNoBadLine KnownInside
-known_own a x t (st, h) o parts w =
+known_own a x t (st, h) o parts w ws =
     let xs = a.boxes ++ x ∷ [] in
     let faithful = naming_faithful a.theory xs h.plain (inside_others a.theory a.boxes x h.others o) in (
       st,
@@ -100,6 +105,7 @@ known_own a x t (st, h) o parts w =
             renamed_term_over (naming xs) (a.theory.operators ++ x.constants) (operators_inside a.theory st.history x)
             faithful.signatures
             (inside_carries a.theory a.boxes st.history x h.plain h.others h.opened o parts) t w;
+        words = ws;
       },
     )
 
@@ -132,6 +138,9 @@ known_replaced a x es t (st, k) w =
           substituted_well_sorted ds (written_term xs t) fit k.over.0,
           substituted_over fs ds (written_term xs t) over k.over.1,
         );
+        words = instance_worded es t
+            (All-weaker P (λ e. IsWordedTerm e.term) (λ e p. (known_inside_at a x st e.term k.stand p.0).words) es w)
+            k.words;
       },
     )
 
@@ -144,7 +153,11 @@ opened_known_inside a b x hs t o (st, k) =
         count = suc st.count;
         history = Opened (box_of x (map (written_statement (a.boxes ++ x ∷ [])) hs)) ∷ st.history;
       },
-      record { stand = stand_inside a.theory a.boxes a.lines b.lines st x hs k.stand o.box; over = k.over },
+      record {
+        stand = stand_inside a.theory a.boxes a.lines b.lines st x hs k.stand o.box;
+        over = k.over;
+        words = k.words;
+      },
     )
 
 -- ---- statements
@@ -160,15 +173,17 @@ may_suppose_inside a x l r (st, k) m e =
         stand = k.stand;
         equation = tt;
         over = (k.over, n.over, sort_written xs l ∙ e ∙ sym (sort_written xs r));
+        words = (k.words, n.words);
       },
     )
 
 pub may_suppose_own : (a : Builder) (x : OpenBox) (s : Statement) → HasNoBadLine a → AreOthers a.theory x.constants
-    → All IsPart x.constants → IsEquation s → IsStatementOver (a.theory.operators ++ x.constants) s → MaySuppose a x s
-may_suppose_own a x (Equation l r) h o parts e w =
-    may_suppose_inside a x l r (known_own a x l h o parts w.0) (known_own a x r h o parts w.1) w.2
-may_suppose_own a x (Generated s fs) h o parts e w = absurd e
-may_suppose_own a x (Partitioned s fs) h o parts e w = absurd e
+    → All IsPart x.constants → IsEquation s → IsStatementOver (a.theory.operators ++ x.constants) s
+    → IsWordedStatement s → MaySuppose a x s
+may_suppose_own a x (Equation l r) h o parts e w ws =
+    may_suppose_inside a x l r (known_own a x l h o parts w.0 ws.0) (known_own a x r h o parts w.1 ws.1) w.2
+may_suppose_own a x (Generated s fs) h o parts e w ws = absurd e
+may_suppose_own a x (Partitioned s fs) h o parts e w ws = absurd e
 
 -- ---- hypotheses of inductions
 
@@ -206,15 +221,16 @@ cases_supposed a x v s l r kl kr e (c ∷ cs) h =
     ]
 
 pub induction_supposed : (a : Builder) (x : OpenBox) (v s : List ℕ) (l r : Tree) → AreOthers a.theory x.constants
-    → AreConstants x.constants → Known a l → Known a r → sort_of l ≡ sort_of r
+    → AreConstants x.constants → Known a l → Known a r → sort_of l ≡ sort_of r → AreWordedOperators x.constants
     → All (MaySuppose a x) (induction_hypotheses v s l r x.constants)
-induction_supposed a x v s l r o k kl kr e =
+induction_supposed a x v s l r o k kl kr e ws =
     cases_supposed a x v s l r (known_outside a x l o kl) (known_outside a x r o kr) e x.constants
     (all_from (λ c. KnownInside a x (constant c) × (c.domain ≡ [])) x.constants
     (λ c d.
     let q = All-contains (λ c. c.domain ≡ []) x.constants c k d in (
       known_own a x (constant c) (known_stands a l kl) o (constants_are_parts x.constants k)
-          ((sym q, tt), (inl (contains_right a.theory.operators x.constants c d), tt)),
+          ((sym q, tt), (inl (contains_right a.theory.operators x.constants c d), tt))
+          (All-contains IsWordedOperator x.constants c ws d, tt),
       q,
     )))
 
@@ -223,35 +239,41 @@ induction_supposed a x v s l r o k kl kr e =
 equations_supposed : (a : Builder) (x : OpenBox) → HasNoBadLine a → AreOthers a.theory x.constants
     → All IsPart x.constants
     → (hs : List Statement) → All IsEquation hs → All (IsStatementOver (a.theory.operators ++ x.constants)) hs
-    → All (MaySuppose a x) hs
-equations_supposed a x h o parts [] e w = All-nil (MaySuppose a x)
-equations_supposed a x h o parts (s ∷ hs) e w =
+    → AreWordedStatements hs → All (MaySuppose a x) hs
+equations_supposed a x h o parts [] e w ws = All-nil (MaySuppose a x)
+equations_supposed a x h o parts (s ∷ hs) e w ws =
     let fs = a.theory.operators ++ x.constants in
     All-cons (MaySuppose a x) s hs
-    (may_suppose_own a x s h o parts (All-head IsEquation s hs e) (All-head (IsStatementOver fs) s hs w))
-    (equations_supposed a x h o parts hs (All-tail IsEquation s hs e) (All-tail (IsStatementOver fs) s hs w))
+    (may_suppose_own a x s h o parts (All-head IsEquation s hs e) (All-head (IsStatementOver fs) s hs w)
+    (All-head IsWordedStatement s hs ws))
+    (equations_supposed a x h o parts hs (All-tail IsEquation s hs e) (All-tail (IsStatementOver fs) s hs w)
+    (All-tail IsWordedStatement s hs ws))
 
 pub generation_supposed : (a : Builder) (x : OpenBox) (p : PlainOperator) (s : List ℕ) (fs : List PlainOperator)
     → HasNoBadLine a → AreOthers a.theory x.constants → x.constants ≡ p ∷ [] → p.domain ≡ s ∷ [] → p.range ≡ bool_sort
-    → IsStatementOver a.theory.operators (Generated s fs) → All (MaySuppose a x) (generation_hypotheses p s fs)
-generation_supposed a x p s fs h o e d r w =
+    → IsStatementOver a.theory.operators (Generated s fs) → IsWordedStatement (Generated s fs)
+    → All (MaySuppose a x) (generation_hypotheses p s fs)
+generation_supposed a x p s fs h o e d r w ws =
     equations_supposed a x h o (subst (All IsPart) (sym e) (All-cons IsPart p [] (inr (s, d, r)) (All-nil IsPart)))
     (generation_hypotheses p s fs)
     (All-map IsEquation (λ f. Equation (generation_formula p s f) truth) fs (λ k d lt. tt))
     (subst (λ cs. All (IsStatementOver (a.theory.operators ++ cs)) (generation_hypotheses p s fs)) (sym e)
-    (generation_over a.theory p s fs w d r))
+    (generation_over a.theory p s fs w d r)) (generation_worded p s fs d r ws)
 
 pub observations_supposed : (a : Builder) (x : OpenBox) (c d : PlainOperator) (s : List ℕ) (os : List PlainOperator)
     → HasNoBadLine a → AreOthers a.theory x.constants → AreConstants x.constants → Contains x.constants c
     → Contains x.constants d → c.range ≡ s → d.range ≡ s → IsStatementOver a.theory.operators (Partitioned s os)
+    → IsWordedStatement (Partitioned s os)
     → All (MaySuppose a x) (observations place_name s os (constant c) (constant d))
-observations_supposed a x c d s os h o k mc md rc rd w =
+observations_supposed a x c d s os h o k mc md rc rd w ws =
     let fs = a.theory.operators ++ x.constants in
     let over : (c : PlainOperator) → Contains x.constants c → IsTermOver fs (constant c) =
     λ c m. (
       (sym (All-contains (λ c. c.domain ≡ []) x.constants c k m), tt),
       (inl (contains_right a.theory.operators x.constants c m), tt),
     ) in
+    let worded : (c : PlainOperator) → Contains x.constants c → c.range ≡ s → IsWordedOperator c =
+    λ c m r. constant_worded c s (All-contains (λ c. c.domain ≡ []) x.constants c k m) r ws.0 in
     equations_supposed a x h o (constants_are_parts x.constants k)
     (observations place_name s os (constant c) (constant d))
     (All-map IsEquation (λ w. Equation (observer_term place_name w (constant c))
@@ -261,3 +283,4 @@ observations_supposed a x c d s os h o k mc md rc rd w =
     (λ q m. knows_more a.theory.operators x.constants q
     (All-contains (λ g. IsKnown a.theory.operators g × Contains g.domain s) os q w m).0)
     (over c mc) rc (over d md) rd)
+    (observations_worded s os (constant c) (constant d) ws.1 (worded c mc rc, tt) (worded d md rd, tt))

@@ -2,6 +2,7 @@
 use Rattle.std.proofs.Common.{◌≡◌, inl, inr, ℕ, suc, Bool, true, false, cond, List, [], ◌∷◌, map, Contains, Option}
 use Rattle.std.proofs.Common.{Some, None, refl, sym, ◌∙◌, ap, subst}
 use Rattle.std.specs.Option.{option_map, option_or}
+use Rattle.std.proofs.lemmas.List.Elements.{All-contains}
 use Rattle.larch_base.proofs.Members.{contains_here, contains_later, contains_left, contains_right, contains_either}
 use Rattle.larch_base.proofs.Members.{contains_cases, contains_none, contains_one, contains_map}
 use Rattle.larch_base.proofs.Options.{some_inj}
@@ -18,6 +19,7 @@ use Rattle.larch_derive.specs.declared.open_box.OpenBox.{OpenBox}
 use Rattle.larch_derive.specs.Builder.{part_for, part_sort, shape_of}
 use Rattle.larch_derive.specs.OpenBox.{place_from, constant_of, in_lines, name_in_lines}
 use Rattle.larch_derive.specs.Predicates.{shapes_of, HasNoBadLine, Known}
+use Rattle.larch_derive.specs.Words.{IsWordedOperator, AreWordedOperators}
 use Rattle.larch_derive_boxes.specs.Boxes.{IsPart}
 
 -- ---- places
@@ -158,6 +160,11 @@ constant_known b x f (st, h) c d e = (
     over = (
       (sym e, tt),
       (inl (part_there b.theory b.boxes st.history h.opened x f c d (inl e)), tt),
+    );
+    words = (
+      All-contains IsWordedOperator x.constants f
+          (All-contains (λ y. AreWordedOperators y.constants) b.boxes x h.parts c) d,
+      tt,
     );
   },
 )

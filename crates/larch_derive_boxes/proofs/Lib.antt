@@ -7,3 +7,4 @@ pub mod Newness
 pub mod Opening
 pub mod Renaming
 pub mod Supposing
+pub mod Words

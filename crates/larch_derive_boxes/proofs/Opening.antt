@@ -17,6 +17,9 @@ use Rattle.larch_calculus.specs.Renaming.{HasPlainNames}
 use Rattle.larch_certificate.specs.declared.line.CodedEquation.{CodedEquation}
 use Rattle.larch_certificate.specs.declared.line.Line.{Line}
 use Rattle.larch_certificate.specs.declared.line.Line.TheVariants.{BoxLine}
+use Rattle.larch_certificate_text.specs.CertificateText.{Writable}
+use Rattle.larch_certificate_text.specs.LineText.{FitLine}
+use Rattle.larch_certificate_text.specs.Parts.{IsSmall}
 use Rattle.larch_verify_meaning.specs.Context.{theory_of, find_symbol}
 use Rattle.larch_verify_meaning.specs.Decoding.{each, decode, decode_equation, equation_between}
 use Rattle.larch_verify_meaning.specs.Events.{Event, Opened, State, start}
@@ -31,8 +34,11 @@ use Rattle.larch_derive.proofs.Decoding.{written_means}
 use Rattle.larch_derive.proofs.Growth.{run_further}
 use Rattle.larch_derive.proofs.Pushing.{one_state}
 use Rattle.larch_derive.proofs.Runs.{GoDown, run_count, down_run}
+use Rattle.larch_derive.proofs.Words.{further_fits}
+use Rattle.larch_derive.specs.Words.{AreWordedOperators, IsWordedStatement, AreWordedStatements}
 use Rattle.larch_derive_boxes.specs.Boxes.{box_of, operators_inside, IsEquation, MaySuppose, OpensIn, Opens}
 use Rattle.larch_derive_boxes.proofs.Renaming.{inside_statement, inside_over}
+use Rattle.larch_derive_boxes.proofs.Words.{equations_fit, parts_fit}
 
 -- ---- hypotheses
 
@@ -107,12 +113,23 @@ supposed_in a st x h hs w =
           (one_state a.theory a.lines st q.0 h.runs q.1.stand.runs) q.1.over,
     )) hs w
 
+supposed_worded : (a : Builder) (x : OpenBox) (hs : List Statement) → All (MaySuppose a x) hs → AreWordedStatements hs
+unfolding MaySuppose
+supposed_worded a x hs w = All-weaker (MaySuppose a x) IsWordedStatement (λ s q. q.1.words) hs w
+
+opened_fits : (a b : Builder) (n : ℕ) (cs : List PlainOperator) (hs : List Statement) → IsOpened a b cs hs n
+    → AreWordedOperators cs → AreWordedStatements hs → Writable a.lines → Writable b.lines
+opened_fits a b n cs hs p ws k w =
+    subst Writable (sym p.lines)
+    (further_fits a.lines p.line (subst IsSmall p.number p.small)
+    (subst FitLine (sym p.says.1) (parts_fit cs ws, equations_fit b.boxes a.theory.operators hs p.says.0 p.says.2 k)) w)
+
 pub opens : (a b : Builder) (n : ℕ) (cs : List PlainOperator) (hs : List Statement) → IsOpened a b cs hs n
     → HasNoBadLine a
-    → AreOthers a.theory cs → All (MaySuppose a (record { number = n; constants = cs })) hs
+    → AreOthers a.theory cs → All (MaySuppose a (record { number = n; constants = cs })) hs → AreWordedOperators cs
     → Opens a b (record { number = n; constants = cs }) hs
 unfolding HasNoBadLine Opens
-opens a b n cs hs p (st, h) o w =
+opens a b n cs hs p (st, h) o w ws =
     let x : OpenBox = record { number = n; constants = cs } in
     let bs = a.boxes ++ x ∷ [] in
     record {
@@ -124,6 +141,9 @@ opens a b n cs hs p (st, h) o w =
         lines = p.lines;
         number = p.number;
         others = o;
+        parts = ws;
+        words = supposed_worded a x hs w;
+        fits = opened_fits a b n cs hs p ws (supposed_worded a x hs w);
         leads = λ u r.
             let same = one_state a.theory a.lines u st r h.runs in
             let k : StandIn a.theory a.boxes a.lines u = subst (StandIn a.theory a.boxes a.lines) same h in
@@ -159,6 +179,7 @@ may_suppose a x l r o (st, k) (su, m) e =
         over = inside_over a.theory k.stand.plain st.history st.count bs x
             (down_run a.theory a.lines start st k.stand.runs tt) o (Equation l r)
             (k.over, n.over, sort_written bs l ∙ e ∙ sym (sort_written bs r));
+        words = (k.words, n.words);
       },
     )
   where
@@ -183,6 +204,9 @@ stand_inside t bs ls ks st x hs h o =
       opened = ap (λ y. y ++ shape_of x ∷ []) h.opened ∙ sym (map-append shape_of bs (x ∷ []));
       plain = h.plain;
       others = All-push (λ y. AreOthers t y.constants) bs x h.others o.others;
+      worded = h.worded;
+      parts = All-push (λ y. AreWordedOperators y.constants) bs x h.parts o.parts;
+      fits = o.fits h.fits;
     }
 
 pub moved : (F : Theory → List OpenBox → List Line → Type 0) (a b : Builder) (x : OpenBox) → b.theory ≡ a.theory
@@ -208,6 +232,7 @@ opened_said a b x hs n s o (st, h) =
         says = h.says ∙ ap Some (inside_statement t h.stand.plain st.history st.count bs x down o.box.others s h.over);
         within = omega (arith, le);
         over = inside_over t h.stand.plain st.history st.count bs x down o.box.others s h.over;
+        words = h.words;
       },
     )
 
@@ -243,5 +268,6 @@ opened_known a b x hs t o (st, k) =
         stand = stand_inside u bs a.lines b.lines st x hs k.stand o.box;
         over = (inside_over u k.stand.plain st.history st.count bs x down o.box.others (Equation t t)
             (k.over, k.over, refl)).0;
+        words = k.words;
       },
     )

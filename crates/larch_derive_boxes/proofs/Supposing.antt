@@ -17,6 +17,7 @@ use Rattle.larch_derive.specs.declared.builder.Builder.{Builder}
 use Rattle.larch_derive.specs.declared.open_box.OpenBox.{OpenBox}
 use Rattle.larch_derive.specs.Builder.{IsPushed}
 use Rattle.larch_derive.specs.Predicates.{operators_at, written_statement, IsBehind, Grows, HasStatement, Extends}
+use Rattle.larch_derive.specs.Words.{IsWordedStatement}
 use Rattle.larch_derive.proofs.Growth.{carried, later_stand, later_theory}
 use Rattle.larch_derive.proofs.Pushing.{pushed_says, pushed_extends}
 use Rattle.larch_derive.proofs.Runs.{run_count, down_run}
@@ -47,6 +48,7 @@ opens_is_open a b x hs o =
         found = box_here x.number x.number box (find_open st.history x.number) refl;
         within = omega (arith, count, number);
         over = o.box.over st h.runs;
+        words = o.box.words;
       },
     )
 
@@ -71,6 +73,7 @@ grown_open a b x hs g (st, h) =
         within = omega (arith, le, within);
         over = subst (λ u. All (λ s. IsStatementOver u.operators (written_statement a.boxes s)) hs)
             (sym (later_theory a.theory a.lines b.lines st h.stand.runs g.1)) h.over;
+        words = h.words;
       },
     )
 
@@ -107,6 +110,7 @@ opened_open a b x y hs ks o (st, h) =
         over = All-weaker (λ s. IsStatementOver (operators_at t st) (written_statement bs s))
             (λ s. IsStatementOver (operators_inside t st.history y) (written_statement (bs ++ y ∷ []) s))
             (λ s w. inside_over t h.stand.plain st.history st.count bs y down o.box.others s w) hs h.over;
+        words = h.words;
       },
     )
 
@@ -140,13 +144,15 @@ unfolding IsOpen
 hyp_says a b x hs k n s p (st, h) e =
     pushed_says a b (Hyp x.number k) n st s p h.stand (hyp_judged a st x hs k s h e)
     (All-contains (λ s. IsStatementOver (operators_at a.theory st) (written_statement a.boxes s)) hs s h.over
-    (got_contains hs (k - 1) s (at_place hs k s e)))
+    (got_contains hs (k - 1) s (at_place hs k s e))) p.numbers
+    (All-contains IsWordedStatement hs s h.words (got_contains hs (k - 1) s (at_place hs k s e)))
 
 pub hyp_extends : (a b : Builder) (x : OpenBox) (hs : List Statement) (k n : ℕ) (s : Statement)
     → IsPushed a b (Hyp x.number k) n → IsOpen a x hs → numbered hs k ≡ Some s → Extends a b
 unfolding IsOpen
 hyp_extends a b x hs k n s p (st, h) e =
     pushed_extends a b (Hyp x.number k) n st (written_statement a.boxes s) p h.stand.runs (hyp_judged a st x hs k s h e)
+    p.numbers
 
 -- the same, where the box's number is told
 pub hyp_line_says : (a b : Builder) (j k n : ℕ) (x : OpenBox) (hs : List Statement) (s : Statement)

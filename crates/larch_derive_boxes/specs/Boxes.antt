@@ -16,6 +16,7 @@ use Rattle.larch_calculus.specs.Theories.{AreNew, AreConstants}
 use Rattle.larch_certificate.specs.declared.line.CodedVar.{CodedVar}
 use Rattle.larch_certificate.specs.declared.line.Line.{Line}
 use Rattle.larch_certificate.specs.declared.line.Line.TheVariants.{Inst, Done}
+use Rattle.larch_certificate_text.specs.CertificateText.{Writable}
 use Rattle.larch_verify_meaning.specs.Context.{theory_of, find_open, find_closed}
 use Rattle.larch_verify_meaning.specs.Events.{PlainBox, Event, Opened, State, start, operators_of}
 use Rattle.larch_verify_meaning.specs.Matching.{variable_of}
@@ -27,6 +28,7 @@ use Rattle.larch_derive.specs.OpenBox.{constant_of}
 use Rattle.larch_derive.specs.Predicates.{AreOthers, operators_at, written_term, written_statement, StandIn}
 use Rattle.larch_derive.specs.Predicates.{HasStatement}
 use Rattle.larch_derive.specs.Predicates.{Grows}
+use Rattle.larch_derive.specs.Words.{AreWordedOperators, IsWordedTerm, IsWordedStatement, AreWordedStatements}
 
 -- the box that lines open for this one
 abbrev pub box_of : OpenBox → List Statement → PlainBox
@@ -42,12 +44,13 @@ IsEquation (Equation l r) = Unit {0}
 IsEquation (Generated s fs) = ⊥
 IsEquation (Partitioned s fs) = ⊥
 
--- the statement may be supposed in the box: it is an equation that is well sorted there
+-- the statement may be supposed in the box: it is an equation in words that is well sorted there
 pub record MaySupposeIn (t : Theory) (bs : List OpenBox) (ls : List Line) (st : State)
     (x : OpenBox) (s : Statement) : Type 0 where
   pub stand : StandIn t bs ls st
   pub equation : IsEquation s
   pub over : IsStatementOver (operators_inside t st.history x) (written_statement (bs ++ x ∷ []) s)
+  pub words : IsWordedStatement s
 
 unfoldable pub MaySuppose : Builder → OpenBox → Statement → Type 0
 MaySuppose b x s = (st : State) × MaySupposeIn b.theory b.boxes b.lines st x s
@@ -56,11 +59,13 @@ MaySuppose b x s = (st : State) × MaySupposeIn b.theory b.boxes b.lines st x s
 abbrev pub IsPart : PlainOperator → Type 0
 IsPart f = (f.domain ≡ []) ⊎ ((s : List ℕ) × (f.domain ≡ s ∷ []) × (f.range ≡ bool_sort))
 
--- the term can be written in the box once that is open; it may have the box's own constants and predicates
+-- the term, which is in words, can be written in the box once that is open; it may have the box's own constants and
+-- predicates
 pub record KnownInsideIn (t : Theory) (bs : List OpenBox) (ls : List Line) (st : State)
     (x : OpenBox) (a : Tree) : Type 0 where
   pub stand : StandIn t bs ls st
   pub over : IsTermOver (operators_inside t st.history x) (written_term (bs ++ x ∷ []) a)
+  pub words : IsWordedTerm a
 
 unfoldable pub KnownInside : Builder → OpenBox → Tree → Type 0
 KnownInside b x a = (st : State) × KnownInsideIn b.theory b.boxes b.lines st x a
@@ -69,13 +74,16 @@ KnownInside b x a = (st : State) × KnownInsideIn b.theory b.boxes b.lines st x 
 abbrev pub AreKnownInside : Builder → OpenBox → List Entry → Type 0
 AreKnownInside b x es = All (λ e. KnownInside b x e.term × (sort_of e.term ≡ e.sort)) es
 
--- the second list of lines has one line more, which opens the box
+-- the second list of lines has one line more, which opens the box and has a text
 pub record OpensIn (t : Theory) (bs : List OpenBox) (ls ks : List Line) (x : OpenBox)
     (hs : List Statement) : Type 0 where
   pub line : Line
   pub lines : ks ≡ ls ++ line ∷ []
   pub number : x.number ≡ suc (length ls)
   pub others : AreOthers t x.constants
+  pub parts : AreWordedOperators x.constants
+  pub words : AreWordedStatements hs
+  pub fits : Writable ls → Writable ks
   pub leads : (st : State) → run t start ls ≡ Some st → run t st (line ∷ []) ≡ Some (record {
     count = suc st.count;
     history = Opened (box_of x (map (written_statement (bs ++ x ∷ [])) hs)) ∷ st.history;
@@ -100,6 +108,7 @@ pub record IsOpenIn (t : Theory) (bs : List OpenBox) (ls : List Line) (st : Stat
   pub found : find_open st.history x.number ≡ Some (box_of x (map (written_statement bs) hs))
   pub within : x.number ≤ st.count
   pub over : All (λ s. IsStatementOver (operators_at t st) (written_statement bs s)) hs
+  pub words : AreWordedStatements hs
 
 unfoldable pub IsOpen : Builder → OpenBox → List Statement → Type 0
 IsOpen b x hs = (st : State) × IsOpenIn b.theory b.boxes b.lines st x hs
@@ -115,6 +124,8 @@ pub record ResultIn (t : Theory) (bs : List OpenBox) (ls : List Line) (st : Stat
   pub others : AreOthers t x.constants
   pub over : IsStatementOver (operators_inside t st.history x) (written_statement (bs ++ x ∷ []) s)
   pub supposed : All (λ h. IsStatementOver (operators_inside t st.history x) (written_statement (bs ++ x ∷ []) h)) hs
+  pub parts : AreWordedOperators x.constants
+  pub words : IsWordedStatement s
 
 unfoldable pub HasResult : Builder → OpenBox → List Statement → Statement → Type 0
 HasResult b x hs s = (st : State) × ResultIn b.theory b.boxes b.lines st x hs s

@@ -15,29 +15,32 @@ ghost use Rattle.larch_calculus.specs.Observation.{observations};
 ghost use Rattle.larch_calculus.specs.Theories.{AreConstants};
 ghost use Rattle.larch_derive.specs.Builder.{IsOpened, theory_in, boxes_in};
 ghost use Rattle.larch_derive.specs.Predicates.{AreOthers, HasNoBadLine, Known, HasStatement, Grows};
+ghost use Rattle.larch_derive.specs.Words.{AreWordedOperators, IsWordedTerm, IsWordedStatement};
 ghost use Rattle.larch_derive.specs.declared.builder.Builder.{Builder};
 ghost use Rattle.larch_derive.specs.declared.open_box.OpenBox.{OpenBox};
 ghost use Rattle.larch_derive_boxes.specs.Boxes.{IsEquation, IsPart, KnownInside, AreKnownInside, MaySuppose, Opens};
 ghost use Rattle.larch_derive_boxes.specs.Boxes.{IsOpen, HasResult, Closes};
 
-/// A box line opens a box where its constants are neither the theory's nor built in, and its hypotheses may be
-/// supposed.
+/// A box line opens a box where its constants are neither the theory's nor built in and their sorts are words, and its
+/// hypotheses may be supposed.
 pub fn opening()
     ensures opens { (a b : Builder) (n : ℕ) (cs : List PlainOperator) (hs : List Statement) → IsOpened a b cs hs n
         → HasNoBadLine a → AreOthers (theory_in a) cs → All (MaySuppose a (record { number = n; constants = cs })) hs
+        → AreWordedOperators cs
         → Opens a b (record { number = n; constants = cs }) hs }
     ensures equation { (a : Builder) (x : OpenBox) (l r : Tree) → AreOthers (theory_in a) x.constants → Known a l
         → Known a r → sort_of l ≡ sort_of r → MaySuppose a x (Equation l r) }
 {}
 
-/// A term can be written in a box once that is open if it could be before; if it has the theory's operators and what
-/// stands for the box's own constants and predicates; and with such terms in the places of its variables. Inside, it
-/// is known.
+/// A term can be written in a box once that is open if it could be before; if it is in words and has the theory's
+/// operators and what stands for the box's own constants and predicates; and with such terms in the places of its
+/// variables. Inside, it is known.
 pub fn known_inside()
     ensures outside { (a : Builder) (x : OpenBox) (t : Tree) → AreOthers (theory_in a) x.constants → Known a t
         → KnownInside a x t }
     ensures own { (a : Builder) (x : OpenBox) (t : Tree) → HasNoBadLine a → AreOthers (theory_in a) x.constants
-        → All IsPart x.constants → IsTermOver ((theory_in a).operators ++ x.constants) t → KnownInside a x t }
+        → All IsPart x.constants → IsTermOver ((theory_in a).operators ++ x.constants) t → IsWordedTerm t
+        → KnownInside a x t }
     ensures replaced { (a : Builder) (x : OpenBox) (es : List Entry) (t : Tree) → KnownInside a x t
         → AreKnownInside a x es → KnownInside a x (instance_of es t) }
     ensures opened { (a b : Builder) (x : OpenBox) (hs : List Statement) (t : Tree) → Opens a b x hs
@@ -50,22 +53,22 @@ pub fn supposing_inside()
         → sort_of l ≡ sort_of r → MaySuppose a x (Equation l r) }
     ensures own { (a : Builder) (x : OpenBox) (s : Statement) → HasNoBadLine a → AreOthers (theory_in a) x.constants
         → All IsPart x.constants → IsEquation s → IsStatementOver ((theory_in a).operators ++ x.constants) s
-        → MaySuppose a x s }
+        → IsWordedStatement s → MaySuppose a x s }
 {}
 
 /// So may the hypotheses of an induction, of generation and of partition.
 pub fn supposing_cases()
     ensures induction { (a : Builder) (x : OpenBox) (v s : List ℕ) (l r : Tree) → AreOthers (theory_in a) x.constants
-        → AreConstants x.constants → Known a l → Known a r → sort_of l ≡ sort_of r
+        → AreConstants x.constants → Known a l → Known a r → sort_of l ≡ sort_of r → AreWordedOperators x.constants
         → All (MaySuppose a x) (induction_hypotheses v s l r x.constants) }
     ensures generation { (a : Builder) (x : OpenBox) (p : PlainOperator) (s : List ℕ) (fs : List PlainOperator)
         → HasNoBadLine a → AreOthers (theory_in a) x.constants → x.constants ≡ p ∷ [] → p.domain ≡ s ∷ []
         → p.range ≡ bool_sort → IsStatementOver (theory_in a).operators (Generated s fs)
-        → All (MaySuppose a x) (generation_hypotheses p s fs) }
+        → IsWordedStatement (Generated s fs) → All (MaySuppose a x) (generation_hypotheses p s fs) }
     ensures partition { (a : Builder) (x : OpenBox) (c d : PlainOperator) (s : List ℕ) (os : List PlainOperator)
         → HasNoBadLine a → AreOthers (theory_in a) x.constants → AreConstants x.constants → Contains x.constants c
         → Contains x.constants d → c.range ≡ s → d.range ≡ s
-        → IsStatementOver (theory_in a).operators (Partitioned s os)
+        → IsStatementOver (theory_in a).operators (Partitioned s os) → IsWordedStatement (Partitioned s os)
         → All (MaySuppose a x) (observations place_name s os (constant c) (constant d)) }
 {}
 

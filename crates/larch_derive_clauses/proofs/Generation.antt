@@ -4,7 +4,7 @@ use Rattle.std.proofs.Common.{refl, ◌∙◌, ap}
 use Rattle.std.specs.List.{list_all}
 use Rattle.std.specs.Option.{option_and_then}
 use Rattle.std.proofs.lemmas.Bool.{cond-true}
-use Rattle.std.proofs.lemmas.List.Elements.{All-head, All-tail, All-contains}
+use Rattle.std.proofs.lemmas.List.Elements.{All-head, All-tail, All-contains, All-weaker}
 use Rattle.std.proofs.lemmas.Slice.Eq.{bytes_eq-Decides}
 use Rattle.larch_base.proofs.Bools.{and_both}
 use Rattle.larch_base.proofs.Lists.{all_from}
@@ -26,6 +26,7 @@ use Rattle.larch_certificate.specs.declared.line.Line.TheVariants.{Generated as 
 use Rattle.larch_verify_meaning.specs.ClauseRules.{own_operators, generated_by, shows_generated, holds_of_variable}
 use Rattle.larch_verify_meaning.specs.Context.{find_closed}
 use Rattle.larch_verify_meaning.specs.Events.{PlainBox, State, box_predicate}
+use Rattle.larch_verify_meaning.specs.LastLine.{EndsWithoutStatedClause}
 use Rattle.larch_verify_meaning.specs.Matching.{same_statements, is_predicate_on}
 use Rattle.larch_verify_meaning.specs.Run.{judge}
 use Rattle.larch_verify_law.proofs.Told.{each_told, numbered_contains}
@@ -34,6 +35,8 @@ use Rattle.larch_derive.specs.declared.open_box.OpenBox.{OpenBox}
 use Rattle.larch_derive.specs.Builder.{IsPushed, part_for, part_sort}
 use Rattle.larch_derive.specs.OpenBox.{place_from, constant_of, in_lines, name_in_lines, naming}
 use Rattle.larch_derive.specs.Predicates.{HasStatement, Extends}
+use Rattle.larch_derive.specs.Words.{IsWordedOperator, AreWordedOperators, IsWordedTheory}
+use Rattle.larch_derive.proofs.Accepting.{pushed_ends}
 use Rattle.larch_derive.proofs.Pushing.{own_says, pushed_extends}
 use Rattle.larch_derive.proofs.Unchanged.{own_operators_written}
 use Rattle.larch_derive_boxes.specs.Boxes.{ResultIn, HasResult}
@@ -49,6 +52,13 @@ pub numbered_own : (t : Theory) (ks : List ℕ) (fs : List PlainOperator) → ow
 numbered_own t ks fs e =
     each_told (numbered t.operators) (λ f. Contains t.operators f)
     (λ k f q. numbered_contains t.operators k f q) ks fs e
+
+-- the operators of a theory in words are in words
+pub own_worded : (t : Theory) (fs : List PlainOperator) → IsWordedTheory t → All (λ f. Contains t.operators f) fs
+    → AreWordedOperators fs
+own_worded t fs w own =
+    All-weaker (λ f. Contains t.operators f) IsWordedOperator (λ f c. All-contains IsWordedOperator t.operators f w.0 c)
+    fs own
 
 generated_over : (t : Theory) (s : List ℕ) (fs : List PlainOperator) → All (λ f. Contains t.operators f) fs
     → All (λ f. f.range ≡ s) fs → IsStatementOver t.operators (Generated s fs)
@@ -147,6 +157,8 @@ generated_says a b k n s ks fs p own ranges c =
     own_says a b (GeneratedLine k s ks) n c.shown.0 (Generated s fs) p res.stand
     (generated_judged a c.shown.0 s ks fs k c res own ranges)
     (generated_over a.theory s fs (numbered_own a.theory ks fs own) ranges)
+    (p.numbers.0, (res.words.0.1.0.1, p.numbers.1))
+    (res.words.0.1.0.1, own_worded a.theory fs res.stand.worded (numbered_own a.theory ks fs own))
 
 pub generated_extends : (a b : Builder) (k n : ℕ) (s : List ℕ) (ks : List ℕ) (fs : List PlainOperator)
     → IsPushed a b (GeneratedLine k s ks) n → own_operators a.theory ks ≡ Some fs → All (λ f. f.range ≡ s) fs
@@ -155,4 +167,9 @@ unfolding HasResult
 generated_extends a b k n s ks fs p own ranges c =
     let res = c.shown.1 in
     pushed_extends a b (GeneratedLine k s ks) n c.shown.0 (Generated s fs) p res.stand.runs
-    (generated_judged a c.shown.0 s ks fs k c res own ranges)
+    (generated_judged a c.shown.0 s ks fs k c res own ranges) (p.numbers.0, (res.words.0.1.0.1, p.numbers.1))
+
+-- such a line isn't an axiom line
+pub generated_ends : (a b : Builder) (k n : ℕ) (s : List ℕ) (ks : List ℕ) → IsPushed a b (GeneratedLine k s ks) n
+    → EndsWithoutStatedClause b.theory b.lines
+generated_ends a b k n s ks p = pushed_ends a b (GeneratedLine k s ks) n p refl

@@ -32,7 +32,9 @@ use Rattle.larch_derive_boxes.specs.Boxes.{box_of}
 use Rattle.larch_derive_boxes.proofs.Freshness.{own_named, has_sorts, known_at}
 use Rattle.larch_derive_boxes.proofs.Renaming.{inside_in_lines, inside_written}
 use Rattle.larch_derive_clauses.specs.Showing.{ShowsCase, ShowCases}
-use Rattle.larch_derive_clauses.proofs.Written.{equation_means, equation_known, result_at, inside_faithful, found_by}
+use Rattle.larch_certificate_text.specs.LineText.{IsWord}
+use Rattle.larch_derive_clauses.proofs.Written.{equation_means, equation_known, equation_fits, result_at}
+use Rattle.larch_derive_clauses.proofs.Written.{inside_faithful, found_by}
 use Rattle.larch_derive_clauses.proofs.Written.{constants_named, statements_same, statement_same}
 
 -- the box of one generator passes the test
@@ -116,19 +118,23 @@ induct_judged a st m v l r e fs ns h kl kr s cl cr c =
 pub induct_says : (a b : Builder) (m n : ℕ) (v : CodedVar) (l r : Tree) (e : CodedEquation) (ns : List ℕ)
     (fs : List PlainOperator) → IsCodeIn a l e.left → IsCodeIn a r e.right → IsPushed a b (Induct m v e ns) n
     → HasStatement a m (Generated v.sort fs) → ShowCases a v l r fs ns → Known a l → Known a r
-    → sort_of l ≡ sort_of r → HasStatement b n (Equation l r)
+    → sort_of l ≡ sort_of r → IsWord v.name → HasStatement b n (Equation l r)
 unfolding HasStatement
-induct_says a b m n v l r e ns fs cl cr p (st, h) c kl kr s =
+induct_says a b m n v l r e ns fs cl cr p (st, h) c kl kr s w =
     let il = known_at a st l h.stand kl in
     let ir = known_at a st r h.stand kr in
     pushed_says a b (Induct m v e ns) n st (Equation l r) p h.stand
     (induct_judged a st m v l r e fs ns h il ir s cl cr c) (equation_known a st l r il ir s)
+    (p.numbers.0, ((w, h.words.0), (equation_fits a l r e cl cr il.words ir.words, p.numbers.1))) (il.words, ir.words)
 
 pub induct_extends : (a b : Builder) (m n : ℕ) (v : CodedVar) (l r : Tree) (e : CodedEquation) (ns : List ℕ)
     (fs : List PlainOperator) → IsCodeIn a l e.left → IsCodeIn a r e.right → IsPushed a b (Induct m v e ns) n
     → HasStatement a m (Generated v.sort fs) → ShowCases a v l r fs ns → Known a l → Known a r
-    → sort_of l ≡ sort_of r → Extends a b
+    → sort_of l ≡ sort_of r → IsWord v.name → Extends a b
 unfolding HasStatement
-induct_extends a b m n v l r e ns fs cl cr p (st, h) c kl kr s =
+induct_extends a b m n v l r e ns fs cl cr p (st, h) c kl kr s w =
+    let il = known_at a st l h.stand kl in
+    let ir = known_at a st r h.stand kr in
     pushed_extends a b (Induct m v e ns) n st (written_statement a.boxes (Equation l r)) p h.stand.runs
-    (induct_judged a st m v l r e fs ns h (known_at a st l h.stand kl) (known_at a st r h.stand kr) s cl cr c)
+    (induct_judged a st m v l r e fs ns h il ir s cl cr c)
+    (p.numbers.0, ((w, h.words.0), (equation_fits a l r e cl cr il.words ir.words, p.numbers.1)))

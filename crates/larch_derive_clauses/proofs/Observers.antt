@@ -36,7 +36,8 @@ use Rattle.larch_derive.proofs.Pushing.{pushed_says, pushed_extends}
 use Rattle.larch_derive.proofs.Unchanged.{naming_faithful}
 use Rattle.larch_derive_boxes.proofs.Freshness.{sort_written, known_at}
 use Rattle.larch_derive_clauses.specs.Showing.{ShowsSame, ShowSame}
-use Rattle.larch_derive_clauses.proofs.Written.{equation_means, equation_known, said_at, statement_same}
+use Rattle.larch_derive_clauses.proofs.Written.{equation_means, equation_known, equation_fits, said_at}
+use Rattle.larch_derive_clauses.proofs.Written.{statement_same}
 
 -- ---- names of arguments
 
@@ -207,6 +208,7 @@ observe_says a b m n l r e ns os cl cr p (st, h) c kl kr s =
     let ir = known_at a st r h.stand kr in
     pushed_says a b (Observe m e ns) n st (Equation l r) p h.stand
     (observe_judged a st m l r e os ns h il ir s cl cr c) (equation_known a st l r il ir s)
+    (p.numbers.0, (equation_fits a l r e cl cr il.words ir.words, p.numbers.1)) (il.words, ir.words)
 
 pub observe_extends : (a b : Builder) (m n : ℕ) (l r : Tree) (e : CodedEquation) (ns : List ℕ)
     (os : List PlainOperator) → IsCodeIn a l e.left → IsCodeIn a r e.right → IsPushed a b (Observe m e ns) n
@@ -214,5 +216,8 @@ pub observe_extends : (a b : Builder) (m n : ℕ) (l r : Tree) (e : CodedEquatio
     → Known a r → sort_of l ≡ sort_of r → Extends a b
 unfolding HasStatement
 observe_extends a b m n l r e ns os cl cr p (st, h) c kl kr s =
+    let il = known_at a st l h.stand kl in
+    let ir = known_at a st r h.stand kr in
     pushed_extends a b (Observe m e ns) n st (written_statement a.boxes (Equation l r)) p h.stand.runs
-    (observe_judged a st m l r e os ns h (known_at a st l h.stand kl) (known_at a st r h.stand kr) s cl cr c)
+    (observe_judged a st m l r e os ns h il ir s cl cr c)
+    (p.numbers.0, (equation_fits a l r e cl cr il.words ir.words, p.numbers.1))

@@ -1,6 +1,6 @@
 -- Lines that say that a sort is partitioned by operators.
 use Rattle.std.proofs.Common.{◌≡◌, ◌+◌, ◌&&◌, inl, inr, ℕ, true, List, [], ◌∷◌, ◌++◌, map, All, Contains, Some, None}
-use Rattle.std.proofs.Common.{bytes_eq, refl, sym, ◌∙◌, ap}
+use Rattle.std.proofs.Common.{bytes_eq, refl, sym, ◌∙◌, ap, subst}
 use Rattle.std.specs.List.{slice_get, list_all, list_any}
 use Rattle.std.specs.Option.{option_and_then}
 use Rattle.std.proofs.lemmas.Bool.{cond-true}
@@ -20,8 +20,10 @@ use Rattle.larch_calculus.specs.Generation.{place_name}
 use Rattle.larch_calculus.specs.Observation.{observations}
 use Rattle.larch_calculus.proofs.RenamedHypotheses.{observations_renamed}
 use Rattle.larch_certificate.specs.declared.line.Line.TheVariants.{Partitioned as PartitionedLine}
+use Rattle.larch_certificate_text.specs.LineText.{IsWord}
 use Rattle.larch_verify_meaning.specs.ClauseRules.{own_operators, partitioned_by}
 use Rattle.larch_verify_meaning.specs.Events.{State, box_constant, part_operator}
+use Rattle.larch_verify_meaning.specs.LastLine.{EndsWithoutStatedClause}
 use Rattle.larch_verify_meaning.specs.Matching.{same_statements, has_constants}
 use Rattle.larch_verify_meaning.specs.Run.{judge}
 use Rattle.larch_derive.specs.declared.builder.Builder.{Builder}
@@ -29,12 +31,13 @@ use Rattle.larch_derive.specs.declared.open_box.OpenBox.{OpenBox}
 use Rattle.larch_derive.specs.Builder.{IsPushed}
 use Rattle.larch_derive.specs.OpenBox.{in_lines, naming}
 use Rattle.larch_derive.specs.Predicates.{written_statement, HasStatement, Extends}
+use Rattle.larch_derive.proofs.Accepting.{pushed_ends}
 use Rattle.larch_derive.proofs.Pushing.{own_says, pushed_extends}
 use Rattle.larch_derive.proofs.Unchanged.{own_operators_written}
 use Rattle.larch_derive_boxes.specs.Boxes.{box_of, ResultIn, HasResult, AreOwnConstants}
 use Rattle.larch_derive_boxes.proofs.Freshness.{own_named, has_sorts, sort_of_part}
 use Rattle.larch_derive_clauses.specs.Showing.{ShowsPartitioned}
-use Rattle.larch_derive_clauses.proofs.Generation.{numbered_own}
+use Rattle.larch_derive_clauses.proofs.Generation.{numbered_own, own_worded}
 use Rattle.larch_derive_clauses.proofs.Written.{inside_faithful, inside_others, found_by, statements_same}
 use Rattle.larch_derive_clauses.proofs.Written.{statement_same}
 
@@ -128,6 +131,10 @@ partitioned_says a b k n s ks os p own domains c =
     own_says a b (PartitionedLine k s ks) n c.shown.0 (Partitioned s os) p res.stand
     (partitioned_judged a c.shown.0 s ks os k c res own domains)
     (partitioned_over a.theory s os (numbered_own a.theory ks os own) domains)
+    (p.numbers.0, (subst IsWord c.first_sort res.words.0.0.1, p.numbers.1)) (
+      subst IsWord c.first_sort res.words.0.0.1,
+      own_worded a.theory os res.stand.worded (numbered_own a.theory ks os own),
+    )
 
 pub partitioned_extends : (a b : Builder) (k n : ℕ) (s : List ℕ) (ks : List ℕ) (os : List PlainOperator)
     → IsPushed a b (PartitionedLine k s ks) n → own_operators a.theory ks ≡ Some os
@@ -137,3 +144,9 @@ partitioned_extends a b k n s ks os p own domains c =
     let res = c.shown.1 in
     pushed_extends a b (PartitionedLine k s ks) n c.shown.0 (Partitioned s os) p res.stand.runs
     (partitioned_judged a c.shown.0 s ks os k c res own domains)
+    (p.numbers.0, (subst IsWord c.first_sort res.words.0.0.1, p.numbers.1))
+
+-- such a line isn't an axiom line
+pub partitioned_ends : (a b : Builder) (k n : ℕ) (s : List ℕ) (ks : List ℕ) → IsPushed a b (PartitionedLine k s ks) n
+    → EndsWithoutStatedClause b.theory b.lines
+partitioned_ends a b k n s ks p = pushed_ends a b (PartitionedLine k s ks) n p refl

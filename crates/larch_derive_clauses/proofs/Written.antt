@@ -15,11 +15,14 @@ use Rattle.larch_term.specs.declared.statement.Statement.TheVariants.{Equation}
 use Rattle.larch_term.proofs.Decided.{statement_Decides}
 use Rattle.larch_calculus.specs.Renaming.{IsFaithful}
 use Rattle.larch_certificate.specs.declared.line.CodedEquation.{CodedEquation}
+use Rattle.larch_certificate_text.specs.EquationText.{FitEquation}
 use Rattle.larch_verify_meaning.specs.Context.{find_symbol, find_closed}
 use Rattle.larch_verify_meaning.specs.Decoding.{decode, decode_equation, equation_between}
 use Rattle.larch_verify_meaning.specs.Events.{State, operators_from, part_operator}
 use Rattle.larch_verify_meaning.specs.Matching.{same_statements}
 use Rattle.larch_derive.specs.declared.builder.Builder.{Builder}
+use Rattle.larch_derive.specs.Words.{IsWordedTerm}
+use Rattle.larch_derive.proofs.Words.{term_fits}
 use Rattle.larch_derive.specs.declared.open_box.OpenBox.{OpenBox}
 use Rattle.larch_derive.specs.Builder.{IsCodeIn, part_for}
 use Rattle.larch_derive.specs.OpenBox.{in_lines, naming}
@@ -104,3 +107,9 @@ statements_same ss rs e =
 
 pub statement_same : (s r : Statement) → s ≡ r → same_statement s r ≡ true
 statement_same s r e = (statement_Decides s r).1 e
+
+-- what is written of an equation in words has a text
+pub equation_fits : (a : Builder) (l r : Tree) (e : CodedEquation) → IsCodeIn a l e.left → IsCodeIn a r e.right
+    → IsWordedTerm l → IsWordedTerm r → FitEquation e
+equation_fits a l r e cl cr wl wr =
+    (term_fits a.boxes a.theory.operators l e.left cl wl, term_fits a.boxes a.theory.operators r e.right cr wr)

@@ -3,6 +3,7 @@ ghost use Rattle.larch_term.specs.Operator.{PlainOperator};
 ghost use Rattle.larch_term.specs.Sorts.{sort_of};
 ghost use Rattle.larch_term.specs.declared.statement.Statement.TheVariants.{Generated, Partitioned};
 ghost use Rattle.larch_calculus.specs.Observation.{observations_of};
+ghost use Rattle.larch_certificate_text.specs.LineText.{IsWord};
 ghost use Rattle.larch_derive.specs.Builder.{IsCodeIn};
 ghost use Rattle.larch_derive.specs.Predicates.{Known, HasStatement, HasEquation, Extends};
 ghost use Rattle.larch_derive_clauses.specs.Showing.{ShowCases, ShowSame};
@@ -12,8 +13,8 @@ use larch_certificate::{CodedEquation, CodedVar, Line, Numbers};
 use larch_derive::Builder;
 use larch_term::Term;
 
-/// A line that says an equation by induction on a variable: by the clause of a line, and a closed box for each
-/// generator, in order. A refused line changes nothing.
+/// A line that says an equation by induction on a variable, whose name is a word: by the clause of a line, and a closed
+/// box for each generator, in order. A refused line changes nothing.
 #[tactic(auto, using(crate::proofs::Inductions::induct_says, crate::proofs::Inductions::induct_extends))]
 pub fn push_induct(
     builder: &mut Builder,
@@ -27,12 +28,12 @@ pub fn push_induct(
         → HasStatement builder.old line (Generated variable.sort fs)
         → ShowCases builder.old variable left.now right.now fs boxes
         → Known builder.old left.now → Known builder.old right.now → sort_of left.now ≡ sort_of right.now
-        → HasEquation builder.new n left.now right.now) }
+        → IsWord variable.name → HasEquation builder.new n left.now right.now) }
     ensures extends { OnOk result ((fs : List PlainOperator)
         → HasStatement builder.old line (Generated variable.sort fs)
         → ShowCases builder.old variable left.now right.now fs boxes
         → Known builder.old left.now → Known builder.old right.now → sort_of left.now ≡ sort_of right.now
-        → Extends builder.old builder.new) }
+        → IsWord variable.name → Extends builder.old builder.new) }
     ensures err { OnErr result (builder.new ≡ builder.old) }
 {
     let equation = write_equation(builder, left, right)?;

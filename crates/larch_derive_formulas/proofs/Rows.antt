@@ -14,13 +14,15 @@ use Rattle.larch_term.specs.declared.statement.Statement.TheVariants.{Equation}
 use Rattle.larch_term.specs.declared.substitution.Entry.{Entry}
 use Rattle.larch_calculus.specs.Formula.{apply_one, choice, equality, equivalence, falsity, apply_two}
 use Rattle.larch_tables.specs.Spelling.{x, y, a, b}
+use Rattle.larch_certificate_text.specs.LineText.{IsWord}
 use Rattle.larch_verify_meaning.specs.Matching.{all_different}
 use Rattle.larch_verify_meaning.specs.Rules.{row_says}
 use Rattle.larch_derive.specs.Predicates.{written_term, Known, HasNoBadLine, HasEquation, HasStatement, Extends}
 use Rattle.larch_derive.specs.declared.builder.Builder.{Builder}
 use Rattle.larch_derive.specs.declared.open_box.OpenBox.{OpenBox}
 use Rattle.larch_derive.proofs.Growth.{extends_grows, grown_stands, known_stands, extends_trans, stays_known}
-use Rattle.larch_derive_lines.specs.Rules.{variable_in, AreKnownEntries}
+use Rattle.larch_derive.proofs.Words.{known_sort}
+use Rattle.larch_derive_lines.specs.Rules.{variable_in, AreKnownEntries, IsWordedSort}
 use Rattle.larch_derive_formulas.specs.Instances.{truths, values, of_truths, of_values, IsKnownAt, MayReplace}
 use Rattle.larch_derive_formulas.specs.Instances.{IsInstance}
 use Rattle.larch_derive_formulas.specs.declared.instances.Instance.{Instance}
@@ -28,7 +30,7 @@ use Rattle.larch_derive_formulas.specs.declared.instances.Instance.{Instance}
 -- ---- terms that may take the places of variables
 
 abbrev Fitting : Builder → Entry → Type 0
-Fitting m e = Known m e.term × (sort_of e.term ≡ e.sort)
+Fitting m e = Known m e.term × (sort_of e.term ≡ e.sort) × IsWord e.name
 
 two_fit : (m : Builder) (d e : Entry) → Fitting m d → Fitting m e → AreKnownEntries m (d ∷ e ∷ [])
 two_fit m d e p q = All-cons (Fitting m) d (e ∷ []) p (All-cons (Fitting m) e [] q (All-nil (Fitting m)))
@@ -39,7 +41,7 @@ truths_may m t u p q = (
   known_stands m t p.0,
   (
     two_fit m (record { name = codes "x"; sort = bool_sort; term = t })
-        (record { name = codes "y"; sort = bool_sort; term = u }) p q,
+        (record { name = codes "y"; sort = bool_sort; term = u }) (p.0, p.1, refl) (q.0, q.1, refl),
     refl,
   ),
 )
@@ -49,14 +51,15 @@ pub values_may : (m : Builder) (s : List ℕ) (t u : Tree) → IsKnownAt m s t �
 values_may m s t u p q = (
   known_stands m t p.0,
   (
-    two_fit m (record { name = codes "a"; sort = s; term = t }) (record { name = codes "b"; sort = s; term = u }) p q,
+    two_fit m (record { name = codes "a"; sort = s; term = t }) (record { name = codes "b"; sort = s; term = u })
+        (p.0, p.1, refl) (q.0, q.1, refl),
     refl,
   ),
 )
 
 entries_stay : (m n : Builder) (es : List Entry) → Extends m n → AreKnownEntries m es → AreKnownEntries n es
 entries_stay m n es x k =
-    All-weaker (Fitting m) (Fitting n) (λ e p. (stays_known m n e.term x p.0, p.1)) es k
+    All-weaker (Fitting m) (Fitting n) (λ e p. (stays_known m n e.term x p.0, p.1, p.2)) es k
 
 -- a row's instance stays one where lines are added
 pub instance_stays : (m n : Builder) (i : Instance) (l r : Tree) → Extends m n → IsInstance m i l r → IsInstance n i l r
@@ -70,37 +73,48 @@ instance_stays m n i l r e h = record {
     grown_stands m n (extends_grows m n e) h.may.0,
     (entries_stay m n i.by e h.may.1.0, h.may.1.1),
   );
+  words = h.words;
 }
+
+-- the sort of a known term is a word
+sort_is_word : (m : Builder) (s : List ℕ) (t : Tree) → IsKnownAt m s t → IsWord s
+sort_is_word m s t k = subst IsWord k.1 (known_sort m t k.0)
 
 -- ---- lines
 
 -- a line that says the row, and one that says its instance
 pub instance_says : (m n o : Builder) (k q : ℕ) (i : Instance) (l r : Tree) → IsInstance m i l r
-    → ((s : Statement) → HasNoBadLine m → row_says i.row i.sort ≡ Some s → HasStatement n k s)
-    → ((s : Statement) → HasNoBadLine m → row_says i.row i.sort ≡ Some s → Extends m n)
+    → ((s : Statement) → HasNoBadLine m → row_says i.row i.sort ≡ Some s → IsWordedSort i.sort
+    → HasStatement n k s)
+    → ((s : Statement) → HasNoBadLine m → row_says i.row i.sort ≡ Some s → IsWordedSort i.sort
+    → Extends m n)
     → ((v w : Tree) → HasEquation n k v w → AreKnownEntries n i.by → all_different (map variable_in i.by) ≡ true
     → HasEquation o q (instance_of i.by v) (instance_of i.by w))
     → HasEquation o q l r
 instance_says m n o k q i l r h says extends inst =
     subst (λ t. HasEquation o q t r) h.left
     (subst (HasEquation o q (instance_of i.by h.given)) h.right
-    (inst h.given h.gives (says (Equation h.given h.gives) h.may.0 h.row)
-    (entries_stay m n i.by (extends (Equation h.given h.gives) h.may.0 h.row) h.may.1.0) h.may.1.1))
+    (inst h.given h.gives (says (Equation h.given h.gives) h.may.0 h.row h.words)
+    (entries_stay m n i.by (extends (Equation h.given h.gives) h.may.0 h.row h.words) h.may.1.0) h.may.1.1))
 
 pub instance_extends : (m n o : Builder) (k : ℕ) (i : Instance) (l r : Tree) → IsInstance m i l r
-    → ((s : Statement) → HasNoBadLine m → row_says i.row i.sort ≡ Some s → HasStatement n k s)
-    → ((s : Statement) → HasNoBadLine m → row_says i.row i.sort ≡ Some s → Extends m n)
+    → ((s : Statement) → HasNoBadLine m → row_says i.row i.sort ≡ Some s → IsWordedSort i.sort
+    → HasStatement n k s)
+    → ((s : Statement) → HasNoBadLine m → row_says i.row i.sort ≡ Some s → IsWordedSort i.sort
+    → Extends m n)
     → ((v w : Tree) → HasEquation n k v w → AreKnownEntries n i.by → all_different (map variable_in i.by) ≡ true
     → Extends n o)
     → Extends m o
 instance_extends m n o k i l r h says extends inst =
-    let e = extends (Equation h.given h.gives) h.may.0 h.row in
+    let e = extends (Equation h.given h.gives) h.may.0 h.row h.words in
     extends_trans m n o e
-    (inst h.given h.gives (says (Equation h.given h.gives) h.may.0 h.row) (entries_stay m n i.by e h.may.1.0) h.may.1.1)
+    (inst h.given h.gives (says (Equation h.given h.gives) h.may.0 h.row h.words) (entries_stay m n i.by e h.may.1.0)
+    h.may.1.1)
 
 pub row_extends : (m n : Builder) (i : Instance) (l r : Tree) → IsInstance m i l r
-    → ((s : Statement) → HasNoBadLine m → row_says i.row i.sort ≡ Some s → Extends m n) → Extends m n
-row_extends m n i l r h extends = extends (Equation h.given h.gives) h.may.0 h.row
+    → ((s : Statement) → HasNoBadLine m → row_says i.row i.sort ≡ Some s → IsWordedSort i.sort
+    → Extends m n) → Extends m n
+row_extends m n i l r h extends = extends (Equation h.given h.gives) h.may.0 h.row h.words
 
 -- ---- arguments of known terms
 
@@ -123,8 +137,8 @@ sorts_of_two m f t u (st, k) =
 known_parts : (m : Builder) (f : PlainOperator) (t u : Tree) → Known m (apply_two f t u) → Known m t × Known m u
 unfolding Known
 known_parts m f t u (st, k) = (
-  (st, record { stand = k.stand; over = (k.over.0.1.0, k.over.1.1.0) }),
-  (st, record { stand = k.stand; over = (k.over.0.1.1.0, k.over.1.1.1.0) }),
+  (st, record { stand = k.stand; over = (k.over.0.1.0, k.over.1.1.0); words = k.words.1.0 }),
+  (st, record { stand = k.stand; over = (k.over.0.1.1.0, k.over.1.1.1.0); words = k.words.1.1.0 }),
 )
 
 pub known_two : (m : Builder) (f : PlainOperator) (p q : List ℕ) (t u : Tree) → f.domain ≡ p ∷ q ∷ []
@@ -140,7 +154,8 @@ sort_of_one m f t (st, k) = ap (λ p. p ∷ []) (sym (sort_written m.boxes t)) �
 
 known_part : (m : Builder) (f : PlainOperator) (t : Tree) → Known m (apply_one f t) → Known m t
 unfolding Known
-known_part m f t (st, k) = (st, record { stand = k.stand; over = (k.over.0.1.0, k.over.1.1.0) })
+known_part m f t (st, k) =
+    (st, record { stand = k.stand; over = (k.over.0.1.0, k.over.1.1.0); words = k.words.1.0 })
 
 pub known_one : (m : Builder) (f : PlainOperator) (p : List ℕ) (t : Tree) → f.domain ≡ p ∷ [] → Known m (apply_one f t)
     → IsKnownAt m p t
@@ -169,6 +184,7 @@ of_row m k g h t u e p q = record {
   left = refl;
   right = refl;
   may = truths_may m t u p q;
+  words = tt;
 }
 
 -- it is the same instance by another name
@@ -188,6 +204,7 @@ equal_to_itself m s t k = record {
   left = ap (λ w. equality s w w) (image_a s t t);
   right = refl;
   may = values_may m s t t k k;
+  words = sort_is_word m s t k;
 }
 
 pub equality_of_truth_values : (m : Builder) (t u : Tree) → IsKnownAt m bool_sort t → IsKnownAt m bool_sort u
@@ -203,6 +220,7 @@ choice_by_true m s t u k q = record {
   left = ap₂ (λ v w. choice s truth v w) (image_a s t u) (image_b s t u);
   right = image_a s t u;
   may = values_may m s t u k q;
+  words = sort_is_word m s t k;
 }
 
 pub choice_by_false : (m : Builder) (s : List ℕ) (t u : Tree) → IsKnownAt m s t → IsKnownAt m s u
@@ -214,4 +232,5 @@ choice_by_false m s t u k q = record {
   left = ap₂ (λ v w. choice s falsity v w) (image_a s t u) (image_b s t u);
   right = image_b s t u;
   may = values_may m s t u k q;
+  words = sort_is_word m s t k;
 }

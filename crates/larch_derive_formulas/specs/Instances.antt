@@ -10,7 +10,7 @@ use Rattle.larch_verify_meaning.specs.Matching.{all_different}
 use Rattle.larch_verify_meaning.specs.Rules.{row_says}
 use Rattle.larch_derive.specs.Predicates.{Known, HasNoBadLine}
 use Rattle.larch_derive.specs.declared.builder.Builder.{Builder}
-use Rattle.larch_derive_lines.specs.Rules.{variable_in, AreKnownEntries}
+use Rattle.larch_derive_lines.specs.Rules.{variable_in, AreKnownEntries, IsWordedSort}
 use Rattle.larch_derive_formulas.specs.declared.instances.Instance.{Instance}
 
 -- terms for the variables x and y of rows
@@ -39,7 +39,7 @@ IsKnownAt b s t = Known b t × (sort_of t ≡ s)
 abbrev pub MayReplace : Builder → List Entry → Type 0
 MayReplace b es = HasNoBadLine b × (AreKnownEntries b es × (all_different (map variable_in es) ≡ true))
 
--- the row with these terms says that both sides are equal, and a line may say so
+-- the row with these terms says that both sides are equal, and a line may say so, at a sort that is a word
 pub record IsInstance (b : Builder) (i : Instance) (l r : Tree) : Type 0 where
   pub given : Tree
   pub gives : Tree
@@ -47,3 +47,4 @@ pub record IsInstance (b : Builder) (i : Instance) (l r : Tree) : Type 0 where
   pub left : instance_of i.by given ≡ l
   pub right : instance_of i.by gives ≡ r
   pub may : MayReplace b i.by
+  pub words : IsWordedSort i.sort

@@ -18,6 +18,8 @@ use Rattle.larch_renaming.specs.Renaming.{renamed_entry}
 use Rattle.larch_renaming.proofs.RenamedSubstitutions.{renamed_substituted, apart_by_sorts}
 use Rattle.larch_certificate.specs.declared.line.Binding.{Binding}
 use Rattle.larch_certificate.specs.declared.line.Line.TheVariants.{Inst}
+use Rattle.larch_certificate_text.specs.LineText.{IsWord, FitBinding}
+use Rattle.larch_certificate_text.specs.Parts.{Each}
 use Rattle.larch_verify_meaning.specs.Context.{find_symbol, find_line}
 use Rattle.larch_verify_meaning.specs.Decoding.{each, decode_binding, entry_for}
 use Rattle.larch_verify_meaning.specs.Events.{State}
@@ -31,6 +33,8 @@ use Rattle.larch_derive.specs.OpenBox.{naming}
 use Rattle.larch_derive.specs.Predicates.{operators_at, written_term, written_statement, StandIn, KnownIn, SaysIn}
 use Rattle.larch_derive.specs.Predicates.{Known, HasStatement, Extends}
 use Rattle.larch_derive.proofs.Pushing.{pushed_says, pushed_extends, means_at, one_state}
+use Rattle.larch_derive.proofs.Words.{term_fits, worded_sort, instance_worded}
+use Rattle.larch_derive.specs.Words.{IsWordedTerm}
 use Rattle.larch_derive_lines.specs.Rules.{variable_in, AreKnownEntries, AreWritten}
 
 -- ---- one replacement more
@@ -57,7 +61,7 @@ sort_written bs (var n s) = refl
 sort_written bs (app f ts) = refl
 
 abbrev KnownEntriesIn : Builder → State → List Entry → Type 0
-KnownEntriesIn a st es = All (λ e. KnownIn a.theory a.boxes a.lines st e.term × (sort_of e.term ≡ e.sort)) es
+KnownEntriesIn a st es = All (λ e. KnownIn a.theory a.boxes a.lines st e.term × (sort_of e.term ≡ e.sort) × IsWord e.name) es
 
 binding_means : (a : Builder) (st : State) (e : Entry) (x : Binding) → KnownIn a.theory a.boxes a.lines st e.term
     → sort_of e.term ≡ e.sort → x.name ≡ e.name → x.sort ≡ e.sort → IsCodeIn a e.term x.term
@@ -76,7 +80,7 @@ each_means a st [] [] k w = refl
 each_means a st [] (x ∷ xs) k w = absurd w
 each_means a st (e ∷ es) [] k w = absurd w
 each_means a st (e ∷ es) (x ∷ xs) k w =
-    let P : Entry → Type 0 = λ e. KnownIn a.theory a.boxes a.lines st e.term × (sort_of e.term ≡ e.sort) in
+    let P : Entry → Type 0 = λ e. KnownIn a.theory a.boxes a.lines st e.term × (sort_of e.term ≡ e.sort) × IsWord e.name in
     let here = All-head P e es k in
     ap (option_and_then (λ y. option_map (λ ys. y ∷ ys) (each (decode_binding (find_symbol a.theory st.history)) xs)))
     (binding_means a st e x here.0 here.1 w.0 w.1 w.2)
@@ -118,11 +122,11 @@ entries_fit : (a : Builder) (st : State) (es : List Entry) → KnownEntriesIn a 
     × All (λ e. IsOver (operators_at a.theory st) e.term) (map (renamed_entry (naming a.boxes)) es)
 entries_fit a st es k = (
   All-map (λ e. WellSorted e.term × (sort_of e.term ≡ e.sort)) (renamed_entry (naming a.boxes)) es
-      (All-weaker (λ e. KnownIn a.theory a.boxes a.lines st e.term × (sort_of e.term ≡ e.sort))
+      (All-weaker (λ e. KnownIn a.theory a.boxes a.lines st e.term × (sort_of e.term ≡ e.sort) × IsWord e.name)
       (λ e. WellSorted (written_term a.boxes e.term) × (sort_of (written_term a.boxes e.term) ≡ e.sort))
       (λ e p. (p.0.over.0, sort_written a.boxes e.term ∙ p.1)) es k),
   All-map (λ e. IsOver (operators_at a.theory st) e.term) (renamed_entry (naming a.boxes)) es
-      (All-weaker (λ e. KnownIn a.theory a.boxes a.lines st e.term × (sort_of e.term ≡ e.sort))
+      (All-weaker (λ e. KnownIn a.theory a.boxes a.lines st e.term × (sort_of e.term ≡ e.sort) × IsWord e.name)
       (λ e. IsOver (operators_at a.theory st) (written_term a.boxes e.term)) (λ e p. p.0.over.1) es k),
 )
 
@@ -145,16 +149,42 @@ inst_over a st m es l r h k =
       substituted_sort ds x fit.0 ∙ w.2 ∙ sym (substituted_sort ds y fit.0),
     ))
 
+-- what is written of them has a text
+bindings_fit : (a : Builder) (st : State) (es : List Entry) (xs : List Binding) → KnownEntriesIn a st es
+    → AreWritten a es xs → Each FitBinding xs
+bindings_fit a st [] [] k w = tt
+bindings_fit a st [] (x ∷ xs) k w = absurd w
+bindings_fit a st (e ∷ es) [] k w = absurd w
+bindings_fit a st (e ∷ es) (x ∷ xs) k w =
+    let P : Entry → Type 0 =
+    λ e. KnownIn a.theory a.boxes a.lines st e.term × (sort_of e.term ≡ e.sort) × IsWord e.name in
+    let here = All-head P e es k in (
+      (
+        subst IsWord (sym w.0) here.2,
+        (
+          subst IsWord (here.1 ∙ sym w.1) (worded_sort e.term here.0.words),
+          term_fits a.boxes a.theory.operators e.term x.term w.2 here.0.words,
+        ),
+      ),
+      bindings_fit a st es xs (All-tail P e es k) w.3,
+    )
+
+entries_worded : (a : Builder) (st : State) (es : List Entry) → KnownEntriesIn a st es → All (λ e. IsWordedTerm e.term) es
+entries_worded a st es k =
+    All-weaker (λ e. KnownIn a.theory a.boxes a.lines st e.term × (sort_of e.term ≡ e.sort) × IsWord e.name)
+    (λ e. IsWordedTerm e.term) (λ e p. p.0.words) es k
+
 entries_in : (a : Builder) (st : State) → StandIn a.theory a.boxes a.lines st → (es : List Entry) → AreKnownEntries a es
     → KnownEntriesIn a st es
 unfolding Known
 entries_in a st h es k =
-    All-weaker (λ e. Known a e.term × (sort_of e.term ≡ e.sort))
-    (λ e. KnownIn a.theory a.boxes a.lines st e.term × (sort_of e.term ≡ e.sort))
+    All-weaker (λ e. Known a e.term × (sort_of e.term ≡ e.sort) × IsWord e.name)
+    (λ e. KnownIn a.theory a.boxes a.lines st e.term × (sort_of e.term ≡ e.sort) × IsWord e.name)
     (λ e p. (
       subst (λ z. KnownIn a.theory a.boxes a.lines z e.term)
           (one_state a.theory a.lines st p.0.0 h.runs p.0.1.stand.runs) p.0.1,
       p.1,
+      p.2,
     )) es k
 
 pub inst_says : (a b : Builder) (m n : ℕ) (es : List Entry) (xs : List Binding) (l r : Tree) → AreWritten a es xs
@@ -164,7 +194,8 @@ unfolding HasStatement
 inst_says a b m n es xs l r w p (st, h) k d =
     let i = entries_in a st h.stand es k in
     pushed_says a b (Inst m xs) n st (Equation (instance_of es l) (instance_of es r)) p h.stand
-    (inst_judged a st m es xs l r h i d w) (inst_over a st m es l r h i)
+    (inst_judged a st m es xs l r h i d w) (inst_over a st m es l r h i) (p.numbers, bindings_fit a st es xs i w)
+    (let ws = entries_worded a st es i in (instance_worded es l ws h.words.0, instance_worded es r ws h.words.1))
 
 pub inst_extends : (a b : Builder) (m n : ℕ) (es : List Entry) (xs : List Binding) (l r : Tree) → AreWritten a es xs
     → IsPushed a b (Inst m xs) n → HasStatement a m (Equation l r) → AreKnownEntries a es
@@ -174,7 +205,7 @@ inst_extends a b m n es xs l r w p (st, h) k d =
     let i = entries_in a st h.stand es k in
     pushed_extends a b (Inst m xs) n st
     (written_statement a.boxes (Equation (instance_of es l) (instance_of es r))) p h.stand.runs
-    (inst_judged a st m es xs l r h i d w)
+    (inst_judged a st m es xs l r h i d w) (p.numbers, bindings_fit a st es xs i w)
 
 -- ---- known terms
 
@@ -182,7 +213,8 @@ pub known_substituted : (a : Builder) (es : List Entry) (t : Tree) → Known a t
     → Known a (instance_of es t)
 unfolding Known
 known_substituted a es t (st, k) w =
-    let fit = entries_fit a st es (entries_in a st k.stand es w) in
+    let i = entries_in a st k.stand es w in
+    let fit = entries_fit a st es i in
     let ds = map (renamed_entry (naming a.boxes)) es in
     let u = written_term a.boxes t in (
       st,
@@ -192,5 +224,6 @@ known_substituted a es t (st, k) w =
           substituted_well_sorted ds u fit.0 k.over.0,
           substituted_over (operators_at a.theory st) ds u fit.1 k.over.1,
         );
+        words = instance_worded es t (entries_worded a st es i) k.words;
       },
     )

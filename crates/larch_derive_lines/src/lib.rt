@@ -9,6 +9,6 @@ mod rules;
 
 pub use chains::{push_argument, push_further, push_way};
 pub use rules::{
-    push_axiom, push_equal, push_inst, push_refl, push_repl, push_row, push_sym, push_trans,
-    push_written_inst,
+    push_again, push_axiom, push_equal, push_inst, push_refl, push_repl, push_row, push_sym,
+    push_trans, push_written_inst,
 };

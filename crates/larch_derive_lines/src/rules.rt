@@ -1,4 +1,4 @@
-ghost use Rattle.std.specs.Prelude.{◌≡◌, ℕ, List, ◌∷◌, map, true, Some, IfOk, OnOk, OnErr};
+ghost use Rattle.std.specs.Prelude.{◌≡◌, ℕ, List, ◌∷◌, map, length, true, Some, IfOk, OnOk, OnErr};
 ghost use Rattle.std.specs.List.{slice_get};
 ghost use Rattle.larch_term.specs.Statement.{IsStatementOver, statement_zero};
 ghost use Rattle.larch_term.specs.Substitution.{instance_of};
@@ -8,8 +8,8 @@ ghost use Rattle.larch_term.specs.declared.substitution.Entry.{Entry};
 ghost use Rattle.larch_calculus.specs.Formula.{equality};
 ghost use Rattle.larch_verify_meaning.specs.Matching.{all_different};
 ghost use Rattle.larch_verify_meaning.specs.Rules.{row_says};
-ghost use Rattle.larch_derive.specs.Builder.{IsCodeIn, theory_in};
-ghost use Rattle.larch_derive_lines.specs.Rules.{variable_in, AreKnownEntries, AreWritten};
+ghost use Rattle.larch_derive.specs.Builder.{IsCodeIn, lines_in, theory_in};
+ghost use Rattle.larch_derive_lines.specs.Rules.{variable_in, AreKnownEntries, AreWritten, IsWordedSort};
 ghost use Rattle.larch_term.specs.Place.{at, put};
 ghost use Rattle.larch_term.specs.Tree.{Tree};
 ghost use Rattle.larch_derive.specs.Predicates.{HasNoBadLine, Known, HasStatement, HasEquation, Extends};
@@ -94,6 +94,18 @@ pub fn push_inst(
     Ok(number)
 }
 
+/// A line that says once more what another one says, so that it is the last. A refused line changes nothing.
+#[tactic(auto, using(larch_derive::proofs::Pushing::again_says, larch_derive::proofs::Pushing::again_extends, larch_derive::proofs::Accepting::pushed_last))]
+pub fn push_again(alloc: Global, builder: &mut Builder, line: u64) -> Result<u64, Memory>
+    ensures says { IfOk result (λ n. (l r : Tree) → HasEquation builder.old line l r → HasEquation builder.new n l r) }
+    ensures last { IfOk result (λ n. n ≡ length (lines_in builder.new)) }
+    ensures extends { OnOk result ((l r : Tree) → HasEquation builder.old line l r → Extends builder.old builder.new) }
+    ensures err { OnErr result (builder.new ≡ builder.old) }
+{
+    let number = builder.push(Line::Inst(line, Sequence::new(alloc)))?;
+    Ok(number)
+}
+
 /// A line that says what another one says with variables replaced, all at once, by entries that are written already.
 /// The entries are of different variables, and their terms known. A refused line changes nothing.
 #[tactic(auto, using(crate::proofs::Instances::inst_says, crate::proofs::Instances::inst_extends))]
@@ -154,13 +166,13 @@ pub fn push_axiom(builder: &mut Builder, statement: u64) -> Result<u64, Memory>
     Ok(number)
 }
 
-/// A line that says a built-in row, at a sort where the row has one. A refused line changes nothing.
+/// A line that says a built-in row, at a sort, which is a word, where the row has one. A refused line changes nothing.
 #[tactic(auto, using(crate::proofs::Stated::row_line_says, crate::proofs::Stated::row_line_extends))]
 pub fn push_row(builder: &mut Builder, row: u64, sort: Option<Sort>) -> Result<u64, Memory>
     ensures says { IfOk result (λ n. (s : Statement) → HasNoBadLine builder.old → row_says row sort ≡ Some s
-        → HasStatement builder.new n s) }
+        → IsWordedSort sort → HasStatement builder.new n s) }
     ensures extends { OnOk result ((s : Statement) → HasNoBadLine builder.old → row_says row sort ≡ Some s
-        → Extends builder.old builder.new) }
+        → IsWordedSort sort → Extends builder.old builder.new) }
     ensures err { OnErr result (builder.new ≡ builder.old) }
 {
     let number = builder.push(Line::Row(row, sort))?;

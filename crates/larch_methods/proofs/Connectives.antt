@@ -36,11 +36,11 @@ known_arguments b f t u d (st, k) =
     let p = two_same (sort_of (written_term b.boxes t)) (sort_of (written_term b.boxes u)) bool_sort bool_sort
     (k.over.0.0 ∙ d) in (
       record {
-        known = (st, record { stand = k.stand; over = (k.over.0.1.0, k.over.1.1.0) });
+        known = (st, record { stand = k.stand; over = (k.over.0.1.0, k.over.1.1.0); words = k.words.1.0 });
         sort = sym (sort_written b.boxes t) ∙ p.0;
       },
       record {
-        known = (st, record { stand = k.stand; over = (k.over.0.1.1.0, k.over.1.1.1.0) });
+        known = (st, record { stand = k.stand; over = (k.over.0.1.1.0, k.over.1.1.1.0); words = k.words.1.1.0 });
         sort = sym (sort_written b.boxes u) ∙ p.1;
       },
     )

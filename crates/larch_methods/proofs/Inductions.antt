@@ -8,6 +8,7 @@ use Rattle.larch_term.specs.Truth.{truth}
 use Rattle.larch_term.specs.declared.statement.Statement.TheVariants.{Generated}
 use Rattle.larch_term.specs.declared.variable.Variable.{Variable}
 use Rattle.larch_certificate.specs.declared.line.CodedVar.{CodedVar}
+use Rattle.larch_certificate_text.specs.LineText.{IsWord}
 use Rattle.larch_derive.specs.Predicates.{Extends, HasStatement, Known, HasNoBadLine}
 use Rattle.larch_derive.specs.declared.builder.Builder.{Builder}
 use Rattle.larch_derive.proofs.Growth.{extends_grows, known_stands}
@@ -25,7 +26,7 @@ pub induced : (a b : Builder) (clause said : ℕ) (v : Variable) (w : CodedVar) 
     → ((fs : List PlainOperator) → HasNoBadLine a → IsStated a clause (Generated v.sort fs)
     → HasStatement b said (Generated v.sort fs))
     → (Extends a b → (fs : List PlainOperator) → HasStatement b said (Generated w.sort fs) → ShowCases b w g t fs boxes
-    → Known b g → Known b t → sort_of g ≡ sort_of t → P)
+    → Known b g → Known b t → sort_of g ≡ sort_of t → IsWord w.name → P)
     → P
 induced a b clause said v w g t boxes P h e q extends says go =
     let st = known_stands a g h.formula.known in
@@ -37,4 +38,4 @@ induced a b clause said v w g t boxes P h e q extends says go =
     (subst (λ s. ShowCases b (written_variable v) g s h.generators boxes) (sym q)
     (cases_stay a b (written_variable v) g truth h.generators boxes (extends_grows a b x) h.shown)))
     k.known (subst (Known b) (sym q) (value_known b true (known_stands b g k.known)))
-    (subst (λ s. sort_of g ≡ sort_of s) (sym q) k.sort)
+    (subst (λ s. sort_of g ≡ sort_of s) (sym q) k.sort) (subst (λ (u : CodedVar). IsWord u.name) (sym e) h.name)

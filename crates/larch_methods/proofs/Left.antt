@@ -43,6 +43,12 @@ use Rattle.larch_methods.specs.Methods.{ByCases, ByContradiction, ByImplication,
 use Rattle.larch_methods.specs.Observers.{ByObservers, ShowsObservation}
 use Rattle.larch_methods.specs.Opening.{HasOwnConstants, IsShownIn}
 use Rattle.larch_methods.proofs.Opened.{closed_known, observed_known}
+use Rattle.larch_derive.proofs.Growth.{known_stands}
+use Rattle.larch_methods.proofs.Worded.{found_holds, variables_worded}
+use Rattle.larch_derive_lines.proofs.Stated.{stated_worded}
+use Rattle.larch_derive.proofs.Words.{known_worded, theory_worded}
+use Rattle.larch_derive.specs.Words.{IsWordedOperator}
+use Rattle.larch_certificate_text.specs.LineText.{IsWord}
 use Rattle.larch_methods.proofs.Planned.{argument_sorts, cases_planned, conjunction_planned, contradiction_planned}
 use Rattle.larch_methods.proofs.Planned.{implication_planned, induction_planned, new_sorts, other_are}
 use Rattle.larch_methods.proofs.Planned.{partition_planned, supposed_as}
@@ -228,6 +234,8 @@ induction_left b setting goal n v fs clause made boxes h e g st own z k =
       stated = st;
       shown = cases_shown b v goal (taken_beside setting.taken goal) fs boxes (subst (All (Own b)) p own)
           (subst (λ ss. AllZip (λ (s : Subgoal) y. IsShownIn b s (holds s.goal) y) ss boxes) p z);
+      name = found_holds (λ (v : Variable). IsWord v.name) (λ (v : Variable). bytes_eq v.name n) (variables_of goal) v
+          (variables_worded goal (known_worded b goal k.known)) e;
       formula = k;
     }
 
@@ -241,8 +249,14 @@ HaveConstants ss xs = AllZip (λ s y. y.constants ≡ s.constants) ss xs
 abbrev ShowsEqual : Builder → Tree → Tree → Observation → OpenBox → Type 0
 ShowsEqual b l r w x = HasResult b x [] (Equation (shown w x.constants l) (shown w x.constants r))
 
+-- what an observation shows of two terms is known
+abbrev IsKnownSame : Builder → Tree → Tree → Observation → Type 0
+IsKnownSame b l r w =
+    (names : ℕ → List ℕ) → ((i : ℕ) → IsWord (names i))
+    → Known b (observer_term names w l) × Known b (observer_term names w r)
+
 observed_left : (b : Builder) (l r : Tree) (taken : List (List ℕ)) (ws : List Observation) (xs : List OpenBox)
-    → All (λ w. (names : ℕ → List ℕ) → Known b (observer_term names w l) × Known b (observer_term names w r)) ws
+    → All (IsKnownSame b l r) ws
     → All (Own b) (partition_subgoals taken l r ws) → HaveConstants (partition_subgoals taken l r ws) xs
     → AllZip (ShowsEqual b l r) ws xs → AllZip (ShowsObservation b l r) ws xs
 observed_left b l r taken [] [] k own c h = tt
@@ -257,8 +271,7 @@ observed_left b l r taken (w ∷ ws) (x ∷ xs) k own c h =
       goal = formula (shown w cs l) (shown w cs r);
     } in
     let rest = partition_subgoals (names_of cs ++ taken) l r ws in
-    let K : Observation → Type 0 =
-    λ w. (names : ℕ → List ℕ) → Known b (observer_term names w l) × Known b (observer_term names w r) in (
+    let K : Observation → Type 0 = IsKnownSame b l r in (
       record {
         own = own_as b x cs c.0 (All-head (Own b) first rest own);
         sorts = ap (map (λ f. f.range)) c.0 ∙ (new_sorts taken (map a_variable ss) ∙ other_are ss);
@@ -279,16 +292,19 @@ pub partition_left : (b : Builder) (setting : Setting) (goal l r : Tree) (os : L
 partition_left b setting goal l r os clause made boxes h e g st own c z kl kr q =
     let p = partition_planned setting goal l r os made h e g in
     let ws = observations_of (sort_of l) os in
+    let words = stated_worded b.theory clause (Partitioned (sort_of l) os)
+    (theory_worded b (known_stands b l kl)) st.found in
     let known =
-    all_from (λ w. (names : ℕ → List ℕ) → Known b (observer_term names w l) × Known b (observer_term names w r)) ws
+    all_from (IsKnownSame b l r) ws
     (λ w i.
     let o = observation_is (sort_of l) os w i in
     let f =
     (All-contains (λ f. IsKnown (theory_in b).operators f × Contains f.domain (sort_of l)) os w.observer
     st.over o.0).0 in
-    λ names. (
-      observed_known b names (sort_of l) w l f o.1 kl refl,
-      observed_known b names (sort_of l) w r f o.1 kr (sym q),
+    let v = All-contains IsWordedOperator os w.observer words.1 o.0 in
+    λ names n. (
+      observed_known b names (sort_of l) w l f o.1 kl refl n v,
+      observed_known b names (sort_of l) w r f o.1 kr (sym q) n v,
     )) in
     record {
       observers = os;

@@ -13,4 +13,5 @@ pub mod Settled
 pub mod Sharing
 pub mod Shown
 pub mod Undoing
+pub mod Worded
 pub mod Words

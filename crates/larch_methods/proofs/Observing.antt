@@ -31,7 +31,9 @@ use Rattle.larch_prove_meaning.specs.Plans.{other_sorts, shown}
 use Rattle.larch_methods.specs.Inside.{closed_in, written_variable}
 use Rattle.larch_methods.specs.Methods.{IsStated}
 use Rattle.larch_methods.specs.Observers.{ByObservers, HasShorterNames, ShowsObservation, variables_for}
-use Rattle.larch_methods.proofs.Places.{closed_observed, others_are, word_at}
+use Rattle.larch_methods.proofs.Places.{before, closed_observed, others_are, word_at}
+use Rattle.larch_methods.proofs.Worded.{names_are_words, word_is_word, written_names}
+use Rattle.larch_certificate_text.specs.LineText.{IsWord}
 use Rattle.larch_methods.proofs.Sharing.{own_still, written_back}
 use Rattle.larch_methods.proofs.Words.{words_apart}
 
@@ -50,18 +52,21 @@ pub observes : (a : Builder) (letters : ℕ) (vs : List CodedVar) (l r : Tree) (
     → (HasResult a x [] (Equation (with_constants vs x (observer_term (word_at letters w.place) w l))
     (with_constants vs x (observer_term (word_at letters w.place) w r)))
     → map (λ c. c.range) x.constants ≡ map (λ v. v.sort) (map variable_of vs)
-    → Known a (observer_term (word_at letters w.place) w l) → Known a (observer_term (word_at letters w.place) w r) → P)
-    → P
-observes a letters vs l r w x P g h o e go =
+    → Known a (observer_term (word_at letters w.place) w l) → Known a (observer_term (word_at letters w.place) w r)
+    → All (λ v. IsWord v.name) vs → P)
+    → 0 < letters → P
+observes a letters vs l r w x P g h o e go pos =
     let q : map variable_of vs ≡ variables_for letters x.constants =
     ap (map variable_of) e ∙ written_back (variables_for letters x.constants) in
     let names = word_at letters w.place in
+    let words : (i : ℕ) → IsWord (names i) = λ i. word_is_word (letters + before w.place i) (omega (arith, pos)) in
     let at : (t : Tree) → HasShorterNames letters t
     → with_constants vs x (observer_term names w t) ≡ shown w x.constants t =
     λ t s. ap (λ us. closed_in us x (observer_term names w t)) q ∙ closed_observed letters w x.constants t o.sorts s in
     go (subst (λ t. HasResult a x [] (Equation t (with_constants vs x (observer_term names w r)))) (sym (at l g))
     (subst (λ t. HasResult a x [] (Equation (shown w x.constants l) t)) (sym (at r h)) o.result))
-    (ranges letters x.constants ∙ ap (map (λ v. v.sort)) (sym q)) (o.known names).0 (o.known names).1
+    (ranges letters x.constants ∙ ap (map (λ v. v.sort)) (sym q)) (o.known names words).0 (o.known names words).1
+    (written_names (variables_for letters x.constants) vs e (names_are_words letters x.constants pos))
   where
     ranges : (n : ℕ) (cs : List PlainOperator) → map (λ c. c.range) cs ≡ map (λ v. v.sort) (variables_for n cs)
     ranges n [] = refl
@@ -111,9 +116,9 @@ observations_stay a b l r w x e o =
       own = own_still a b x g o.own;
       sorts = o.sorts;
       result = grown_result a b x [] (Equation (shown w x.constants l) (shown w x.constants r)) g o.result;
-      known = λ names. (
-        stays_known a b (observer_term names w l) e (o.known names).0,
-        stays_known a b (observer_term names w r) e (o.known names).1,
+      known = λ names n. (
+        stays_known a b (observer_term names w l) e (o.known names n).0,
+        stays_known a b (observer_term names w r) e (o.known names n).1,
       );
     }
 

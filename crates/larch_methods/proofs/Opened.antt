@@ -1,7 +1,7 @@
 -- Boxes that are opened, and what is known there.
 use Rattle.std.specs.Prelude.{◌≡◌, ℕ, List, [], ◌∷◌, ◌++◌, map, All, Contains}
 use Rattle.std.proofs.Common.{ap, sym, subst, ◌∙◌}
-use Rattle.std.proofs.lemmas.List.Elements.{All-cons, All-nil}
+use Rattle.std.proofs.lemmas.List.Elements.{All-cons, All-head, All-nil, All-tail}
 use Rattle.larch_base.proofs.Members.{contains_here, contains_later, contains_right}
 use Rattle.std.proofs.lemmas.List.Elements.{All-contains}
 use Rattle.larch_term.specs.Operator.{PlainOperator}
@@ -16,6 +16,7 @@ use Rattle.larch_calculus.specs.Observation.{Observation, observer_term, places_
 use Rattle.larch_calculus.proofs.Freeing.{constants_fit}
 use Rattle.larch_calculus.proofs.Observed.{observed_over}
 use Rattle.larch_calculus.proofs.RenamedHypotheses.{observed_renamed}
+use Rattle.larch_certificate_text.specs.LineText.{IsWord}
 use Rattle.larch_derive.specs.Builder.{IsOpened, boxes_in, theory_in}
 use Rattle.larch_derive.specs.OpenBox.{naming}
 use Rattle.larch_derive.specs.Predicates.{Known, HasNoBadLine, operators_at, written_term}
@@ -29,6 +30,8 @@ use Rattle.larch_derive_boxes.specs.Boxes.{AreOwnConstants, MaySuppose, Opens}
 use Rattle.larch_derive_boxes.proofs.Freshness.{sort_written}
 use Rattle.larch_derive_boxes.proofs.Knowing.{constant_known}
 use Rattle.larch_derive_boxes.proofs.Opening.{opened_boxes, opened_known, opens}
+use Rattle.larch_derive_boxes.proofs.Words.{observer_worded}
+use Rattle.larch_derive.specs.Words.{IsWordedOperator, AreWordedOperators}
 use Rattle.larch_methods.specs.Inside.{IsInside, closed_in}
 use Rattle.larch_methods.specs.Methods.{IsKnownFormula}
 use Rattle.larch_methods.specs.Opening.{MayOpen}
@@ -39,31 +42,37 @@ pub opened_with : (a b : Builder) (cs ds : List PlainOperator) (hs : List Statem
     → ds ≡ cs → MayOpen a cs hs → Opens a b (record { number = n; constants = ds }) hs
 opened_with a b cs ds hs n o e m =
     subst (λ es. Opens a b (record { number = n; constants = es }) hs) (sym e)
-    (opens a b n cs hs o m.stands m.others (m.supposed n))
+    (opens a b n cs hs o m.stands m.others (m.supposed n) m.parts)
 
 pub begins_inside : (a b : Builder) (x : OpenBox) (vs : List Variable) → Opens a b x []
-    → AreOwnConstants (boxes_in a) x → map (λ c. c.range) x.constants ≡ map (λ v. v.sort) vs → IsInside a b x vs
-begins_inside a b x vs o own e =
-    record { opened = b; opens = o; grows = extends_grows b b (extends_refl b); own = own; sorts = e }
+    → AreOwnConstants (boxes_in a) x → map (λ c. c.range) x.constants ≡ map (λ v. v.sort) vs
+    → All (λ v. IsWord v.name) vs → IsInside a b x vs
+begins_inside a b x vs o own e n =
+    record { opened = b; opens = o; grows = extends_grows b b (extends_refl b); own = own; sorts = e; names = n }
 
 pub may_open_bare : (b : Builder) (cs : List PlainOperator) → HasNoBadLine b
-    → All (λ c. IsKnown (theory_in b).operators c → ⊥) cs → MayOpen b cs []
-may_open_bare b cs st o =
-    record { stands = st; others = o; supposed = λ n. All-nil (MaySuppose b (record { number = n; constants = cs })) }
+    → All (λ c. IsKnown (theory_in b).operators c → ⊥) cs → AreWordedOperators cs → MayOpen b cs []
+may_open_bare b cs st o w = record {
+  stands = st;
+  others = o;
+  parts = w;
+  supposed = λ n. All-nil (MaySuppose b (record { number = n; constants = cs }));
+}
 
 -- ---- constants in the places of variables
 
 entries_known : (b : Builder) (vs : List Variable) (cs : List PlainOperator)
     → ((c : PlainOperator) → Contains cs c → Known b (constant c)) → map (λ c. c.range) cs ≡ map (λ v. v.sort) vs
-    → AreKnownEntries b (constants_for vs cs)
-entries_known b [] cs k e = All-nil (λ d. Known b d.term × (sort_of d.term ≡ d.sort))
-entries_known b (v ∷ vs) [] k e = All-nil (λ d. Known b d.term × (sort_of d.term ≡ d.sort))
-entries_known b (v ∷ vs) (c ∷ cs) k e =
+    → All (λ v. IsWord v.name) vs → AreKnownEntries b (constants_for vs cs)
+entries_known b [] cs k e n = All-nil (λ d. Known b d.term × (sort_of d.term ≡ d.sort) × IsWord d.name)
+entries_known b (v ∷ vs) [] k e n = All-nil (λ d. Known b d.term × (sort_of d.term ≡ d.sort) × IsWord d.name)
+entries_known b (v ∷ vs) (c ∷ cs) k e n =
     let p : map (λ c. c.range) cs ≡ map (λ v. v.sort) vs = cc in
     let q : c.range ≡ v.sort = cc in
-    All-cons (λ d. Known b d.term × (sort_of d.term ≡ d.sort))
-    (record { name = v.name; sort = v.sort; term = constant c }) (constants_for vs cs) (k c (contains_here c cs), q)
-    (entries_known b vs cs (λ d i. k d (contains_later c d cs i)) p)
+    All-cons (λ d. Known b d.term × (sort_of d.term ≡ d.sort) × IsWord d.name)
+    (record { name = v.name; sort = v.sort; term = constant c }) (constants_for vs cs)
+    (k c (contains_here c cs), q, All-head (λ v. IsWord v.name) v vs n)
+    (entries_known b vs cs (λ d i. k d (contains_later c d cs i)) p (All-tail (λ v. IsWord v.name) v vs n))
 
 -- a known formula is known with the constants of a shared box in the places of variables
 pub closed_known : (a b : Builder) (x : OpenBox) (vs : List Variable) (g : Tree) → IsInside a b x vs
@@ -79,7 +88,7 @@ closed_known a b x vs g i k =
       known = known_substituted b (constants_for vs x.constants) g there
           (entries_known b vs x.constants
           (λ c d. constant_known b x c (known_stands b g there) within d
-          (All-contains (λ f. f.domain ≡ []) x.constants c i.own.constants d)) i.sorts);
+          (All-contains (λ f. f.domain ≡ []) x.constants c i.own.constants d)) i.sorts i.names);
       sort = substituted_sort (constants_for vs x.constants) g fit ∙ k.sort;
     }
 
@@ -88,9 +97,9 @@ closed_known a b x vs g i k =
 -- what an observer of the theory shows of a known term is known
 pub observed_known : (b : Builder) (names : ℕ → List ℕ) (s : List ℕ) (w : Observation) (t : Tree)
     → IsKnown (theory_in b).operators w.observer → Contains (places_of_sort s 1 w.observer.domain) w.place → Known b t
-    → sort_of t ≡ s → Known b (observer_term names w t)
+    → sort_of t ≡ s → ((i : ℕ) → IsWord (names i)) → IsWordedOperator w.observer → Known b (observer_term names w t)
 unfolding Known
-observed_known b names s w t k c (st, h) e =
+observed_known b names s w t k c (st, h) e n o =
     let bs = b.boxes in
     let fs = operators_at b.theory st in
     let fits = (naming_faithful b.theory bs h.stand.plain h.stand.others).signatures in
@@ -103,5 +112,6 @@ observed_known b names s w t k c (st, h) e =
         stand = h.stand;
         over = subst (IsTermOver fs) (sym (observed_renamed (naming bs) fits names w t
             ∙ ap (λ f. observer_term names (record { observer = f; place = w.place }) (written_term bs t)) same)) there;
+        words = observer_worded names w t n o h.words;
       },
     )

@@ -22,6 +22,7 @@ use Rattle.larch_derive.specs.declared.builder.Builder.{Builder}
 use Rattle.larch_derive.proofs.Growth.{extends_trans, stays_known, stays_said}
 use Rattle.larch_derive_lines.specs.Rules.{variable_in, AreKnownEntries}
 use Rattle.larch_methods.specs.Methods.{IsKnownFormula}
+use Rattle.larch_certificate_text.specs.LineText.{IsWord}
 use Rattle.larch_methods.specs.Rows.{IsSettledBy, of_formula}
 use Rattle.larch_methods.proofs.Connectives.{known_arguments}
 
@@ -32,9 +33,9 @@ formula_stays a b f e k = record { known = stays_known a b f e k.known; sort = k
 
 entry_known : (b : Builder) (f : Tree) → IsKnownFormula b f → AreKnownEntries b (only (codes "x") bool_sort f)
 entry_known b f k =
-    All-cons (λ e. Known b e.term × (sort_of e.term ≡ e.sort))
-    (record { name = codes "x"; sort = bool_sort; term = f }) [] (k.known, k.sort)
-    (All-nil (λ e. Known b e.term × (sort_of e.term ≡ e.sort)))
+    All-cons (λ e. Known b e.term × (sort_of e.term ≡ e.sort) × IsWord e.name)
+    (record { name = codes "x"; sort = bool_sort; term = f }) [] (k.known, k.sort, refl)
+    (All-nil (λ e. Known b e.term × (sort_of e.term ≡ e.sort) × IsWord e.name))
 
 row_of_formula : (b : Builder) (m : ℕ) (es : List Entry) (f l r : Tree) (P : List Entry → Type 0)
     → es ≡ only (codes "x") bool_sort f → IsKnownFormula b f → HasEquation b m l r

@@ -21,6 +21,7 @@ use Rattle.larch_calculus.proofs.Freeing.{constants_close}
 use Rattle.larch_certificate.specs.declared.line.CodedVar.{CodedVar}
 use Rattle.larch_verify_meaning.specs.Matching.{variable_of}
 use Rattle.larch_derive.specs.Builder.{IsOpened, boxes_in}
+use Rattle.larch_derive.specs.Words.{IsWordedOperator}
 use Rattle.larch_derive.specs.Predicates.{Extends, Grows, HasEquation, Known, HasNoBadLine}
 use Rattle.larch_derive.specs.declared.builder.Builder.{Builder}
 use Rattle.larch_derive.specs.declared.open_box.OpenBox.{OpenBox}
@@ -43,6 +44,7 @@ inside_grown a b c x vs h g =
       grows = grows_trans h.opened b c h.grows g;
       own = h.own;
       sorts = h.sorts;
+      names = h.names;
     }
 
 pub inside_as : (a b : Builder) (x : OpenBox) (vs ws : List Variable) → ws ≡ vs → IsInside a b x vs
@@ -86,8 +88,8 @@ said_right b n l r s e h = subst (HasEquation b n l) e h
 -- ---- truth values
 
 pub value_known : (b : Builder) (v : Bool) → HasNoBadLine b → Known b (value_term v)
-value_known b true h = known_own b truth h ((refl, tt), (inr (True, (bool_sort, refl)), tt))
-value_known b false h = known_own b falsity h ((refl, tt), (inr (False, (bool_sort, refl)), tt))
+value_known b true h = known_own b truth h ((refl, tt), (inr (True, (bool_sort, refl)), tt)) ((tt, refl), tt)
+value_known b false h = known_own b falsity h ((refl, tt), (inr (False, (bool_sort, refl)), tt)) ((tt, refl), tt)
 
 pub value_sort : (v : Bool) → sort_of (value_term v) ≡ bool_sort
 value_sort true = refl
@@ -111,6 +113,7 @@ supposing_opens a b cs hs n f v e q o k =
     (subst (λ ds. IsOpened a b ds (Equation f (value_term v) ∷ []) n) e (subst (λ us. IsOpened a b cs us n) q o))
     (known_stands a f k.known) (All-nil (λ c. IsKnown a.theory.operators c → ⊥))
     (All-cons (MaySuppose a x) (Equation f (value_term v)) [] (may_be_supposed a n f v k) (All-nil (MaySuppose a x)))
+    (All-nil IsWordedOperator)
 
 pub shows_still : (a b : Builder) (f : Tree) (v : Bool) (g : Tree) (n : ℕ) → Grows a b → ShowsUnder a f v g n
     → ShowsUnder b f v g n

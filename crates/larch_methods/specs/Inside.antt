@@ -1,5 +1,5 @@
 -- Lines in a box that all subgoals of a method share, and closed boxes in it.
-use Rattle.std.specs.Prelude.{◌≡◌, ℕ, Bool, true, false, List, [], ◌∷◌, map}
+use Rattle.std.specs.Prelude.{◌≡◌, ℕ, Bool, true, false, List, [], ◌∷◌, map, All}
 use Rattle.larch_term.specs.Substitution.{instance_of}
 use Rattle.larch_term.specs.Tree.{Tree}
 use Rattle.larch_term.specs.Truth.{truth}
@@ -8,6 +8,7 @@ use Rattle.larch_term.specs.declared.variable.Variable.{Variable}
 use Rattle.larch_calculus.specs.Formula.{falsity}
 use Rattle.larch_calculus.specs.Freed.{constants_for}
 use Rattle.larch_certificate.specs.declared.line.CodedVar.{CodedVar}
+use Rattle.larch_certificate_text.specs.LineText.{IsWord}
 use Rattle.larch_derive.specs.Builder.{boxes_in}
 use Rattle.larch_derive.specs.Predicates.{Grows}
 use Rattle.larch_derive.specs.declared.builder.Builder.{Builder}
@@ -22,13 +23,15 @@ closed_in vs x t = instance_of (constants_for vs x.constants) t
 abbrev pub written_variable : Variable → CodedVar
 written_variable v = record { name = v.name; sort = v.sort }
 
--- the second builder stands in a box that the first one opened, which supposes nothing and has constants for variables
+-- the second builder stands in a box that the first one opened, which supposes nothing and has constants for variables,
+-- whose names are words
 pub record IsInside (a b : Builder) (x : OpenBox) (vs : List Variable) : Type 0 where
   pub opened : Builder
   pub opens : Opens a opened x []
   pub grows : Grows opened b
   pub own : AreOwnConstants (boxes_in a) x
   pub sorts : map (λ c. c.range) x.constants ≡ map (λ v. v.sort) vs
+  pub names : All (λ v. IsWord v.name) vs
 
 -- a truth value as a term
 abbrev pub value_term : Bool → Tree

@@ -12,6 +12,7 @@ use Rattle.larch_term.specs.declared.statement.Statement.{Statement}
 use Rattle.larch_term.specs.declared.statement.Statement.TheVariants.{Generated}
 use Rattle.larch_term.specs.declared.variable.Variable.{Variable}
 use Rattle.larch_calculus.specs.Formula.{implication}
+use Rattle.larch_certificate_text.specs.LineText.{IsWord}
 use Rattle.larch_derive.specs.Builder.{theory_in}
 use Rattle.larch_derive.specs.Predicates.{Known}
 use Rattle.larch_derive.specs.declared.builder.Builder.{Builder}
@@ -61,9 +62,11 @@ pub record IsStated (b : Builder) (number : ℕ) (s : Statement) : Type 0 where
   pub found : slice_get (statement_zero ∷ (theory_in b).statements) number ≡ Some s
   pub over : IsStatementOver (theory_in b).operators s
 
--- by induction on a variable: a clause generates its sort, and closed boxes show the goal of what each generator makes
+-- by induction on a variable, whose name is a word: a clause generates its sort, and closed boxes show the goal of what
+-- each generator makes
 pub record ByInduction (b : Builder) (clause : ℕ) (v : Variable) (g : Tree) (boxes : List ℕ) : Type 0 where
   pub generators : List PlainOperator
   pub stated : IsStated b clause (Generated v.sort generators)
   pub shown : ShowCases b (written_variable v) g truth generators boxes
+  pub name : IsWord v.name
   pub formula : IsKnownFormula b g

@@ -8,6 +8,7 @@ use Rattle.larch_term.specs.Variable.{occurrences}
 use Rattle.larch_term.specs.declared.statement.Statement.TheVariants.{Equation, Partitioned}
 use Rattle.larch_term.specs.declared.variable.Variable.{Variable}
 use Rattle.larch_calculus.specs.Observation.{Observation, observations_of, observer_term}
+use Rattle.larch_certificate_text.specs.LineText.{IsWord}
 use Rattle.larch_derive.specs.Builder.{boxes_in}
 use Rattle.larch_derive.specs.Predicates.{Known}
 use Rattle.larch_derive.specs.declared.builder.Builder.{Builder}
@@ -35,7 +36,8 @@ pub record ShowsObservation (b : Builder) (l r : Tree) (w : Observation) (x : Op
   pub own : AreOwnConstants (boxes_in b) x
   pub sorts : map (λ c. c.range) x.constants ≡ other_sorts w.place 1 w.observer.domain
   pub result : HasResult b x [] (Equation (shown w x.constants l) (shown w x.constants r))
-  pub known : (names : ℕ → List ℕ) → Known b (observer_term names w l) × Known b (observer_term names w r)
+  pub known : (names : ℕ → List ℕ) → ((i : ℕ) → IsWord (names i))
+      → Known b (observer_term names w l) × Known b (observer_term names w r)
 
 -- by the observers of a sort: a clause says that they partition it, and closed boxes show that they show the same of
 -- two terms

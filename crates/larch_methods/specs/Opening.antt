@@ -4,6 +4,7 @@ use Rattle.larch_term.specs.Operator.{PlainOperator}
 use Rattle.larch_term.specs.declared.statement.Statement.{Statement}
 use Rattle.larch_derive.specs.Builder.{boxes_in, theory_in}
 use Rattle.larch_derive.specs.Predicates.{AreOthers, HasNoBadLine}
+use Rattle.larch_derive.specs.Words.{AreWordedOperators}
 use Rattle.larch_derive.specs.declared.builder.Builder.{Builder}
 use Rattle.larch_derive.specs.declared.open_box.OpenBox.{OpenBox}
 use Rattle.larch_derive_boxes.specs.Boxes.{AreOwnConstants, HasResult, MaySuppose}
@@ -11,11 +12,12 @@ use Rattle.larch_rewrite_meaning.specs.Sides.{Sides}
 use Rattle.larch_prove_plans.specs.Planning.{equate}
 use Rattle.larch_prove_meaning.specs.Plans.{Plan, Subgoal}
 
--- a box with these constants and hypotheses may be opened: the constants are neither the theory's nor built in, and
--- each hypothesis may be supposed, whatever number the box gets
+-- a box with these constants and hypotheses may be opened: the constants are neither the theory's nor built in, their
+-- sorts are words, and each hypothesis may be supposed, whatever number the box gets
 pub record MayOpen (b : Builder) (cs : List PlainOperator) (hs : List Statement) : Type 0 where
   pub stands : HasNoBadLine b
   pub others : AreOthers (theory_in b) cs
+  pub parts : AreWordedOperators cs
   pub supposed : (n : ℕ) → All (MaySuppose b (record { number = n; constants = cs })) hs
 
 -- so may the box of a subgoal, and the boxes of all subgoals of a plan

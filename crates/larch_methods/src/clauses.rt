@@ -1,8 +1,9 @@
-ghost use Rattle.std.specs.Prelude.{◌≡◌, List, Some, All, Contains, IfOk, IfSome, IfNone, OnOk, OnErr};
-ghost use Rattle.larch_derive.specs.Builder.{theory_in};
+ghost use Rattle.std.specs.Prelude.{◌≡◌, List, Some, All, Contains, length, IfOk, IfSome, IfNone, OnOk, OnErr};
+ghost use Rattle.larch_derive.specs.Builder.{lines_in, theory_in};
 ghost use Rattle.larch_derive.specs.Predicates.{Grows, HasStatement};
 ghost use Rattle.larch_derive.specs.declared.builder.Builder.{Builder as Built};
 ghost use Rattle.larch_verify_meaning.specs.ClauseRules.{own_operators};
+ghost use Rattle.larch_verify_meaning.specs.LastLine.{EndsWithoutStatedClause};
 ghost use Rattle.larch_methods.specs.Clauses.{ByConstants, ByPredicate};
 ghost use Rattle.larch_term.specs.Operator.{PlainOperator};
 ghost use Rattle.larch_term.specs.declared.statement.Statement.TheVariants.{Generated, Partitioned};
@@ -25,8 +26,9 @@ pub struct Clause<'a> {
     pub operators: &'a [Operator],
 }
 
-/// A line that says that operators generate a sort, by a line in the box of a new predicate: the box is closed. None
-/// where one of them isn't the theory's. Then, and where the call is refused, nothing changes: the box is open still.
+/// A line that says that operators generate a sort, by a line in the box of a new predicate: the box is closed, and the
+/// line is the last. None where one of them isn't the theory's. Then, and where the call is refused, nothing changes:
+/// the box is open still.
 pub fn finish_generated(
     alloc: Global,
     builder: &mut Builder,
@@ -40,6 +42,9 @@ pub fn finish_generated(
         → HasStatement builder.new n (Generated clause.now.sort.now clause.now.operators.now))) }
     ensures grows { IfOk result (λ said. IfSome said (λ n. (a : Built) → theory_in a ≡ theory.now
         → ByPredicate a builder.old clause.now.sort.now clause.now.operators.now number line → Grows a builder.new)) }
+    ensures last { IfOk result (λ said. IfSome said (λ n. n ≡ length (lines_in builder.new))) }
+    ensures ends { IfOk result (λ said. IfSome said (λ n.
+        EndsWithoutStatedClause (theory_in builder.new) (lines_in builder.new))) }
     ensures none { IfOk result (λ said. IfNone said (All (Contains theory.now.operators) clause.now.operators.now
         → ⊥)) }
     ensures same { IfOk result (λ said. IfNone said (builder.new ≡ builder.old)) }
@@ -71,14 +76,17 @@ fn write_generated(
     ensures grows { OnOk result ((a : Built) (fs : List PlainOperator)
         → own_operators (theory_in a) operators ≡ Some fs → ByPredicate a builder.old sort fs number line
         → Grows a builder.new) }
+    ensures last { IfOk result (λ n. n ≡ length (lines_in builder.new)) }
+    ensures ends { OnOk result (EndsWithoutStatedClause (theory_in builder.new) (lines_in builder.new)) }
 {
     close_box(alloc, builder, line)?;
     let said = push_generated(builder, number, sort, operators)?;
     Ok(said)
 }
 
-/// A line that says that operators partition a sort, by a line in the box of two new constants: the box is closed. None
-/// where one of them isn't the theory's. Then, and where the call is refused, nothing changes: the box is open still.
+/// A line that says that operators partition a sort, by a line in the box of two new constants: the box is closed, and
+/// the line is the last. None where one of them isn't the theory's. Then, and where the call is refused, nothing
+/// changes: the box is open still.
 pub fn finish_partitioned(
     alloc: Global,
     builder: &mut Builder,
@@ -92,6 +100,9 @@ pub fn finish_partitioned(
         → HasStatement builder.new n (Partitioned clause.now.sort.now clause.now.operators.now))) }
     ensures grows { IfOk result (λ said. IfSome said (λ n. (a : Built) → theory_in a ≡ theory.now
         → ByConstants a builder.old clause.now.sort.now clause.now.operators.now number line → Grows a builder.new)) }
+    ensures last { IfOk result (λ said. IfSome said (λ n. n ≡ length (lines_in builder.new))) }
+    ensures ends { IfOk result (λ said. IfSome said (λ n.
+        EndsWithoutStatedClause (theory_in builder.new) (lines_in builder.new))) }
     ensures none { IfOk result (λ said. IfNone said (All (Contains theory.now.operators) clause.now.operators.now
         → ⊥)) }
     ensures same { IfOk result (λ said. IfNone said (builder.new ≡ builder.old)) }
@@ -123,6 +134,8 @@ fn write_partitioned(
     ensures grows { OnOk result ((a : Built) (os : List PlainOperator)
         → own_operators (theory_in a) operators ≡ Some os → ByConstants a builder.old sort os number line
         → Grows a builder.new) }
+    ensures last { IfOk result (λ n. n ≡ length (lines_in builder.new)) }
+    ensures ends { OnOk result (EndsWithoutStatedClause (theory_in builder.new) (lines_in builder.new)) }
 {
     let same = push_equal(builder, line)?;
     close_box(alloc, builder, same)?;

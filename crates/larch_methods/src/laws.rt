@@ -6,6 +6,7 @@ ghost use Rattle.larch_calculus.specs.Observation.{observations_of};
 ghost use Rattle.larch_derive.specs.Builder.{boxes_in, theory_in};
 ghost use Rattle.larch_derive.specs.OpenBox.{constant_of};
 ghost use Rattle.larch_derive.specs.Predicates.{AreOthers, Grows, HasEquation, Known, HasNoBadLine};
+ghost use Rattle.larch_derive.specs.Words.{AreWordedOperators, IsWordedStatement, IsWordedTerm};
 ghost use Rattle.larch_derive.specs.declared.builder.Builder.{Builder};
 ghost use Rattle.larch_derive.specs.declared.open_box.OpenBox.{OpenBox};
 ghost use Rattle.larch_derive_boxes.specs.Boxes.{AreOwnConstants, HasResult, Opens};
@@ -33,21 +34,22 @@ ghost use Rattle.larch_term.specs.declared.built_in.BuiltIn.TheVariants.{Equal};
 ghost use Rattle.larch_term.specs.declared.statement.Statement.TheVariants.{Equation, Generated, Partitioned};
 ghost use Rattle.larch_term.specs.declared.variable.Variable.{Variable};
 
-/// A box of constants alone may be opened. The one that is opened for the shared constants of a plan is the one in
-/// which the method's end finds its subgoals. What is known is known there with its constants in the places of
-/// variables.
+/// A box of constants alone, whose sorts are words, may be opened. The one that is opened for the shared constants of a
+/// plan is the one in which the method's end finds its subgoals, where the term with the variables is in words. What is
+/// known is known there with its constants in the places of variables.
 pub fn shared_boxes()
     ensures opens { (b : Builder) (cs : List PlainOperator) → HasNoBadLine b → AreOthers (theory_in b) cs
-        → MayOpen b cs [] }
+        → AreWordedOperators cs → MayOpen b cs [] }
     ensures cases { (a b : Builder) (x : OpenBox) (setting : Setting) (goal f : Tree) (made : Plan)
         → plan setting goal (Cases f) ≡ Ok made → Opens a b x [] → x.constants ≡ made.constants
-        → AreOwnConstants (boxes_in a) x → IsInside a b x (variables_of f) }
+        → AreOwnConstants (boxes_in a) x → IsWordedTerm f → IsInside a b x (variables_of f) }
     ensures implication { (a b : Builder) (x : OpenBox) (setting : Setting) (goal p q : Tree) (made : Plan)
         → goal ≡ implication p q → plan setting goal Implication ≡ Ok made → Opens a b x []
-        → x.constants ≡ made.constants → AreOwnConstants (boxes_in a) x → IsInside a b x (variables_of p) }
+        → x.constants ≡ made.constants → AreOwnConstants (boxes_in a) x → IsWordedTerm p
+        → IsInside a b x (variables_of p) }
     ensures contradiction { (a b : Builder) (x : OpenBox) (setting : Setting) (goal : Tree) (made : Plan)
         → plan setting goal Contradiction ≡ Ok made → Opens a b x [] → x.constants ≡ made.constants
-        → AreOwnConstants (boxes_in a) x → IsInside a b x (variables_of goal) }
+        → AreOwnConstants (boxes_in a) x → IsWordedTerm goal → IsInside a b x (variables_of goal) }
     ensures closed { (a b : Builder) (x : OpenBox) (vs : List Variable) (g : Tree) → IsInside a b x vs
         → IsKnownFormula a g → IsKnownFormula b (closed_in vs x g) }
 {}
@@ -67,11 +69,11 @@ pub fn subgoals_begin()
     ensures induction { (b : Builder) (setting : Setting) (goal : Tree) (n : List ℕ) (v : Variable)
         (fs : List PlainOperator) (made : Plan) → plan setting goal (Induction n) ≡ Ok made
         → find (λ v. bytes_eq v.name n) (variables_of goal) ≡ Some v → generators v.sort setting.clauses ≡ Some fs
-        → IsKnownFormula b goal → HasOtherConstants b made → MayBeginAll b made }
+        → IsKnownFormula b goal → HasOtherConstants b made → AreWordedOperators fs → MayBeginAll b made }
     ensures partition { (b : Builder) (setting : Setting) (goal l r : Tree) (os : List PlainOperator) (made : Plan)
         → plan setting goal Partition ≡ Ok made → two_arguments (λ f. is_built_in_as f Equal) goal ≡ Some (l, r)
         → observers (sort_of l) setting.clauses ≡ Some os → HasNoBadLine b → HasOtherConstants b made
-        → MayBeginAll b made }
+        → AreWordedOperators os → MayBeginAll b made }
 {}
 
 /// Where the builder has grown, the box of shared constants is still the one that the end asks for, and what a closed
@@ -126,7 +128,7 @@ pub fn subgoals_show()
 pub fn clauses_begin_and_show()
     ensures generation_begins { (b : Builder) (n s : List ℕ) (fs : List PlainOperator) → HasNoBadLine b
         → AreOthers (theory_in b) (predicate_named n s ∷ [])
-        → IsStatementOver (theory_in b).operators (Generated s fs)
+        → IsStatementOver (theory_in b).operators (Generated s fs) → IsWordedStatement (Generated s fs)
         → MayOpen b (generation_goal n s fs).constants (generation_goal n s fs).hypotheses }
     ensures generation_shows { (a b : Builder) (x : OpenBox) (n s : List ℕ) (fs : List PlainOperator) (line : ℕ)
         → x.constants ≡ (generation_goal n s fs).constants → IsSupposing a b x (generation_goal n s fs).hypotheses
@@ -135,7 +137,7 @@ pub fn clauses_begin_and_show()
         → HasEquation b line (generation_goal n s fs).goal truth → ByPredicate a b s fs x.number line }
     ensures partition_begins { (b : Builder) (n m s : List ℕ) (os : List PlainOperator) → HasNoBadLine b
         → AreOthers (theory_in b) (constant_named n s ∷ constant_named m s ∷ [])
-        → IsStatementOver (theory_in b).operators (Partitioned s os)
+        → IsStatementOver (theory_in b).operators (Partitioned s os) → IsWordedStatement (Partitioned s os)
         → MayOpen b (partition_goal n m s os).constants (partition_goal n m s os).hypotheses }
     ensures partition_shows { (a b : Builder) (x : OpenBox) (n m s : List ℕ) (os : List PlainOperator) (line : ℕ)
         → x.constants ≡ (partition_goal n m s os).constants → IsSupposing a b x (partition_goal n m s os).hypotheses

@@ -7,10 +7,11 @@ use larch_certificate::{CodedVar, CodedVars};
 use larch_term::{Operator, Sort, Term, Variable, variables};
 use std::alloc::Global;
 
-// A number of letters that is above those of all names of variables of two terms.
+// A number of letters that is above those of all names of variables of two terms, and not 0.
 pub(crate) fn letters_above(alloc: Global, left: &Term, right: &Term) -> Result<usize, Memory>
     ensures left { IfOk result (λ n. HasShorterNames n left.now) }
     ensures right { IfOk result (λ n. HasShorterNames n right.now) }
+    ensures least { IfOk result (λ n. 0 < n) }
 {
     let of_left = variables(alloc, left)?;
     let of_right = variables(alloc, right)?;

@@ -1,4 +1,5 @@
-ghost use Rattle.std.specs.Prelude.{◌≡◌, [], List, map, IfOk, OnErr};
+ghost use Rattle.std.specs.Prelude.{◌≡◌, [], List, map, All, IfOk, OnErr};
+ghost use Rattle.larch_certificate_text.specs.LineText.{IsWord};
 ghost use Rattle.larch_derive.specs.Builder.{boxes_in};
 ghost use Rattle.larch_derive_boxes.specs.Boxes.{AreOwnConstants, Opens};
 ghost use Rattle.larch_methods.specs.Inside.{IsInside};
@@ -38,7 +39,7 @@ pub fn open_constants(
     ensures opens { IfOk result (λ x. MayOpen builder.old constants.now [] → Opens builder.old builder.new x []) }
     ensures inside { IfOk result (λ x. (vs : List Variable) → MayOpen builder.old constants.now []
         → AreOwnConstants (boxes_in builder.old) x → map (λ c. c.range) constants.now ≡ map (λ v. v.sort) vs
-        → IsInside builder.old builder.new x vs) }
+        → All (λ v. IsWord v.name) vs → IsInside builder.old builder.new x vs) }
     ensures err { OnErr result (builder.new ≡ builder.old) }
 {
     let opened = open_with(alloc, builder, constants, &Sequence::new(alloc))?;

@@ -1,4 +1,4 @@
-ghost use Rattle.std.specs.Prelude.{IfOk, List};
+ghost use Rattle.std.specs.Prelude.{◌<◌, IfOk, List};
 ghost use Rattle.std.specs.List.{AllZip};
 ghost use Rattle.larch_calculus.specs.Observation.{Observation};
 ghost use Rattle.larch_derive.specs.Predicates.{Extends, HasEquation};
@@ -49,6 +49,7 @@ fn push_all_observed(
     letters: usize,
     boxes: &[OpenBox],
 ) -> Result<Numbers, Memory>
+    requires { 0 < letters }
     ensures shows { IfOk result (λ ns. (l r : Tree) (ws : List Observation) → HasShorterNames letters l
         → HasShorterNames letters r → AllZip (ShowsObservation builder.old l r) ws boxes.now
         → ShowSame builder.new l r ws ns) }
@@ -72,6 +73,7 @@ fn push_observed(
     letters: usize,
     observed: &OpenBox,
 ) -> Result<u64, Memory>
+    requires { 0 < letters }
     ensures shows { IfOk result (λ n. (l r : Tree) (w : Observation) → HasShorterNames letters l
         → HasShorterNames letters r → ShowsObservation builder.old l r w observed.now
         → ShowsSame builder.new l r w n) }

@@ -2,7 +2,7 @@
 use Rattle.std.specs.Prelude.{◌≡◌, ◌&&◌, ◌<◌, ℕ, Bool, true, false, cond, All, List, [], ◌∷◌, map, codes, bytes_eq}
 use Rattle.std.specs.Prelude.{Option, Some, None, refl}
 use Rattle.std.proofs.Common.{arith, ap, ap₂, sym, subst, ◌∙◌}
-use Rattle.std.proofs.lemmas.List.Elements.{All-cons}
+use Rattle.std.proofs.lemmas.List.Elements.{All-cons, All-head}
 use Rattle.std.proofs.lemmas.Slice.Eq.{bytes_eq-Decides}
 use Rattle.larch_base.proofs.Options.{some_inj}
 use Rattle.larch_term.specs.BuiltIn.{built_in, is_built_in_as}
@@ -23,6 +23,8 @@ use Rattle.larch_derive.specs.OpenBox.{naming}
 use Rattle.larch_derive.specs.Predicates.{written_term, Known, HasNoBadLine, HasEquation, HasStatement, Extends}
 use Rattle.larch_derive.specs.declared.builder.Builder.{Builder}
 use Rattle.larch_derive.specs.declared.open_box.OpenBox.{OpenBox}
+use Rattle.larch_certificate_text.specs.LineText.{IsWord}
+use Rattle.larch_derive.proofs.Words.{known_sort}
 use Rattle.larch_derive.proofs.Growth.{known_left, known_stands, stays_said}
 use Rattle.larch_derive_lines.specs.Rules.{variable_in, AreKnownEntries}
 use Rattle.larch_rewrite_step.specs.Exchanging.{pair_at, IsExchange}
@@ -114,10 +116,20 @@ pair_known : (b : Builder) (z : List ℕ) (s t : Tree) → Known b (equality z s
 pair_known b z s t k =
     let a = known_arguments b (built_in Equal z) (more s (more t none)) k in
     let q = sorts_known b z s t k in
-    All-cons (λ e. Known b e.term × (sort_of e.term ≡ e.sort)) (record { name = codes "a"; sort = z; term = t })
-    (record { name = codes "b"; sort = z; term = s } ∷ []) (a.1.0, q.1)
-    (All-cons (λ e. Known b e.term × (sort_of e.term ≡ e.sort)) (record { name = codes "b"; sort = z; term = s }) []
-    (a.0, q.0) (λ i d lt. absurd (omega (arith, lt))))
+    All-cons (λ e. Known b e.term × (sort_of e.term ≡ e.sort) × IsWord e.name)
+    (record { name = codes "a"; sort = z; term = t })
+    (record { name = codes "b"; sort = z; term = s } ∷ []) (a.1.0, q.1, refl)
+    (All-cons (λ e. Known b e.term × (sort_of e.term ≡ e.sort) × IsWord e.name)
+    (record { name = codes "b"; sort = z; term = s }) [] (a.0, q.0, refl) (λ i d lt. absurd (omega (arith, lt))))
+
+-- the sort of two known terms is a word
+pub pair_sort : (b : Builder) (z : List ℕ) (s t : Tree) (es : List Entry) → AreKnownEntries b es → es ≡ pair_at z s t
+    → IsWord z
+pair_sort b z s t es k e =
+    let h = All-head (λ d. Known b d.term × (sort_of d.term ≡ d.sort) × IsWord d.name)
+    (record { name = codes "a"; sort = z; term = s }) (record { name = codes "b"; sort = z; term = t } ∷ [])
+    (subst (AreKnownEntries b) e k) in
+    subst IsWord h.1 (known_sort b s h.0)
 
 -- what an exchange is made of
 exchange_parts : (a : Builder) (line : ℕ) (l x r : Tree) (z : List ℕ) (es : List Entry) → IsExchange l z es

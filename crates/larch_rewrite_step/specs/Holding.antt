@@ -5,6 +5,7 @@ use Rattle.larch_term.specs.declared.statement.Statement.TheVariants.{Equation}
 use Rattle.larch_verify_meaning.specs.Rules.{row_says}
 use Rattle.larch_derive.specs.Predicates.{HasEquation}
 use Rattle.larch_derive.specs.declared.builder.Builder.{Builder}
+use Rattle.larch_derive_lines.specs.Rules.{IsWordedSort}
 use Rattle.larch_rewrite_match.specs.Rule.{left_of, right_of, reason_of}
 use Rattle.larch_rewrite_match.specs.declared.rule.Reason.{Reason}
 use Rattle.larch_rewrite_match.specs.declared.rule.Reason.TheVariants.{Row, Line}
@@ -21,3 +22,8 @@ RuleHolds b rule = ReasonSays b (reason_of rule) (left_of rule) (right_of rule)
 
 abbrev pub RulesHold : Builder → List RewriteRule → Type 0
 RulesHold b rules = All (RuleHolds b) rules
+
+-- the sort at which a reason's row is said is a word
+abbrev pub IsWordedReason : Reason → Type 0
+IsWordedReason (Row k z) = IsWordedSort z
+IsWordedReason (Line n) = Unit {0}

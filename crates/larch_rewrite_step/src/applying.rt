@@ -1,10 +1,10 @@
 ghost use Rattle.std.specs.Prelude.{◌≡◌, true, IfOk, IfErr};
 ghost use Rattle.larch_rewrite_step.specs.Applying.{MayRefuse, IsTried};
 ghost use Rattle.larch_rewrite_step.specs.Encoding.{AreEncodings, AreOfStore};
-ghost use Rattle.larch_rewrite_step.specs.Holding.{ReasonSays, RuleHolds};
+ghost use Rattle.larch_rewrite_step.specs.Holding.{IsWordedReason, ReasonSays, RuleHolds};
 ghost use Rattle.larch_derive.specs.Predicates.{HasEquation, Extends, Known, HasNoBadLine};
 ghost use Rattle.larch_rewrite_match.specs.Bound.{entries_of};
-ghost use Rattle.larch_rewrite_match.specs.Rule.{left_of, right_of};
+ghost use Rattle.larch_rewrite_match.specs.Rule.{left_of, reason_of, right_of};
 ghost use Rattle.larch_rewrite_match.specs.Search.{IsFoundIn, IsBy};
 ghost use Rattle.larch_store.specs.Numbered.{term_of};
 ghost use Rattle.larch_store.specs.Stored.{Belongs, Grows};
@@ -36,9 +36,9 @@ pub struct Applied {
 #[tactic(auto, using(larch_derive::proofs::Growth::extends_same))]
 pub fn push_reason(builder: &mut Builder, reason: &Reason) -> Result<u64, Memory>
     ensures says { IfOk result (λ n. (l r : Tree) → HasNoBadLine builder.old → ReasonSays builder.old reason.now l r
-        → HasEquation builder.new n l r) }
+        → IsWordedReason reason.now → HasEquation builder.new n l r) }
     ensures extends { (l r : Tree) → HasNoBadLine builder.old → ReasonSays builder.old reason.now l r
-        → Extends builder.old builder.new }
+        → IsWordedReason reason.now → Extends builder.old builder.new }
 {
     match reason {
         Reason::Line(number) => Ok(*number),
@@ -72,9 +72,10 @@ fn push_rule(
 ) -> Result<u64, Memory>
     requires { exchanged ≡ true → has_two_arguments (left_of rule.now) ≡ true }
     ensures says { IfOk result (λ n. (x : Tree) → HasNoBadLine builder.old → RuleHolds builder.old rule.now
-        → IsTried rule.now exchanged x → HasEquation builder.new n x (right_of rule.now)) }
+        → IsWordedReason (reason_of rule.now) → IsTried rule.now exchanged x
+        → HasEquation builder.new n x (right_of rule.now)) }
     ensures extends { (x : Tree) → HasNoBadLine builder.old → RuleHolds builder.old rule.now
-        → IsTried rule.now exchanged x → Extends builder.old builder.new }
+        → IsWordedReason (reason_of rule.now) → IsTried rule.now exchanged x → Extends builder.old builder.new }
 {
     let said = push_reason(builder, rule.reason())?;
     if !exchanged {

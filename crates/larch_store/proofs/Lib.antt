@@ -1,7 +1,9 @@
 pub mod Apart
 pub mod Counting
+pub mod Distinct
 pub mod Front
 pub mod Growth
+pub mod Layered
 pub mod Same
 pub mod Standing
 pub mod Within

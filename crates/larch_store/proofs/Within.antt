@@ -1,8 +1,10 @@
 -- What stands in a store, as its calls say it.
-use Rattle.std.proofs.Common.{◌≡◌, ◌+◌, ◌≤◌, List, [], ◌∷◌, map, sum_by, sym, subst, refl}
-use Rattle.std.specs.List.{IsDistinct, AllZip}
+use Rattle.std.proofs.Common.{◌≡◌, ◌+◌, ◌≤◌, List, map, sum_by, sym, subst}
+use Rattle.std.specs.List.{IsDistinct}
+use Rattle.std.specs.Map.{keys_of}
 use Rattle.larch_term.specs.Operator.{PlainOperator}
 use Rattle.larch_term.specs.Tree.{app, nodes, forest_of}
+use Rattle.larch_store.specs.Layers.{shared_in}
 use Rattle.larch_store.specs.Numbered.{Numbered, term_of, size_of, children_of}
 use Rattle.larch_store.specs.Stored.{Belongs, AllBelong, IsStore, most_nodes}
 use Rattle.larch_store.specs.declared.key.Key.{Key}
@@ -34,13 +36,7 @@ pub nodes_within : (ks : List Key) (s n : List Numbered) (f : PlainOperator) (cs
     → AllBelong n cs → nodes (app f (forest_of (map term_of cs))) ≡ 1 + sum_by size_of cs
 nodes_within ks s n f cs e h b = branch_nodes ks s f cs h (subst (λ u. AllBelong u cs) (sym e) b)
 
-same_keys : (ks ls : List Key) → AllZip (λ a b. b ≡ a) ks ls → ls ≡ ks
-same_keys [] [] h = refl
-same_keys [] (l ∷ ls) h = absurd h
-same_keys (k ∷ ks) [] h = absurd h
-same_keys (k ∷ ks) (l ∷ ls) h = λ i. h.0 i ∷ same_keys ks ls h.1 i
-
--- copies of the keys and of the shared terms are a store
-pub copied_store : (ks ls : List Key) (s u : List Numbered) → IsStore ks s → AllZip (λ a b. b ≡ a) ks ls → u ≡ s
-    → IsStore ls u
-copied_store ks ls s u h z e = subst (IsStore ls) (sym e) (subst (λ js. IsStore js s) (sym (same_keys ks ls z)) h)
+-- the same keys and shared terms once more are a store
+pub copied_store : (es fs : List (Key × Numbered)) → fs ≡ es → IsStore (keys_of es) (shared_in es)
+    → IsStore (keys_of fs) (shared_in fs)
+copied_store es fs e h = subst (λ gs. IsStore (keys_of gs) (shared_in gs)) (sym e) h

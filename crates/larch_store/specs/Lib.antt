@@ -1,5 +1,6 @@
 pub mod KeptFalls
 pub mod Key
+pub mod Layers
 pub mod Numbered
 pub mod NumberedCode
 pub mod NumberedFalls

@@ -9,7 +9,7 @@ ghost use Rattle.larch_store.specs.declared.key.Key.TheVariants.{Var, App};
 use crate::shared::Shared;
 use larch_base::{Memory, Name};
 use larch_term::{Operator, Sort};
-use std::alloc::{AllocError, Global};
+use std::alloc::Global;
 use std::hash::{Hash, Hasher};
 use std::marker::Model;
 
@@ -70,19 +70,8 @@ impl Hash for SharedNumbers {
     }
 }
 
-impl Clone for Key {
-    ghost is_clone = { λ old new. new ≡ old };
-
-    fn clone(&self) -> Result<Key, AllocError> {
-        match copy(self) {
-            Ok(key) => Ok(key),
-            Err(Memory) => Err(AllocError),
-        }
-    }
-}
-
-// The same key once more.
-fn copy(key: &Key) -> Result<Key, Memory>
+/// The same key once more.
+pub fn copy_key(key: &Key) -> Result<Key, Memory>
     ensures { IfOk result (λ copied. copied ≡ key.now) }
 {
     match key {

@@ -5,14 +5,13 @@ ghost use Rattle.larch_store.specs.Numbered.{Numbered, term_of, number_of, size_
 ghost use Rattle.larch_store.specs.Refusal.{MayRefuse};
 ghost use Rattle.larch_store.specs.Stored.{Belongs, AllBelong, Grows, most_nodes};
 
+use crate::entries::Entries;
 use crate::interning::intern_term;
 use crate::keeping::{keep_application, keep_variable};
-use crate::key::Key;
 use crate::reading::term_from;
 use crate::refusal::StoreRefusal;
 use crate::shared::{Shared, SharedList};
-use crate::table::{copy_all, size_above};
-use indexmap::IndexSet;
+use crate::table::size_above;
 use larch_base::limits::MAX_TERM_NODES;
 use larch_base::{Memory, Name};
 use larch_term::{Operator, Sort, Term, size};
@@ -21,24 +20,16 @@ use std::marker::Model;
 
 /// Terms whose subterms are shared: each different node stands in a store once, under a number, so that equal terms
 /// are one shared term. Contracts see a store as its shared terms, in the order of their numbers. A store only grows.
+#[derive(Drop)]
 pub struct Store {
-    keys: IndexSet<Key>,
-    shared: Vec<Shared>,
-}
-
-// By a call, so that a proof takes a store apart in one place alone.
-impl Drop for Store {
-    fn drop(self) {
-        let Store {
-            keys: _keys,
-            shared: _shared,
-        } = self;
-    }
+    entries: Entries,
 }
 
 impl Model for Store {
     ghost use Rattle.std.specs.Prelude.{List};
     ghost use Rattle.std.specs.Coded.{coded_list};
+    ghost use Rattle.std.specs.Map.{keys_of};
+    ghost use Rattle.larch_store.specs.Layers.{shared_in};
     ghost use Rattle.larch_store.specs.Numbered.{Numbered};
     ghost use Rattle.larch_store.specs.NumberedCode.{coded_numbered};
     ghost use Rattle.larch_store.specs.Stored.{IsStore};
@@ -47,9 +38,9 @@ impl Model for Store {
 
     ghost coded = { coded_list coded_numbered };
 
-    ghost view = { λ store. store.shared.items };
+    ghost view = { λ store. shared_in store.entries };
 
-    ghost invariant = { λ store. IsStore store.keys.keys store.shared.items };
+    ghost invariant = { λ store. IsStore (keys_of store.entries) (shared_in store.entries) };
 }
 
 impl Store {
@@ -58,26 +49,24 @@ impl Store {
     pub fn new(alloc: Global) -> Result<Store, Memory>
         ensures { IfOk result (λ store. store ≡ []) }
     {
-        Ok(Store {
-            keys: IndexSet::new(alloc),
-            shared: Vec::new(alloc),
-        })
+        let entries = Entries::new(alloc)?;
+        Ok(Store { entries })
     }
 
     /// A store to which the same shared terms belong, each as the same term with the same number. What is put into
-    /// one of them from then on need not belong to the other.
+    /// one of them from then on need not belong to the other. The two share what is there: of n terms it takes as many
+    /// steps as n has digits, and no memory for a term.
     #[tactic(auto, using(crate::proofs::Within::copied_store))]
     pub fn copy(&self) -> Result<Store, Memory>
         ensures { IfOk result (λ store. store ≡ self.now) }
     {
-        let keys = self.keys.clone()?;
-        let shared = copy_all(self.allocator(), self.shared.as_slice())?;
-        Ok(Store { keys, shared })
+        let entries = self.entries.copy()?;
+        Ok(Store { entries })
     }
 
     // Where its memory comes from.
     pub(crate) fn allocator(&self) -> Global {
-        *self.shared.allocator()
+        self.entries.allocator()
     }
 
     /// The shared term that is a term. It is refused as too large exactly if it has more than 5,000 nodes. It goes
@@ -103,7 +92,7 @@ impl Store {
         ensures belongs { IfOk result (λ shared. Belongs self.new shared) }
         ensures grows { Grows self.old self.new }
     {
-        let shared = keep_variable(&mut self.keys, &mut self.shared, name, sort)?;
+        let shared = keep_variable(&mut self.entries, name, sort)?;
         Ok(shared)
     }
 
@@ -127,13 +116,7 @@ impl Store {
         let Some(size) = size_above(children.as_slice()) else {
             return Err(StoreRefusal::TooLarge);
         };
-        let shared = keep_application(
-            &mut self.keys,
-            &mut self.shared,
-            operator,
-            children.as_slice(),
-            size,
-        )?;
+        let shared = keep_application(&mut self.entries, operator, children.as_slice(), size)?;
         Ok(shared)
     }
 
@@ -180,14 +163,14 @@ impl Store {
         ensures numbers { (x y : Numbered) → Belongs self.now x → Belongs self.now y
             → number_of x ≡ number_of y → x ≡ y }
     {
-        let _ = self.keys.len();
+        self.entries.keys_differ();
     }
 
     /// The arguments of a shared term that belongs to the store belong to it.
     pub fn children_belong(&self)
         ensures { (x : Numbered) → Belongs self.now x → AllBelong self.now (children_of x) }
     {
-        let _ = self.keys.len();
+        self.entries.keys_differ();
     }
 
     /// The size of a shared term that belongs to the store is its term's, 5,000 at most, and the size of an operator
@@ -198,6 +181,6 @@ impl Store {
         ensures all { (f : PlainOperator) (xs : List Numbered) → AllBelong self.now xs
             → nodes (app f (forest_of (map term_of xs))) ≡ 1 + sum_by size_of xs }
     {
-        let _ = self.keys.len();
+        self.entries.keys_differ();
     }
 }

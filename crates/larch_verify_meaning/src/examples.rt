@@ -1,5 +1,5 @@
 //! Certificates that are accepted or refused, computed. No function here does anything.
-ghost use Rattle.std.specs.Prelude.{◌≡◌, [], ◌∷◌, ◌++◌, true, Some, None, codes};
+ghost use Rattle.std.specs.Prelude.{◌≡◌, [], ◌∷◌, ◌++◌, true, false, Some, None, codes};
 ghost use Rattle.larch_term.specs.BuiltIn.{bool_sort};
 ghost use Rattle.larch_term.specs.Statement.{statement_zero};
 ghost use Rattle.larch_term.specs.Tree.{var};
@@ -16,6 +16,7 @@ ghost use Rattle.larch_verify_meaning.specs.Certificates.{predicate_part, set_so
 ghost use Rattle.larch_verify_meaning.specs.Certificates.{sets_partitioned, same_sets_by, same_sets_of, partition_with};
 ghost use Rattle.larch_verify_meaning.specs.Examples.{coded_constant, coded_equation, coded_nought, coded_x, for_number};
 ghost use Rattle.larch_verify_meaning.specs.Examples.{number_part, premise, sum_with, induction_by, sample, with_line};
+ghost use Rattle.larch_verify_meaning.specs.LastLine.{ends_with_stated_clause};
 ghost use Rattle.larch_verify_meaning.specs.Run.{first_bad};
 
 /// The worked certificate is accepted, and for no other statement; no line of it is bad.
@@ -23,6 +24,17 @@ pub fn worked_is_accepted()
     ensures accepted { verdict numbers sum_from_nought sample ≡ None }
     ensures other { verdict numbers numbers_generated sample ≡ Some 13 }
     ensures bad { first_bad numbers sample ≡ None }
+{}
+
+/// Its last line isn't an axiom line of a clause. One line alone that says a clause of the theory, or statement 0, is;
+/// one that says an equation isn't, nor are lines that go on behind a clause.
+pub fn last_lines()
+    ensures worked { ends_with_stated_clause numbers sample ≡ false }
+    ensures clause { ends_with_stated_clause numbers (line.Axiom 1 ∷ []) ≡ true }
+    ensures nought { ends_with_stated_clause numbers (line.Axiom 0 ∷ []) ≡ true }
+    ensures equation { ends_with_stated_clause numbers (line.Axiom 2 ∷ []) ≡ false }
+    ensures nothing { ends_with_stated_clause numbers (line.Axiom 9 ∷ []) ≡ false }
+    ensures behind { ends_with_stated_clause numbers (line.Axiom 1 ∷ line.Refl coded_nought ∷ []) ≡ false }
 {}
 
 /// Where one line of it is changed, the first bad line is that one or the one that stands on it.

@@ -1,4 +1,5 @@
-use Rattle.larch_methods.proofs.Undoing.{found_so, grows_as, made_so, made_then, missing_so, says_as}
+use Rattle.larch_methods.proofs.Undoing.{ends_as, found_so, grows_as, lasts_as, made_so, made_then, missing_so}
+use Rattle.larch_methods.proofs.Undoing.{says_as}
 use Rattle.larch_methods.proofs.Shown.{constants_for_sort, numbers_own, others_among, partitioned_for}
 use Rattle.larch_methods.proofs.clauses.finish_partitioned.Goals as goal
 
@@ -22,3 +23,13 @@ returns-clause-grows c a e h =
     grows_as a _ _ c.in_ok-said.ensures.ok
     (made_then _ _ _ c.write_partitioned-made.ensures.grows c.in_ok-said.ensures.made a _
     (numbers_own a _ _ _ _ e c.as_slice.ensures k) (constants_for_sort a _ _ _ _ _ _ z h))
+
+pub returns-clause-last : goal.returns-clause-last
+returns-clause-last c =
+    lasts_as _ _ _ c.in_ok-said.ensures.ok
+    (made_so _ _ _ c.write_partitioned-made.ensures.last c.in_ok-said.ensures.made)
+
+pub returns-clause-ends : goal.returns-clause-ends
+returns-clause-ends c =
+    ends_as _ _ c.in_ok-said.ensures.ok
+    (made_then _ _ _ c.write_partitioned-made.ensures.ends c.in_ok-said.ensures.made)

@@ -15,11 +15,11 @@ returns-clause-says c h =
     (induced _ _ _ _ _ _ _ _ _ _ h c.in_ok-variable.ensures c.in_ok-truth.ensures
     (λ fs st s. c.in_ok-stated.ensures.extends _ st s.found)
     (λ fs st s. c.in_ok-stated.ensures.says _ st s.found s.over)
-    (λ x fs s cs k t e. c.in_ok-line.ensures.says fs s cs k t e))
+    (λ x fs s cs k t e n. c.in_ok-line.ensures.says fs s cs k t e n))
 
 pub returns-clause-extends : goal.returns-clause-extends
 returns-clause-extends c h =
     induced _ _ _ _ _ _ _ _ _ _ h c.in_ok-variable.ensures c.in_ok-truth.ensures
     (λ fs st s. c.in_ok-stated.ensures.extends _ st s.found)
     (λ fs st s. c.in_ok-stated.ensures.says _ st s.found s.over)
-    (λ x fs s cs k t e. extends_trans _ _ _ x (c.in_ok-line.ensures.extends fs s cs k t e))
+    (λ x fs s cs k t e n. extends_trans _ _ _ x (c.in_ok-line.ensures.extends fs s cs k t e n))

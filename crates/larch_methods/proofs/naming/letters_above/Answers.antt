@@ -17,3 +17,6 @@ returns-clause-right c =
     (subst (λ vs. All (λ (v : Variable). length v.name < c.in_ok-letters-2.letters) vs)
     (c.as_slice-2.ensures ∙ c.in_ok-of_right.ensures) c.in_ok-letters-2.ensures.above)
     (omega arith)
+
+pub returns-clause-least : goal.returns-clause-least
+returns-clause-least c = omega (arith, c.in_ok-letters.ensures.least, c.in_ok-letters-2.ensures.least)

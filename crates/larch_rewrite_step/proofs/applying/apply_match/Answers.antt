@@ -20,13 +20,13 @@ returns-clause-term c = c.in_ok-term.ensures.term ∙ same_right _ _ _ _ c.as_sl
 pub returns-in_err-tried-clause-extends : goal.returns-in_err-tried-clause-extends
 returns-in_err-tried-clause-extends c t k r h d =
     by_tried _ c.args.found.now.rule.now c.args.found.now.exchanged t (entries_of c.args.found.now.by) _ k r h
-    (λ x st rh p. c.in_err-tried.ensures.extends x st rh p)
+    (λ x st rh i p. c.in_err-tried.ensures.extends x st rh i p)
 
 pub returns-in_err-line-clause-extends : goal.returns-in_err-line-clause-extends
 returns-in_err-line-clause-extends c t k r h d =
     extends_trans _ _ _ (by_tried _ c.args.found.now.rule.now c.args.found.now.exchanged t
     (entries_of c.args.found.now.by) _
-    k r h (λ x st rh p. c.in_ok-tried.ensures.extends x st rh p))
+    k r h (λ x st rh i p. c.in_ok-tried.ensures.extends x st rh i p))
     (extends_same _ _ c.in_err-line.ensures.err)
 
 pub returns-clause-says : goal.returns-clause-says
@@ -35,11 +35,11 @@ returns-clause-says c t k r h d =
     subst (λ bs. AreWritten c.args.builder.now (entries_of bs) c.in_ok-by.by) c.as_slice-bound.ensures
     (c.in_ok-by.ensures.written d) in
     let x = by_tried _ c.args.found.now.rule.now c.args.found.now.exchanged t (entries_of c.args.found.now.by) _ k r h
-    (λ x st rh p. c.in_ok-tried.ensures.extends x st rh p) in
+    (λ x st rh i p. c.in_ok-tried.ensures.extends x st rh i p) in
     right_same _ _ t _ _ (c.in_ok-term.ensures.term ∙ same_right _ _ _ _ c.as_slice-bound.ensures c.right.ensures)
     (applied_says _ _ _ c.args.found.now.rule.now c.args.found.now.exchanged t
     (entries_of c.args.found.now.by) _ _ k r h x
-    (λ x st rh p. c.in_ok-tried.ensures.says x st rh p)
+    (λ x st rh i p. c.in_ok-tried.ensures.says x st rh i p)
     (λ l r h j e. c.in_ok-line.ensures.says _ l r (written_stays _ _ _ _ x w) h j e))
 
 pub returns-clause-extends : goal.returns-clause-extends
@@ -48,9 +48,9 @@ returns-clause-extends c t k r h d =
     subst (λ bs. AreWritten c.args.builder.now (entries_of bs) c.in_ok-by.by) c.as_slice-bound.ensures
     (c.in_ok-by.ensures.written d) in
     let x = by_tried _ c.args.found.now.rule.now c.args.found.now.exchanged t (entries_of c.args.found.now.by) _ k r h
-    (λ x st rh p. c.in_ok-tried.ensures.extends x st rh p) in
+    (λ x st rh i p. c.in_ok-tried.ensures.extends x st rh i p) in
     extends_trans _ _ _ x
     (applied_extends _ _ _ c.args.found.now.rule.now c.args.found.now.exchanged t
     (entries_of c.args.found.now.by) _ k r h x
-    (λ x st rh p. c.in_ok-tried.ensures.says x st rh p)
+    (λ x st rh i p. c.in_ok-tried.ensures.says x st rh i p)
     (λ l r h j e. c.in_ok-line.ensures.extends _ l r (written_stays _ _ _ _ x w) h j e))
