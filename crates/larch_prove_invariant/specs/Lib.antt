@@ -1,3 +1,4 @@
 pub mod Book
+pub mod Ending
 pub mod Holding
 pub mod Leaving
