@@ -13,3 +13,4 @@ pub mod Own
 pub mod PartitionEnd
 pub mod Planned
 pub mod Shared
+pub mod Unopened

@@ -2,3 +2,4 @@ pub mod Book
 pub mod Ending
 pub mod Holding
 pub mod Leaving
+pub mod Unopened

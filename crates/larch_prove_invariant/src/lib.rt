@@ -13,4 +13,4 @@ pub use levels::{
     boxes_are_closed, boxes_are_open, extra_boxes_are_opened, growing_keeps_levels,
     levels_are_entered, levels_are_said, lines_change_levels, methods_run,
 };
-pub use terms::{open_terms_are_known, subgoals_are_known};
+pub use terms::{open_terms_are_known, subgoals_are_known, unopened_constants};

@@ -1,5 +1,5 @@
 //! Laws on terms that can be written. No function here does anything.
-ghost use Rattle.std.specs.Prelude.{◌≡◌, List, ◌∷◌, ◌++◌, map, All, Contains, Some};
+ghost use Rattle.std.specs.Prelude.{◌≡◌, List, ◌∷◌, ◌++◌, [], map, All, Contains, Some};
 ghost use Rattle.larch_term.specs.Operator.{PlainOperator};
 ghost use Rattle.larch_term.specs.Sorts.{IsTermOver};
 ghost use Rattle.larch_term.specs.Tree.{Tree};
@@ -14,8 +14,9 @@ ghost use Rattle.larch_prove_meaning.specs.Levels.{Level, Proof};
 ghost use Rattle.larch_prove_meaning.specs.Plans.{Subgoal};
 ghost use Rattle.larch_prove_meaning.specs.WellSorted.{IsWellSortedProof};
 ghost use Rattle.larch_prove_invariant.specs.Book.{Kept, Running, SupposingBox};
-ghost use Rattle.larch_prove_invariant.specs.Holding.{HoldsLevels, HoldsProof, Through, entrances};
+ghost use Rattle.larch_prove_invariant.specs.Holding.{AreOwn, HoldsLevels, HoldsProof, Through, entrances};
 ghost use Rattle.larch_prove_invariant.specs.Holding.{open_constants, shape_of};
+ghost use Rattle.larch_prove_invariant.specs.Unopened.{unopened_in};
 
 /// Terms over the theory's operators and the constants of open boxes can be written, and no others.
 pub fn open_terms_are_known()
@@ -36,4 +37,18 @@ pub fn subgoals_are_known()
         (k : Kept) (ks : List Kept) (r : Running) (g : Subgoal) (xs : List SupposingBox)
         → HoldsLevels t s b cs levels (k ∷ ks) → k.book.running ≡ Some r → Contains r.plan.subgoals g → Through b xs d
         → map shape_of xs ≡ entrances r.method g → IsKnownFormula d g.goal }
+{}
+
+/// A term of a command names constants of the block, some of which may not be open. Each of these in turn is a box's
+/// own when those before it are open; and when all are, the term can be written.
+pub fn unopened_constants()
+    ensures next { (block opened : List PlainOperator) (t : Tree) (done : List PlainOperator) (f : PlainOperator)
+        (rest : List PlainOperator) → unopened_in block opened t ≡ done ++ f ∷ rest
+        → Contains block f × (Contains (opened ++ done) f → ⊥) }
+    ensures own { (t : Theory) (s : Statement) (b : Builder) (cs : List PlainOperator) (levels : List Level)
+        (ks : List Kept) (f : PlainOperator) → HoldsLevels t s b cs levels ks → Contains cs f
+        → (Contains (open_constants b) f → ⊥) → AreOwn b (f ∷ []) }
+    ensures known { (t : Theory) (s : Statement) (c : Builder) (cs opened : List PlainOperator) (levels : List Level)
+        (ks : List Kept) (a : Tree) → HoldsLevels t s c cs levels ks
+        → open_constants c ≡ opened ++ unopened_in cs opened a → IsTermOver (t.operators ++ cs) a → Known c a }
 {}
