@@ -3,9 +3,10 @@ use Rattle.std.specs.Prelude.{◌≡◌, ◌≢◌, ℕ, suc, Bool, true, false,
 use Rattle.std.specs.Prelude.{Some, option_map, refl}
 use Rattle.std.specs.List.{flat_map}
 use Rattle.std.specs.Option.{option_or}
-use Rattle.std.proofs.Common.{ap, ap₂, inl, inr, subst, sym, ◌∙◌}
+use Rattle.std.proofs.Common.{ap, ap₂, arith, inl, inr, subst, sym, ◌∙◌}
 use Rattle.std.proofs.lemmas.List.{append_assoc, append-nil}
-use Rattle.std.proofs.lemmas.List.Elements.{All-contains}
+use Rattle.std.proofs.lemmas.List.Elements.{All-append, All-contains}
+use Rattle.std.proofs.lemmas.List.Kept.{AllPairs-cons}
 use Rattle.larch_base.proofs.Lists.{all_from, pairs_head, pairs_tail}
 use Rattle.larch_base.proofs.Members.{contains_here, contains_later, contains_left, contains_right, contains_cases}
 use Rattle.larch_base.proofs.Members.{contains_none}
@@ -74,3 +75,18 @@ innermost_own bs x h a =
       outer = all_from (λ f. constant_of bs f ≡ None) x.constants (λ f c.
           not_constant bs f (λ d. pairs_across (λ g k. g ≢ k) made x.constants f f pairs d c refl));
     }
+
+pub pairs_first : {X : Type 0} (R : X → X → Type 0) (xs ys : List X) → AllPairs R (xs ++ ys) → AllPairs R xs
+pairs_first R [] ys h = λ i j d l m. absurd (omega (arith, m))
+pairs_first R (x ∷ xs) ys h =
+    AllPairs-cons R x xs
+    (all_from (R x) xs (λ y c. All-contains (R x) (xs ++ ys) y (pairs_head R x (xs ++ ys) h) (contains_left xs ys y c)))
+    (pairs_first R xs ys (pairs_tail R x (xs ++ ys) h))
+
+pub pairs_append : {X : Type 0} (R : X → X → Type 0) (xs ys : List X) → AllPairs R xs → AllPairs R ys
+    → ((x y : X) → Contains xs x → Contains ys y → R x y) → AllPairs R (xs ++ ys)
+pairs_append R [] ys a b h = b
+pairs_append R (x ∷ xs) ys a b h =
+    AllPairs-cons R x (xs ++ ys)
+    (All-append (R x) xs ys (pairs_head R x xs a) (all_from (R x) ys (λ y c. h x y (contains_here x xs) c)))
+    (pairs_append R xs ys (pairs_tail R x xs a) b (λ z y c d. h z y (contains_later x z xs c) d))

@@ -7,12 +7,12 @@ use Rattle.larch_term.specs.Tree.{Tree}
 use Rattle.larch_term.specs.declared.statement.Statement.{Statement}
 use Rattle.larch_term.specs.declared.statement.Statement.TheVariants.{Equation}
 use Rattle.larch_derive.specs.Builder.{boxes_in, theory_in}
-use Rattle.larch_derive.specs.Predicates.{Grows, HasStatement}
+use Rattle.larch_derive.specs.Predicates.{Grows, HasNoBadLine, HasStatement}
 use Rattle.larch_derive.specs.declared.builder.Builder.{Builder}
-use Rattle.larch_derive.proofs.Growth.{grown_said, grows_alike, grows_trans}
+use Rattle.larch_derive.proofs.Growth.{grown_said, grown_stands, grows_alike, grows_trans}
 use Rattle.larch_derive_boxes.specs.Boxes.{Closes, HasResult, Opens}
 use Rattle.larch_derive_boxes.proofs.Closing.{closes_grows, closes_result}
-use Rattle.larch_derive_boxes.proofs.Opening.{opened_boxes, opened_said}
+use Rattle.larch_derive_boxes.proofs.Opening.{opened_boxes, opened_said, opened_stands}
 use Rattle.larch_derive_boxes.proofs.Supposing.{grown_open, opened_open, opens_is_open}
 use Rattle.larch_prove_invariant.specs.Book.{SupposingBox}
 use Rattle.larch_prove_invariant.specs.Holding.{IsThere, Through}
@@ -35,6 +35,12 @@ pub said_through : (a b : Builder) (xs : List SupposingBox) (n : ℕ) (s : State
 said_through a b [] n s t h = grown_said a b n s t h
 said_through a b (x ∷ xs) n s (c, (d, (g, (o, t)))) h =
     said_through d b xs n s t (opened_said c d x.box x.hypotheses n s o (grown_said a c n s g h))
+
+-- no line turns bad inside
+pub through_stands : (a b : Builder) (xs : List SupposingBox) → Through a xs b → HasNoBadLine a → HasNoBadLine b
+through_stands a b [] t h = grown_stands a b t h
+through_stands a b (x ∷ xs) (c, (d, (g, (o, t)))) h =
+    through_stands d b xs t (opened_stands c d x.box x.hypotheses o)
 
 -- the theory stays, and behind the open boxes are the opened ones
 pub through_boxes : (a b : Builder) (xs : List SupposingBox) → Through a xs b

@@ -1,5 +1,5 @@
 -- What a builder holds of a proof's levels stays held.
-use Rattle.std.specs.Prelude.{◌≡◌, ℕ, List, [], ◌∷◌, ◌++◌, map, length, All, Option, None, Some, Ok, refl}
+use Rattle.std.specs.Prelude.{◌≡◌, ℕ, List, [], ◌∷◌, ◌++◌, map, length, All, Option, None, Some, refl}
 use Rattle.std.specs.List.{AllZip}
 use Rattle.std.proofs.Common.{ap, subst, sym, ◌∙◌}
 use Rattle.std.proofs.lemmas.List.{append_assoc, append-nil, map-append}
@@ -7,32 +7,31 @@ use Rattle.std.proofs.lemmas.List.Elements.{All-append, All-nil, All-push, All-w
 use Rattle.larch_term.specs.Tree.{Tree}
 use Rattle.larch_term.specs.Truth.{truth}
 use Rattle.larch_term.specs.declared.statement.Statement.{Statement}
-use Rattle.larch_term.specs.declared.statement.Statement.TheVariants.{Equation, Generated, Partitioned}
+use Rattle.larch_term.specs.declared.statement.Statement.TheVariants.{Equation}
 use Rattle.larch_term.specs.declared.statement.Theory.{Theory}
 use Rattle.larch_calculus.specs.Formula.{falsity}
-use Rattle.larch_verify_meaning.specs.Acceptance.{Accepts}
-use Rattle.larch_derive.specs.Builder.{boxes_in, lines_in, theory_in}
-use Rattle.larch_derive.specs.Predicates.{Grows, HasEquation, HasStatement}
+use Rattle.larch_derive.specs.Builder.{boxes_in, theory_in}
+use Rattle.larch_derive.specs.Predicates.{AreOthers, Grows, HasEquation, HasStatement, HasNoBadLine}
 use Rattle.larch_derive.specs.declared.builder.Builder.{Builder}
-use Rattle.larch_derive.proofs.Accepting.{accepted}
-use Rattle.larch_derive.proofs.Growth.{grown_said, grows_alike}
-use Rattle.larch_derive_boxes.specs.Boxes.{AreOwnConstants, HasResult}
-use Rattle.larch_derive_boxes.proofs.Closing.{grown_result}
+use Rattle.larch_derive.proofs.Growth.{grown_said, grown_stands, grows_alike, grows_same, said_stands}
+use Rattle.larch_derive_boxes.specs.Boxes.{AreOwnConstants}
 use Rattle.larch_prove_meaning.specs.Facts.{Fact}
-use Rattle.larch_prove_meaning.specs.Levels.{Level, OfDuty, OfProof, OfSubgoal, Purpose}
-use Rattle.larch_prove_meaning.specs.Plans.{Method, Plan, Setting, Subgoal, plan}
-use Rattle.larch_prove_invariant.specs.Book.{AtLine, Book, Done, all_boxes, InBox, Kept, Left, Running, SupposingBox}
-use Rattle.larch_prove_invariant.specs.Book.{boxes_of, next_running, shared_boxes, with_extra, with_method, with_next}
-use Rattle.larch_prove_invariant.specs.Holding.{Begins, Enters, EntersProof, EntersSubgoal, HasAbsurd, HasFacts}
-use Rattle.larch_prove_invariant.specs.Holding.{HasLeft, HasOwnConstants, Holds, HoldsOf, IsForSubgoal, IsThere, Runs}
-use Rattle.larch_prove_invariant.specs.Holding.{RunsIfAny, Through, as_statements, said_of, shape_of, shared_shapes}
-use Rattle.larch_prove_invariant.specs.Leaving.{IsClosedWith, Leaving}
-use Rattle.larch_prove_invariant.proofs.Boxes.{all_open, closed_innermost, open_through, said_through, through_append}
-use Rattle.larch_prove_invariant.proofs.Boxes.{through_boxes, through_grows}
+use Rattle.larch_prove_meaning.specs.Levels.{Level}
+use Rattle.larch_prove_meaning.specs.Plans.{Plan, Subgoal}
+use Rattle.larch_methods.specs.Opening.{HasOtherConstants, HasOwnConstants}
+use Rattle.larch_methods.proofs.Left.{shown_stays}
+use Rattle.larch_prove_invariant.specs.Book.{AtLine, Book, Done, InBox, IsWorkedOn, Kept, Left, Rests, Running}
+use Rattle.larch_prove_invariant.specs.Book.{SupposingBox, all_boxes, boxes_of, next_running, own_boxes, shared_boxes}
+use Rattle.larch_prove_invariant.specs.Book.{with_extra, with_running}
+use Rattle.larch_prove_invariant.specs.Holding.{HasAbsurd, HasFacts, HasLeft, Holds, HoldsOf, IsEntered, IsPlanned}
+use Rattle.larch_prove_invariant.specs.Holding.{IsStart, IsThere, Runs, RunsIfAny, Says, Through, said_of}
+use Rattle.larch_prove_invariant.proofs.Boxes.{all_open, open_through, said_through, through_append, through_boxes}
+use Rattle.larch_prove_invariant.proofs.Boxes.{through_grows}
+use Rattle.larch_prove_invariant.proofs.Entered.{entered_same}
 
--- ---- a level while the builder grows
+-- ---- what is said of a level
 
-zip_kept : {A B : Type 0} (R S : A → B → Type 0) → ((a : A) (b : B) → R a b → S a b) → (xs : List A) (ys : List B)
+pub zip_kept : {A B : Type 0} (R S : A → B → Type 0) → ((a : A) (b : B) → R a b → S a b) → (xs : List A) (ys : List B)
     → AllZip R xs ys → AllZip S xs ys
 zip_kept R S f [] [] z = z
 zip_kept R S f [] (y ∷ ys) z = z
@@ -54,244 +53,227 @@ absurd_stays : (b c : Builder) → AllStays b c → (o : Option ℕ) → HasAbsu
 absurd_stays b c g None h = h
 absurd_stays b c g (Some n) h = g n (Equation truth falsity) h
 
-left_grows : (b c : Builder) → Grows b c → (method : Method) (s : Subgoal) (l : Left) → HasLeft b method s l
-    → HasLeft c method s l
-left_grows b c g method s (InBox x) h = (
-  h.0,
-  grown_result b c x (as_statements s.hypotheses) (Equation (said_of method s).left
-      (said_of method s).right) g h.1,
-)
-left_grows b c g method s (AtLine n) h =
-    (h.0, grown_said b c n (Equation (said_of method s).left (said_of method s).right) g h.1)
+says_stays : (b c : Builder) (k : Kept) → AllStays b c → Says b k → Says c k
+says_stays b c k g h = record {
+  facts = facts_stay b c g k.level.facts.rules k.book.lines h.facts;
+  absurd = λ t. absurd_stays b c g k.book.absurd (h.absurd t);
+  way = g k.book.way (Equation k.book.first k.level.goal) h.way;
+}
 
-own_stays : (b c : Builder) → boxes_in c ≡ boxes_in b → (ss : List Subgoal) → All (HasOwnConstants b) ss
-    → All (HasOwnConstants c) ss
-own_stays b c e ss h =
-    All-weaker (HasOwnConstants b) (HasOwnConstants c)
-    (λ s q. subst (λ bs. AreOwnConstants bs (record { number = 0; constants = s.constants })) (sym e) q) ss h
+pub says_grows : (b c : Builder) (k : Kept) → Grows b c → Says b k → Says c k
+says_grows b c k g h = says_stays b c k (λ n s q. grown_said b c n s g q) h
 
-runs_grows : (b c : Builder) → Grows b c → (level : Level) (r : Running) → Runs b level r → Runs c level r
-runs_grows b c g level r h = record {
-  planned = h.planned;
-  shared = h.shared;
+pub says_through : (b c : Builder) (k : Kept) (xs : List SupposingBox) → Through b xs c → Says b k → Says c k
+says_through b c k xs m h = says_stays b c k (λ n s q. said_through b c xs n s m q) h
+
+-- ---- a method while the builder grows
+
+left_grows : (b c : Builder) → Grows b c → (r : Running) (s : Subgoal) (l : Left) → HasLeft b r.method s l
+    → HasLeft c r.method s l
+left_grows b c g r s (InBox x) h = (h.0, shown_stays b c s (said_of r.method s) x g h.1)
+left_grows b c g r s (AtLine n) h =
+    (h.0, grown_said b c n (Equation (said_of r.method s).left (said_of r.method s).right) g h.1)
+
+own_stays : (b c : Builder) → boxes_in c ≡ boxes_in b → (made : Plan) → HasOwnConstants b made
+    → HasOwnConstants c made
+own_stays b c e made h =
+    All-weaker
+    (λ (s : Subgoal). AreOwnConstants (boxes_in b) (record { number = 0; constants = s.constants }))
+    (λ (s : Subgoal). AreOwnConstants (boxes_in c) (record { number = 0; constants = s.constants }))
+    (λ s q. subst (λ bs. AreOwnConstants bs (record { number = 0; constants = s.constants })) (sym e) q)
+    made.subgoals h
+
+others_stay : (b c : Builder) → theory_in c ≡ theory_in b → (made : Plan) → HasOtherConstants b made
+    → HasOtherConstants c made
+others_stay b c e made h =
+    All-weaker (λ (s : Subgoal). AreOthers (theory_in b) s.constants)
+    (λ (s : Subgoal). AreOthers (theory_in c) s.constants)
+    (λ s q. subst (λ t. AreOthers t s.constants) (sym e) q) made.subgoals h
+
+planned_grows : (a b c : Builder) → Grows b c → (goal : Tree) (r : Running) → IsPlanned a b goal r
+    → IsPlanned a c goal r
+planned_grows a b c g goal r h =
+    let alike = grows_alike b c g in
+    record {
+      planned = h.planned;
+      clauses = h.clauses;
+      goal_known = h.goal_known;
+      method_known = h.method_known;
+      shared = h.shared;
+      apart = h.apart;
+      over = h.over;
+      own = own_stays b c alike.1 r.plan h.own;
+      others = others_stay b c alike.0 r.plan h.others;
+    }
+
+runs_grows : (a b c : Builder) → Grows b c → (level : Level) (r : Running) → Runs a b level r → Runs a c level r
+runs_grows a b c g level r h = record {
+  planned = planned_grows a b c g level.goal r h.planned;
   order = h.order;
-  done = All-weaker (λ (d : Done). HasLeft b r.method d.subgoal d.left) (λ
-      (d : Done). HasLeft c r.method d.subgoal d.left)
-      (λ d q. left_grows b c g r.method d.subgoal d.left q) r.done h.done;
-  own = own_stays b c (grows_alike b c g).1 r.plan.subgoals h.own;
+  done = All-weaker (λ (d : Done). HasLeft b r.method d.subgoal d.left)
+      (λ (d : Done). HasLeft c r.method d.subgoal d.left)
+      (λ d q. left_grows b c g r d.subgoal d.left q) r.done h.done;
 }
 
-running_grows : (b c : Builder) → Grows b c → (level : Level) (o : Option Running) → RunsIfAny b level o
-    → RunsIfAny c level o
-running_grows b c g level None h = h
-running_grows b c g level (Some r) h = runs_grows b c g level r h
+running_grows : (a b c : Builder) → Grows b c → (level : Level) (o : Option Running) → RunsIfAny a b level o
+    → RunsIfAny a c level o
+running_grows a b c g level None h = h
+running_grows a b c g level (Some r) h = runs_grows a b c g level r h
 
-pub level_grows : (b c : Builder) (k : Kept) → Grows b c → HoldsOf b k → HoldsOf c k
-level_grows b c k g h = record {
-  facts = facts_stay b c (λ n s q. grown_said b c n s g q) k.level.facts.rules k.book.lines h.facts;
-  absurd = λ t. absurd_stays b c (λ n s q. grown_said b c n s g q) k.book.absurd (h.absurd t);
-  way = grown_said b c k.book.way (Equation k.book.first k.level.goal) g h.way;
-  running = running_grows b c g k.level k.book.running h.running;
+-- ---- levels while the builder grows
+
+level_grows : (a b c : Builder) (k : Kept) → Grows b c → HoldsOf a b k → HoldsOf a c k
+level_grows a b c k g h = record {
+  outside = h.outside;
+  boxes = h.boxes;
+  says = h.says;
+  shared = through_grows h.outside b c (shared_boxes k.book.running) g h.shared;
+  running = running_grows h.outside b c g k.level k.book.running h.running;
 }
 
--- ---- all levels while the builder grows
+start_grows : (t : Theory) (b c : Builder) → Grows b c → IsStart t b → IsStart t c
+start_grows t b c g h =
+    let alike = grows_alike b c g in
+    record {
+      theory = alike.0 ∙ h.theory;
+      boxes = alike.1 ∙ h.boxes;
+      stands = grown_stands b c g h.stands;
+    }
 
 pub holds_grows : (t : Theory) (s : Statement) (b c : Builder) (ks : List Kept) → Grows b c → Holds t s b ks
     → Holds t s c ks
-holds_grows t s b c [] g h = h
-holds_grows t s b c (k ∷ []) g (a, (i, (e, (u, (m, l))))) =
-    (a, (i, (e, (u, (through_grows a b c (boxes_of k.book) g m, level_grows b c k g l)))))
-holds_grows t s b c (k ∷ j ∷ ks) g (a, (i, (e, (m, l)))) =
-    (a, (i, (e, (through_grows a b c (boxes_of k.book) g m, level_grows b c k g l))))
+holds_grows t s b c [] g h = start_grows t b c g h
+holds_grows t s b c (k ∷ ks) g (a, (i, (e, l))) = (a, (i, (e, level_grows a b c k g l)))
 
--- what is held of the current level
-pub current_held : (t : Theory) (s : Statement) (b : Builder) (k : Kept) (ks : List Kept) → Holds t s b (k ∷ ks)
-    → HoldsOf b k
-current_held t s b k [] (a, (i, (e, (u, (m, l))))) = l
-current_held t s b k (j ∷ ks) (a, (i, (e, (m, l)))) = l
+-- what lines say of the current level
+pub current_said : (t : Theory) (s : Statement) (b : Builder) (k : Kept) (ks : List Kept) → Holds t s b (k ∷ ks)
+    → Says b k
+current_said t s b k ks (a, (i, (e, l))) =
+    says_through l.outside b k (shared_boxes k.book.running) l.shared l.says
 
--- the current level with something else kept of it, by what leads from where it was entered to where the builder stands
-record Changes (b c : Builder) (k j : Kept) : Type 0 where
-  purpose : j.level.purpose ≡ k.level.purpose
-  first : j.book.first ≡ k.book.first
-  entrance : j.book.entrance ≡ k.book.entrance
-  boxes : (a : Builder) → Through a (boxes_of k.book) b → Through a (boxes_of j.book) c
-  held : HoldsOf c j
+-- where levels are held, no line is bad
+pub holding_stands : (t : Theory) (s : Statement) (b : Builder) (ks : List Kept) → Holds t s b ks → HasNoBadLine b
+holding_stands t s b [] h = h.stands
+holding_stands t s b (k ∷ ks) h =
+    said_stands b k.book.way (Equation k.book.first k.level.goal) (current_said t s b k ks h).way
 
-begins_same : (s : Statement) (k j : Book) → j.first ≡ k.first → j.entrance ≡ k.entrance → Begins s k → Begins s j
-begins_same (Equation l r) k j e f h = (e ∙ h.0, f ∙ h.1)
-begins_same (Generated z fs) k j e f (g, (h, i)) = (g, (e ∙ h, ap (map shape_of) f ∙ i))
-begins_same (Partitioned z os) k j e f (c, (d, (h, i))) = (c, (d, (e ∙ h, ap (map shape_of) f ∙ i)))
+-- ---- a level on which no method runs
 
-enters_subgoal : (o : Option Running) (k j : Book) → j.first ≡ k.first → j.entrance ≡ k.entrance → IsForSubgoal o k
-    → IsForSubgoal o j
-enters_subgoal None k j e f h = h
-enters_subgoal (Some r) k j e f h = record { first = e ∙ h.first; entrance = ap (map shape_of) f ∙ h.entrance }
+no_shared : (k : Book) → k.running ≡ None → shared_boxes k.running ≡ []
+no_shared k e = ap shared_boxes e
 
-enters_same : (u : Purpose) (o : Option Running) (k j : Book) → j.first ≡ k.first → j.entrance ≡ k.entrance
-    → Enters u o k → Enters u o j
-enters_same OfDuty o k j e f h = h
-enters_same OfSubgoal o k j e f h = enters_subgoal o k j e f h
-enters_same (OfProof t) o k j e f h =
-    record { first = e ∙ h.first; entrance = f ∙ h.entrance; idle = h.idle }
+-- what is outside of no box is where the builder stands
+idle_grows : (a b : Builder) (k : Kept) → k.book.running ≡ None → (h : HoldsOf a b k) → Grows h.outside b
+idle_grows a b k e h = subst (λ xs. Through h.outside xs b) (no_shared k.book e) h.shared
 
-changed : (t : Theory) (s : Statement) (b c : Builder) (k j : Kept) (ks : List Kept) → Changes b c k j
-    → Holds t s b (k ∷ ks) → Holds t s c (j ∷ ks)
-changed t s b c k j [] h (a, (i, (e, (u, (m, l))))) =
-    (a, (i, (begins_same s k.book j.book h.first h.entrance e, (h.purpose ∙ u, (h.boxes a m, h.held)))))
-changed t s b c k j (n ∷ ks) h (a, (i, (e, (m, l)))) = (
-  a,
-  (
-    i,
-    (
-      subst (λ u. Enters u n.book.running j.book) (sym h.purpose)
-          (enters_same k.level.purpose n.book.running k.book j.book h.first h.entrance e),
-      (h.boxes a m, h.held),
-    ),
-  ),
-)
+pub idle_boxes : (a b : Builder) (k : Kept) → k.book.running ≡ None → HoldsOf a b k
+    → Through a (own_boxes k.book) b
+idle_boxes a b k e h = through_grows a h.outside b (own_boxes k.book) (idle_grows a b k e h) h.boxes
+
+none_waits : (a b : Builder) (k : Kept) → k.book.running ≡ None → RunsIfAny a b k.level k.book.running
+    → k.level.remaining ≡ []
+none_waits a b k e h = subst (RunsIfAny a b k.level) e h
+
+-- a level is at rest where the builder stands
+pub rests_held : (a b : Builder) (k : Kept) → Rests k → Through a (own_boxes k.book) b → Says b k → HoldsOf a b k
+rests_held a b k r m h = record {
+  outside = b;
+  boxes = m;
+  says = h;
+  shared = subst (λ xs. Through b xs b) (sym (no_shared k.book r.running)) (grows_same b b refl);
+  running = subst (RunsIfAny b b k.level) (sym r.running) r.remaining;
+}
 
 -- lines alone: other facts, another goal
 pub level_worked : (t : Theory) (s : Statement) (b c : Builder) (k j : Kept) (ks : List Kept) → Grows b c
-    → j.level.purpose ≡ k.level.purpose → j.book.first ≡ k.book.first → j.book.entrance ≡ k.book.entrance
-    → boxes_of j.book ≡ boxes_of k.book → HoldsOf c j → Holds t s b (k ∷ ks) → Holds t s c (j ∷ ks)
-level_worked t s b c k j ks g p f e x l h =
-    changed t s b c k j ks (record {
-      purpose = p;
-      first = f;
-      entrance = e;
-      boxes = λ a m. subst (λ xs. Through a xs c) (sym x) (through_grows a b c (boxes_of k.book) g m);
-      held = l;
-    }) h
+    → IsWorkedOn k j → Says c j → Holds t s b (k ∷ ks) → Holds t s c (j ∷ ks)
+level_worked t s b c k j ks g w l (a, (i, (e, h))) =
+    let same : own_boxes j.book ≡ own_boxes k.book =
+    ap (λ xs. xs ++ j.book.extras) w.entrance ∙ ap (λ xs. k.book.entrance ++ xs) w.extras in (
+      a,
+      (
+        i,
+        (
+          entered_same s ks k j w.purpose w.first w.entrance e,
+          rests_held a c j w.behind
+              (subst (λ xs. Through a xs c) (sym same)
+              (through_grows a b c (own_boxes k.book) g (idle_boxes a b k w.before.running h))) l,
+        ),
+      ),
+    )
 
--- ---- boxes that are opened on the current level
+extra_boxes : (k : Book) (x : SupposingBox) → k.entrance ++ (k.extras ++ x ∷ []) ≡ own_boxes k ++ x ∷ []
+extra_boxes k x = sym (append_assoc k.entrance k.extras (x ∷ []))
 
-without_shared : (k : Book) → k.running ≡ None → boxes_of k ≡ k.entrance ++ k.extras
-without_shared k e = ap (λ o. k.entrance ++ (k.extras ++ shared_boxes o)) e ∙ ap (λ xs. k.entrance ++ xs)
-    (append-nil k.extras)
-
-none_runs : (b c : Builder) (k : Kept) → k.book.running ≡ None → RunsIfAny b k.level k.book.running
-    → RunsIfAny c k.level k.book.running
-none_runs b c k e h = subst (RunsIfAny c k.level) (sym e) (subst (RunsIfAny b k.level) e h)
-
--- a level on which no method runs, inside boxes
-pub level_inside : (b c : Builder) (k : Kept) (xs : List SupposingBox) → Through b xs c → k.book.running ≡ None
-    → HoldsOf b k → HoldsOf c k
-level_inside b c k xs m e h = record {
-  facts = facts_stay b c (λ n s q. said_through b c xs n s m q) k.level.facts.rules k.book.lines h.facts;
-  absurd = λ t. absurd_stays b c (λ n s q. said_through b c xs n s m q) k.book.absurd (h.absurd t);
-  way = said_through b c xs k.book.way (Equation k.book.first k.level.goal) m h.way;
-  running = none_runs b c k e h.running;
-}
-
-extra_boxes : (k : Book) (x : SupposingBox) → k.running ≡ None
-    → k.entrance ++ ((k.extras ++ x ∷ []) ++ shared_boxes k.running) ≡ boxes_of k ++ x ∷ []
-extra_boxes k x e =
-    ap (λ o. k.entrance ++ ((k.extras ++ x ∷ []) ++ shared_boxes o)) e
-    ∙ (ap (λ xs. k.entrance ++ xs) (append-nil (k.extras ++ x ∷ []))
-    ∙ (sym (append_assoc k.entrance k.extras (x ∷ [])) ∙ ap (λ xs. xs ++ x ∷ []) (sym (without_shared k e))))
-
+-- a box is opened for a constant
 pub extra_opened : (t : Theory) (s : Statement) (b c : Builder) (x : SupposingBox) (k : Kept) (ks : List Kept)
     → Through b (x ∷ []) c → k.book.running ≡ None → Holds t s b (k ∷ ks) → Holds t s c (with_extra x k ∷ ks)
-extra_opened t s b c x k ks m e h =
-    let l = level_inside b c k (x ∷ []) m e (current_held t s b k ks h) in
-    changed t s b c k (with_extra x k) ks (record {
-      purpose = refl;
-      first = refl;
-      entrance = refl;
-      boxes = λ a n.
-          subst (λ xs. Through a xs c) (sym (extra_boxes k.book x e)) (through_append a b c (boxes_of k.book)
-          (x ∷ []) n m);
-      held = record { facts = l.facts; absurd = l.absurd; way = l.way; running = l.running };
-    }) h
+extra_opened t s b c x k ks m e (a, (i, (w, h))) =
+    let said = says_through b c k (x ∷ []) m (current_said t s b k ks (a, (i, (w, h)))) in (
+      a,
+      (
+        i,
+        (
+          entered_same s ks k (with_extra x k) refl refl refl w,
+          rests_held a c (with_extra x k)
+              (record { running = e; remaining = none_waits h.outside b k e h.running })
+              (subst (λ xs. Through a xs c) (sym (extra_boxes k.book x))
+              (through_append a b c (own_boxes k.book) (x ∷ []) (idle_boxes a b k e h) m))
+              (record { facts = said.facts; absurd = said.absurd; way = said.way }),
+        ),
+      ),
+    )
+
+-- ---- levels are entered
+
+pub level_entered : (t : Theory) (s : Statement) (b c : Builder) (k : Kept) (ks : List Kept) → Holds t s b ks
+    → IsEntered s ks k → Rests k → Through b (own_boxes k.book) c → Says c k → Holds t s c (k ∷ ks)
+level_entered t s b c k ks h e r m l = (b, (h, (e, rests_held b c k r m l)))
+
+-- what was said where a level was entered is said in it
+pub facts_inside : (t : Theory) (s : Statement) (b c : Builder) (xs : List SupposingBox) (k : Kept) (ks : List Kept)
+    → Holds t s b (k ∷ ks) → Through b xs c → HasFacts c k.level.facts.rules k.book.lines
+facts_inside t s b c xs k ks h m = (says_through b c k xs m (current_said t s b k ks h)).facts
 
 -- ---- methods
 
-method_boxes : (k : Book) (shared : List SupposingBox) → k.running ≡ None
-    → boxes_of k ++ shared ≡ k.entrance ++ (k.extras ++ shared)
-method_boxes k shared e = ap (λ xs. xs ++ shared) (without_shared k e) ∙ append_assoc k.entrance k.extras shared
-
 -- a method begins, with its shared box opened
-pub method_begun : (t : Theory) (s : Statement) (b c : Builder) (k : Kept) (ks : List Kept) (method : Method)
-    (setting : Setting) (made : Plan) (shared : List SupposingBox) (now : Subgoal) (waiting : List Subgoal)
-    → Through b shared c → k.book.running ≡ None → plan setting k.level.goal method ≡ Ok made
-    → map shape_of shared ≡ shared_shapes method made → made.subgoals ≡ now ∷ waiting
-    → All (HasOwnConstants c) made.subgoals → Holds t s b (k ∷ ks)
-    → Holds t s c (with_method method setting made shared now waiting k ∷ ks)
-method_begun t s b c k ks method setting made shared now waiting m e p f o w h =
-    let l = level_inside b c k shared m e (current_held t s b k ks h) in
-    changed t s b c k (with_method method setting made shared now waiting k) ks (record {
-      purpose = refl;
-      first = refl;
-      entrance = refl;
-      boxes = λ a n.
-          subst (λ xs. Through a xs c) (method_boxes k.book shared e) (through_append a b c
-          (boxes_of k.book) shared n m);
-      held = record {
-        facts = l.facts;
-        absurd = l.absurd;
-        way = l.way;
-        running = record {
-          planned = p;
-          shared = f;
-          order = o;
-          done = All-nil (λ (d : Done). HasLeft c method d.subgoal d.left);
-          own = w;
-        };
-      };
-    }) h
+pub method_begun : (t : Theory) (s : Statement) (b c : Builder) (k : Kept) (ks : List Kept) (r : Running)
+    (waiting : List Subgoal) → k.book.running ≡ None → Through b r.shared c → IsPlanned b c k.level.goal r
+    → r.done ≡ [] → r.plan.subgoals ≡ r.now ∷ waiting → Holds t s b (k ∷ ks)
+    → Holds t s c (with_running r waiting k ∷ ks)
+method_begun t s b c k ks r waiting e m p d o (a, (i, (w, h))) =
+    let said = current_said t s b k ks (a, (i, (w, h))) in (
+      a,
+      (
+        i,
+        (
+          entered_same s ks k (with_running r waiting k) refl refl refl w,
+          record {
+            outside = b;
+            boxes = idle_boxes a b k e h;
+            says = record { facts = said.facts; absurd = said.absurd; way = said.way };
+            shared = m;
+            running = record {
+              planned = p;
+              order = o ∙ ap (λ (ds : List Done). map (λ (q : Done). q.subgoal) ds ++ r.now ∷ waiting) (sym d);
+              done = subst (All (λ (q : Done). HasLeft c r.method q.subgoal q.left)) (sym d)
+                  (All-nil (λ (q : Done). HasLeft c r.method q.subgoal q.left));
+            };
+          },
+        ),
+      ),
+    )
 
--- a subgoal's level is entered, from the one on which its method runs
-pub subgoal_entered : (t : Theory) (s : Statement) (b c : Builder) (k j : Kept) (ks : List Kept) (r : Running)
-    → Holds t s b (j ∷ ks) → j.book.running ≡ Some r → k.level.purpose ≡ OfSubgoal → EntersSubgoal r k.book
-    → Through b (boxes_of k.book) c → HoldsOf c k → Holds t s c (k ∷ j ∷ ks)
-subgoal_entered t s b c k j ks r h e p w m l = (
-  b,
-  (
-    h,
-    (subst (λ u. Enters u j.book.running k.book) (sym p) (subst (λ o. IsForSubgoal o k.book) (sym e) w), (m, l)),
-  ),
-)
+pub running_is : (a b : Builder) (k : Kept) (r : Running) → k.book.running ≡ Some r
+    → RunsIfAny a b k.level k.book.running → Runs a b k.level r
+running_is a b k r e h = subst (RunsIfAny a b k.level) e h
 
--- so is the level of a formula that a command proves
-pub proof_entered : (t : Theory) (s : Statement) (b c : Builder) (k j : Kept) (ks : List Kept) (f : Tree)
-    → Holds t s b (j ∷ ks) → k.level.purpose ≡ OfProof f → EntersProof f j.book.running k.book
-    → Through b (boxes_of k.book) c → HoldsOf c k → Holds t s c (k ∷ j ∷ ks)
-proof_entered t s b c k j ks f h p w m l =
-    (b, (h, (subst (λ u. Enters u j.book.running k.book) (sym p) w, (m, l))))
+pub shared_is : (a b : Builder) (k : Kept) (r : Running) → k.book.running ≡ Some r
+    → Through a (shared_boxes k.book.running) b → Through a r.shared b
+shared_is a b k r e h = subst (λ o. Through a (shared_boxes o) b) e h
 
--- what was said where a level was entered is said in it
-pub facts_inside : (b c : Builder) (xs : List SupposingBox) (facts : List Fact) (lines : List ℕ) → Through b xs c
-    → HasFacts b facts lines → HasFacts c facts lines
-facts_inside b c xs facts lines m h = facts_stay b c (λ n s q. said_through b c xs n s m q) facts lines h
-
--- a level whose boxes are all closed: what is held of those below is held again
-pub levels_below : (t : Theory) (s : Statement) (b : Builder) (k j : Kept) (ks : List Kept) → Holds t s b (k ∷ j ∷ ks)
-    → boxes_of k.book ≡ [] → Holds t s b (j ∷ ks)
-levels_below t s b k j ks (a, (h, (e, (m, l)))) x = holds_grows t s a b (j ∷ ks) (subst (λ xs. Through a xs b) x m) h
-
--- ---- a level is left
-
-pub leaving : (t : Theory) (s : Statement) (b : Builder) (k j : Kept) (ks : List Kept) → Holds t s b (k ∷ j ∷ ks)
-    → Leaving t s b (boxes_of k.book) (j ∷ ks)
-leaving t s b k j ks (a, (h, (e, (m, l)))) = record { entered = a; below = h; boxes = m }
-
-pub leaving_grows : (t : Theory) (s : Statement) (b c : Builder) (xs : List SupposingBox) (ks : List Kept) → Grows b c
-    → Leaving t s b xs ks → Leaving t s c xs ks
-leaving_grows t s b c xs ks g l =
-    record { entered = l.entered; below = l.below; boxes = through_grows l.entered b c xs g l.boxes }
-
-pub leaving_closed : (t : Theory) (s : Statement) (b c : Builder) (xs : List SupposingBox) (x : SupposingBox)
-    (ks : List Kept) (n : ℕ) (l r : Tree) → Leaving t s b (xs ++ x ∷ []) ks → HasEquation b n l r → IsClosedWith b c n
-    → Leaving t s c xs ks × HasResult c x.box x.hypotheses (Equation l r)
-leaving_closed t s b c xs x ks n l r m h e =
-    let z = closed_innermost m.entered b c xs x n l r m.boxes h e in
-    (record { entered = m.entered; below = m.below; boxes = z.0 }, z.1)
-
-pub left_levels : (t : Theory) (s : Statement) (b : Builder) (ks : List Kept) → Leaving t s b [] ks → Holds t s b ks
-left_levels t s b ks l = holds_grows t s l.entered b ks l.boxes l.below
-
-done_order : (done : List Done) (step : Done) (ss : List Subgoal)
+pub done_order : (done : List Done) (step : Done) (ss : List Subgoal)
     → map (λ (d : Done). d.subgoal) done ++ step.subgoal ∷ ss ≡ map (λ (d : Done). d.subgoal) (done ++ step ∷ []) ++ ss
 done_order done step ss =
     sym (ap (λ ts. ts ++ ss) (map-append (λ (d : Done). d.subgoal) done (step ∷ []))
@@ -301,74 +283,58 @@ done_order done step ss =
 pub subgoal_follows : (t : Theory) (s : Statement) (b : Builder) (k : Kept) (ks : List Kept) (r : Running)
     (left : Left) (next : Subgoal) (waiting : List Subgoal) → Holds t s b (k ∷ ks) → k.book.running ≡ Some r
     → k.level.remaining ≡ next ∷ waiting → HasLeft b r.method r.now left
-    → Holds t s b (with_next (next_running left next r) waiting k ∷ ks)
-subgoal_follows t s b k ks r left next waiting h e q w =
-    let l = current_held t s b k ks h in
-    let u : Runs b k.level r = subst (RunsIfAny b k.level) e l.running in
-    let step : Done = record { subgoal = r.now; left = left } in
-    let order : r.plan.subgoals ≡ map (λ (d : Done). d.subgoal) (r.done ++ step ∷ []) ++ next ∷ waiting =
-    u.order ∙ (ap (λ ss. map (λ (d : Done). d.subgoal) r.done ++ r.now ∷ ss) q
-    ∙ done_order r.done step (next ∷ waiting)) in
-    changed t s b b k (with_next (next_running left next r) waiting k) ks (record {
-      purpose = refl;
-      first = refl;
-      entrance = refl;
-      boxes = λ a n. subst (λ o. Through a (k.book.entrance ++ (k.book.extras ++ shared_boxes o)) b) e n;
-      held = record {
-        facts = l.facts;
-        absurd = l.absurd;
-        way = l.way;
-        running = record {
-          planned = u.planned;
-          shared = u.shared;
-          order = order;
-          done = All-push (λ (d : Done). HasLeft b r.method d.subgoal d.left) r.done step u.done w;
-          own = u.own;
-        };
-      };
-    }) h
-
--- all subgoals of a method, where the last one was left
-pub all_left : (b : Builder) (level : Level) (r : Running) (left : Left) → Runs b level r → level.remaining ≡ []
-    → HasLeft b r.method r.now left
-    → (let all = r.done ++ record { subgoal = r.now; left = left } ∷ [] in
-    (r.plan.subgoals ≡ map (λ (d : Done). d.subgoal) all) × All (λ (d : Done). HasLeft b r.method d.subgoal d.left) all)
-all_left b level r left u e w =
+    → Holds t s b (with_running (next_running left next r) waiting k ∷ ks)
+subgoal_follows t s b k ks r left next waiting (a, (i, (w, h))) e q l =
+    let u = running_is h.outside b k r e h.running in
+    let p = u.planned in
     let step : Done = record { subgoal = r.now; left = left } in (
-      u.order ∙ (ap (λ ss. map (λ (d : Done). d.subgoal) r.done ++ r.now ∷ ss) e
-          ∙ (done_order r.done step [] ∙ append-nil (map (λ (d : Done). d.subgoal) (r.done ++ step ∷ [])))),
-      All-push (λ (d : Done). HasLeft b r.method d.subgoal d.left) r.done step u.done w,
-    )
-
--- ---- what is open, and the end
-
-pub boxes_held : (t : Theory) (s : Statement) (b : Builder) (ks : List Kept) → Holds t s b ks
-    → (theory_in b ≡ t) × ((boxes_in b ≡ map (λ x. x.box) (all_boxes ks)) × All (IsThere b) (all_boxes ks))
-boxes_held t s b [] h = absurd h
-boxes_held t s b (k ∷ []) (a, (i, (e, (u, (m, l))))) =
-    let g = through_boxes a b (boxes_of k.book) m in (
-      g.0 ∙ i.theory,
-      (g.1 ∙ ap (λ bs. bs ++ map (λ x. x.box) (boxes_of k.book)) i.boxes, all_open a b (boxes_of k.book) m),
-    )
-boxes_held t s b (k ∷ j ∷ ks) (a, (h, (e, (m, l)))) =
-    let xs = all_boxes (j ∷ ks) in
-    let below = boxes_held t s a (j ∷ ks) h in
-    let g = through_boxes a b (boxes_of k.book) m in (
-      g.0 ∙ below.0,
+      a,
       (
-        g.1 ∙ (ap (λ bs. bs ++ map (λ x. x.box) (boxes_of k.book)) below.1.0
-            ∙ sym (map-append (λ (x : SupposingBox). x.box) xs (boxes_of k.book))),
-        All-append (IsThere b) xs (boxes_of k.book)
-            (All-weaker (IsThere a) (IsThere b) (λ x q. open_through a b (boxes_of k.book) x m q) xs below.1.1)
-            (all_open a b (boxes_of k.book) m),
+        i,
+        (
+          entered_same s ks k (with_running (next_running left next r) waiting k) refl refl refl w,
+          record {
+            outside = h.outside;
+            boxes = h.boxes;
+            says = record { facts = h.says.facts; absurd = h.says.absurd; way = h.says.way };
+            shared = shared_is h.outside b k r e h.shared;
+            running = record {
+              planned = record {
+                planned = p.planned;
+                clauses = p.clauses;
+                goal_known = p.goal_known;
+                method_known = p.method_known;
+                shared = p.shared;
+                apart = p.apart;
+                over = p.over;
+                own = p.own;
+                others = p.others;
+              };
+              order = u.order ∙ (ap (λ ss. map (λ (d : Done). d.subgoal) r.done ++ r.now ∷ ss) q
+                  ∙ done_order r.done step (next ∷ waiting));
+              done = All-push (λ (d : Done). HasLeft b r.method d.subgoal d.left) r.done step u.done l;
+            };
+          },
+        ),
       ),
     )
 
--- where all boxes of the only level are closed, the lines are accepted for what the last of them says
-pub end_accepted : (t : Theory) (s : Statement) (b c : Builder) (k : Kept) (u : Statement) (n : ℕ)
-    → Holds t s b (k ∷ []) → boxes_of k.book ≡ [] → Grows b c → HasStatement c n u → n ≡ length (lines_in c)
-    → Accepts t u (lines_in c)
-end_accepted t s b c k u n h x g w e =
-    let held = boxes_held t s c (k ∷ []) (holds_grows t s b c (k ∷ []) g h) in
-    subst (λ v. Accepts v u (lines_in c)) held.0
-    (accepted c n u w (held.1.0 ∙ ap (map (λ (y : SupposingBox). y.box)) x) e)
+-- ---- what is open
+
+pub boxes_held : (t : Theory) (s : Statement) (b : Builder) (ks : List Kept) → Holds t s b ks
+    → (theory_in b ≡ t) × ((boxes_in b ≡ map (λ x. x.box) (all_boxes ks)) × All (IsThere b) (all_boxes ks))
+boxes_held t s b [] h = (h.theory, (h.boxes, All-nil (IsThere b)))
+boxes_held t s b (k ∷ ks) (a, (h, (e, l))) =
+    let xs = all_boxes ks in
+    let ys = boxes_of k.book in
+    let below = boxes_held t s a ks h in
+    let m = through_append a l.outside b (own_boxes k.book) (shared_boxes k.book.running) l.boxes l.shared in
+    let g = through_boxes a b ys m in (
+      g.0 ∙ below.0,
+      (
+        g.1 ∙ (ap (λ bs. bs ++ map (λ x. x.box) ys) below.1.0
+            ∙ sym (map-append (λ (x : SupposingBox). x.box) xs ys)),
+        All-append (IsThere b) xs ys
+            (All-weaker (IsThere a) (IsThere b) (λ x q. open_through a b ys x m q) xs below.1.1) (all_open a b ys m),
+      ),
+    )

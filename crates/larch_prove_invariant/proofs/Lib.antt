@@ -1,6 +1,16 @@
 pub mod Apart
+pub mod Begin
+pub mod BlockConstants
 pub mod Boxes
+pub mod Entered
+pub mod Entrances
 pub mod Held
 pub mod Knowing
+pub mod Left
+pub mod LevelConstants
+pub mod MethodEnds
 pub mod Own
-pub mod Proofs
+pub mod PartitionEnd
+pub mod Planned
+pub mod Shared
+pub mod Unopened

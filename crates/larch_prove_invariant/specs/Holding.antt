@@ -1,30 +1,33 @@
 -- What a builder of certificates holds of a proof's levels while commands are carried out.
-use Rattle.std.specs.Prelude.{◌≡◌, ◌≢◌, ℕ, IsTrue, true, false, List, [], ◌∷◌, ◌++◌, map, codes, All, AllPairs}
-use Rattle.std.specs.Prelude.{Contains, Option, None, Some, Ok}
+use Rattle.std.specs.Prelude.{◌≡◌, ◌≢◌, ◌⊎◌, ℕ, IsTrue, true, false, List, [], ◌∷◌, ◌++◌, map, All, AllPairs, Contains}
+use Rattle.std.specs.Prelude.{Option, None, Some, Ok}
 use Rattle.std.specs.List.{AllZip, flat_map}
 use Rattle.larch_term.specs.Operator.{PlainOperator}
+use Rattle.larch_term.specs.Statement.{statement_zero}
 use Rattle.larch_term.specs.Tree.{Tree, var, app, none, more}
 use Rattle.larch_term.specs.Truth.{truth}
 use Rattle.larch_term.specs.declared.statement.Statement.{Statement}
 use Rattle.larch_term.specs.declared.statement.Statement.TheVariants.{Equation, Generated, Partitioned}
 use Rattle.larch_term.specs.declared.statement.Theory.{Theory}
-use Rattle.larch_calculus.specs.Formula.{apply_one, constant, equality, falsity, formula, implication}
-use Rattle.larch_calculus.specs.Generation.{generation_hypotheses, place_name}
-use Rattle.larch_calculus.specs.Observation.{observations}
-use Rattle.larch_calculus.specs.Theories.{with_statements}
+use Rattle.larch_calculus.specs.Formula.{falsity, formula, implication}
+use Rattle.larch_calculus.specs.Theories.{AreNew, with_statements}
 use Rattle.larch_verify_meaning.specs.Acceptance.{Accepts}
 use Rattle.larch_derive.specs.Builder.{boxes_in, lines_in, theory_in}
 use Rattle.larch_derive.specs.Predicates.{Grows, HasEquation, HasNoBadLine}
 use Rattle.larch_derive.specs.declared.builder.Builder.{Builder}
-use Rattle.larch_derive.specs.declared.open_box.OpenBox.{OpenBox}
-use Rattle.larch_derive_boxes.specs.Boxes.{AreOwnConstants, HasResult, IsOpen, IsPart, Opens}
+use Rattle.larch_derive_boxes.specs.Boxes.{AreOwnConstants, IsOpen, Opens}
 use Rattle.larch_rewrite_meaning.specs.Sides.{Sides}
 use Rattle.larch_prove_meaning.specs.Facts.{Fact}
 use Rattle.larch_prove_meaning.specs.Levels.{Level, OfDuty, OfProof, OfSubgoal, Proof, Purpose}
 use Rattle.larch_prove_meaning.specs.Plans.{Cases, Conjunction, Contradiction, Implication, Induction, Method}
-use Rattle.larch_prove_meaning.specs.Plans.{Partition}
-use Rattle.larch_prove_meaning.specs.Plans.{Plan, Subgoal, holds, plan}
-use Rattle.larch_prove_invariant.specs.Book.{AtLine, Book, InBox, Kept, Left, Running, SupposingBox, boxes_of}
+use Rattle.larch_prove_meaning.specs.Plans.{IsPlanOver, Partition, Plan, Subgoal, holds, plan}
+use Rattle.larch_prove_plans.specs.ClauseGoals.{generation_goal, partition_goal}
+use Rattle.larch_prove_plans.specs.Planning.{equate}
+use Rattle.larch_prove_plans.specs.declared.subgoals.Subgoal as stated
+use Rattle.larch_methods.specs.Methods.{IsKnownFormula}
+use Rattle.larch_methods.specs.Opening.{HasOtherConstants, HasOwnConstants, IsShownIn}
+use Rattle.larch_prove_invariant.specs.Book.{AtLine, Book, InBox, Kept, Left, Running, SupposingBox, all_boxes}
+use Rattle.larch_prove_invariant.specs.Book.{levels_of, made_first, made_in, own_boxes, shared_boxes}
 
 -- ---- boxes
 
@@ -43,13 +46,9 @@ pub record Shape : Type 0 where
 abbrev pub shape_of : SupposingBox → Shape
 shape_of x = record { constants = x.box.constants; hypotheses = x.hypotheses }
 
--- equations as statements
-abbrev pub as_statements : List Sides → List Statement
-as_statements es = map (λ e. Equation e.left e.right) es
-
 -- what a subgoal's box makes and supposes
 abbrev pub own_shape : Subgoal → Shape
-own_shape s = record { constants = s.constants; hypotheses = as_statements s.hypotheses }
+own_shape s = record { constants = s.constants; hypotheses = map equate s.hypotheses }
 
 -- the boxes in which a method proves a subgoal: one, but for a conjunct none
 abbrev pub entrances : Method → Subgoal → List Shape
@@ -77,6 +76,14 @@ shared_shapes Partition made = []
 abbrev pub IsThere : Builder → SupposingBox → Type 0
 IsThere b x = IsOpen b x.box x.hypotheses
 
+-- the operators are different constants, and none of them stands for one of an open box
+abbrev pub AreOwn : Builder → List PlainOperator → Type 0
+AreOwn b cs = AreOwnConstants (boxes_in b) (record { number = 0; constants = cs })
+
+-- all constants of the boxes that are open
+abbrev pub open_constants : Builder → List PlainOperator
+open_constants b = flat_map (λ x. x.constants) (boxes_in b)
+
 -- ---- methods
 
 -- the left side of the first of equations
@@ -102,37 +109,47 @@ said_of Contradiction s = holds (premise s.hypotheses)
 said_of (Induction n) s = holds s.goal
 said_of Partition s = sides_within s.goal
 
--- the shape of a closed box fits the one in which a subgoal is proved
-abbrev pub IsOneOf : List Shape → OpenBox → List Statement → Type 0
-IsOneOf shapes x hs = Contains shapes (record { constants = x.constants; hypotheses = hs })
-
 -- what is there of a subgoal that was left: in its closed box, or where it has none in a line, what must be said of it
 abbrev pub HasLeft : Builder → Method → Subgoal → Left → Type 0
-HasLeft b method s (InBox x) =
-    IsOneOf (entrances method s) x (as_statements s.hypotheses)
-    × HasResult b x (as_statements s.hypotheses) (Equation (said_of method s).left (said_of method s).right)
+HasLeft b method s (InBox x) = (entrances method s ≡ own_shape s ∷ []) × IsShownIn b s (said_of method s) x
 HasLeft b method s (AtLine n) =
     (entrances method s ≡ []) × HasEquation b n (said_of method s).left (said_of method s).right
 
--- the constants of a subgoal can stand for those of a box where the builder stands: they differ, and none of them
--- stands
--- for one of an open box
-abbrev pub HasOwnConstants : Builder → Subgoal → Type 0
-HasOwnConstants b s = AreOwnConstants (boxes_in b) (record { number = 0; constants = s.constants })
+-- what a method is carried out with can be written
+abbrev pub IsKnownFor : Builder → Method → Type 0
+IsKnownFor b (Cases f) = IsKnownFormula b f
+IsKnownFor b Implication = Unit {0}
+IsKnownFor b Conjunction = Unit {0}
+IsKnownFor b Contradiction = Unit {0}
+IsKnownFor b (Induction n) = Unit {0}
+IsKnownFor b Partition = Unit {0}
 
--- A method runs on a level: its plan is that of the level's goal, the box that its subgoals share is open, and the
--- subgoals are in order those that were left, the one that is open, and those that wait; each has its own constants.
-pub record Runs (b : Builder) (level : Level) (r : Running) : Type 0 where
-  pub planned : plan r.setting level.goal r.method ≡ Ok r.plan
+-- A method has its plan for a goal. Outside of the box that its subgoals share, the goal and what the method is carried
+-- out with can be written, its clauses are those of the theory, and the shared constants stand for none of an open box;
+-- the subgoals have operators of the theory, constants that are open there, the shared ones and their own. Inside, the
+-- subgoals' own constants don't stand for any of an open box either; and they are neither the theory's nor built in.
+pub record IsPlanned (a b : Builder) (goal : Tree) (r : Running) : Type 0 where
+  pub planned : plan r.setting goal r.method ≡ Ok r.plan
+  pub clauses : r.setting.clauses ≡ statement_zero ∷ (theory_in a).statements
+  pub goal_known : IsKnownFormula a goal
+  pub method_known : IsKnownFor a r.method
   pub shared : map shape_of r.shared ≡ shared_shapes r.method r.plan
+  pub apart : AreOwn a r.plan.constants
+  pub over : IsPlanOver ((theory_in a).operators ++ open_constants a) r.plan
+  pub own : HasOwnConstants b r.plan
+  pub others : HasOtherConstants b r.plan
+
+-- A method runs on a level: it has its plan for the level's goal, and the subgoals are in order those that were left,
+-- the one that is open, and those that wait.
+pub record Runs (a b : Builder) (level : Level) (r : Running) : Type 0 where
+  pub planned : IsPlanned a b level.goal r
   pub order : r.plan.subgoals ≡ map (λ d. d.subgoal) r.done ++ r.now ∷ level.remaining
   pub done : All (λ d. HasLeft b r.method d.subgoal d.left) r.done
-  pub own : All (HasOwnConstants b) r.plan.subgoals
 
 -- where no method runs, no subgoal waits
-abbrev pub RunsIfAny : Builder → Level → Option Running → Type 0
-RunsIfAny b level None = level.remaining ≡ []
-RunsIfAny b level (Some r) = Runs b level r
+abbrev pub RunsIfAny : Builder → Builder → Level → Option Running → Type 0
+RunsIfAny a b level None = level.remaining ≡ []
+RunsIfAny a b level (Some r) = Runs a b level r
 
 -- ---- levels
 
@@ -145,12 +162,20 @@ abbrev pub HasAbsurd : Builder → Option ℕ → Type 0
 HasAbsurd b None = ⊥
 HasAbsurd b (Some n) = HasEquation b n truth falsity
 
--- what is held of a level, in the context of all its boxes
-pub record HoldsOf (b : Builder) (k : Kept) : Type 0 where
+-- lines say the facts of a level, that true is false where these contradict, and how its first goal became this one
+pub record Says (b : Builder) (k : Kept) : Type 0 where
   pub facts : HasFacts b k.level.facts.rules k.book.lines
   pub absurd : IsTrue k.level.facts.contradictory → HasAbsurd b k.book.absurd
   pub way : HasEquation b k.book.way k.book.first k.level.goal
-  pub running : RunsIfAny b k.level k.book.running
+
+-- What is held of a level that was entered from a builder. Outside of the box of its method, but in its own boxes,
+-- lines say of it what there is to say; since then that box was opened, if a method runs that has one.
+pub record HoldsOf (a b : Builder) (k : Kept) : Type 0 where
+  pub outside : Builder
+  pub boxes : Through a (own_boxes k.book) outside
+  pub says : Says outside k
+  pub shared : Through outside (shared_boxes k.book.running) b
+  pub running : RunsIfAny outside b k.level k.book.running
 
 -- a level was entered for a subgoal of the method that runs on the one below: in the subgoal's box, if it has one
 pub record EntersSubgoal (r : Running) (k : Book) : Type 0 where
@@ -173,17 +198,26 @@ Enters OfDuty below k = ⊥
 Enters OfSubgoal below k = IsForSubgoal below k
 Enters (OfProof f) below k = EntersProof f below k
 
--- how the lowest level was entered for what is to be proved: a clause is shown in a box, with the hypotheses of its
--- rule
+-- the box of a clause: it makes what is new in it, and supposes the hypotheses of its rule
+abbrev pub stated_shape : stated.Subgoal → Shape
+stated_shape s = record { constants = s.constants; hypotheses = s.hypotheses }
+
+-- the level has a clause's goal as its first, and was entered in its box
+pub record EntersClause (s : stated.Subgoal) (k : Book) : Type 0 where
+  pub first : k.first ≡ s.goal
+  pub entrance : map shape_of k.entrance ≡ stated_shape s ∷ []
+
+-- how the lowest level was entered for what is to be proved: a clause is shown in a box
 abbrev pub Begins : Statement → Book → Type 0
 Begins (Equation l r) k = (k.first ≡ formula l r) × (k.entrance ≡ [])
-Begins (Generated s fs) k =
-    (g : PlainOperator) × ((k.first ≡ apply_one g (var (codes "x") s))
-    × (map shape_of k.entrance ≡ record { constants = g ∷ []; hypotheses = generation_hypotheses g s fs } ∷ []))
+Begins (Generated s fs) k = (n : List ℕ) × EntersClause (generation_goal n s fs) k
 Begins (Partitioned s os) k =
-    (c : PlainOperator) × ((d : PlainOperator) × ((k.first ≡ equality s (constant c) (constant d))
-    × (map shape_of k.entrance
-    ≡ record { constants = c ∷ d ∷ []; hypotheses = observations place_name s os (constant c) (constant d) } ∷ [])))
+    (n : List ℕ) × ((m : List ℕ) × ((n ≢ m) × EntersClause (partition_goal n m s os) k))
+
+-- how a level was entered upon those below
+abbrev pub IsEntered : Statement → List Kept → Kept → Type 0
+IsEntered s [] k = (k.level.purpose ≡ OfDuty) × Begins s k.book
+IsEntered s (j ∷ ks) k = Enters k.level.purpose j.book.running k.book
 
 -- the builder is one of the theory, no line of it is bad, and no box is open
 pub record IsStart (t : Theory) (b : Builder) : Type 0 where
@@ -193,15 +227,10 @@ pub record IsStart (t : Theory) (b : Builder) : Type 0 where
 
 -- What a builder holds of levels, the current one first. Of those below an earlier builder held it, before the boxes of
 -- the current one were opened; so a command touches the current level alone, and when its boxes are closed, all is held
--- again of those below.
+-- again of those below. Where there is no level, no box is open.
 abbrev pub Holds : Theory → Statement → Builder → List Kept → Type 0
-Holds t s b [] = ⊥
-Holds t s b (k ∷ []) =
-    (a : Builder) × (IsStart t a × (Begins s k.book × ((k.level.purpose ≡ OfDuty)
-    × (Through a (boxes_of k.book) b × HoldsOf b k))))
-Holds t s b (k ∷ j ∷ ks) =
-    (a : Builder) × (Holds t s a (j ∷ ks) × (Enters k.level.purpose j.book.running k.book
-    × (Through a (boxes_of k.book) b × HoldsOf b k)))
+Holds t s b [] = IsStart t b
+Holds t s b (k ∷ ks) = (a : Builder) × (Holds t s a ks × (IsEntered s ks k × HoldsOf a b k))
 
 -- ---- proofs
 
@@ -209,24 +238,30 @@ Holds t s b (k ∷ j ∷ ks) =
 abbrev pub theory_for : Proof → Theory
 theory_for p = with_statements p.theory (map (λ lemma. lemma.statement) p.lemmas)
 
--- all constants of the boxes that are open
-abbrev pub open_constants : Builder → List PlainOperator
-open_constants b = flat_map (λ x. x.constants) (boxes_in b)
-
 -- no method runs on the current level, which is the first
 abbrev pub IsIdle : List Kept → Type 0
 IsIdle [] = ⊥
 IsIdle (k ∷ ks) = k.book.running ≡ None
 
--- A builder holds a proof that isn't done, of a statement: of each level what is kept of it. The constants of its open
--- boxes are constants of the block, none of them stands in two places, and each is a constant or a predicate.
+-- The constants of a block: those that the boxes of levels make are among them, each in one place; all have new names
+-- and are constants, but for a predicate for which the lowest level was entered.
+pub record HasConstants (t : Theory) (cs : List PlainOperator) (ks : List Kept) : Type 0 where
+  pub among : All (Contains cs) (made_in (all_boxes ks))
+  pub once : AllPairs (λ f g. f ≢ g) (made_in (all_boxes ks))
+  pub plain : All (λ f. (f.domain ≡ []) ⊎ Contains (made_first ks) f) cs
+  pub new : AreNew t cs
+
+-- a builder holds levels of a proof of a statement whose block has made these constants: of each what is kept of it
+pub record HoldsLevels (t : Theory) (s : Statement) (b : Builder) (cs : List PlainOperator) (levels : List Level)
+    (ks : List Kept) : Type 0 where
+  pub levels_are : levels_of ks ≡ levels
+  pub held : Holds t s b ks
+  pub constants : HasConstants t cs ks
+
+-- a builder holds a proof that isn't done, between commands: no method runs on its current level
 pub record HoldsProof (s : Statement) (b : Builder) (p : Proof) (ks : List Kept) : Type 0 where
-  pub levels : map (λ k. k.level) ks ≡ p.current ∷ p.below
-  pub held : Holds (theory_for p) s b ks
+  pub levels : HoldsLevels (theory_for p) s b p.constants (p.current ∷ p.below) ks
   pub idle : IsIdle ks
-  pub among : All (Contains p.constants) (open_constants b)
-  pub once : AllPairs (λ f g. f ≢ g) (open_constants b)
-  pub parts : All IsPart (open_constants b)
 
 -- behind each command: a builder holds the proof, or where that is done its lines are a certificate of the statement
 abbrev pub HoldsState : Statement → Builder → Proof → List Kept → Type 0

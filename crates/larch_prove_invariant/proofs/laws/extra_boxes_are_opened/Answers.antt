@@ -1,5 +1,0 @@
-use Rattle.larch_prove_invariant.proofs.Held.{extra_opened}
-use Rattle.larch_prove_invariant.proofs.laws.extra_boxes_are_opened.Goals as goal
-
-pub returns : goal.returns
-returns c = extra_opened

@@ -1,0 +1,84 @@
+//! Laws on ends: of methods, of levels and of proofs. No function here does anything.
+ghost use Rattle.std.specs.Prelude.{◌≡◌, ◌≢◌, ℕ, List, [], ◌∷◌, length, None, Some};
+ghost use Rattle.larch_term.specs.Operator.{PlainOperator};
+ghost use Rattle.larch_term.specs.Statement.{IsStatementOver};
+ghost use Rattle.larch_term.specs.Tree.{Tree};
+ghost use Rattle.larch_term.specs.Truth.{truth};
+ghost use Rattle.larch_term.specs.declared.statement.Statement.{Statement};
+ghost use Rattle.larch_term.specs.declared.statement.Statement.TheVariants.{Equation, Generated, Partitioned};
+ghost use Rattle.larch_term.specs.declared.statement.Theory.{Theory};
+ghost use Rattle.larch_verify_meaning.specs.Acceptance.{Accepts};
+ghost use Rattle.larch_derive.specs.Builder.{lines_in};
+ghost use Rattle.larch_derive.specs.Predicates.{Grows, HasEquation, HasStatement};
+ghost use Rattle.larch_derive.specs.declared.builder.Builder.{Builder};
+ghost use Rattle.larch_derive_boxes.specs.Boxes.{HasResult};
+ghost use Rattle.larch_prove_meaning.specs.Plans.{Cases, Conjunction, Contradiction, Implication, Induction};
+ghost use Rattle.larch_prove_meaning.specs.Plans.{Partition};
+ghost use Rattle.larch_prove_plans.specs.ClauseGoals.{generation_goal, partition_goal};
+ghost use Rattle.larch_prove_invariant.specs.Book.{AtLine, Book, InBox, Kept, Left, Running, SupposingBox, all_left};
+ghost use Rattle.larch_prove_invariant.specs.Ending.{EndsByCases, EndsByConjunction, EndsByContradiction};
+ghost use Rattle.larch_prove_invariant.specs.Ending.{EndsByImplication, EndsByInduction, EndsByPartition};
+ghost use Rattle.larch_prove_invariant.specs.Ending.{EndsGeneration, EndsPartition, HasAllLeft, StandsAt};
+ghost use Rattle.larch_prove_invariant.specs.Holding.{EntersClause, EntersSubgoal, HasLeft, Holds, said_of};
+ghost use Rattle.larch_prove_invariant.specs.Leaving.{Leaving};
+
+/// A level is left from its own boxes: where no method runs the builder stands in them; where the last subgoal of a
+/// method was left, a builder stood in them just before the method's box was opened, and said of the level what there
+/// was to say. What grows from it, as the method's end does, stands there too.
+pub fn levels_are_left()
+    ensures idle { (t : Theory) (s : Statement) (b : Builder) (k : Kept) (ks : List Kept) → k.book.running ≡ None
+        → Holds t s b (k ∷ ks) → StandsAt t s b k ks }
+    ensures method { (t : Theory) (s : Statement) (b : Builder) (k : Kept) (ks : List Kept) (r : Running) (left : Left)
+        → Holds t s b (k ∷ ks) → k.book.running ≡ Some r → k.level.remaining ≡ [] → HasLeft b r.method r.now left
+        → (a : Builder) × (StandsAt t s a k ks × HasAllLeft a b k.level.goal r (all_left r left)) }
+    ensures grows { (t : Theory) (s : Statement) (b c : Builder) (k : Kept) (ks : List Kept) → Grows b c
+        → StandsAt t s b k ks → StandsAt t s c k ks }
+{}
+
+/// What was left of a method's subgoals is what the call of its end takes.
+pub fn methods_end()
+    ensures cases { (a b : Builder) (f goal : Tree) (r : Running) (lefts : List Left) → r.method ≡ Cases f
+        → HasAllLeft a b goal r lefts → EndsByCases a b f goal r.shared lefts }
+    ensures implication { (a b : Builder) (goal : Tree) (r : Running) (lefts : List Left) → r.method ≡ Implication
+        → HasAllLeft a b goal r lefts → EndsByImplication a b goal r.shared lefts }
+    ensures contradiction { (a b : Builder) (goal : Tree) (r : Running) (lefts : List Left) → r.method ≡ Contradiction
+        → HasAllLeft a b goal r lefts → EndsByContradiction a b goal r.shared lefts }
+    ensures conjunction { (a b : Builder) (goal : Tree) (r : Running) (lefts : List Left) → r.method ≡ Conjunction
+        → HasAllLeft a b goal r lefts → EndsByConjunction b goal lefts }
+    ensures induction { (a b : Builder) (goal : Tree) (n : List ℕ) (r : Running) (lefts : List Left)
+        → r.method ≡ Induction n → HasAllLeft a b goal r lefts → EndsByInduction b r.setting goal n lefts }
+    ensures partition { (a b : Builder) (goal : Tree) (r : Running) (lefts : List Left) → r.method ≡ Partition
+        → HasAllLeft a b goal r lefts → EndsByPartition b r.setting goal lefts }
+{}
+
+/// A subgoal is left by its box, where that is closed with what must be said of it, or if it has none by a line.
+pub fn subgoals_are_left()
+    ensures boxed { (c : Builder) (r : Running) (k : Book) (x : SupposingBox) → EntersSubgoal r k
+        → k.entrance ≡ x ∷ []
+        → HasResult c x.box x.hypotheses (Equation (said_of r.method r.now).left (said_of r.method r.now).right)
+        → HasLeft c r.method r.now (InBox x.box) }
+    ensures bare { (c : Builder) (r : Running) (k : Book) (n : ℕ) → EntersSubgoal r k → k.entrance ≡ []
+        → HasEquation c n (said_of r.method r.now).left (said_of r.method r.now).right
+        → HasLeft c r.method r.now (AtLine n) }
+{}
+
+/// Where a clause is shown in its box, by a line that its goal is true, and all other boxes are closed, that is what
+/// the
+/// call of its end takes.
+pub fn clauses_end()
+    ensures generation { (t : Theory) (s : Statement) (b : Builder) (n z : List ℕ) (fs : List PlainOperator)
+        (k : Book) (line : ℕ) → EntersClause (generation_goal n z fs) k → Leaving t s b k.entrance []
+        → IsStatementOver t.operators (Generated z fs) → HasEquation b line k.first truth
+        → EndsGeneration t s b z fs k.entrance line }
+    ensures partition { (t : Theory) (s : Statement) (b : Builder) (n m z : List ℕ) (os : List PlainOperator)
+        (k : Book) (line : ℕ) → n ≢ m → EntersClause (partition_goal n m z os) k → Leaving t s b k.entrance []
+        → IsStatementOver t.operators (Partitioned z os) → HasEquation b line k.first truth
+        → EndsPartition t s b z os k.entrance line }
+{}
+
+/// Where all boxes of the lowest level are closed, the lines are a certificate that is accepted for what the last of
+/// them says: for an equation as for a clause.
+pub fn proofs_are_accepted()
+    ensures { (t : Theory) (s : Statement) (c : Builder) (u : Statement) (n : ℕ) → Leaving t s c [] []
+        → HasStatement c n u → n ≡ length (lines_in c) → Accepts t u (lines_in c) }
+{}

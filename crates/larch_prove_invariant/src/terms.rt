@@ -1,0 +1,54 @@
+//! Laws on terms that can be written. No function here does anything.
+ghost use Rattle.std.specs.Prelude.{◌≡◌, List, ◌∷◌, ◌++◌, [], map, All, Contains, Some};
+ghost use Rattle.larch_term.specs.Operator.{PlainOperator};
+ghost use Rattle.larch_term.specs.Sorts.{IsTermOver};
+ghost use Rattle.larch_term.specs.Tree.{Tree};
+ghost use Rattle.larch_term.specs.declared.statement.Statement.{Statement};
+ghost use Rattle.larch_term.specs.declared.statement.Theory.{Theory};
+ghost use Rattle.larch_derive.specs.Builder.{theory_in};
+ghost use Rattle.larch_derive.specs.Predicates.{Known, HasNoBadLine};
+ghost use Rattle.larch_derive.specs.declared.builder.Builder.{Builder};
+ghost use Rattle.larch_derive_boxes.specs.Boxes.{IsPart};
+ghost use Rattle.larch_methods.specs.Methods.{IsKnownFormula};
+ghost use Rattle.larch_prove_meaning.specs.Levels.{Level, Proof};
+ghost use Rattle.larch_prove_meaning.specs.Plans.{Subgoal};
+ghost use Rattle.larch_prove_meaning.specs.WellSorted.{IsWellSortedProof};
+ghost use Rattle.larch_prove_invariant.specs.Book.{Kept, Running, SupposingBox};
+ghost use Rattle.larch_prove_invariant.specs.Holding.{AreOwn, HoldsLevels, HoldsProof, Through, entrances};
+ghost use Rattle.larch_prove_invariant.specs.Holding.{open_constants, shape_of};
+ghost use Rattle.larch_prove_invariant.specs.Unopened.{unopened_in};
+
+/// Terms over the theory's operators and the constants of open boxes can be written, and no others.
+pub fn open_terms_are_known()
+    ensures builder { (b : Builder) (a : Tree) → HasNoBadLine b → All IsPart (open_constants b)
+        → IsTermOver ((theory_in b).operators ++ open_constants b) a → Known b a }
+    ensures levels { (t : Theory) (s : Statement) (b : Builder) (cs : List PlainOperator) (levels : List Level)
+        (ks : List Kept) (a : Tree) → HoldsLevels t s b cs levels ks
+        → IsTermOver (t.operators ++ open_constants b) a → Known b a }
+    ensures no_others { (b : Builder) (a : Tree) → Known b a
+        → IsTermOver ((theory_in b).operators ++ open_constants b) a }
+{}
+
+/// The current goal can be written; and so can the goal of each subgoal of a running method, where its box is opened.
+pub fn subgoals_are_known()
+    ensures goal { (s : Statement) (b : Builder) (p : Proof) (k : Kept) (ks : List Kept) → HoldsProof s b p (k ∷ ks)
+        → IsWellSortedProof p → IsKnownFormula b k.level.goal }
+    ensures subgoal { (t : Theory) (s : Statement) (b d : Builder) (cs : List PlainOperator) (levels : List Level)
+        (k : Kept) (ks : List Kept) (r : Running) (g : Subgoal) (xs : List SupposingBox)
+        → HoldsLevels t s b cs levels (k ∷ ks) → k.book.running ≡ Some r → Contains r.plan.subgoals g → Through b xs d
+        → map shape_of xs ≡ entrances r.method g → IsKnownFormula d g.goal }
+{}
+
+/// A term of a command names constants of the block, some of which may not be open. Each of these in turn is a box's
+/// own when those before it are open; and when all are, the term can be written.
+pub fn unopened_constants()
+    ensures next { (block opened : List PlainOperator) (t : Tree) (done : List PlainOperator) (f : PlainOperator)
+        (rest : List PlainOperator) → unopened_in block opened t ≡ done ++ f ∷ rest
+        → Contains block f × (Contains (opened ++ done) f → ⊥) }
+    ensures own { (t : Theory) (s : Statement) (b : Builder) (cs : List PlainOperator) (levels : List Level)
+        (ks : List Kept) (f : PlainOperator) → HoldsLevels t s b cs levels ks → Contains cs f
+        → (Contains (open_constants b) f → ⊥) → AreOwn b (f ∷ []) }
+    ensures known { (t : Theory) (s : Statement) (c : Builder) (cs opened : List PlainOperator) (levels : List Level)
+        (ks : List Kept) (a : Tree) → HoldsLevels t s c cs levels ks
+        → open_constants c ≡ opened ++ unopened_in cs opened a → IsTermOver (t.operators ++ cs) a → Known c a }
+{}
