@@ -37,7 +37,8 @@ HANDED_ON = re.compile(r"let (\w+) = [^;]*\?;\s*Ok\(\1\)\s*\}")
 # Names that stay, as crate:name: mostly of functions whose answer a caller keeps under the same name.
 LEFT = {"larch_base:numbered", "larch_pairs_critical:marked", "larch_pairs_critical:named",
         "larch_pairs_critical:numbered", "larch_derive_tests:printed", "larch_duties:implied", "larch_duties:renamed",
-        "larch_flat_gathering:listed", "larch_grammar:named", "larch_grammar:qualified", "larch_io:taken",
+        "larch_flat_gathering:listed", "larch_flat_sources:listed", "larch_flat_sources:reached",
+        "larch_grammar:named", "larch_grammar:qualified", "larch_io:taken",
         "larch_method_table:planned", "larch_method_table:told", "larch_methods:supposed", "larch_pairs:replaced",
         "larch_prove_plans:joined", "larch_verify_pool:copied", "larch_verify_pool:numbered",
         "larch_rewrite_match:turned", "larch_flat_replacing:renamed", "larch_rewrite:lined",

@@ -4,3 +4,4 @@ pub mod Linking
 pub mod Numbers
 pub mod Searched
 pub mod Tables
+pub mod Visiting

@@ -1,4 +1,5 @@
 pub mod Building
 pub mod Links
+pub mod Reaching
 pub mod Search
 pub mod Sources

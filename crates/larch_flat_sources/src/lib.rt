@@ -5,10 +5,12 @@ mod building;
 mod laws;
 mod links;
 mod marks;
+mod reaching;
 mod search;
 mod sources;
 
 pub use laws::sources_are_among;
 pub use links::{Links, links_of};
 pub use marks::MarkedFiles;
+pub use reaching::reached;
 pub use sources::Sources;
