@@ -48,7 +48,8 @@ mutual
   term_fits bs fs (app f ts) (coded_var m r) e w = absurd e
   term_fits bs fs (app f ts) (coded_app g ds) e w = (e.0.1, terms_fit bs fs ts ds e.1 w.1)
 
-  pub terms_fit : (bs : List OpenBox) (fs : List PlainOperator) (ts : Forest) (cs : CodedForest) → AreCodesOf bs fs ts cs
+  pub terms_fit : (bs : List OpenBox) (fs : List PlainOperator) (ts : Forest) (cs : CodedForest)
+      → AreCodesOf bs fs ts cs
       → AreWordedTerms ts → FitTerms cs
   terms_fit bs fs none no_terms e w = tt
   terms_fit bs fs none (term_then c cs) e w = absurd e

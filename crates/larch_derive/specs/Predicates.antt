@@ -44,9 +44,9 @@ shapes_of (Said n s ∷ h) = shapes_of h
 shapes_of (Opened b ∷ h) = shapes_of h ++ (b.number, b.parts) ∷ []
 shapes_of (Closed b s ∷ h) = shapes_of h
 
--- the lines lead to the state, so none is bad, and they have texts; the boxes are those that are open there; no operator
--- of the theory has the name of a box's constant, and what stands for constants of open boxes is neither the theory's nor
--- built in; the theory is in words, and so are the sorts of those constants
+-- the lines lead to the state, so none is bad, and they have texts; the boxes are those that are open there; no
+-- operator of the theory has the name of a box's constant, and what stands for constants of open boxes is neither the
+-- theory's nor built in; the theory is in words, and so are the sorts of those constants
 pub record StandIn (t : Theory) (bs : List OpenBox) (ls : List Line) (st : State) : Type 0 where
   pub runs : run t start ls ≡ Some st
   pub opened : shapes_of st.history ≡ map shape_of bs

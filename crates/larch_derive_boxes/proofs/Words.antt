@@ -1,5 +1,6 @@
 -- What boxes suppose is in words, and the lines that open them have texts.
-use Rattle.std.proofs.Common.{◌≡◌, ◌<◌, ◌==◌, ◌+◌, ◌/◌, ◌%◌, ◌&&◌, ◌||◌, ℕ, zero, suc, nat_lt, Bool, true, false, cond, List}
+use Rattle.std.proofs.Common.{◌≡◌, ◌<◌, ◌==◌, ◌+◌, ◌/◌, ◌%◌, ◌&&◌, ◌||◌, ℕ, zero, suc, nat_lt, Bool, true, false, cond}
+use Rattle.std.proofs.Common.{List}
 use Rattle.std.proofs.Common.{[], ◌∷◌, map, All, bytes_eq, refl, sym, ◌∙◌, ap, subst, arith}
 use Rattle.std.specs.Fmt.{digit_glyph, digits_onto, digits}
 use Rattle.std.specs.Char.{is_ascii_alphanumeric}
@@ -96,7 +97,8 @@ digits_go (suc k) n bs r =
     let less : n % 10 < 10 = omega arith in
     let here = byte_goes (digit_glyph false (n % 10)) bs (glyph_goes (n % 10) less) r in
     either (n / 10 == 0) (digit_glyph false (n % 10) ∷ bs)
-    (digits_onto k 10 false (n / 10) (digit_glyph false (n % 10) ∷ bs)) here (digits_go k (n / 10) (digit_glyph false (n % 10) ∷ bs) here)
+    (digits_onto k 10 false (n / 10) (digit_glyph false (n % 10) ∷ bs)) here (digits_go k (n / 10)
+    (digit_glyph false (n % 10) ∷ bs) here)
   where
     either : (b : Bool) (xs ys : List ℕ) → goes_on xs ≡ true → goes_on ys ≡ true → goes_on (cond b xs ys) ≡ true
     either true xs ys p q = p
@@ -177,7 +179,8 @@ generation_worded p s fs d r w =
 -- ---- partition
 
 arguments_worded : (names : ℕ → List ℕ) (place : ℕ) (t : Tree) (k : ℕ) (ss : List (List ℕ))
-    → ((i : ℕ) → IsWord (names i)) → IsWordedTerm t → Each IsWord ss → AreWordedTerms (arguments_with names place t k ss)
+    → ((i : ℕ) → IsWord (names i)) → IsWordedTerm t → Each IsWord ss
+    → AreWordedTerms (arguments_with names place t k ss)
 arguments_worded names place t k [] n w h = tt
 arguments_worded names place t k (s ∷ ss) n w h = (
   either_worded (k == place) t (var (names k) s) w (n k, h.0),

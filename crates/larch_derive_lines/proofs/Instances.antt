@@ -61,7 +61,8 @@ sort_written bs (var n s) = refl
 sort_written bs (app f ts) = refl
 
 abbrev KnownEntriesIn : Builder → State → List Entry → Type 0
-KnownEntriesIn a st es = All (λ e. KnownIn a.theory a.boxes a.lines st e.term × (sort_of e.term ≡ e.sort) × IsWord e.name) es
+KnownEntriesIn a st es = All (λ e. KnownIn a.theory a.boxes a.lines st e.term × (sort_of e.term ≡ e.sort)
+    × IsWord e.name) es
 
 binding_means : (a : Builder) (st : State) (e : Entry) (x : Binding) → KnownIn a.theory a.boxes a.lines st e.term
     → sort_of e.term ≡ e.sort → x.name ≡ e.name → x.sort ≡ e.sort → IsCodeIn a e.term x.term
@@ -80,7 +81,8 @@ each_means a st [] [] k w = refl
 each_means a st [] (x ∷ xs) k w = absurd w
 each_means a st (e ∷ es) [] k w = absurd w
 each_means a st (e ∷ es) (x ∷ xs) k w =
-    let P : Entry → Type 0 = λ e. KnownIn a.theory a.boxes a.lines st e.term × (sort_of e.term ≡ e.sort) × IsWord e.name in
+    let P : Entry → Type 0 = λ e. KnownIn a.theory a.boxes a.lines st e.term × (sort_of e.term ≡ e.sort)
+    × IsWord e.name in
     let here = All-head P e es k in
     ap (option_and_then (λ y. option_map (λ ys. y ∷ ys) (each (decode_binding (find_symbol a.theory st.history)) xs)))
     (binding_means a st e x here.0 here.1 w.0 w.1 w.2)
@@ -169,7 +171,8 @@ bindings_fit a st (e ∷ es) (x ∷ xs) k w =
       bindings_fit a st es xs (All-tail P e es k) w.3,
     )
 
-entries_worded : (a : Builder) (st : State) (es : List Entry) → KnownEntriesIn a st es → All (λ e. IsWordedTerm e.term) es
+entries_worded : (a : Builder) (st : State) (es : List Entry) → KnownEntriesIn a st es
+    → All (λ e. IsWordedTerm e.term) es
 entries_worded a st es k =
     All-weaker (λ e. KnownIn a.theory a.boxes a.lines st e.term × (sort_of e.term ≡ e.sort) × IsWord e.name)
     (λ e. IsWordedTerm e.term) (λ e p. p.0.words) es k

@@ -48,12 +48,11 @@ use Rattle.larch_derive_lines.specs.Rules.{IsWordedSort}
 -- ---- axiom, row
 
 zero_worded : IsWordedStatement statement_zero
-zero_worded =
-    (
-      refl,
-      All-cons IsWordedOperator (built_in True bool_sort) (built_in False bool_sort ∷ []) (tt, refl)
-          (All-cons IsWordedOperator (built_in False bool_sort) [] (tt, refl) (All-nil IsWordedOperator)),
-    )
+zero_worded = (
+  refl,
+  All-cons IsWordedOperator (built_in True bool_sort) (built_in False bool_sort ∷ []) (tt, refl)
+      (All-cons IsWordedOperator (built_in False bool_sort) [] (tt, refl) (All-nil IsWordedOperator)),
+)
 
 -- what is stated of a theory in words is in words
 pub stated_worded : (t : Theory) (k : ℕ) (s : Statement) → IsWordedTheory t
@@ -105,7 +104,8 @@ row_at_worded z k row w e =
     every_at (λ r. IsWordedStatement r.given) (built_in_rows z) (k - 1) row (rows_worded z w)
     (at_place (built_in_rows z) k row e)
 
-row_worded : (k : ℕ) (z : Option (List ℕ)) (s : Statement) → row_says k z ≡ Some s → IsWordedSort z → IsWordedStatement s
+row_worded : (k : ℕ) (z : Option (List ℕ)) (s : Statement) → row_says k z ≡ Some s → IsWordedSort z
+    → IsWordedStatement s
 row_worded k None s e w =
     option_and_then_some (λ row. cond row.sorted None (Some row.given)) (numbered (built_in_rows bool_sort) k) s e
     (λ row f g. subst IsWordedStatement (unsorted row.sorted row.given s g) (row_at_worded bool_sort k row refl f))

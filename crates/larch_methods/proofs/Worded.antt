@@ -42,7 +42,8 @@ variables_worded t w =
     all_from (λ v. IsWord v.name) (variables_of t)
     (λ v c. All-contains (λ v. IsWord v.name) (occurrences t) v (occurring_worded t w) ((listed_occurs t v).0 c))
 
-pub found_holds : {A : Type 0} (P : A → Type 0) (p : A → Bool) (xs : List A) (x : A) → All P xs → find p xs ≡ Some x → P x
+pub found_holds : {A : Type 0} (P : A → Type 0) (p : A → Bool) (xs : List A) (x : A) → All P xs
+    → find p xs ≡ Some x → P x
 found_holds P p [] x h e = cc
 found_holds P p (y ∷ ys) x h e =
     by_test (p y) (All-head P y ys h) (λ q. found_holds P p ys x (All-tail P y ys h) q) e

@@ -20,7 +20,8 @@ use Rattle.larch_methods.proofs.Sharing.{inside_grown}
 use Rattle.larch_prove_invariant.specs.Book.{AtLine, InBox, Left, Running}
 use Rattle.larch_prove_invariant.specs.Ending.{EndsByCases, EndsByConjunction, EndsByContradiction, EndsByImplication}
 use Rattle.larch_prove_invariant.specs.Ending.{EndsByInduction, HasAllLeft}
-use Rattle.larch_prove_invariant.specs.Holding.{HasLeft, Through, entrances, own_shape, said_of, shape_of, shared_shapes}
+use Rattle.larch_prove_invariant.specs.Holding.{HasLeft, Through, entrances, own_shape, said_of, shape_of}
+use Rattle.larch_prove_invariant.specs.Holding.{shared_shapes}
 use Rattle.larch_prove_invariant.proofs.Shared.{box_own, formula_grows, is_implication, is_induction, no_shapes}
 use Rattle.larch_prove_invariant.proofs.Shared.{shared_box}
 

@@ -1,25 +1,30 @@
 -- Shared terms that lie in layers, and their keys.
-use Rattle.std.proofs.Common.{◌≡◌, ℕ, ◌+◌, ◌-◌, ◌<◌, ◌≤◌, Bool, true, false, List, [], ◌∷◌, ◌++◌, map, length, take, drop}
-use Rattle.std.proofs.Common.{get_or, slice_get, Contains, Option, Some, None, is_some, option_map, refl, sym, ◌∙◌, ap, subst, arith}
+use Rattle.std.proofs.Common.{◌≡◌, ℕ, ◌+◌, ◌-◌, ◌<◌, ◌≤◌, Bool, true, false, List, [], ◌∷◌, ◌++◌, map, length, take}
+use Rattle.std.proofs.Common.{drop}
+use Rattle.std.proofs.Common.{get_or, slice_get, Contains, Option, Some, None, is_some, option_map, refl, sym, ◌∙◌, ap}
+use Rattle.std.proofs.Common.{subst, arith}
 use Rattle.std.proofs.Common.{append_assoc, append-nil, true≢false}
 use Rattle.std.specs.Cmp.{IsEquivalence, decided}
 use Rattle.std.specs.Bool.{Decides}
 use Rattle.std.specs.List.{IsDistinct, flat_map, list_any}
 use Rattle.std.specs.Map.{keys_of, lookup}
 use Rattle.std.proofs.lemmas.Grind.{flat_map-append}
-use Rattle.std.proofs.lemmas.List.{length-drop, length-map, length_push, map-append, map_push, take-append-drop, take_all, take_more}
+use Rattle.std.proofs.lemmas.List.{length-drop, length-map, length_push, map-append, map_push, take-append-drop}
+use Rattle.std.proofs.lemmas.List.{take_all, take_more}
 use Rattle.std.proofs.lemmas.Option.{get_or_from_slice_get, slice_get-get_or, slice_get-map, slice_get_within}
 use Rattle.std.proofs.lemmas.Map.Keys.{IsDistinct-push}
 use Rattle.std.proofs.lemmas.Map.Made.{is_some-lookup}
 use Rattle.std.proofs.lemmas.Map.Views.{Contains-from_lookup}
 use Rattle.indexmap.proofs.MapLemmas.{absent_from_lookup, insert_entry-absent}
 use Rattle.indexmap.specs.IndexMap.{insert_entry}
-use Rattle.larch_base.proofs.Members.{contains_flat_map, contains_got, contains_left, contains_map, contains_right, got_contains}
-use Rattle.larch_store.specs.Layers.{joined, shared_in}
+use Rattle.larch_base.proofs.Members.{contains_flat_map, contains_got, contains_left, contains_map, contains_right}
+use Rattle.larch_base.proofs.Members.{got_contains}
+use Rattle.larch_store.specs.Layers.{join_layers, shared_in}
 use Rattle.larch_store.specs.Numbered.{Numbered}
 use Rattle.larch_store.specs.declared.key.Key.{Key}
 use Rattle.larch_store.specs.contracts.key.KeyPartialEq.TheImpl as key_eq
-use Rattle.larch_store.proofs.Distinct.{absent_both, absent_left, absent_right, distinct_absent, distinct_left, distinct_right}
+use Rattle.larch_store.proofs.Distinct.{absent_both, absent_left, absent_right, distinct_absent, distinct_left}
+use Rattle.larch_store.proofs.Distinct.{distinct_right}
 use Rattle.larch_store.proofs.Same.{same_key, self_key}
 
 abbrev Entries : Type 0
@@ -112,14 +117,14 @@ differ_at es fs i k x d lt is =
 
 -- ---- several layers
 
-pub joined_append : {X : Type 0} (xs ys : List (List X)) → joined (xs ++ ys) ≡ joined xs ++ joined ys
+pub joined_append : {X : Type 0} (xs ys : List (List X)) → join_layers (xs ++ ys) ≡ join_layers xs ++ join_layers ys
 joined_append xs ys = flat_map-append (λ x. x) xs ys
 
-joined_one : {X : Type 0} (x : List X) → joined (x ∷ []) ≡ x
+joined_one : {X : Type 0} (x : List X) → join_layers (x ∷ []) ≡ x
 joined_one x = append-nil x
 
-pub joined_last : {X : Type 0} (xs : List (List X)) (x : List X) → joined (xs ++ x ∷ []) ≡ joined xs ++ x
-joined_last xs x = joined_append xs (x ∷ []) ∙ ap (λ y. joined xs ++ y) (joined_one x)
+pub joined_last : {X : Type 0} (xs : List (List X)) (x : List X) → join_layers (xs ++ x ∷ []) ≡ join_layers xs ++ x
+joined_last xs x = joined_append xs (x ∷ []) ∙ ap (λ y. join_layers xs ++ y) (joined_one x)
 
 -- ---- what is found under a key, and what is put there
 
@@ -149,31 +154,32 @@ in_place es x y e = e ∙ ap x (sym (length-map es (λ entry. entry.1)))
 
 -- what lies in one of several layers
 pub contains_joined : {R X : Type 0} (v : R → List X) (rs : List R) (i : ℕ) (r : R) (y : X) → r ≡ get_or rs i r
-    → i < length rs → Contains (v r) y → Contains (joined (map v rs)) y
+    → i < length rs → Contains (v r) y → Contains (join_layers (map v rs)) y
 contains_joined v rs i r y is lt c =
     contains_flat_map (λ xs. xs) (map v rs) (v r) y
     (contains_map v rs r (got_contains rs i r (slice_get-get_or rs i r lt ∙ ap Some (sym is)))) c
 
 -- the first of several layers and the next one
 pub joined_more : {R X : Type 0} (v : R → List X) (rs : List R) (i : ℕ) (r : R) → r ≡ get_or rs i r → i < length rs
-    → joined (map v (take (i + 1) rs)) ≡ joined (map v (take i rs)) ++ v r
+    → join_layers (map v (take (i + 1) rs)) ≡ join_layers (map v (take i rs)) ++ v r
 joined_more v rs i r is lt =
-    ap (λ qs. joined (map v qs)) (take_more rs i r lt ∙ ap (λ q. take i rs ++ q ∷ []) (sym is))
-    ∙ ap joined (map_push v (take i rs) r) ∙ joined_last (map v (take i rs)) (v r)
+    ap (λ qs. join_layers (map v qs)) (take_more rs i r lt ∙ ap (λ q. take i rs ++ q ∷ []) (sym is))
+    ∙ ap join_layers (map_push v (take i rs) r) ∙ joined_last (map v (take i rs)) (v r)
 
 -- the first layers and the others
 pub joined_parts : {R X : Type 0} (v : R → List X) (rs : List R) (i : ℕ)
-    → joined (map v rs) ≡ joined (map v (take i rs)) ++ joined (map v (drop i rs))
+    → join_layers (map v rs) ≡ join_layers (map v (take i rs)) ++ join_layers (map v (drop i rs))
 joined_parts v rs i =
-    ap (λ qs. joined (map v qs)) (sym (take-append-drop i rs))
-    ∙ ap joined (map-append v (take i rs) (drop i rs)) ∙ joined_append (map v (take i rs)) (map v (drop i rs))
+    ap (λ qs. join_layers (map v qs)) (sym (take-append-drop i rs))
+    ∙ ap join_layers (map-append v (take i rs) (drop i rs)) ∙ joined_append (map v (take i rs)) (map v (drop i rs))
 
 -- layers that stay, and one of what lies in the others with something behind it
 pub joined_begun : {R X : Type 0} (v : R → List X) (rs : List R) (i : ℕ) (ys more : List X)
-    → more ≡ joined (map v (drop i rs)) ++ ys → joined (map v (take i rs)) ++ more ≡ joined (map v rs) ++ ys
+    → more ≡ join_layers (map v (drop i rs)) ++ ys → join_layers (map v (take i rs)) ++ more ≡ join_layers
+    (map v rs) ++ ys
 joined_begun v rs i ys more e =
-    ap (λ zs. joined (map v (take i rs)) ++ zs) e
-    ∙ sym (append_assoc (joined (map v (take i rs))) (joined (map v (drop i rs))) ys)
+    ap (λ zs. join_layers (map v (take i rs)) ++ zs) e
+    ∙ sym (append_assoc (join_layers (map v (take i rs))) (join_layers (map v (drop i rs))) ys)
     ∙ ap (λ zs. zs ++ ys) (sym (joined_parts v rs i))
 
 -- ---- keys of what lies in layers
@@ -199,61 +205,62 @@ next_put es fs gs cur new i k x e q p n =
     ∙ sym (take_more fs i (k, x) (slice_get_within fs i (k, x) g)))
 
 pub differ_next : {R : Type 0} (v : R → List (Key × Numbered)) (rs : List R) (i : ℕ) (r : R)
-    (one next : List (Key × Numbered)) → r ≡ get_or rs i r → i < length rs → one ≡ joined (map v (take i rs))
-    → next ≡ v r → IsDistinct key_eq.ghosts.eq (keys_of (joined (map v rs)))
+    (one next : List (Key × Numbered)) → r ≡ get_or rs i r → i < length rs → one ≡ join_layers (map v (take i rs))
+    → next ≡ v r → IsDistinct key_eq.ghosts.eq (keys_of (join_layers (map v rs)))
     → IsDistinct key_eq.ghosts.eq (keys_of (one ++ next))
 differ_next v rs i r one next is lt p q d =
-    let e : one ++ next ≡ joined (map v (take (i + 1) rs)) =
-    ap (λ es. es ++ next) p ∙ ap (λ es. joined (map v (take i rs)) ++ es) q ∙ sym (joined_more v rs i r is lt) in
+    let e : one ++ next ≡ join_layers (map v (take (i + 1) rs)) =
+    ap (λ es. es ++ next) p ∙ ap (λ es. join_layers (map v (take i rs)) ++ es) q ∙ sym (joined_more v rs i r is lt) in
     subst (λ es. IsDistinct eq (keys_of es)) (sym e)
-    (differ_first (joined (map v (take (i + 1) rs))) (joined (map v (drop (i + 1) rs)))
+    (differ_first (join_layers (map v (take (i + 1) rs))) (join_layers (map v (drop (i + 1) rs)))
     (subst (λ es. IsDistinct eq (keys_of es)) (joined_parts v rs (i + 1)) d))
 
 rest_taken : {R : Type 0} (rs : List R) (n : ℕ) → take (length rs - n) (drop n rs) ≡ drop n rs
 rest_taken rs n = let e = length-drop n rs in take_all (length rs - n) (drop n rs) (omega (arith, e))
 
 pub absent_rest : {R : Type 0} (v : R → List (Key × Numbered)) (rs ds : List R) (n : ℕ) (k : Key) → ds ≡ rs
-    → list_any (key_eq.ghosts.eq k) (keys_of (joined (map v rs))) ≡ false
-    → list_any (key_eq.ghosts.eq k) (keys_of (joined (map v (take (length ds - n) (drop n ds))))) ≡ false
+    → list_any (key_eq.ghosts.eq k) (keys_of (join_layers (map v rs))) ≡ false
+    → list_any (key_eq.ghosts.eq k) (keys_of (join_layers (map v (take (length ds - n) (drop n ds))))) ≡ false
 absent_rest v rs ds n k q h =
-    ap (λ cs. list_any (eq k) (keys_of (joined (map v cs)))) (ap (λ ws. take (length ws - n) (drop n ws)) q ∙ rest_taken rs n)
-    ∙ absent_last k (joined (map v (take n rs))) (joined (map v (drop n rs)))
+    ap (λ cs. list_any (eq k) (keys_of (join_layers (map v cs)))) (ap (λ ws. take (length ws - n) (drop n ws)) q
+    ∙ rest_taken rs n)
+    ∙ absent_last k (join_layers (map v (take n rs))) (join_layers (map v (drop n rs)))
     (ap (λ es. list_any (eq k) (keys_of es)) (sym (joined_parts v rs n)) ∙ h)
 
 pub differ_rest : {R : Type 0} (v : R → List (Key × Numbered)) (rs ds : List R) (n : ℕ) → ds ≡ rs
-    → IsDistinct key_eq.ghosts.eq (keys_of (joined (map v rs)))
-    → IsDistinct key_eq.ghosts.eq (keys_of (joined (map v (take (length ds - n) (drop n ds)))))
+    → IsDistinct key_eq.ghosts.eq (keys_of (join_layers (map v rs)))
+    → IsDistinct key_eq.ghosts.eq (keys_of (join_layers (map v (take (length ds - n) (drop n ds)))))
 differ_rest v rs ds n q d =
-    subst (λ cs. IsDistinct eq (keys_of (joined (map v cs))))
+    subst (λ cs. IsDistinct eq (keys_of (join_layers (map v cs))))
     (sym (ap (λ ws. take (length ws - n) (drop n ws)) q ∙ rest_taken rs n))
-    (differ_last (joined (map v (take n rs))) (joined (map v (drop n rs)))
+    (differ_last (join_layers (map v (take n rs))) (join_layers (map v (drop n rs)))
     (subst (λ es. IsDistinct eq (keys_of es)) (joined_parts v rs n) d))
 
 -- the layers that stay, and a further one
 pub begun : {R X : Type 0} (v : R → List X) (rs ds ts : List R) (n : ℕ) (more : List X) (x : X) → ds ≡ rs
-    → ts ≡ take n rs → more ≡ joined (map v (take (length ds - n) (drop n ds))) ++ x ∷ []
-    → joined (map v ts) ++ more ≡ joined (map v rs) ++ x ∷ []
+    → ts ≡ take n rs → more ≡ join_layers (map v (take (length ds - n) (drop n ds))) ++ x ∷ []
+    → join_layers (map v ts) ++ more ≡ join_layers (map v rs) ++ x ∷ []
 begun v rs ds ts n more x q t e =
-    ap (λ us. joined (map v us) ++ more) t
+    ap (λ us. join_layers (map v us) ++ more) t
     ∙ joined_begun v rs n (x ∷ []) more
-    (e ∙ ap (λ cs. joined (map v cs) ++ x ∷ []) (ap (λ ws. take (length ws - n) (drop n ws)) q ∙ rest_taken rs n))
+    (e ∙ ap (λ cs. join_layers (map v cs) ++ x ∷ []) (ap (λ ws. take (length ws - n) (drop n ws)) q ∙ rest_taken rs n))
 
 -- all layers are the earlier ones and the last
 pub absent_in_all : (k : Key) (all earlier : List (List (Key × Numbered))) (last : List (Key × Numbered))
-    → all ≡ earlier ++ last ∷ [] → list_any (key_eq.ghosts.eq k) (keys_of (joined earlier ++ last)) ≡ false
-    → list_any (key_eq.ghosts.eq k) (keys_of (joined all)) ≡ false
+    → all ≡ earlier ++ last ∷ [] → list_any (key_eq.ghosts.eq k) (keys_of (join_layers earlier ++ last)) ≡ false
+    → list_any (key_eq.ghosts.eq k) (keys_of (join_layers all)) ≡ false
 absent_in_all k all earlier last e h =
-    ap (λ es. list_any (eq k) (keys_of es)) (ap joined e ∙ joined_last earlier last) ∙ h
+    ap (λ es. list_any (eq k) (keys_of es)) (ap join_layers e ∙ joined_last earlier last) ∙ h
 
 pub differ_in_all : (all earlier : List (List (Key × Numbered))) (last : List (Key × Numbered))
-    → all ≡ earlier ++ last ∷ [] → IsDistinct key_eq.ghosts.eq (keys_of (joined earlier ++ last))
-    → IsDistinct key_eq.ghosts.eq (keys_of (joined all))
+    → all ≡ earlier ++ last ∷ [] → IsDistinct key_eq.ghosts.eq (keys_of (join_layers earlier ++ last))
+    → IsDistinct key_eq.ghosts.eq (keys_of (join_layers all))
 differ_in_all all earlier last e h =
-    subst (λ es. IsDistinct eq (keys_of es)) (sym (ap joined e ∙ joined_last earlier last)) h
+    subst (λ es. IsDistinct eq (keys_of es)) (sym (ap join_layers e ∙ joined_last earlier last)) h
 
 pub put_in_all : {X : Type 0} (all earlier : List (List X)) (last more : List X) (x : X) → all ≡ earlier ++ last ∷ []
-    → more ≡ joined all ++ x ∷ [] → more ≡ (joined earlier ++ last) ++ x ∷ []
-put_in_all all earlier last more x e p = p ∙ ap (λ es. es ++ x ∷ []) (ap joined e ∙ joined_last earlier last)
+    → more ≡ join_layers all ++ x ∷ [] → more ≡ (join_layers earlier ++ last) ++ x ∷ []
+put_in_all all earlier last more x e p = p ∙ ap (λ es. es ++ x ∷ []) (ap join_layers e ∙ joined_last earlier last)
 
 pub differ_put : (es more : List (Key × Numbered)) (k : Key) (x : Numbered) → more ≡ es ++ (k, x) ∷ []
     → IsDistinct key_eq.ghosts.eq (keys_of es) → list_any (key_eq.ghosts.eq k) (keys_of es) ≡ false

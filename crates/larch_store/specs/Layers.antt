@@ -5,8 +5,8 @@ use Rattle.larch_store.specs.Numbered.{Numbered}
 use Rattle.larch_store.specs.declared.key.Key.{Key}
 
 -- what lies in layers, from the first to the last
-abbrev pub joined : {X : Type 0} → List (List X) → List X
-joined layers = flat_map (λ layer. layer) layers
+abbrev pub join_layers : {X : Type 0} → List (List X) → List X
+join_layers layers = flat_map (λ layer. layer) layers
 
 -- shared terms without their keys
 abbrev pub shared_in : List (Key × Numbered) → List Numbered

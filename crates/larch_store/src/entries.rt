@@ -2,7 +2,7 @@ ghost use Rattle.std.specs.Prelude.{◌≡◌, ◌≤◌, ◌++◌, ◌∷◌, [
 ghost use Rattle.std.specs.Prelude.{IfOk, IfSome, IfNone, OnOk, OnErr};
 ghost use Rattle.std.specs.List.{IsDistinct, list_any};
 ghost use Rattle.std.specs.Map.{keys_of};
-ghost use Rattle.larch_store.specs.Layers.{joined};
+ghost use Rattle.larch_store.specs.Layers.{join_layers};
 ghost use Rattle.larch_store.specs.contracts.key.KeyPartialEq.TheImpl as key_eq;
 
 use crate::key::Key;
@@ -42,7 +42,7 @@ impl Model for Entries {
     ghost use Rattle.std.specs.Coded.{codes};
     ghost use Rattle.std.specs.List.{IsDistinct};
     ghost use Rattle.std.specs.Map.{keys_of};
-    ghost use Rattle.larch_store.specs.Layers.{joined};
+    ghost use Rattle.larch_store.specs.Layers.{join_layers};
     ghost use Rattle.larch_store.specs.Numbered.{Numbered};
     ghost use Rattle.larch_store.specs.NumberedCode.{coded_numbered};
     ghost use Rattle.larch_store.specs.declared.key.Key.{Key};
@@ -52,11 +52,11 @@ impl Model for Entries {
 
     ghost coded = { Prim.hlevel (codes, coded_numbered) };
 
-    ghost view = { λ e. joined (map (λ layer. layer.value) e.earlier.items) ++ e.last.value };
+    ghost view = { λ e. join_layers (map (λ layer. layer.value) e.earlier.items) ++ e.last.value };
 
     ghost invariant = { λ e. IsDistinct key_eq.ghosts.eq
-        (keys_of (joined (map (λ layer. layer.value) e.earlier.items) ++ e.last.value))
-        × (e.count ≡ length (joined (map (λ layer. layer.value) e.earlier.items) ++ e.last.value)) };
+        (keys_of (join_layers (map (λ layer. layer.value) e.earlier.items) ++ e.last.value))
+        × (e.count ≡ length (join_layers (map (λ layer. layer.value) e.earlier.items) ++ e.last.value)) };
 }
 
 impl Entries {
@@ -143,9 +143,9 @@ impl Entries {
 #[tactic(auto, using(crate::proofs::Layered::found_last, crate::proofs::Layered::found_earlier, crate::proofs::Layered::found_nowhere))]
 fn find_among<'a>(earlier: &'a [Rc<Layer>], last: &'a Layer, key: &Key) -> Option<&'a Shared>
     ensures some { IfSome result (λ x.
-        Contains (joined (map (λ layer. layer.value) earlier.now) ++ last.now) (key.now, x.now)) }
+        Contains (join_layers (map (λ layer. layer.value) earlier.now) ++ last.now) (key.now, x.now)) }
     ensures none { IfNone result (list_any (key_eq.ghosts.eq key.now)
-        (keys_of (joined (map (λ layer. layer.value) earlier.now) ++ last.now)) ≡ false) }
+        (keys_of (join_layers (map (λ layer. layer.value) earlier.now) ++ last.now)) ≡ false) }
 {
     if let Some(found) = last.find(key) {
         return Some(found);
@@ -158,9 +158,10 @@ fn find_among<'a>(earlier: &'a [Rc<Layer>], last: &'a Layer, key: &Key) -> Optio
 
 // The shared term that stands under a key in one of some layers, if one does.
 fn find_in<'a>(layers: &'a [Rc<Layer>], key: &Key) -> Option<&'a Shared>
-    ensures some { IfSome result (λ x. Contains (joined (map (λ layer. layer.value) layers.now)) (key.now, x.now)) }
+    ensures some { IfSome result (λ x.
+        Contains (join_layers (map (λ layer. layer.value) layers.now)) (key.now, x.now)) }
     ensures none { IfNone result (list_any (key_eq.ghosts.eq key.now)
-        (keys_of (joined (map (λ layer. layer.value) layers.now))) ≡ false) }
+        (keys_of (join_layers (map (λ layer. layer.value) layers.now))) ≡ false) }
 {
     for layer in layers {
         if let Some(found) = layer.as_ref().find(key) {
@@ -181,13 +182,13 @@ fn put_behind(
     shared: Shared,
 ) -> Result<(), Memory>
     requires absent { list_any (key_eq.ghosts.eq key)
-        (keys_of (joined (map (λ layer. layer.value) earlier.old.items) ++ last.old.value)) ≡ false }
+        (keys_of (join_layers (map (λ layer. layer.value) earlier.old.items) ++ last.old.value)) ≡ false }
     requires distinct { IsDistinct key_eq.ghosts.eq
-        (keys_of (joined (map (λ layer. layer.value) earlier.old.items) ++ last.old.value)) }
-    ensures ok { OnOk result (joined (map (λ layer. layer.value) earlier.new.items) ++ last.new.value
-        ≡ (joined (map (λ layer. layer.value) earlier.old.items) ++ last.old.value) ++ (key, shared) ∷ []) }
-    ensures err { OnErr result (joined (map (λ layer. layer.value) earlier.new.items) ++ last.new.value
-        ≡ joined (map (λ layer. layer.value) earlier.old.items) ++ last.old.value) }
+        (keys_of (join_layers (map (λ layer. layer.value) earlier.old.items) ++ last.old.value)) }
+    ensures ok { OnOk result (join_layers (map (λ layer. layer.value) earlier.new.items) ++ last.new.value
+        ≡ (join_layers (map (λ layer. layer.value) earlier.old.items) ++ last.old.value) ++ (key, shared) ∷ []) }
+    ensures err { OnErr result (join_layers (map (λ layer. layer.value) earlier.new.items) ++ last.new.value
+        ≡ join_layers (map (λ layer. layer.value) earlier.old.items) ++ last.old.value) }
 {
     if let Some(layer) = Rc::get_mut(last) {
         return layer.put(key, shared);
@@ -207,10 +208,10 @@ fn begin_layer(
     entry: (Key, Shared),
 ) -> Result<(), Memory>
     requires absent { list_any (key_eq.ghosts.eq entry.0)
-        (keys_of (joined (map (λ layer. layer.value) layers.items))) ≡ false }
-    requires distinct { IsDistinct key_eq.ghosts.eq (keys_of (joined (map (λ layer. layer.value) layers.items))) }
-    ensures ok { OnOk result (joined (map (λ layer. layer.value) earlier.new.items) ++ last.new.value
-        ≡ joined (map (λ layer. layer.value) layers.items) ++ entry ∷ []) }
+        (keys_of (join_layers (map (λ layer. layer.value) layers.items))) ≡ false }
+    requires distinct { IsDistinct key_eq.ghosts.eq (keys_of (join_layers (map (λ layer. layer.value) layers.items))) }
+    ensures ok { OnOk result (join_layers (map (λ layer. layer.value) earlier.new.items) ++ last.new.value
+        ≡ join_layers (map (λ layer. layer.value) layers.items) ++ entry ∷ []) }
     ensures err { OnErr result ((earlier.new.items ≡ earlier.old.items) × (last.new ≡ last.old)) }
 {
     let staying = staying(layers.as_slice());
@@ -233,11 +234,15 @@ fn staying(layers: &[Rc<Layer>]) -> usize
     ensures { result ≤ length layers.now }
 {
     let mut size: usize = 0;
-    for joined in 0..layers.len() {
-        let before = layers.len() - joined;
+    for join_layers in 0..layers.len() {
+        let before = layers.len() - join_layers;
         let further = layers[before - 1].as_ref().len();
-        if joined > 0 && further / 2 > size {
-            return if joined > 1 { before } else { layers.len() };
+        if join_layers > 0 && further / 2 > size {
+            return if join_layers > 1 {
+                before
+            } else {
+                layers.len()
+            };
         }
         size = size.saturating_add(further);
     }
@@ -251,9 +256,9 @@ fn joined_with(
     entry: (Key, Shared),
 ) -> Result<Rc<Layer>, Memory>
     requires absent { list_any (key_eq.ghosts.eq entry.0)
-        (keys_of (joined (map (λ layer. layer.value) layers.now))) ≡ false }
-    requires distinct { IsDistinct key_eq.ghosts.eq (keys_of (joined (map (λ layer. layer.value) layers.now))) }
-    ensures { IfOk result (λ layer. layer.value ≡ joined (map (λ layer. layer.value) layers.now) ++ entry ∷ []) }
+        (keys_of (join_layers (map (λ layer. layer.value) layers.now))) ≡ false }
+    requires distinct { IsDistinct key_eq.ghosts.eq (keys_of (join_layers (map (λ layer. layer.value) layers.now))) }
+    ensures { IfOk result (λ layer. layer.value ≡ join_layers (map (λ layer. layer.value) layers.now) ++ entry ∷ []) }
 {
     match join(alloc, layers) {
         Ok(layer) => with_entry(alloc, layer, entry),
@@ -275,8 +280,8 @@ fn with_entry(alloc: Global, layer: Layer, entry: (Key, Shared)) -> Result<Rc<La
 
 // All that lies in some layers, as one.
 fn join(alloc: Global, layers: &[Rc<Layer>]) -> Result<Layer, Memory>
-    requires { IsDistinct key_eq.ghosts.eq (keys_of (joined (map (λ layer. layer.value) layers.now))) }
-    ensures { IfOk result (λ one. one ≡ joined (map (λ layer. layer.value) layers.now)) }
+    requires { IsDistinct key_eq.ghosts.eq (keys_of (join_layers (map (λ layer. layer.value) layers.now))) }
+    ensures { IfOk result (λ one. one ≡ join_layers (map (λ layer. layer.value) layers.now)) }
 {
     let mut one = Layer::new(alloc);
     for layer in layers {

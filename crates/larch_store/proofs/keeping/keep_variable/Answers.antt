@@ -45,7 +45,8 @@ pub returns-clause-belongs : goal.returns-clause-belongs
 returns-clause-belongs c =
     let e = c.args.entries.now in
     let x : ℕ → Numbered = λ k. leaf k 1 c.args.name.now c.args.sort.now in
-    subst (Belongs (shared_in c.put_variable.new.entries)) (sym (in_place e x c.in_ok-new.new c.in_ok-new.ensures.result))
+    subst (Belongs (shared_in c.put_variable.new.entries)) (sym
+    (in_place e x c.in_ok-new.new c.in_ok-new.ensures.result))
     (pushed_belongs (shared_in e) (shared_in c.put_variable.new.entries) (x (length (shared_in e)))
     (shared_put e c.put_variable.new.entries c.in_ok-key.key x c.in_ok-new.ensures.entries) refl)
 
