@@ -1,5 +1,5 @@
 -- The constants that the boxes of levels make.
-use Rattle.std.specs.Prelude.{◌≡◌, ◌≢◌, ◌⊎◌, ℕ, List, [], ◌∷◌, ◌++◌, map, All, AllPairs, Contains, Option, None, Some}
+use Rattle.std.specs.Prelude.{◌≡◌, ◌≢◌, ◌⊎◌, List, [], ◌∷◌, ◌++◌, map, All, AllPairs, Contains, Option, None, Some}
 use Rattle.std.specs.Prelude.{refl}
 use Rattle.std.specs.Prelude.{option_map}
 use Rattle.std.specs.List.{flat_map}
@@ -16,10 +16,11 @@ use Rattle.larch_term.specs.declared.statement.Theory.{Theory}
 use Rattle.larch_calculus.specs.Theories.{AreConstants, AreNew}
 use Rattle.larch_derive.specs.Builder.{boxes_in}
 use Rattle.larch_derive.specs.OpenBox.{constant_of, place_from}
+use Rattle.larch_derive.specs.Words.{AreWordedOperators, IsWordedOperator}
 use Rattle.larch_derive.specs.declared.builder.Builder.{Builder}
 use Rattle.larch_derive.specs.declared.open_box.OpenBox.{OpenBox}
 use Rattle.larch_derive.proofs.Codes.{place_none}
-use Rattle.larch_derive_boxes.specs.Boxes.{AreOwnConstants, IsPart}
+use Rattle.larch_derive_boxes.specs.Boxes.{IsPart}
 use Rattle.larch_prove_plans.specs.ClauseGoals.{generation_goal, partition_goal}
 use Rattle.larch_prove_plans.specs.declared.subgoals.Subgoal as stated
 use Rattle.larch_prove_invariant.specs.Book.{Book, Kept, SupposingBox, all_boxes, boxes_of, made_first, made_in}
@@ -150,6 +151,7 @@ constants_opened t s b cs ks js xs h e f among own c =
           (λ g k i d q. none k d (subst (Contains (made_in (all_boxes ks))) q i)));
       plain = subst (λ gs. All (λ (k : PlainOperator). (k.domain ≡ []) ⊎ Contains gs k) cs) (sym f) c.plain;
       new = c.new;
+      words = c.words;
     }
 
 -- with the last boxes closed
@@ -166,12 +168,13 @@ constants_closed t cs ks js xs e f c =
           (subst (AllPairs (λ g k. g ≢ k)) made c.once);
       plain = subst (λ gs. All (λ (k : PlainOperator). (k.domain ≡ []) ⊎ Contains gs k) cs) (sym f) c.plain;
       new = c.new;
+      words = c.words;
     }
 
 -- with more constants of the block
 pub constants_more : (t : Theory) (cs ds : List PlainOperator) (ks : List Kept) → AreNew t (cs ++ ds)
-    → AreConstants ds → HasConstants t cs ks → HasConstants t (cs ++ ds) ks
-constants_more t cs ds ks n a c =
+    → AreConstants ds → AreWordedOperators ds → HasConstants t cs ks → HasConstants t (cs ++ ds) ks
+constants_more t cs ds ks n a w c =
     let P : PlainOperator → Type 0 = λ (k : PlainOperator). (k.domain ≡ []) ⊎ Contains (made_first ks) k in
     record {
       among = All-weaker (Contains cs) (Contains (cs ++ ds)) (λ g i. contains_left cs ds g i)
@@ -179,4 +182,5 @@ constants_more t cs ds ks n a c =
       once = c.once;
       plain = All-append P cs ds c.plain (All-weaker (λ (k : PlainOperator). k.domain ≡ []) P (λ g e. inl e) ds a);
       new = n;
+      words = All-append IsWordedOperator cs ds c.words w;
     }

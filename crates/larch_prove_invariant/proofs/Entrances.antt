@@ -5,7 +5,6 @@ use Rattle.std.proofs.lemmas.List.Elements.{All-cons, All-nil}
 use Rattle.std.proofs.lemmas.List.Kept.{AllPairs-cons}
 use Rattle.larch_term.specs.Operator.{PlainOperator, plain}
 use Rattle.larch_term.specs.Statement.{IsStatementOver}
-use Rattle.larch_term.specs.Tree.{Tree}
 use Rattle.larch_term.specs.Truth.{truth}
 use Rattle.larch_term.specs.declared.statement.Statement.{Statement}
 use Rattle.larch_term.specs.declared.statement.Statement.TheVariants.{Equation, Generated, Partitioned}
@@ -24,7 +23,7 @@ use Rattle.larch_prove_plans.specs.ClauseGoals.{generation_goal, partition_goal,
 use Rattle.larch_prove_plans.specs.declared.subgoals.Subgoal as stated
 use Rattle.larch_methods.specs.Clauses.{IsSupposing}
 use Rattle.larch_methods.proofs.Left.{generation_left, partition_goal_left}
-use Rattle.larch_prove_invariant.specs.Book.{AtLine, Book, InBox, Kept, Running, SupposingBox}
+use Rattle.larch_prove_invariant.specs.Book.{AtLine, Book, InBox, Running, SupposingBox}
 use Rattle.larch_prove_invariant.specs.Ending.{EndsGeneration, EndsPartition}
 use Rattle.larch_prove_invariant.specs.Holding.{EntersClause, EntersSubgoal, HasLeft, IsStart, Shape, entrances}
 use Rattle.larch_prove_invariant.specs.Holding.{own_shape, said_of, shape_of, stated_shape}

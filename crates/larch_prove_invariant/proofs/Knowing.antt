@@ -1,4 +1,4 @@
--- Terms over the theory's operators and the constants of open boxes are known, and no others.
+-- Terms in words over the theory's operators and the constants of open boxes are known, and no others.
 use Rattle.std.specs.Prelude.{◌≡◌, ℕ, ◌-◌, List, [], ◌∷◌, ◌++◌, map, All, Contains, Option, None, Some, option_map}
 use Rattle.std.specs.Prelude.{refl}
 use Rattle.std.specs.List.{flat_map}
@@ -19,6 +19,7 @@ use Rattle.larch_verify_meaning.specs.Events.{Event, start}
 use Rattle.larch_derive.specs.Builder.{shape_of}
 use Rattle.larch_derive.specs.OpenBox.{constant_of, in_lines, naming, place_from}
 use Rattle.larch_derive.specs.Predicates.{AreOthers, Known, HasNoBadLine, operators_at, shapes_of}
+use Rattle.larch_derive.specs.Words.{IsWordedTerm}
 use Rattle.larch_derive.specs.declared.builder.Builder.{Builder}
 use Rattle.larch_derive.specs.declared.open_box.OpenBox.{OpenBox}
 use Rattle.larch_derive.proofs.Codes.{place_got}
@@ -51,15 +52,16 @@ open_carries t bs h p others opened parts f (inl c) =
     ]
 
 pub open_known : (b : Builder) (a : Tree) → HasNoBadLine b → All IsPart (open_constants b)
-    → IsTermOver (b.theory.operators ++ open_constants b) a → Known b a
+    → IsTermOver (b.theory.operators ++ open_constants b) a → IsWordedTerm a → Known b a
 unfolding HasNoBadLine Known
-open_known b a (st, h) parts w =
+open_known b a (st, h) parts w words =
     let faithful = naming_faithful b.theory b.boxes h.plain h.others in (
       st,
       record {
         stand = h;
         over = renamed_term_over (naming b.boxes) (b.theory.operators ++ made_in b.boxes) (operators_at b.theory st)
             faithful.signatures (open_carries b.theory b.boxes st.history h.plain h.others h.opened parts) a w;
+        words = words;
       },
     )
 

@@ -1,5 +1,5 @@
 -- Levels are left: their boxes are closed, from the innermost on.
-use Rattle.std.specs.Prelude.{◌≡◌, ℕ, List, [], ◌∷◌, ◌++◌, map, length, All, None, Some, refl}
+use Rattle.std.specs.Prelude.{◌≡◌, ℕ, List, [], ◌∷◌, ◌++◌, map, length, All, None, Some}
 use Rattle.std.specs.List.{AllZip}
 use Rattle.std.proofs.Common.{ap, subst, sym, ◌∙◌}
 use Rattle.std.proofs.lemmas.List.{append-nil, map-append}
@@ -9,17 +9,17 @@ use Rattle.larch_term.specs.declared.statement.Statement.{Statement}
 use Rattle.larch_term.specs.declared.statement.Statement.TheVariants.{Equation}
 use Rattle.larch_term.specs.declared.statement.Theory.{Theory}
 use Rattle.larch_verify_meaning.specs.Acceptance.{Accepts}
-use Rattle.larch_derive.specs.Builder.{lines_in}
+use Rattle.larch_verify_meaning.specs.LastLine.{EndsWithoutStatedClause}
+use Rattle.larch_derive.specs.Builder.{lines_in, theory_in}
+use Rattle.larch_derive.specs.Finished.{IsFinished}
 use Rattle.larch_derive.specs.Predicates.{Grows, HasEquation, HasStatement}
 use Rattle.larch_derive.specs.declared.builder.Builder.{Builder}
-use Rattle.larch_derive.proofs.Accepting.{accepted}
-use Rattle.larch_derive.proofs.Growth.{grown_said}
+use Rattle.larch_derive.proofs.Accepting.{accepted, clause_finished, equation_finished}
 use Rattle.larch_derive_boxes.specs.Boxes.{HasResult}
-use Rattle.larch_prove_meaning.specs.Plans.{Subgoal}
 use Rattle.larch_methods.specs.Clauses.{IsSupposing}
 use Rattle.larch_prove_invariant.specs.Book.{Done, Kept, Left, Running, SupposingBox, all_left, own_boxes}
 use Rattle.larch_prove_invariant.specs.Ending.{HasAllLeft, StandsAt}
-use Rattle.larch_prove_invariant.specs.Holding.{HasLeft, Holds, Runs, Through}
+use Rattle.larch_prove_invariant.specs.Holding.{HasLeft, Holds, Runs}
 use Rattle.larch_prove_invariant.specs.Leaving.{IsClosedWith, Leaving}
 use Rattle.larch_prove_invariant.proofs.Boxes.{closed_innermost, innermost, through_grows}
 use Rattle.larch_prove_invariant.proofs.Held.{current_said, done_order, holds_grows, idle_boxes, running_is, says_grows}
@@ -125,3 +125,18 @@ pub end_accepted : (t : Theory) (s : Statement) (c : Builder) (u : Statement) (n
 end_accepted t s c u n h w e =
     let start = left_levels t s c [] h in
     subst (λ v. Accepts v u (lines_in c)) start.theory (accepted c n u w start.boxes e)
+
+-- and they can be handed over: where the last line says an equation
+pub end_equation : (t : Theory) (s : Statement) (c : Builder) (l r : Tree) (n : ℕ) → Leaving t s c [] []
+    → HasEquation c n l r → n ≡ length (lines_in c) → IsFinished t (Equation l r) (lines_in c)
+end_equation t s c l r n h w e =
+    let start = left_levels t s c [] h in
+    subst (λ v. IsFinished v (Equation l r) (lines_in c)) start.theory (equation_finished c n l r w start.boxes e)
+
+-- or a clause that the theory doesn't state
+pub end_clause : (t : Theory) (s : Statement) (c : Builder) (u : Statement) (n : ℕ) → Leaving t s c [] []
+    → HasStatement c n u → n ≡ length (lines_in c) → EndsWithoutStatedClause (theory_in c) (lines_in c)
+    → IsFinished t u (lines_in c)
+end_clause t s c u n h w e ends =
+    let start = left_levels t s c [] h in
+    subst (λ v. IsFinished v u (lines_in c)) start.theory (clause_finished c n u w start.boxes e ends)

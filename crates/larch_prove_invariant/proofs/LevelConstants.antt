@@ -9,6 +9,7 @@ use Rattle.larch_term.specs.declared.statement.Statement.{Statement}
 use Rattle.larch_term.specs.declared.statement.Theory.{Theory}
 use Rattle.larch_calculus.specs.Theories.{AreConstants, AreNew}
 use Rattle.larch_derive.specs.Predicates.{Grows}
+use Rattle.larch_derive.specs.Words.{AreWordedOperators}
 use Rattle.larch_derive.specs.declared.builder.Builder.{Builder}
 use Rattle.larch_prove_meaning.specs.Levels.{Level}
 use Rattle.larch_prove_meaning.specs.Plans.{Subgoal}
@@ -30,10 +31,10 @@ levels_grow t s b c cs levels ks g h =
     record { levels_are = h.levels_are; held = holds_grows t s b c ks g h.held; constants = h.constants }
 
 pub levels_more : (t : Theory) (s : Statement) (b : Builder) (cs ds : List PlainOperator) (levels : List Level)
-    (ks : List Kept) → AreNew t (cs ++ ds) → AreConstants ds → HoldsLevels t s b cs levels ks
+    (ks : List Kept) → AreNew t (cs ++ ds) → AreConstants ds → AreWordedOperators ds → HoldsLevels t s b cs levels ks
     → HoldsLevels t s b (cs ++ ds) levels ks
-levels_more t s b cs ds levels ks n a h =
-    record { levels_are = h.levels_are; held = h.held; constants = constants_more t cs ds ks n a h.constants }
+levels_more t s b cs ds levels ks n a w h =
+    record { levels_are = h.levels_are; held = h.held; constants = constants_more t cs ds ks n a w h.constants }
 
 -- ---- the boxes of one level
 
@@ -142,9 +143,9 @@ levels_entered t s b c cs levels k j ks w r m l among own h =
 
 -- the first level, for a duty, in its box if it has one
 pub levels_start : (t : Theory) (s : Statement) (b : Builder) (k : Kept) → Rests k → k.book.extras ≡ []
-    → AreNew t (made_in k.book.entrance) → Holds t s b (k ∷ [])
+    → AreNew t (made_in k.book.entrance) → AreWordedOperators (made_in k.book.entrance) → Holds t s b (k ∷ [])
     → HoldsLevels t s b (made_in k.book.entrance) (k.level ∷ []) (k ∷ [])
-levels_start t s b k r e n h =
+levels_start t s b k r e n w h =
     let cs = made_in k.book.entrance in
     let same : made_in (all_boxes (k ∷ [])) ≡ cs =
     ap made_in (idle_boxes_are k.book r.running
@@ -158,6 +159,7 @@ levels_start t s b k r e n h =
             n.different i j f l m (ap (λ (x : PlainOperator). x.name) q));
         plain = all_from (λ (f : PlainOperator). (f.domain ≡ []) ⊎ Contains cs f) cs (λ f c. inr c);
         new = n;
+        words = w;
       };
     }
 

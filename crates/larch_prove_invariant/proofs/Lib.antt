@@ -11,6 +11,7 @@ pub mod LevelConstants
 pub mod MethodEnds
 pub mod Own
 pub mod PartitionEnd
+pub mod PlanWords
 pub mod Planned
 pub mod Shared
 pub mod Unopened

@@ -7,10 +7,13 @@ use Rattle.larch_term.specs.Truth.{truth}
 use Rattle.larch_term.specs.Variable.{variables_of}
 use Rattle.larch_calculus.specs.Formula.{falsity, implication}
 use Rattle.larch_derive.specs.Predicates.{Grows, HasEquation}
+use Rattle.larch_derive.specs.Words.{IsWordedTerm}
 use Rattle.larch_derive.specs.declared.builder.Builder.{Builder}
 use Rattle.larch_derive.specs.declared.open_box.OpenBox.{OpenBox}
+use Rattle.larch_derive.proofs.Words.{known_worded}
 use Rattle.larch_prove_meaning.specs.Plans.{Cases, Conjunction, Contradiction, Implication, Induction, Method}
 use Rattle.larch_prove_meaning.specs.Plans.{Plan, Subgoal, closed_by, constants_of, fails, holds, plan, shared_subgoal}
+use Rattle.larch_methods.specs.Methods.{IsKnownFormula}
 use Rattle.larch_methods.specs.Opening.{IsShownIn}
 use Rattle.larch_methods.proofs.Begun.{cases_inside, contradiction_inside, implication_inside}
 use Rattle.larch_methods.proofs.Left.{cases_left, conjunction_left, contradiction_left, implication_left}
@@ -20,7 +23,7 @@ use Rattle.larch_methods.proofs.Sharing.{inside_grown}
 use Rattle.larch_prove_invariant.specs.Book.{AtLine, InBox, Left, Running}
 use Rattle.larch_prove_invariant.specs.Ending.{EndsByCases, EndsByConjunction, EndsByContradiction, EndsByImplication}
 use Rattle.larch_prove_invariant.specs.Ending.{EndsByInduction, HasAllLeft}
-use Rattle.larch_prove_invariant.specs.Holding.{HasLeft, Through, entrances, own_shape, said_of, shape_of}
+use Rattle.larch_prove_invariant.specs.Holding.{HasLeft, IsKnownFor, Through, entrances, own_shape, said_of, shape_of}
 use Rattle.larch_prove_invariant.specs.Holding.{shared_shapes}
 use Rattle.larch_prove_invariant.proofs.Shared.{box_own, formula_grows, is_implication, is_induction, no_shapes}
 use Rattle.larch_prove_invariant.proofs.Shared.{shared_box}
@@ -92,6 +95,7 @@ pub cases_end : (a b : Builder) (f goal : Tree) (r : Running) (lefts : List Left
 cases_end a b f goal r lefts e h =
     let p = subst (λ m. plan r.setting goal m ≡ Ok r.plan) e h.planned.planned in
     let q = cases_planned r.setting goal f r.plan p in
+    let known : IsKnownFormula a f = subst (IsKnownFor a) e h.planned.method_known in
     let s = shared_box a b r.plan.constants r.shared
     (subst (λ m. map shape_of r.shared ≡ shared_shapes m r.plan) e h.planned.shared) h.planned.apart h.shared in
     let x = s.around.supposing.box in
@@ -114,7 +118,7 @@ cases_end a b f goal r lefts e h =
       shown = cases_left s.around.outside b x y.0 v.0 r.setting goal f r.plan p s.constants
           (inside_grown s.around.outside s.opened b x (variables_of f)
           (cases_inside s.around.outside s.opened x r.setting goal f r.plan p s.opens s.constants
-          (box_own s.around.outside x r.plan.constants s.constants s.own)) s.grown) back
+          (box_own s.around.outside x r.plan.constants s.constants s.own) (known_worded a f known.known)) s.grown) back
           (formula_grows a s.around.outside goal s.around.grows h.planned.goal_known);
     }
 
@@ -146,7 +150,8 @@ contradiction_end a b goal r lefts e h =
       shown = contradiction_left s.around.outside b x y.0 r.setting goal r.plan p s.constants
           (inside_grown s.around.outside s.opened b x (variables_of goal)
           (contradiction_inside s.around.outside s.opened x r.setting goal r.plan p s.opens s.constants
-          (box_own s.around.outside x r.plan.constants s.constants s.own)) s.grown) back
+          (box_own s.around.outside x r.plan.constants s.constants s.own)
+          (known_worded a goal h.planned.goal_known.known)) s.grown) back
           (formula_grows a s.around.outside goal s.around.grows h.planned.goal_known);
     }
 
@@ -185,7 +190,8 @@ implication_end a b goal r lefts e h =
       shown = implication_left s.around.outside b x y.0 r.setting goal p c r.plan i.1 w s.constants
           (inside_grown s.around.outside s.opened b x (variables_of p)
           (implication_inside s.around.outside s.opened x r.setting goal p c r.plan i.1 w s.opens s.constants
-          (box_own s.around.outside x r.plan.constants s.constants s.own)) s.grown) back
+          (box_own s.around.outside x r.plan.constants s.constants s.own)
+          (subst IsWordedTerm i.1 (known_worded a goal h.planned.goal_known.known)).1.0) s.grown) back
           (formula_grows a s.around.outside goal s.around.grows h.planned.goal_known);
     }
 

@@ -1,6 +1,6 @@
 -- What was left of a partition's subgoals is what its end takes.
 use Rattle.std.specs.Prelude.{◌≡◌, ◌==◌, ℕ, Bool, true, false, cond, List, [], ◌∷◌, ◌++◌, map, bytes_eq, All, Contains}
-use Rattle.std.specs.Prelude.{Ok, Some, codes, refl}
+use Rattle.std.specs.Prelude.{Ok, codes, refl}
 use Rattle.std.specs.List.{AllZip}
 use Rattle.std.proofs.Common.{ap, subst, sym, ◌∙◌}
 use Rattle.std.proofs.lemmas.List.Elements.{All-head, All-tail}
@@ -12,7 +12,7 @@ use Rattle.larch_term.specs.OperatorKey.{operator_Decides}
 use Rattle.larch_term.specs.Sorts.{sort_of}
 use Rattle.larch_term.specs.Tree.{Forest, Tree, app, none, more}
 use Rattle.larch_term.specs.declared.built_in.BuiltIn.TheVariants.{Equal}
-use Rattle.larch_term.specs.declared.statement.Statement.TheVariants.{Equation, Partitioned}
+use Rattle.larch_term.specs.declared.statement.Statement.TheVariants.{Equation}
 use Rattle.larch_calculus.specs.Formula.{apply_two, constant, equality, equivalence, formula}
 use Rattle.larch_calculus.specs.Observation.{Observation, observations_of, places_of_sort}
 use Rattle.larch_calculus.proofs.Observed.{observation_is}
@@ -22,10 +22,9 @@ use Rattle.larch_derive.specs.declared.open_box.OpenBox.{OpenBox}
 use Rattle.larch_derive_boxes.specs.Boxes.{HasResult}
 use Rattle.larch_rewrite_meaning.specs.Sides.{Sides}
 use Rattle.larch_prove_meaning.specs.NewNames.{constant_named, free_name, new_constants}
-use Rattle.larch_prove_meaning.specs.Plans.{Partition, Setting, Subgoal, a_variable, arguments_around, names_of}
-use Rattle.larch_prove_meaning.specs.Plans.{other_sorts, partition_subgoals, plan, shown, taken_beside, two_arguments}
+use Rattle.larch_prove_meaning.specs.Plans.{Partition, Subgoal, a_variable, arguments_around, names_of}
+use Rattle.larch_prove_meaning.specs.Plans.{other_sorts, partition_subgoals, plan, shown, taken_beside}
 use Rattle.larch_prove_meaning.proofs.CasePlans.{arguments_found}
-use Rattle.larch_methods.specs.Methods.{IsKnownFormula}
 use Rattle.larch_methods.specs.Opening.{IsShownIn}
 use Rattle.larch_methods.proofs.Left.{partition_left}
 use Rattle.larch_methods.proofs.Planned.{partition_planned}
@@ -144,8 +143,8 @@ results b s l r taken (w ∷ ws) (x ∷ xs) p h =
 known_sides : (b : Builder) (f : PlainOperator) (t u : Tree) → Known b (apply_two f t u) → Known b t × Known b u
 unfolding Known
 known_sides b f t u (st, k) = (
-  (st, record { stand = k.stand; over = (k.over.0.1.0, k.over.1.1.0) }),
-  (st, record { stand = k.stand; over = (k.over.0.1.1.0, k.over.1.1.1.0) }),
+  (st, record { stand = k.stand; over = (k.over.0.1.0, k.over.1.1.0); words = k.words.1.0 }),
+  (st, record { stand = k.stand; over = (k.over.0.1.1.0, k.over.1.1.1.0); words = k.words.1.1.0 }),
 )
 
 two_same : (x y z : List ℕ) → x ∷ y ∷ [] ≡ z ∷ z ∷ [] → x ≡ y

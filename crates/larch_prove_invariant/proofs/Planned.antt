@@ -1,5 +1,5 @@
 -- A method that may begin has its plan, and each subgoal's goal can be written in its box.
-use Rattle.std.specs.Prelude.{◌≡◌, ℕ, List, [], ◌∷◌, ◌++◌, map, All, Contains, Ok, Option, None, Some, Result, bytes_eq}
+use Rattle.std.specs.Prelude.{◌≡◌, List, [], ◌∷◌, ◌++◌, map, All, Contains, Ok, Option, None, Some, Result, bytes_eq}
 use Rattle.std.specs.Prelude.{find, option_map, refl}
 use Rattle.std.specs.List.{flat_map}
 use Rattle.std.proofs.Common.{ap, inl, inr, subst, sym, ◌∙◌}
@@ -19,14 +19,15 @@ use Rattle.larch_term.specs.Variable.{variables_of}
 use Rattle.larch_term.specs.declared.built_in.BuiltIn.TheVariants.{And, Equal, False, True}
 use Rattle.larch_term.specs.declared.statement.Statement.{Statement}
 use Rattle.larch_term.specs.declared.statement.Theory.{Theory}
-use Rattle.larch_term.specs.declared.variable.Variable.{Variable}
 use Rattle.larch_calculus.specs.Observation.{observations_of}
 use Rattle.larch_calculus.proofs.Sorted.{Knows, knows_more, statement_over_more, term_over_more}
 use Rattle.larch_derive.specs.Builder.{boxes_in, theory_in}
 use Rattle.larch_derive.specs.Predicates.{AreOthers, Known}
+use Rattle.larch_derive.specs.Words.{AreWordedOperators, AreWordedStatements, IsWordedOperator, IsWordedTerm}
 use Rattle.larch_derive.specs.declared.builder.Builder.{Builder}
 use Rattle.larch_derive.specs.declared.open_box.OpenBox.{OpenBox}
 use Rattle.larch_derive.proofs.Growth.{known_right}
+use Rattle.larch_derive.proofs.Words.{known_worded}
 use Rattle.larch_derive_boxes.specs.Boxes.{IsPart}
 use Rattle.larch_prove_meaning.specs.Levels.{EarlierDuty, Level, Proof, all_constants}
 use Rattle.larch_prove_meaning.specs.Plans.{Cases, Conjunction, Contradiction, Implication, Induction, IsFormulaOver}
@@ -39,8 +40,9 @@ use Rattle.larch_prove_meaning.specs.WellSorted.{IsLevelOver, IsWellSortedProof}
 use Rattle.larch_prove_meaning.proofs.PlanParts.{ok_same}
 use Rattle.larch_prove_meaning.proofs.PlanSorts.{plan_over}
 use Rattle.larch_methods.specs.Methods.{IsKnownFormula}
-use Rattle.larch_methods.proofs.Planned.{conjunction_planned}
-use Rattle.larch_prove_invariant.specs.Book.{Kept, Running, SupposingBox, made_in, shared_boxes}
+use Rattle.larch_methods.proofs.Planned.{cases_planned, conjunction_planned, contradiction_planned}
+use Rattle.larch_methods.proofs.Planned.{implication_planned}
+use Rattle.larch_prove_invariant.specs.Book.{Kept, Running, SupposingBox, made_in}
 use Rattle.larch_prove_invariant.specs.Holding.{AreOwn, HoldsLevels, HoldsProof, IsKnownFor, IsPlanned, Shape, Through}
 use Rattle.larch_prove_invariant.specs.Holding.{entrances, open_constants, shape_of, shared_shapes, theory_for}
 use Rattle.larch_prove_invariant.proofs.Boxes.{through_boxes, through_stands}
@@ -48,6 +50,10 @@ use Rattle.larch_prove_invariant.proofs.BlockConstants.{boxes_append, boxes_made
 use Rattle.larch_prove_invariant.proofs.Held.{boxes_held, current_said, holding_stands, running_is, shared_is}
 use Rattle.larch_prove_invariant.proofs.Knowing.{known_over, open_known}
 use Rattle.larch_prove_invariant.proofs.Own.{plan_others, shared_own, subgoal_constant, subgoals_own}
+use Rattle.larch_prove_invariant.proofs.PlanWords.{IsWordedFor, IsWordedSubgoal, cases_worded, contradiction_worded}
+use Rattle.larch_prove_invariant.proofs.PlanWords.{implication_worded, method_worded, own_worded, plan_worded}
+use Rattle.larch_prove_invariant.proofs.PlanWords.{planned_worded, stated_worded}
+use Rattle.larch_prove_invariant.proofs.Shared.{is_implication}
 
 -- ---- plans
 
@@ -197,6 +203,47 @@ shared_hold setting goal Partition made f e c =
     (λ os w. made_bare (partition_subgoals (taken_beside setting.taken goal) p.0 p.1
     (observations_of (sort_of p.0) os)) made w) q) e) c
 
+-- the sorts of the shared constants are words
+shared_worded : (setting : Setting) (goal : Tree) (method : Method) (made : Plan) → IsWordedTerm goal
+    → IsWordedFor method → plan setting goal method ≡ Ok made → AreWordedOperators made.constants
+shared_worded setting goal (Cases f) made w v e =
+    subst (λ (m : Plan). AreWordedOperators m.constants) (sym (cases_planned setting goal f made e))
+    (cases_worded setting.taken goal f w v).constants
+shared_worded setting goal Implication made w v e =
+    let i = is_implication setting goal made e in
+    let words = subst IsWordedTerm i.1 w in
+    subst (λ (m : Plan). AreWordedOperators m.constants)
+    (sym (implication_planned setting goal i.0.0 i.0.1 made i.1 e))
+    (implication_worded setting.taken goal i.0.0 i.0.1 words.1.0 words.1.1.0).constants
+shared_worded setting goal Conjunction made w v e =
+    all_from IsWordedOperator made.constants (λ f c.
+    absurd (contains_none f (shared_hold setting goal Conjunction made f e c)))
+shared_worded setting goal Contradiction made w v e =
+    subst (λ (m : Plan). AreWordedOperators m.constants) (sym (contradiction_planned setting goal made e))
+    (contradiction_worded setting.taken goal w).constants
+shared_worded setting goal (Induction n) made w v e =
+    all_from IsWordedOperator made.constants (λ f c.
+    absurd (contains_none f (shared_hold setting goal (Induction n) made f e c)))
+shared_worded setting goal Partition made w v e =
+    all_from IsWordedOperator made.constants (λ f c.
+    absurd (contains_none f (shared_hold setting goal Partition made f e c)))
+
+-- and so are those of all constants of a plan
+pub made_worded : (s : Statement) (b : Builder) (p : Proof) (k : Kept) (ks : List Kept) (method : Method)
+    (made : Plan) → HoldsProof s b p (k ∷ ks) → IsWellSortedProof p → IsKnownFor b method
+    → plan (setting_of p) p.current.goal method ≡ Ok made → AreWordedOperators (all_constants made)
+made_worded s b p k ks method made h w m e =
+    let t = theory_for p in
+    let known = goal_known s b p k ks h w in
+    let goal = subst (λ (l : Level). IsWordedTerm l.goal) (current_level s b p k ks h)
+    (known_worded b k.level.goal known.known) in
+    let clauses = subst (λ (u : Theory). AreWordedStatements (statement_zero ∷ u.statements))
+    (boxes_held t s b (k ∷ ks) h.levels.held).0 (stated_worded b (holding_stands t s b (k ∷ ks) h.levels.held)) in
+    let words = method_worded b method m in
+    All-append IsWordedOperator made.constants (flat_map (λ (z : Subgoal). z.constants) made.subgoals)
+    (shared_worded (setting_of p) p.current.goal method made goal words e)
+    (own_worded made.subgoals (plan_worded (setting_of p) p.current.goal method made clauses goal words e))
+
 -- a conjunct has no constants of its own, and other subgoals have theirs in their box
 own_hold : (setting : Setting) (goal : Tree) (method : Method) (made : Plan) (g : Subgoal) (f : PlainOperator)
     → plan setting goal method ≡ Ok made → Contains made.subgoals g → Contains g.constants f
@@ -294,14 +341,17 @@ subgoal_known t s b d cs levels k ks r g xs h e c n q =
       known = open_known d g.goal (through_stands b d xs n (holding_stands t s b (k ∷ ks) h.held)) parts
           (term_over_more (((theory_in l.outside).operators ++ open_constants l.outside)
           ++ (r.plan.constants ++ g.constants)) ((theory_in d).operators ++ open_constants d)
-          (all_open l.outside b d r g xs k.level.goal m p c n q) g.goal over.1.0);
+          (all_open l.outside b d r g xs k.level.goal m p c n q) g.goal over.1.0)
+          (All-contains IsWordedSubgoal r.plan.subgoals g
+          (planned_worded l.outside b k.level.goal r p) c).goal;
       sort = over.1.1;
     }
 
 -- terms over the theory's operators and the constants of open boxes can be written
 pub levels_known : (t : Theory) (s : Statement) (b : Builder) (cs : List PlainOperator) (levels : List Level)
     (ks : List Kept) (a : Tree) → HoldsLevels t s b cs levels ks → IsTermOver (t.operators ++ open_constants b) a
-    → Known b a
-levels_known t s b cs levels ks a h w =
+    → IsWordedTerm a → Known b a
+levels_known t s b cs levels ks a h w words =
     open_known b a (holding_stands t s b ks h.held) (open_parts t s b cs ks h.held h.constants)
     (subst (λ (u : Theory). IsTermOver (u.operators ++ open_constants b) a) (sym (boxes_held t s b ks h.held).0) w)
+    words

@@ -1,12 +1,11 @@
 -- When a box is opened for each constant of a term that isn't open, the term can be written.
-use Rattle.std.specs.Prelude.{◌≡◌, ◌&&◌, ◌||◌, ◌⊎◌, Bool, true, false, cond, not, List, [], ◌∷◌, ◌++◌, All, Contains}
-use Rattle.std.specs.Prelude.{None, Some, refl}
-use Rattle.std.specs.List.{list_any}
+use Rattle.std.specs.Prelude.{◌≡◌, ◌&&◌, ◌||◌, ◌⊎◌, Bool, true, false, cond, not, List, [], ◌∷◌, ◌++◌, Contains}
+use Rattle.std.specs.Prelude.{None, refl}
 use Rattle.std.proofs.Common.{ap, ap₂, inl, inr, subst, sym, ◌∙◌, arith}
 use Rattle.std.proofs.lemmas.List.{append_assoc, append-nil}
 use Rattle.std.proofs.lemmas.List.Elements.{All-cons, All-contains, All-nil}
 use Rattle.larch_base.proofs.Members.{contains_cases, contains_either, contains_here, contains_later, contains_left}
-use Rattle.larch_base.proofs.Members.{contains_none, contains_one, contains_right}
+use Rattle.larch_base.proofs.Members.{contains_none, contains_right}
 use Rattle.larch_term.specs.Equality.{same_operator}
 use Rattle.larch_term.specs.Operator.{PlainOperator}
 use Rattle.larch_term.specs.OperatorKey.{operator_Decides}
@@ -14,14 +13,14 @@ use Rattle.larch_term.specs.Sorts.{AllOver, IsKnown, IsOver, IsTermOver}
 use Rattle.larch_term.specs.Tree.{Forest, Tree, var, app, none, more}
 use Rattle.larch_term.specs.declared.statement.Statement.{Statement}
 use Rattle.larch_term.specs.declared.statement.Theory.{Theory}
-use Rattle.larch_derive.specs.Builder.{boxes_in, theory_in}
+use Rattle.larch_derive.specs.Builder.{boxes_in}
 use Rattle.larch_derive.specs.OpenBox.{constant_of}
 use Rattle.larch_derive.specs.Predicates.{Known}
+use Rattle.larch_derive.specs.Words.{IsWordedTerm}
 use Rattle.larch_derive.specs.declared.builder.Builder.{Builder}
-use Rattle.larch_derive_boxes.specs.Boxes.{IsPart}
 use Rattle.larch_prove_meaning.specs.Levels.{Level}
-use Rattle.larch_prove_invariant.specs.Book.{Kept, all_boxes, made_first, made_in}
-use Rattle.larch_prove_invariant.specs.Holding.{AreOwn, HasConstants, Holds, HoldsLevels, open_constants}
+use Rattle.larch_prove_invariant.specs.Book.{Kept, made_first}
+use Rattle.larch_prove_invariant.specs.Holding.{AreOwn, HoldsLevels, open_constants}
 use Rattle.larch_prove_invariant.specs.Unopened.{is_among, operators_in, operators_in_all, unopened_in, unopened_of}
 use Rattle.larch_prove_invariant.proofs.Apart.{not_constant}
 use Rattle.larch_prove_invariant.proofs.BlockConstants.{first_among, open_made, open_parts}
@@ -198,9 +197,9 @@ next_unopened block opened t done f rest e =
 -- where all are open that weren't, the term can be written
 pub unopened_known : (t : Theory) (s : Statement) (c : Builder) (cs opened : List PlainOperator) (levels : List Level)
     (ks : List Kept) (a : Tree) → HoldsLevels t s c cs levels ks → open_constants c ≡ opened ++ unopened_in cs opened a
-    → IsTermOver (t.operators ++ cs) a → Known c a
-unopened_known t s c cs opened levels ks a h e w =
+    → IsTermOver (t.operators ++ cs) a → IsWordedTerm a → Known c a
+unopened_known t s c cs opened levels ks a h e w words =
     let theory = (boxes_held t s c ks h.held).0 in
     open_known c a (holding_stands t s c ks h.held) (open_parts t s c cs ks h.held h.constants)
     (subst (λ (u : Theory). IsTermOver (u.operators ++ open_constants c) a) (sym theory)
-    (subst (λ fs. IsTermOver (t.operators ++ fs) a) (sym e) (unopened_over t.operators cs opened a w)))
+    (subst (λ fs. IsTermOver (t.operators ++ fs) a) (sym e) (unopened_over t.operators cs opened a w))) words

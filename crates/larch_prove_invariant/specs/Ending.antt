@@ -21,7 +21,7 @@ use Rattle.larch_methods.specs.Conjuncts.{AreTrue}
 use Rattle.larch_methods.specs.Methods.{ByCases, ByContradiction, ByImplication, ByInduction, IsKnownFormula, IsStated}
 use Rattle.larch_methods.specs.Observers.{ByObservers}
 use Rattle.larch_prove_invariant.specs.Book.{AtLine, InBox, Kept, Left, Running, SupposingBox, own_boxes}
-use Rattle.larch_prove_invariant.specs.Holding.{HasLeft, Holds, IsPlanned, Says, Through}
+use Rattle.larch_prove_invariant.specs.Holding.{HasLeft, IsPlanned, Says, Through}
 use Rattle.larch_prove_invariant.specs.Leaving.{Leaving}
 
 -- the builder stands in a level's own boxes alone, where lines say of it what there is to say; the levels below are

@@ -11,9 +11,10 @@ use Rattle.larch_term.specs.declared.statement.Statement.TheVariants.{Equation, 
 use Rattle.larch_term.specs.declared.statement.Theory.{Theory}
 use Rattle.larch_calculus.specs.Formula.{falsity, formula, implication}
 use Rattle.larch_calculus.specs.Theories.{AreNew, with_statements}
-use Rattle.larch_verify_meaning.specs.Acceptance.{Accepts}
 use Rattle.larch_derive.specs.Builder.{boxes_in, lines_in, theory_in}
+use Rattle.larch_derive.specs.Finished.{IsFinished}
 use Rattle.larch_derive.specs.Predicates.{Grows, HasEquation, HasNoBadLine}
+use Rattle.larch_derive.specs.Words.{AreWordedOperators}
 use Rattle.larch_derive.specs.declared.builder.Builder.{Builder}
 use Rattle.larch_derive_boxes.specs.Boxes.{AreOwnConstants, IsOpen, Opens}
 use Rattle.larch_rewrite_meaning.specs.Sides.{Sides}
@@ -243,13 +244,14 @@ abbrev pub IsIdle : List Kept → Type 0
 IsIdle [] = ⊥
 IsIdle (k ∷ ks) = k.book.running ≡ None
 
--- The constants of a block: those that the boxes of levels make are among them, each in one place; all have new names
--- and are constants, but for a predicate for which the lowest level was entered.
+-- The constants of a block: those that the boxes of levels make are among them, each in one place; all have new names,
+-- their sorts are words, and they are constants, but for a predicate for which the lowest level was entered.
 pub record HasConstants (t : Theory) (cs : List PlainOperator) (ks : List Kept) : Type 0 where
   pub among : All (Contains cs) (made_in (all_boxes ks))
   pub once : AllPairs (λ f g. f ≢ g) (made_in (all_boxes ks))
   pub plain : All (λ f. (f.domain ≡ []) ⊎ Contains (made_first ks) f) cs
   pub new : AreNew t cs
+  pub words : AreWordedOperators cs
 
 -- a builder holds levels of a proof of a statement whose block has made these constants: of each what is kept of it
 pub record HoldsLevels (t : Theory) (s : Statement) (b : Builder) (cs : List PlainOperator) (levels : List Level)
@@ -264,8 +266,9 @@ pub record HoldsProof (s : Statement) (b : Builder) (p : Proof) (ks : List Kept)
   pub idle : IsIdle ks
 
 -- behind each command: a builder holds the proof, or where that is done its lines are a certificate of the statement
+-- that can be handed over
 abbrev pub HoldsState : Statement → Builder → Proof → List Kept → Type 0
 HoldsState s b p ks = elim p.is_proved [
-  | true ↦ Accepts (theory_for p) s (lines_in b)
+  | true ↦ IsFinished (theory_for p) s (lines_in b)
   | false ↦ HoldsProof s b p ks
 ]

@@ -7,6 +7,7 @@ ghost use Rattle.larch_term.specs.declared.statement.Theory.{Theory};
 ghost use Rattle.larch_calculus.specs.Theories.{AreConstants, AreNew};
 ghost use Rattle.larch_derive.specs.Builder.{boxes_in, theory_in};
 ghost use Rattle.larch_derive.specs.Predicates.{AreOthers, Grows};
+ghost use Rattle.larch_derive.specs.Words.{AreWordedOperators};
 ghost use Rattle.larch_derive.specs.declared.builder.Builder.{Builder};
 ghost use Rattle.larch_derive.specs.declared.open_box.OpenBox.{OpenBox};
 ghost use Rattle.larch_derive_boxes.specs.Boxes.{AreOwnConstants, IsPart};
@@ -27,7 +28,7 @@ ghost use Rattle.larch_prove_invariant.specs.Leaving.{Leaving};
 /// goes on, and where a level is entered or left. The first level begins with what its box makes.
 pub fn levels_keep_constants()
     ensures starts { (t : Theory) (s : Statement) (b : Builder) (k : Kept) → Rests k → k.book.extras ≡ []
-        → AreNew t (made_in k.book.entrance) → Holds t s b (k ∷ [])
+        → AreNew t (made_in k.book.entrance) → AreWordedOperators (made_in k.book.entrance) → Holds t s b (k ∷ [])
         → HoldsLevels t s b (made_in k.book.entrance) (k.level ∷ []) (k ∷ []) }
     ensures grows { (t : Theory) (s : Statement) (b c : Builder) (cs : List PlainOperator) (levels : List Level)
         (ks : List Kept) → Grows b c → HoldsLevels t s b cs levels ks → HoldsLevels t s c cs levels ks }
@@ -35,8 +36,8 @@ pub fn levels_keep_constants()
         (k j : Kept) (ks : List Kept) → Grows b c → IsWorkedOn k j → Says c j → HoldsLevels t s b cs levels (k ∷ ks)
         → HoldsLevels t s c cs (levels_of (j ∷ ks)) (j ∷ ks) }
     ensures made { (t : Theory) (s : Statement) (b : Builder) (cs ds : List PlainOperator) (levels : List Level)
-        (ks : List Kept) → AreNew t (cs ++ ds) → AreConstants ds → HoldsLevels t s b cs levels ks
-        → HoldsLevels t s b (cs ++ ds) levels ks }
+        (ks : List Kept) → AreNew t (cs ++ ds) → AreConstants ds → AreWordedOperators ds
+        → HoldsLevels t s b cs levels ks → HoldsLevels t s b (cs ++ ds) levels ks }
     ensures extra { (t : Theory) (s : Statement) (b c : Builder) (cs : List PlainOperator) (levels : List Level)
         (x : SupposingBox) (k : Kept) (ks : List Kept) → Through b (x ∷ []) c → k.book.running ≡ None
         → All (Contains cs) x.box.constants → AreOwn b x.box.constants → HoldsLevels t s b cs levels (k ∷ ks)
@@ -77,9 +78,8 @@ pub fn constants_are_apart()
         (ks : List Kept) → HoldsLevels t s b cs levels ks → All IsPart cs × All IsPart (open_constants b) }
 {}
 
-/// In the middle of a step, when a plan is made: what it makes has new names beside the block's constants, and is
-/// neither
-/// the theory's nor built in. And a method whose shared box is opened has its plan.
+/// In the middle of a step, when a plan is made: what it makes has new names beside the block's constants, is neither
+/// the theory's nor built in, and its sorts are words. And a method whose shared box is opened has its plan.
 pub fn constants_of_plans()
     ensures new { (p : Proof) (method : Method) (made : Plan) → AreNew p.theory p.constants
         → plan (setting_of p) p.current.goal method ≡ Ok made
@@ -87,6 +87,9 @@ pub fn constants_of_plans()
     ensures others { (s : Statement) (b : Builder) (p : Proof) (ks : List Kept) (method : Method) (made : Plan)
         → HoldsProof s b p ks → plan (setting_of p) p.current.goal method ≡ Ok made
         → AreOthers (theory_in b) (all_constants made) }
+    ensures words { (s : Statement) (b : Builder) (p : Proof) (k : Kept) (ks : List Kept) (method : Method)
+        (made : Plan) → HoldsProof s b p (k ∷ ks) → IsWellSortedProof p → IsKnownFor b method
+        → plan (setting_of p) p.current.goal method ≡ Ok made → AreWordedOperators (all_constants made) }
     ensures planned { (s : Statement) (b c : Builder) (p : Proof) (k : Kept) (ks : List Kept) (r : Running)
         → HoldsProof s b p (k ∷ ks) → IsWellSortedProof p → r.setting ≡ setting_of p
         → plan (setting_of p) p.current.goal r.method ≡ Ok r.plan → IsKnownFor b r.method

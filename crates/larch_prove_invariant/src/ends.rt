@@ -8,7 +8,9 @@ ghost use Rattle.larch_term.specs.declared.statement.Statement.{Statement};
 ghost use Rattle.larch_term.specs.declared.statement.Statement.TheVariants.{Equation, Generated, Partitioned};
 ghost use Rattle.larch_term.specs.declared.statement.Theory.{Theory};
 ghost use Rattle.larch_verify_meaning.specs.Acceptance.{Accepts};
-ghost use Rattle.larch_derive.specs.Builder.{lines_in};
+ghost use Rattle.larch_verify_meaning.specs.LastLine.{EndsWithoutStatedClause};
+ghost use Rattle.larch_derive.specs.Builder.{lines_in, theory_in};
+ghost use Rattle.larch_derive.specs.Finished.{IsFinished};
 ghost use Rattle.larch_derive.specs.Predicates.{Grows, HasEquation, HasStatement};
 ghost use Rattle.larch_derive.specs.declared.builder.Builder.{Builder};
 ghost use Rattle.larch_derive_boxes.specs.Boxes.{HasResult};
@@ -77,8 +79,14 @@ pub fn clauses_end()
 {}
 
 /// Where all boxes of the lowest level are closed, the lines are a certificate that is accepted for what the last of
-/// them says: for an equation as for a clause.
+/// them says: for an equation as for a clause. It can be handed over, too: it can be written, and its last line isn't
+/// an axiom line of a clause, be it that it says an equation, or that the call that ended a clause wrote another one.
 pub fn proofs_are_accepted()
-    ensures { (t : Theory) (s : Statement) (c : Builder) (u : Statement) (n : ℕ) → Leaving t s c [] []
+    ensures accepted { (t : Theory) (s : Statement) (c : Builder) (u : Statement) (n : ℕ) → Leaving t s c [] []
         → HasStatement c n u → n ≡ length (lines_in c) → Accepts t u (lines_in c) }
+    ensures equation { (t : Theory) (s : Statement) (c : Builder) (l r : Tree) (n : ℕ) → Leaving t s c [] []
+        → HasEquation c n l r → n ≡ length (lines_in c) → IsFinished t (Equation l r) (lines_in c) }
+    ensures clause { (t : Theory) (s : Statement) (c : Builder) (u : Statement) (n : ℕ) → Leaving t s c [] []
+        → HasStatement c n u → n ≡ length (lines_in c) → EndsWithoutStatedClause (theory_in c) (lines_in c)
+        → IsFinished t u (lines_in c) }
 {}

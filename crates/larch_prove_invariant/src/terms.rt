@@ -7,6 +7,7 @@ ghost use Rattle.larch_term.specs.declared.statement.Statement.{Statement};
 ghost use Rattle.larch_term.specs.declared.statement.Theory.{Theory};
 ghost use Rattle.larch_derive.specs.Builder.{theory_in};
 ghost use Rattle.larch_derive.specs.Predicates.{Known, HasNoBadLine};
+ghost use Rattle.larch_derive.specs.Words.{IsWordedTerm};
 ghost use Rattle.larch_derive.specs.declared.builder.Builder.{Builder};
 ghost use Rattle.larch_derive_boxes.specs.Boxes.{IsPart};
 ghost use Rattle.larch_methods.specs.Methods.{IsKnownFormula};
@@ -18,13 +19,13 @@ ghost use Rattle.larch_prove_invariant.specs.Holding.{AreOwn, HoldsLevels, Holds
 ghost use Rattle.larch_prove_invariant.specs.Holding.{open_constants, shape_of};
 ghost use Rattle.larch_prove_invariant.specs.Unopened.{unopened_in};
 
-/// Terms over the theory's operators and the constants of open boxes can be written, and no others.
+/// Terms in words over the theory's operators and the constants of open boxes can be written, and no others.
 pub fn open_terms_are_known()
     ensures builder { (b : Builder) (a : Tree) → HasNoBadLine b → All IsPart (open_constants b)
-        → IsTermOver ((theory_in b).operators ++ open_constants b) a → Known b a }
+        → IsTermOver ((theory_in b).operators ++ open_constants b) a → IsWordedTerm a → Known b a }
     ensures levels { (t : Theory) (s : Statement) (b : Builder) (cs : List PlainOperator) (levels : List Level)
         (ks : List Kept) (a : Tree) → HoldsLevels t s b cs levels ks
-        → IsTermOver (t.operators ++ open_constants b) a → Known b a }
+        → IsTermOver (t.operators ++ open_constants b) a → IsWordedTerm a → Known b a }
     ensures no_others { (b : Builder) (a : Tree) → Known b a
         → IsTermOver ((theory_in b).operators ++ open_constants b) a }
 {}
@@ -40,7 +41,7 @@ pub fn subgoals_are_known()
 {}
 
 /// A term of a command names constants of the block, some of which may not be open. Each of these in turn is a box's
-/// own when those before it are open; and when all are, the term can be written.
+/// own when those before it are open; and when all are, the term can be written, if it is in words.
 pub fn unopened_constants()
     ensures next { (block opened : List PlainOperator) (t : Tree) (done : List PlainOperator) (f : PlainOperator)
         (rest : List PlainOperator) → unopened_in block opened t ≡ done ++ f ∷ rest
@@ -50,5 +51,6 @@ pub fn unopened_constants()
         → (Contains (open_constants b) f → ⊥) → AreOwn b (f ∷ []) }
     ensures known { (t : Theory) (s : Statement) (c : Builder) (cs opened : List PlainOperator) (levels : List Level)
         (ks : List Kept) (a : Tree) → HoldsLevels t s c cs levels ks
-        → open_constants c ≡ opened ++ unopened_in cs opened a → IsTermOver (t.operators ++ cs) a → Known c a }
+        → open_constants c ≡ opened ++ unopened_in cs opened a → IsTermOver (t.operators ++ cs) a → IsWordedTerm a
+        → Known c a }
 {}
