@@ -66,7 +66,6 @@ impl Folder for MemoryFolder {
         ensures fails { (result ≡ Err folder_failed) ↔ Contains self.old.calls.failing self.new.calls.made }
     {
         self.calls.begin()?;
-        let bytes = self.files.read_file(alloc, name)?;
-        Ok(bytes)
+        self.files.read_file(alloc, name)
     }
 }
