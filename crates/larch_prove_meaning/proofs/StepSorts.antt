@@ -421,7 +421,7 @@ kind_keeps t ls cs (command.BoxChecking false) p q g h k =
 kind_keeps t ls cs c p q g h k = carried_keeps t ls cs c p q g h (in_turn c p q k)
 
 -- a command that is counted, or a line that is none
-step_cases : (c : CommandKind) (p q : Proof) → step c p ≡ Ok q → count_command c p ≡ Ok q
+pub step_cases : (c : CommandKind) (p q : Proof) → step c p ≡ Ok q → count_command c p ≡ Ok q
 unfolding step
 step_cases (command.Bad code) p q k = cc
 step_cases c p q k = k
