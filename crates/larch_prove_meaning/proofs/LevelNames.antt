@@ -1,9 +1,7 @@
 -- The names of facts stay different where goals are opened and proved.
-use Rattle.std.specs.Prelude.{◌≡◌, ◌≢◌, ◌<◌, ◌≤◌, ◌+◌, ℕ, Bool, true, false, List, [], ◌∷◌, All, Result, Ok, Err, refl}
-use Rattle.std.proofs.Common.{ap, arith, subst, sym, ◌∙◌}
+use Rattle.std.specs.Prelude.{◌≡◌, ◌≤◌, ◌+◌, ℕ, Bool, true, false, List, [], ◌∷◌, All, Ok}
+use Rattle.std.proofs.Common.{ap, arith, subst, sym}
 use Rattle.std.proofs.lemmas.List.Elements.{All-cons, All-head, All-tail, All-weaker}
-use Rattle.larch_base.specs.declared.code.Code.{Code}
-use Rattle.larch_base.specs.declared.fact_name.FactLetter.{FactLetter}
 use Rattle.larch_base.specs.declared.fact_name.FactLetter.TheVariants.{Derived, Hypothesis}
 use Rattle.larch_base.specs.declared.fact_name.FactName.{FactName}
 use Rattle.larch_traits_items.specs.Steps.{after}

@@ -1,7 +1,7 @@
 -- The facts with which a duty is opened have different names.
-use Rattle.std.specs.Prelude.{◌≡◌, ◌≢◌, ◌<◌, ℕ, suc, List, [], ◌∷◌, ◌++◌, map, codes, get_or, All, Ok, refl}
-use Rattle.std.specs.List.{AllPairs, flat_map}
-use Rattle.std.proofs.Common.{arith, subst, sym, ◌∙◌}
+use Rattle.std.specs.Prelude.{◌≡◌, ◌≢◌, ◌<◌, ℕ, suc, List, [], ◌∷◌, map, codes, get_or, All, Ok, refl}
+use Rattle.std.specs.List.{flat_map}
+use Rattle.std.proofs.Common.{arith, subst, sym}
 use Rattle.std.proofs.lemmas.List.Elements.{All-head, All-nil, All-tail, All-weaker}
 use Rattle.larch_base.specs.declared.code.Code.TheVariants as refusal
 use Rattle.larch_base.specs.declared.fact_name.FactLetter.TheVariants.{Axiom, Derived, Hypothesis, Lemma}
@@ -13,24 +13,24 @@ use Rattle.larch_term.specs.Operator.{PlainOperator, plain}
 use Rattle.larch_term.specs.Tree.{var}
 use Rattle.larch_term.specs.declared.statement.Statement.{Statement}
 use Rattle.larch_term.specs.declared.statement.Statement.TheVariants.{Equation, Generated, Partitioned}
-use Rattle.larch_calculus.specs.Formula.{apply_one, constant, equality, formula}
+use Rattle.larch_calculus.specs.Formula.{apply_one, constant, equality}
 use Rattle.larch_calculus.specs.Generation.{generation_formula, place_name}
 use Rattle.larch_calculus.specs.Observation.{observations}
 use Rattle.larch_traits_items.specs.Steps.{after}
 use Rattle.larch_rewrite_meaning.specs.Sides.{Sides, sides_of}
 use Rattle.larch_prove_meaning.specs.Facts.{Fact, whole_name}
-use Rattle.larch_prove_meaning.specs.Levels.{EarlierDuty, Level, Proof, add_equation, all_serve, all_supposed}
+use Rattle.larch_prove_meaning.specs.Levels.{EarlierDuty, Proof, add_equation, all_serve}
 use Rattle.larch_prove_meaning.specs.Levels.{normal_goal, settle_goal, with_constants, with_goal}
 use Rattle.larch_prove_meaning.specs.Named.{HasGivenNumber, HaveDifferentNames, HaveDifferentNumbers, IsNamedLevel}
 use Rattle.larch_prove_meaning.specs.Named.{IsNamedProof}
 use Rattle.larch_prove_meaning.specs.NewNames.{constant_named, free_name}
 use Rattle.larch_prove_meaning.specs.Plans.{holds}
 use Rattle.larch_prove_meaning.specs.Replays.{AtOpening, Duty, InPreamble, all_prepared, begun_with, blank, duty_opened}
-use Rattle.larch_prove_meaning.specs.Replays.{each_added, goal_made, lemmas_added, locate, prepare, scope_of}
+use Rattle.larch_prove_meaning.specs.Replays.{each_added, goal_made, lemmas_added, locate, prepare}
 use Rattle.larch_prove_meaning.specs.Replays.{theory_added, told_number}
-use Rattle.larch_prove_meaning.specs.Steps.{refer, taken_names, with_all_new}
+use Rattle.larch_prove_meaning.specs.Steps.{refer, taken_names}
 use Rattle.larch_prove_meaning.proofs.AddingNames.{HasOtherName}
-use Rattle.larch_prove_meaning.proofs.LevelNames.{Added, Is, added_named, all_supposed_go, normal_goes, settled_goes}
+use Rattle.larch_prove_meaning.proofs.LevelNames.{Is, added_named, all_supposed_go, normal_goes, settled_goes}
 use Rattle.larch_prove_meaning.proofs.LevelSorts.{between, ok_inj, unless_passed}
 use Rattle.larch_prove_meaning.proofs.StepNames.{named_of}
 use Rattle.larch_prove_meaning.proofs.StepSorts.{located_done, replied}

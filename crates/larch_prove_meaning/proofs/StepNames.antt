@@ -1,6 +1,6 @@
 -- Each command leaves the names of facts different.
-use Rattle.std.specs.Prelude.{◌≡◌, ◌≢◌, ◌+◌, ℕ, Bool, true, false, not, List, [], ◌∷◌, map, filter, All, Option, Some}
-use Rattle.std.specs.Prelude.{None, Result, Ok, Err}
+use Rattle.std.specs.Prelude.{◌≡◌, ◌≢◌, ◌+◌, ℕ, Bool, true, false, not, List, [], ◌∷◌, map, filter}
+use Rattle.std.specs.Prelude.{Ok}
 use Rattle.std.proofs.Common.{arith, subst}
 use Rattle.std.proofs.lemmas.List.Elements.{All-cons, All-head, All-tail}
 use Rattle.std.proofs.lemmas.List.Kept.{AllPairs-filter}
@@ -10,7 +10,6 @@ use Rattle.larch_base.specs.declared.way.Way.{Way}
 use Rattle.larch_base.proofs.Lists.{all_from}
 use Rattle.larch_base.proofs.Members.{contained_in_filter}
 use Rattle.larch_raw.specs.declared.declared.RawOpRef.{RawOpRef}
-use Rattle.larch_raw.specs.declared.equation.RawEquation.{RawEquation}
 use Rattle.larch_script_commands.specs.Same.{same_fact_name, same_truth}
 use Rattle.larch_script_commands.specs.declared.command.CommandKind.{CommandKind}
 use Rattle.larch_script_commands.specs.declared.command.CommandKind.TheVariants as command
@@ -23,12 +22,12 @@ use Rattle.larch_sorts_meaning.specs.Scope.{Variables}
 use Rattle.larch_pairs_critical.specs.Pairs.{critical_pairs}
 use Rattle.larch_rewrite_meaning.specs.Sides.{Sides, sides_under}
 use Rattle.larch_prove_meaning.specs.Facts.{Fact}
-use Rattle.larch_prove_meaning.specs.Levels.{Level, OfProof, Proof, all_serve, begun, derive, derived_by, is_settled}
-use Rattle.larch_prove_meaning.specs.Levels.{level_for, normal_goal, settle_goal, unless}
+use Rattle.larch_prove_meaning.specs.Levels.{OfProof, Proof, all_serve, begun, derive, derived_by, is_settled}
+use Rattle.larch_prove_meaning.specs.Levels.{level_for, normal_goal, settle_goal}
 use Rattle.larch_prove_meaning.specs.Named.{HasGivenNumber, IsNamedLevel, IsNamedProof}
 use Rattle.larch_prove_meaning.specs.Plans.{Cases, Conjunction, Contradiction, Implication, Induction, Method}
 use Rattle.larch_prove_meaning.specs.Plans.{Partition, plan}
-use Rattle.larch_prove_meaning.specs.Replays.{all_stepped, by_kind, count_command, is_quiet, mark_command, mark_taken}
+use Rattle.larch_prove_meaning.specs.Replays.{all_stepped, by_kind, is_quiet, mark_command, mark_taken}
 use Rattle.larch_prove_meaning.specs.Replays.{step, step_command, unless_marks_wait, unless_proved}
 use Rattle.larch_prove_meaning.specs.Steps.{all_derived, carried_out, declare, equations_of, fact_named, heighten}
 use Rattle.larch_prove_meaning.specs.Steps.{instantiate, instantiation, level_opened, normalize, pair_facts, read_lone}
