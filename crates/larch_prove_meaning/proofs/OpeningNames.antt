@@ -173,7 +173,8 @@ lemma_added l ls e p q d h w =
     (λ j s. ((λ x. absurd (lemma_hypothesis x), λ x. absurd (lemma_derived x)), λ x. d)) h.named.current.different
     (All-weaker (IsBeside (l ∷ ls)) (HasOtherName (whole_name Lemma l.number))
     (λ f g x. All-head (λ (m : EarlierDuty). f.name.number ≢ m.number) l ls (g x)) p.current.facts.rules h.beside)
-    (λ i c lt. (h.named.current.given i c lt, fewer_beside l ls (get_or p.current.facts.rules i c) (h.beside i c lt))) w in
+    (λ i c lt. (h.named.current.given i c lt, fewer_beside l ls (get_or p.current.facts.rules i c) (h.beside i c lt)))
+    w in
     subst (Waits ls) a.made (record {
       named = record {
         current = record {
