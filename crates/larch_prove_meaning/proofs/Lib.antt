@@ -16,3 +16,7 @@ pub mod InductionPlans
 pub mod PartitionPlans
 pub mod PlanParts
 pub mod PlanSorts
+pub mod AddingNames
+pub mod LevelNames
+pub mod StepNames
+pub mod OpeningNames

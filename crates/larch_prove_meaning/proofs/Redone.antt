@@ -1,6 +1,6 @@
 -- What has to be replayed again.
 use Rattle.std.specs.Prelude.{◌≡◌, ◌≤◌, ◌+◌, ◌&&◌, ◌==◌, ℕ, suc, Bool, true, false, cond, List, [], ◌∷◌, All, Contains}
-use Rattle.std.specs.Prelude.{length, map, sum_by, find, bytes_eq, Decides, Option, Some, None, refl}
+use Rattle.std.specs.Prelude.{length, map, sum_by, find, Decides, Option, Some, None, refl}
 use Rattle.std.specs.List.{AllPairs}
 use Rattle.std.specs.Cmp.Lexicographic.{pointwise}
 use Rattle.std.proofs.Common.{inl, inr, arith, ap, ap₂, ◌∙◌, subst}

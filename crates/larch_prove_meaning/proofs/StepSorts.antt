@@ -1,5 +1,5 @@
 -- Each command keeps a proof well sorted.
-use Rattle.std.specs.Prelude.{◌≡◌, ℕ, ◌+◌, ◌||◌, Bool, true, false, not, cond, List, [], ◌∷◌, ◌++◌, map, filter, find}
+use Rattle.std.specs.Prelude.{◌≡◌, ℕ, ◌+◌, Bool, true, false, not, cond, List, [], ◌∷◌, ◌++◌, map, filter, find}
 use Rattle.std.specs.Prelude.{All, Contains, Option, Some, None, Result, Ok, Err, refl}
 use Rattle.std.proofs.Common.{ap, ap₂, sym, subst, ◌∙◌}
 use Rattle.std.proofs.lemmas.List.{append_assoc, append-nil}
@@ -33,7 +33,6 @@ use Rattle.larch_calculus.specs.Theories.{AreNew, IsFront}
 use Rattle.larch_calculus.proofs.Sorted.{knows_more, statement_over_more, zero_over}
 use Rattle.larch_traits_items.specs.Steps.{after}
 use Rattle.larch_sorts_meaning.specs.Read.{read_equation, read_term}
-use Rattle.larch_sorts_meaning.specs.Readings.{ReadsEquation}
 use Rattle.larch_sorts_meaning.proofs.ReadAnswers.{equation_ok, term_ok}
 use Rattle.larch_sorts_meaning.proofs.Sorted.{statement_over, well_sorted}
 use Rattle.larch_rewrite_meaning.specs.Sides.{Sides, AreSidesOver, sides_under}
@@ -421,7 +420,7 @@ kind_keeps t ls cs (command.BoxChecking false) p q g h k =
 kind_keeps t ls cs c p q g h k = carried_keeps t ls cs c p q g h (in_turn c p q k)
 
 -- a command that is counted, or a line that is none
-step_cases : (c : CommandKind) (p q : Proof) → step c p ≡ Ok q → count_command c p ≡ Ok q
+pub step_cases : (c : CommandKind) (p q : Proof) → step c p ≡ Ok q → count_command c p ≡ Ok q
 unfolding step
 step_cases (command.Bad code) p q k = cc
 step_cases c p q k = k

@@ -11,3 +11,4 @@ pub mod Redo
 pub mod WellSorted
 pub mod Computing
 pub mod Worked
+pub mod Named

@@ -3,6 +3,7 @@
 
 mod examples;
 mod laws;
+mod names;
 mod order;
 mod refusals;
 mod reports;
@@ -25,6 +26,7 @@ pub use laws::{
     plans_make_new_constants, proofs_stay_well_sorted, redoing_is_bounded,
     what_is_the_same_is_equal,
 };
+pub use names::names_of_facts_differ;
 pub use order::{at_most_a_thousand_commands, preambles, what_comes_first};
 pub use refusals::{
     facts_by_name, pairs_in_turn, registered_heights, registered_statuses, shapes_and_clauses,
