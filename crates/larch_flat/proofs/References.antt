@@ -1,25 +1,27 @@
 -- What is gathered with a reference, by what is told of the file that it names.
-use Rattle.std.proofs.Common.{◌≡◌, refl, sym, ap, ◌∙◌, ℕ, suc, Bool, true, false, length, List, [], ◌∷◌, Option, Some}
-use Rattle.std.proofs.Common.{None, Result, Ok, Err, subst}
-use Rattle.std.specs.Prelude.{bytes_eq, is_none, is_some, not}
+use Rattle.std.proofs.Common.{◌≡◌, refl, sym, ap, ◌∙◌, ℕ, Bool, true, false, List, [], ◌∷◌, Option, Some}
+use Rattle.std.proofs.Common.{None, Result, Ok, Err}
+use Rattle.std.specs.Prelude.{bytes_eq, is_none, is_some}
 use Rattle.std.specs.List.{list_any}
 use Rattle.larch_base.specs.declared.code.Code.{Code}
-use Rattle.larch_base.specs.declared.code.Code.TheVariants.{BadReference, Cycle, TraitName, UnknownTrait}
+use Rattle.larch_base.specs.declared.code.Code.TheVariants.{BadReference, Cycle, UnknownTrait}
 use Rattle.larch_base.specs.declared.fault.Fault.{Fault}
 use Rattle.larch_base.specs.declared.position.Pos.{Pos}
+use Rattle.larch_base.proofs.Options.{some_inj}
 use Rattle.larch_raw.specs.declared.declared.RawForm.{RawForm}
 use Rattle.larch_raw.specs.declared.equation.RawTrait.{RawTrait}
 use Rattle.larch_raw.specs.declared.reference.RawReference.{RawReference}
 use Rattle.larch_sorts_meaning.specs.Faults.{fault}
-use Rattle.larch_traits_items.specs.Steps.{after, all_taken}
+use Rattle.larch_traits_items.specs.Steps.{after}
 use Rattle.larch_traits_items.proofs.Kept.{ok_inj}
 use Rattle.larch_flat_meaning.specs.Files.{Files, closure, target}
-use Rattle.larch_flat_meaning.specs.Flat.{FlatTrait, finish_trait, flat, flat_by, flat_file, flat_of, at_reference}
-use Rattle.larch_flat_meaning.specs.Flat.{take_flat, take_new, take_own, take_reference, take_rest, take_shorthand}
-use Rattle.larch_flat_meaning.specs.Flat.{take_told, within}
-use Rattle.larch_flat_meaning.specs.Gathered.{Gathered, nothing}
+use Rattle.larch_flat_meaning.specs.Flat.{FlatTrait, flat}
+use Rattle.larch_flat_meaning.specs.Flat.{take_flat, take_new, take_reference}
+use Rattle.larch_flat_meaning.specs.Flat.{take_told}
+use Rattle.larch_flat_meaning.specs.Gathered.{Gathered}
 use Rattle.larch_flat_meaning.specs.Laws.{gathered_in}
 use Rattle.larch_flat_meaning.specs.Stops.{Stop, Refused, TooDeep, stopped_if, surely}
+use Rattle.larch_flat_meaning.proofs.Texts.{flat_text}
 use Rattle.larch_flat.specs.Parts.{parts_of, with_parts}
 
 -- a text as it is known to be there
@@ -96,53 +98,9 @@ flat_parts : (r : RawReference) (g : Gathered) (t : FlatTrait) (parts : Gathered
 flat_parts r g t parts e = ap (λ p. with_parts r t.raw.formals p.operators p.marked g) e
 
 -- the text of a flat trait is that of its file
-raw_kept : (raw : RawTrait) (g : Gathered) (t : FlatTrait) → take_rest raw g ≡ Ok t → t.raw ≡ raw
-raw_kept raw g t e = by_shorthands (all_taken take_shorthand raw.shorthands g) e
-  where
-    by_within : (i : Result Gathered Fault) → after i (λ j. Ok (finish_trait raw j)) ≡ Ok t → t.raw ≡ raw
-    by_within (Ok j) e = let s : finish_trait raw j ≡ t = ok_inj e in sym (ap (λ x. x.raw) s)
-    by_within (Err f) e = cc
-
-    by_own : (i : Result Gathered Fault)
-        → after i (λ i. after (within raw.name.pos i) (λ j. Ok (finish_trait raw j))) ≡ Ok t → t.raw ≡ raw
-    by_own (Ok i) e = by_within (within raw.name.pos i) e
-    by_own (Err f) e = cc
-
-    by_shorthands : (h : Result Gathered Fault)
-        → after h (λ h. after (take_own raw h) (λ i. after (within raw.name.pos i) (λ j. Ok (finish_trait raw j))))
-        ≡ Ok t → t.raw ≡ raw
-    by_shorthands (Ok h) e = by_own (take_own raw h) e
-    by_shorthands (Err f) e = cc
-
-surely_was : {A : Type 0} (a : Result A Fault) (x : A) → surely a ≡ Ok x → a ≡ Ok x
-surely_was (Ok y) x e = let q : y ≡ x = ok_inj e in ap Ok q
-surely_was (Err f) x e = cc
-
-file_raw : (limit : ℕ) (files : Files) (name : List ℕ) (next : List ℕ → Result FlatTrait Stop) (raw : RawTrait)
-    (t : FlatTrait) (o : Option (Result RawTrait Fault)) → o ≡ Some (Ok raw)
-    → flat_file limit files name next o ≡ Ok t → t.raw ≡ raw
-file_raw limit files name next raw t None o e = cc
-file_raw limit files name next raw t (Some (Err f)) o e = cc
-file_raw limit files name next raw t (Some (Ok w)) o e = let q : w ≡ raw = cc in
-    by_name (bytes_eq w.name.name name) e ∙ q
-  where
-    by_all : (g : Result Gathered Stop) → after g (λ g. surely (take_rest w g)) ≡ Ok t → t.raw ≡ w
-    by_all (Ok g) e = raw_kept w g t (surely_was (take_rest w g) t e)
-    by_all (Err f) e = cc
-
-    by_name : (b : Bool) → stopped_if TraitName w.name.pos (not b)
-        (after (all_taken (take_reference limit files name next) w.references nothing) (λ g. surely (take_rest w g)))
-        ≡ Ok t
-        → t.raw ≡ w
-    by_name true e = by_all (all_taken (take_reference limit files name next) w.references nothing) e
-    by_name false e = cc
-
--- and so it is of each flat trait
 pub flat_raw : (limit : ℕ) (files : Files) (name : List ℕ) (raw : RawTrait) (t : FlatTrait) → files name ≡ Some (Ok raw)
     → flat limit files name ≡ Ok t → t.raw ≡ raw
-unfolding flat
-flat_raw limit files name raw t o e =
-    file_raw (suc limit) files name (λ m. flat_by limit (suc limit) files m) raw t (files name) o e
+flat_raw limit files name raw t o e = ok_inj (some_inj (sym (flat_text limit files name t e) ∙ o))
 
 told_parts : (r : RawReference) (g : Gathered) (formals : List RawForm) (parts : Gathered)
     (answer : Result FlatTrait Stop) → parts_of answer ≡ Ok parts

@@ -1,5 +1,7 @@
 ghost use Rattle.std.specs.Prelude.{◌≡◌, ◌<◌, get_or, length, option_map, replicate, set, IfOk, None, Some};
-ghost use Rattle.larch_flat.specs.Known.{is_known};
+ghost use Rattle.larch_flat_sources.specs.Sources.{Table, name_at};
+ghost use Rattle.larch_flat.specs.Known.{Knows, is_known};
+ghost use Rattle.larch_flat.specs.Parts.{IsFlat};
 
 use larch_base::{Fault, Memory};
 use larch_flat_gathering::Flat;
@@ -29,9 +31,10 @@ impl Model for FlatTraits {
 }
 
 impl FlatTraits {
-    // Nothing is known of so many files.
-    pub(crate) fn none(alloc: Global, count: usize) -> Result<FlatTraits, Memory>
-        ensures { IfOk result (λ known. known ≡ replicate count None) }
+    /// Nothing is known of so many files.
+    pub fn none(alloc: Global, count: usize) -> Result<FlatTraits, Memory>
+        ensures none { IfOk result (λ known. known ≡ replicate count None) }
+        ensures knows { IfOk result (λ known. (sources : Table) → length sources ≡ count → Knows sources known) }
     {
         let mut answers = Vec::new(alloc);
         for _ in 0..count {
@@ -40,12 +43,23 @@ impl FlatTraits {
         Ok(FlatTraits { answers })
     }
 
-    // Keeps what is known of a file.
-    pub(crate) fn keep(&mut self, number: usize, answer: Result<Flat, Fault>)
+    /// Keeps what is known of the file with a number.
+    pub fn keep(&mut self, number: usize, answer: Result<Flat, Fault>)
         requires { number < length self.old }
-        ensures { self.new ≡ set self.old number (Some answer) }
+        ensures kept { self.new ≡ set self.old number (Some answer) }
+        ensures knows { (sources : Table) → Knows sources self.old → IsFlat sources (name_at sources number) answer
+            → Knows sources self.new }
     {
         self.answers[number] = Some(answer);
+    }
+
+    /// Takes out what is known of the file with a number: nothing is known of it then. It takes no memory.
+    pub fn take(&mut self, number: usize) -> Option<Result<Flat, Fault>>
+        requires { number < length self.old }
+        ensures taken { result ≡ get_or self.old number None }
+        ensures left { self.new ≡ set self.old number None }
+    {
+        self.answers[number].take()
     }
 
     /// How many files there are. It takes no memory.

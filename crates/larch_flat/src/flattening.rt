@@ -30,8 +30,22 @@ struct LinkedSources<'a> {
 pub fn flatten(alloc: Global, sources: &Sources) -> Result<FlatTraits, Memory>
     ensures { IfOk result (λ known. Knows sources.now known × AreAllKnown sources.now known) }
 {
+    let known = FlatTraits::none(alloc, sources.len())?;
+    let known = flatten_rest(alloc, sources, known)?;
+    Ok(known)
+}
+
+/// The same where something is known already: that isn't worked out again.
+pub fn flatten_rest(
+    alloc: Global,
+    sources: &Sources,
+    known: FlatTraits,
+) -> Result<FlatTraits, Memory>
+    requires { Knows sources.now known }
+    ensures { IfOk result (λ known. Knows sources.now known × AreAllKnown sources.now known) }
+{
+    let mut known = known;
     let links = links_of(alloc, sources)?;
-    let mut known = FlatTraits::none(alloc, sources.len())?;
     let linked = LinkedSources {
         sources,
         links: &links,

@@ -6,7 +6,9 @@
 
 mod flat_traits;
 mod flattening;
+mod laws;
 mod taking;
 
 pub use flat_traits::FlatTraits;
-pub use flattening::flatten;
+pub use flattening::{flatten, flatten_rest};
+pub use laws::what_is_known_is_known_elsewhere;
