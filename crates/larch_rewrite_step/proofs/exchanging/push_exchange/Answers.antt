@@ -10,10 +10,12 @@ returns-in_err-number-clause-extends c s t st k e =
 pub returns-clause-says : goal.returns-clause-says
 returns-clause-says c s t st k e =
     exchange_says _ _ _ _ _ _ s t _ k e (c.in_ok-row.ensures.extends _ st (row_exchanges _) (pair_sort _ _ s t _ k e))
-    (c.in_ok-row.ensures.says _ st (row_exchanges _) (pair_sort _ _ s t _ k e)) (λ l r h j d. c.in_ok-number.ensures.says l r h j d)
+    (c.in_ok-row.ensures.says _ st (row_exchanges _) (pair_sort _ _ s t _ k e))
+    (λ l r h j d. c.in_ok-number.ensures.says l r h j d)
 
 pub returns-clause-extends : goal.returns-clause-extends
 returns-clause-extends c s t st k e =
     extends_trans _ _ _ (c.in_ok-row.ensures.extends _ st (row_exchanges _) (pair_sort _ _ s t _ k e))
     (exchange_extends _ _ _ _ _ s t _ k e (c.in_ok-row.ensures.extends _ st (row_exchanges _) (pair_sort _ _ s t _ k e))
-    (c.in_ok-row.ensures.says _ st (row_exchanges _) (pair_sort _ _ s t _ k e)) (λ l r h j d. c.in_ok-number.ensures.extends l r h j d))
+    (c.in_ok-row.ensures.says _ st (row_exchanges _) (pair_sort _ _ s t _ k e))
+    (λ l r h j d. c.in_ok-number.ensures.extends l r h j d))
