@@ -85,8 +85,8 @@ reason_worded b (Line n) l r h d = tt
 
 head_under : (es : List Entry) (x t : Tree) → instance_of es x ≡ t → IsWordedTerm t → HasWordedHead x
 head_under es (var n s) t e w = tt
-head_under es (app f ts) t e w = let i : IsWordedTerm (instance_of es (app f ts)) = subst IsWordedTerm
-    (sym e) w in i.0.0
+head_under es (app f ts) t e w =
+    let i : IsWordedTerm (instance_of es (app f ts)) = subst IsWordedTerm (sym e) w in i.0.0
 
 test_head : (f : PlainOperator) (s t x : Tree) (b : Bool) → cond b (Some (app f (more t (more s none)))) None ≡ Some x
     → HasWordedHead x → Each IsWord f.domain

@@ -63,8 +63,8 @@ there_named : (all ds : List Entry) (b : Bool) → AreNamed all → cond b (Some
 there_named all ds true w h = subst AreNamed (some_inj h) w
 there_named all ds false w h = cc
 
-step_named : (all : List Entry) (n s : List ℕ) (t : Tree) (e : Entry) (ds : List Entry) (b : Bool) (o : Option
-    (List Entry))
+step_named : (all : List Entry) (n s : List ℕ) (t : Tree) (e : Entry) (ds : List Entry) (b : Bool)
+    (o : Option (List Entry))
     → AreNamed all → (o ≡ Some ds → AreNamed ds)
     → (elim b [ true ↦ cond (same_tree e.term t) (Some all) None | false ↦ o ]) ≡ Some ds → AreNamed ds
 step_named all n s t e ds true o w go h = there_named all ds (same_tree e.term t) w h
