@@ -52,9 +52,9 @@ use Rattle.larch_derive_join.proofs.Lengths.{from_nought, grows_longer}
 use Rattle.larch_derive_join.proofs.Numbers.{moved_fits, moved_apart, box_of}
 use Rattle.larch_derive_join.proofs.Plain.{boxes_alone, known_plain, same_operator_on, same_statement_on}
 use Rattle.larch_derive_join.proofs.Plain.{back_statement}
-use Rattle.larch_derive_join.specs.Joined.{moved_on, name_on, shows_clause, cited, if_clause, line_on, move_on}
+use Rattle.larch_derive_join.specs.Joined.{moved_on, name_on, shows_clause, cited_lemma, if_clause, line_on, move_on}
 use Rattle.larch_derive_join.specs.Joined.{coded_true}
-use Rattle.larch_derive_join.specs.Joined.{cites, joined_line, joined_lines, lemma_of, joined_from, joined}
+use Rattle.larch_derive_join.specs.Joined.{cites, joined_line, joined_lines, lemma_of, joined_from, join_parts}
 use Rattle.larch_derive_join.specs.Promise.{IsProved, AreProved, IsFinished}
 use Rattle.larch_derive_join.specs.declared.lemma.Lemma.{Lemma}
 use Rattle.larch_derive_join.specs.declared.part.Part.{Part}
@@ -217,7 +217,7 @@ record Leads (b : Theory) (base : State) (lemmas : List Lemma) (p : Part) (st ne
   other : State
   stepped : step b su (joined_line base.count lemmas p l) ≡ Some other
   goes : Goes (move_on base.count lemmas p) base next other
-  exact : cited p.statements lemmas l ≡ None → EndsMoved (move_on base.count lemmas p) next.history other.history
+  exact : cited_lemma p.statements lemmas l ≡ None → EndsMoved (move_on base.count lemmas p) next.history other.history
 
 -- what all lines but the last lead to
 record Front (t b : Theory) (base : State) (lemmas : List Lemma) (p : Part) (front : List Line) (l : Line) (stp : State)
@@ -298,7 +298,7 @@ module _ (b : Theory) (base : State) (lemmas : List Lemma) (earlier : List State
       no_value : (y : Lemma) → None ≡ Some y → ⊥
       no_value y e = cc
 
-  own_cited : (l : Line) → cited p.statements lemmas l ≡ None → KeepsCited moving source b l
+  own_cited : (l : Line) → cited_lemma p.statements lemmas l ≡ None → KeepsCited moving source b l
   own_cited (Axiom k) e = own_kept k e
   own_cited (Hyp n k) e = tt
   own_cited (Row k s) e = tt
@@ -333,7 +333,7 @@ module _ (b : Theory) (base : State) (lemmas : List Lemma) (earlier : List State
       ]
 
   -- a line that cites no lemma
-  moved_leads : (st su next : State) (l : Line) → cited p.statements lemmas l ≡ None → Goes moving base st su
+  moved_leads : (st su next : State) (l : Line) → cited_lemma p.statements lemmas l ≡ None → Goes moving base st su
       → Stands base p (suc st.count) l → step source st l ≡ Some next → Leads b base lemmas p st next su l
   moved_leads st su next l none g at e =
       let o = base.count in
@@ -342,7 +342,7 @@ module _ (b : Theory) (base : State) (lemmas : List Lemma) (earlier : List State
       moved_fits o (suc st.count) at.1 ∙ omega (arith, count) in
       let named : moving.line (suc st.count) ≡ suc su.count =
       ap (λ z. option_map_or (λ y. y.line)
-      (option_and_then (λ x. option_and_then if_clause (cited p.statements lemmas x)) z) (moved_on o
+      (option_and_then (λ x. option_and_then if_clause (cited_lemma p.statements lemmas x)) z) (moved_on o
       (suc st.count))) at.0
       ∙ ap (λ z. option_map_or (λ y. y.line) (option_and_then if_clause z) (moved_on o (suc st.count))) none
       ∙ number in
@@ -364,7 +364,7 @@ module _ (b : Theory) (base : State) (lemmas : List Lemma) (earlier : List State
       }
 
   -- a line that cites one is an axiom line
-  cites_axiom : (l : Line) (y : Lemma) → cited p.statements lemmas l ≡ Some y
+  cites_axiom : (l : Line) (y : Lemma) → cited_lemma p.statements lemmas l ≡ Some y
       → (k : ℕ) × (l ≡ Axiom k) × (numbered lemmas (k - p.statements) ≡ Some y)
   cites_axiom (Axiom k) y e = (k, refl, e)
   cites_axiom (Hyp n k) y e = cc
@@ -402,7 +402,8 @@ module _ (b : Theory) (base : State) (lemmas : List Lemma) (earlier : List State
   once_more (statement.Partitioned z fs) q = absurd q
 
   -- an axiom line that cites an equation: the equation once more
-  equation_leads : (st su : State) (k : ℕ) (y : Lemma) (s : Statement) → cited p.statements lemmas (Axiom k) ≡ Some y
+  equation_leads : (st su : State) (k : ℕ) (y : Lemma) (s : Statement)
+      → cited_lemma p.statements lemmas (Axiom k) ≡ Some y
       → y.clause ≡ false → IsLemma b base y s → Goes moving base st su → Stands base p (suc st.count) (Axiom k)
       → Leads b base lemmas p st (saying st s) su (Axiom k)
   equation_leads st su k y s some other l g at =
@@ -411,7 +412,7 @@ module _ (b : Theory) (base : State) (lemmas : List Lemma) (earlier : List State
       let stays = same s l.over in
       let number : moving.line (suc st.count) ≡ suc su.count =
       ap (λ z. option_map_or (λ x. x.line)
-      (option_and_then (λ x. option_and_then if_clause (cited p.statements lemmas x)) z) (moved_on o
+      (option_and_then (λ x. option_and_then if_clause (cited_lemma p.statements lemmas x)) z) (moved_on o
       (suc st.count))) at.0
       ∙ ap (λ z. option_map_or (λ x. x.line) (option_and_then if_clause z) (moved_on o (suc st.count))) some
       ∙ ap (λ c. option_map_or (λ x. x.line) (cond c (Some y) None) (moved_on o (suc st.count))) other
@@ -445,7 +446,8 @@ module _ (b : Theory) (base : State) (lemmas : List Lemma) (earlier : List State
       no_lemma y e = cc
 
   -- an axiom line that cites a clause: any equation, and the clause is named where the lemma says it
-  clause_leads : (st su : State) (k : ℕ) (y : Lemma) (s : Statement) → cited p.statements lemmas (Axiom k) ≡ Some y
+  clause_leads : (st su : State) (k : ℕ) (y : Lemma) (s : Statement)
+      → cited_lemma p.statements lemmas (Axiom k) ≡ Some y
       → y.clause ≡ true → IsLemma b base y s → Goes moving base st su → Stands base p (suc st.count) (Axiom k)
       → Leads b base lemmas p st (saying st s) su (Axiom k)
   clause_leads st su k y s some shown l g at =
@@ -457,7 +459,7 @@ module _ (b : Theory) (base : State) (lemmas : List Lemma) (earlier : List State
       let any : Statement = statement.Equation truth truth in
       let named_so : moving.line (suc st.count) ≡ y.line =
       ap (λ z. option_map_or (λ x. x.line)
-      (option_and_then (λ x. option_and_then if_clause (cited p.statements lemmas x)) z) (moved_on o
+      (option_and_then (λ x. option_and_then if_clause (cited_lemma p.statements lemmas x)) z) (moved_on o
       (suc st.count))) at.0
       ∙ ap (λ z. option_map_or (λ x. x.line) (option_and_then if_clause z) (moved_on o (suc st.count))) some
       ∙ ap (λ x. option_map_or (λ z. z.line) (cond x (Some y) None) (moved_on o (suc st.count))) shown in
@@ -488,7 +490,7 @@ module _ (b : Theory) (base : State) (lemmas : List Lemma) (earlier : List State
       no_lemma : (y : Lemma) → None ≡ Some y → ⊥
       no_lemma y e = cc
 
-  lemma_leads : (st su next : State) (l : Line) (y : Lemma) → cited p.statements lemmas l ≡ Some y
+  lemma_leads : (st su next : State) (l : Line) (y : Lemma) → cited_lemma p.statements lemmas l ≡ Some y
       → Goes moving base st su
       → Stands base p (suc st.count) l → step source st l ≡ Some next → Leads b base lemmas p st next su l
   lemma_leads st su next l y some g at e =
@@ -510,9 +512,9 @@ module _ (b : Theory) (base : State) (lemmas : List Lemma) (earlier : List State
   leads : (st su next : State) (l : Line) → Goes moving base st su → Stands base p (suc st.count) l
       → step source st l ≡ Some next
       → Leads b base lemmas p st next su l
-  leads st su next l g at e = either (cited p.statements lemmas l) refl
+  leads st su next l g at e = either (cited_lemma p.statements lemmas l) refl
     where
-      either : (o : Option Lemma) → cited p.statements lemmas l ≡ o → Leads b base lemmas p st next su l
+      either : (o : Option Lemma) → cited_lemma p.statements lemmas l ≡ o → Leads b base lemmas p st next su l
       either None q = moved_leads st su next l q g at e
       either (Some y) q = lemma_leads st su next l y q g at e
 
@@ -589,11 +591,11 @@ module _ (b : Theory) (base : State) (lemmas : List Lemma) (earlier : List State
       }
 
   -- by whether a line cites a lemma
-  by_cited : (l : Line) (P : Type 0) → (cited p.statements lemmas l ≡ None → P)
-      → ((y : Lemma) → cited p.statements lemmas l ≡ Some y → P) → P
-  by_cited l P k j = split (cited p.statements lemmas l) refl
+  by_cited : (l : Line) (P : Type 0) → (cited_lemma p.statements lemmas l ≡ None → P)
+      → ((y : Lemma) → cited_lemma p.statements lemmas l ≡ Some y → P) → P
+  by_cited l P k j = split (cited_lemma p.statements lemmas l) refl
     where
-      split : (z : Option Lemma) → cited p.statements lemmas l ≡ z → P
+      split : (z : Option Lemma) → cited_lemma p.statements lemmas l ≡ z → P
       split None e = k e
       split (Some y) e = j y e
 
@@ -601,7 +603,7 @@ module _ (b : Theory) (base : State) (lemmas : List Lemma) (earlier : List State
   cites_no_clause true n = refl
   cites_no_clause false n = refl
 
-  moved_no_clause : (h : List Event) (l : Line) (s : Statement) → cited p.statements lemmas l ≡ None
+  moved_no_clause : (h : List Event) (l : Line) (s : Statement) → cited_lemma p.statements lemmas l ≡ None
       → judge source h l ≡ Some s → renamed_statement moving.renaming s ≡ s → states_clause source l ≡ false
       → states_clause b (moved_line moving l) ≡ false
   moved_no_clause h (Axiom k) s none e stays q =
@@ -798,11 +800,11 @@ last_behind s (r ∷ rs) l = last_behind r rs l
 -- the promise of joining
 pub joined_finished : (b : Theory) → IsWellSortedTheory b → HasPlainNames b → (parts : List Part)
     (front : List Statement) (last : Statement) → AreProved b [] parts (front ++ last ∷ [])
-    → length (joined parts) < 2 ^ 64 → IsFinished b (joined parts) last
+    → length (join_parts parts) < 2 ^ 64 → IsFinished b (join_parts parts) last
 joined_finished b wf plain [] [] last d lt = absurd d
 joined_finished b wf plain [] (r ∷ rs) last d lt = absurd d
 joined_finished b wf plain (p ∷ ps) [] last d lt =
     all_join b wf plain [] [] [] p ps last [] (nothing_yet b) d.0 d.1 lt
 joined_finished b wf plain (p ∷ ps) (r ∷ rs) last d lt =
-    subst (IsFinished b (joined (p ∷ ps))) (last_behind r rs last)
+    subst (IsFinished b (join_parts (p ∷ ps))) (last_behind r rs last)
     (all_join b wf plain [] [] [] p ps r (rs ++ last ∷ []) (nothing_yet b) d.0 d.1 lt)

@@ -3,7 +3,7 @@ use Rattle.std.proofs.Common.{◌≡◌, ℕ, ◌+◌, ◌≤◌, List, [], ◌�
 use Rattle.std.proofs.lemmas.List.{length-append, length-map}
 use Rattle.std.proofs.lemmas.List.Recursion.{is_sum_by}
 use Rattle.larch_certificate.specs.declared.line.Line.{Line}
-use Rattle.larch_derive_join.specs.Joined.{joined_line, joined_lines, lemma_of, joined_from, joined}
+use Rattle.larch_derive_join.specs.Joined.{joined_line, joined_lines, lemma_of, joined_from, join_parts}
 use Rattle.larch_derive_join.specs.declared.lemma.Lemma.{Lemma}
 use Rattle.larch_derive_join.specs.declared.part.Part.{Part}
 
@@ -33,7 +33,7 @@ pub grows_longer : (lines : List Line) (lemmas : List Lemma) (ps : List Part)
     → length lines ≤ length (joined_from lines lemmas ps)
 grows_longer lines lemmas ps = let e = length_from lines lemmas ps in omega (arith, e)
 
-pub joined_length : (ps : List Part) → length (joined ps) ≡ sum_by (λ p. length p.certificate) ps
+pub joined_length : (ps : List Part) → length (join_parts ps) ≡ sum_by (λ p. length p.certificate) ps
 joined_length ps =
     length_from [] [] ps ∙ from_nought (lines_of ps)
     ∙ is_sum_by lines_of (λ p. length p.certificate) refl (λ _ _. refl) ps

@@ -25,8 +25,9 @@ use Rattle.larch_verify_law.specs.Moves.{Move, moved_symbol, moved_term, moved_t
 use Rattle.larch_verify_law.specs.Moves.{moved_part, moved_variable, moved_line}
 use Rattle.larch_derive_join.proofs.Lengths.{grows_longer}
 use Rattle.larch_derive_join.proofs.Numbers.{moved_small}
-use Rattle.larch_derive_join.specs.Joined.{moved_on, cited, if_clause, line_on, move_on, coded_true, cites, joined_line}
-use Rattle.larch_derive_join.specs.Joined.{joined_lines, lemma_of, joined_from, joined}
+use Rattle.larch_derive_join.specs.Joined.{moved_on, cited_lemma, if_clause, line_on, move_on, coded_true, cites}
+use Rattle.larch_derive_join.specs.Joined.{joined_line}
+use Rattle.larch_derive_join.specs.Joined.{joined_lines, lemma_of, joined_from, join_parts}
 use Rattle.larch_derive_join.specs.Promise.{AreWritable}
 use Rattle.larch_derive_join.specs.declared.lemma.Lemma.{Lemma}
 use Rattle.larch_derive_join.specs.declared.part.Part.{Part}
@@ -55,7 +56,7 @@ module _ (o : ℕ) (small : IsSmall o) (lemmas : List Lemma) (ends : Each (λ y.
   box_small : (n : ℕ) → IsSmall n → IsSmall (moved_on o n)
   box_small n lt = moved_small o n small lt
 
-  cited_small : (l : Line) (y : Lemma) → cited p.statements lemmas l ≡ Some y → IsSmall y.line
+  cited_small : (l : Line) (y : Lemma) → cited_lemma p.statements lemmas l ≡ Some y → IsSmall y.line
   cited_small (Axiom k) y e = each_numbered (λ z. IsSmall z.line) lemmas ends (k - p.statements) y e
   cited_small (Hyp n k) y e = cc
   cited_small (Row k s) y e = cc
@@ -73,7 +74,7 @@ module _ (o : ℕ) (small : IsSmall o) (lemmas : List Lemma) (ends : Each (λ y.
   cited_small (Generated n s ks) y e = cc
   cited_small (Partitioned n s ks) y e = cc
 
-  clause_small : (n : ℕ) → IsSmall n → (l : Line) (z : Option Lemma) → cited p.statements lemmas l ≡ z
+  clause_small : (n : ℕ) → IsSmall n → (l : Line) (z : Option Lemma) → cited_lemma p.statements lemmas l ≡ z
       → IsSmall (option_map_or (λ x. x.line) (option_and_then if_clause z) (moved_on o n))
   clause_small n lt l None e = box_small n lt
   clause_small n lt l (Some y) e = either y.clause
@@ -87,9 +88,9 @@ module _ (o : ℕ) (small : IsSmall o) (lemmas : List Lemma) (ends : Each (λ y.
     where
       by_line : (z : Option Line)
           → IsSmall (option_map_or (λ x. x.line)
-          (option_and_then (λ l. option_and_then if_clause (cited p.statements lemmas l)) z) (moved_on o n))
+          (option_and_then (λ l. option_and_then if_clause (cited_lemma p.statements lemmas l)) z) (moved_on o n))
       by_line None = box_small n lt
-      by_line (Some l) = clause_small n lt l (cited p.statements lemmas l) refl
+      by_line (Some l) = clause_small n lt l (cited_lemma p.statements lemmas l) refl
 
   symbol_fits : (f : Symbol) → FitSymbol f → FitSymbol (moved_symbol moving f)
   symbol_fits (Own k) w = w
@@ -161,9 +162,9 @@ module _ (o : ℕ) (small : IsSmall o) (lemmas : List Lemma) (ends : Each (λ y.
       either false = (lt, tt)
 
   joined_fits : (l : Line) → FitLine l → FitLine (joined_line o lemmas p l)
-  joined_fits l w = by_lemma (cited p.statements lemmas l) refl
+  joined_fits l w = by_lemma (cited_lemma p.statements lemmas l) refl
     where
-      by_lemma : (z : Option Lemma) → cited p.statements lemmas l ≡ z
+      by_lemma : (z : Option Lemma) → cited_lemma p.statements lemmas l ≡ z
           → FitLine (option_map_or cites z (moved_line moving l))
       by_lemma None e = moved_fit l w
       by_lemma (Some y) e = cites_fit y (cited_small l y e)
@@ -199,7 +200,7 @@ all_fit lines lemmas (p ∷ ps) w v a lt =
     (each_append (λ z. IsSmall z.line) lemmas (y ∷ []) v (end, tt)) a.1 lt
 
 -- what is joined of writable parts is writable
-pub joined_writable : (parts : List Part) → AreWritable parts → length (joined parts) < 2 ^ 64
-    → Writable (joined parts)
+pub joined_writable : (parts : List Part) → AreWritable parts → length (join_parts parts) < 2 ^ 64
+    → Writable (join_parts parts)
 joined_writable parts w lt =
-    fit_from 1 (joined parts) (omega (arith, lt)) (all_fit [] [] parts tt tt w lt)
+    fit_from 1 (join_parts parts) (omega (arith, lt)) (all_fit [] [] parts tt tt w lt)

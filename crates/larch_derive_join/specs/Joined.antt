@@ -33,9 +33,9 @@ shows_clause (Partitioned b s ks) = true
 shows_clause line = false
 
 -- the lemma that a line cites: the axiom with its number stands behind the theory's own statements
-abbrev pub cited : ℕ → List Lemma → Line → Option Lemma
-cited own lemmas (Axiom k) = numbered lemmas (k - own)
-cited own lemmas line = None
+abbrev pub cited_lemma : ℕ → List Lemma → Line → Option Lemma
+cited_lemma own lemmas (Axiom k) = numbered lemmas (k - own)
+cited_lemma own lemmas line = None
 
 -- the lemma, if it is a clause
 abbrev pub if_clause : Lemma → Option Lemma
@@ -45,7 +45,7 @@ if_clause y = if y.clause then Some y else None
 abbrev pub line_on : ℕ → ℕ → List Lemma → List Line → ℕ → ℕ
 line_on o own lemmas lines n =
     option_map_or (λ y. y.line)
-    (option_and_then (λ l. option_and_then if_clause (cited own lemmas l)) (numbered lines n)) (moved_on o n)
+    (option_and_then (λ l. option_and_then if_clause (cited_lemma own lemmas l)) (numbered lines n)) (moved_on o n)
 
 -- what takes the place of what the lines of a part name, behind a number of lines
 abbrev pub move_on : ℕ → List Lemma → Part → Move
@@ -68,7 +68,7 @@ cites y = if y.clause then Refl coded_true else Inst y.line []
 
 -- what stands for a line of a part
 abbrev pub joined_line : ℕ → List Lemma → Part → Line → Line
-joined_line o lemmas p l = option_map_or cites (cited p.statements lemmas l) (moved_line (move_on o lemmas p) l)
+joined_line o lemmas p l = option_map_or cites (cited_lemma p.statements lemmas l) (moved_line (move_on o lemmas p) l)
 
 -- the lines of a part, behind a number of lines
 abbrev pub joined_lines : ℕ → List Lemma → Part → List Line
@@ -89,5 +89,5 @@ joined_from lines lemmas (p ∷ ps) =
     joined_from (lines ++ joined_lines (length lines) lemmas p) (lemmas ++ lemma_of (length lines) p ∷ []) ps
 
 -- the parts in one: each with its lines, in order
-abbrev pub joined : List Part → List Line
-joined ps = joined_from [] [] ps
+abbrev pub join_parts : List Part → List Line
+join_parts ps = joined_from [] [] ps

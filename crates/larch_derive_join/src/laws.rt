@@ -5,7 +5,7 @@ ghost use Rattle.larch_term.specs.declared.statement.Statement.{Statement};
 ghost use Rattle.larch_term.specs.declared.statement.Theory.{Theory};
 ghost use Rattle.larch_calculus.specs.Renaming.{HasPlainNames};
 ghost use Rattle.larch_certificate_text.specs.CertificateText.{Writable};
-ghost use Rattle.larch_derive_join.specs.Joined.{joined};
+ghost use Rattle.larch_derive_join.specs.Joined.{join_parts};
 ghost use Rattle.larch_derive_join.specs.Promise.{AreProved, AreWritable, IsFinished};
 ghost use Rattle.larch_derive_join.specs.declared.part.Part.{Part};
 
@@ -17,8 +17,8 @@ ghost use Rattle.larch_derive_join.specs.declared.part.Part.{Part};
 pub fn joined_is_accepted()
     ensures accepted { (whole : Theory) → IsWellSortedTheory whole → HasPlainNames whole → (parts : List Part)
         → (earlier : List Statement) (last : Statement) → AreProved whole [] parts (earlier ++ last ∷ [])
-        → length (joined parts) < 2 ^ 64 → IsFinished whole (joined parts) last }
-    ensures writable { (parts : List Part) → AreWritable parts → length (joined parts) < 2 ^ 64
-        → Writable (joined parts) }
-    ensures count { (parts : List Part) → length (joined parts) ≡ sum_by (λ p. length p.certificate) parts }
+        → length (join_parts parts) < 2 ^ 64 → IsFinished whole (join_parts parts) last }
+    ensures writable { (parts : List Part) → AreWritable parts → length (join_parts parts) < 2 ^ 64
+        → Writable (join_parts parts) }
+    ensures count { (parts : List Part) → length (join_parts parts) ≡ sum_by (λ p. length p.certificate) parts }
 {}
