@@ -64,10 +64,13 @@ fn read_short(rt: &HostRuntime, alloc: Global, name: &str) -> Result<Vec<u8>, Fo
     Ok(bytes)
 }
 
-// What an error says of the file.
+// What an error says of the file. Where a part of a path is no folder, or a name is longer than one can be, nothing is
+// there.
 fn refusal_of(error: Error) -> FolderRefusal {
     match error.kind() {
-        ErrorKind::NotFound => FolderRefusal::NotThere,
+        ErrorKind::NotFound | ErrorKind::NotADirectory | ErrorKind::InvalidFilename => {
+            FolderRefusal::NotThere
+        }
         ErrorKind::OutOfMemory => FolderRefusal::Memory,
         _ => FolderRefusal::Failed,
     }

@@ -1,6 +1,6 @@
 use Rattle.std.proofs.Common.{◌≡◌, ◌++◌, drop, flat_map}
-use Rattle.larch_main.specs.Report.{line_text}
-use Rattle.larch_main.proofs.report.report_text.Given as goal
+use Rattle.larch_report.specs.Text.{line_text}
+use Rattle.larch_report.proofs.text.report_text.Given as goal
 
 -- what is written, and what the further lines write, are all
 abbrev pub invariant-loop-line : goal.invariant-loop-line
