@@ -4,8 +4,10 @@
 Each trait has about SIZE bytes, by default a megabyte, the largest file that a session takes; half of them declare
 overloaded operators, half use them. Each line has the shape, the bytes, the milliseconds of one session with one
 report, the megabytes that it took, and what the report says. A session that takes more than a minute is ended."""
+import itertools
 import pathlib
 import resource
+import string
 import subprocess
 import sys
 import time
@@ -164,6 +166,37 @@ def one_way(size):
     return wide(size, ["({0}):A0==c;\n"] * 10, [], "c:->A{0}\n__+__:A{0},A{0}->A{0}\n__+__:B{0},B{0}->A{0}\n")
 
 
+def words(bytes_each, size):
+    """As many different sorts as there is room for, each with so many bytes more than its three letters."""
+    letters = string.ascii_letters
+    every = (a + b + c for a in letters for b in string.ascii_uppercase + string.digits for c in letters + string.digits)
+    return list(itertools.islice(every, size // (3 + bytes_each)))
+
+
+def beside(size, others, term="c", symbols=2450):
+    """Chains of terms that have 65 sorts, beside other sorts that take half of the bytes; each has one reading."""
+    few = [f"S{i}" for i in range(65)]
+    declared = [*(f"c:->{sort}\n__+__:{sort},{sort}->{sort}\n" for sort in few), "d:->S0\nd:->D\n", *others]
+    equation = "+".join([term] * (symbols + 1)) + "==d;\n"
+    left = size - sum(map(len, declared))
+    return trait(declared, [equation] * (left // len(equation)))
+
+
+def beside_domain(size):
+    """The others are the domain of one operator."""
+    return beside(size, ["w:" + ",".join(words(1, size // 2)) + "->D\n"])
+
+
+def beside_constants(size):
+    """The others are those of one name."""
+    return beside(size, [f"k:->{sort}\n" for sort in words(5, size // 2)])
+
+
+def beside_choices(size):
+    """The others are the domain of one operator, and the terms are choices."""
+    return beside(size, ["w:" + ",".join(words(1, size // 2)) + "->D\n"], "(if true then c else c)", 900)
+
+
 def qualified(size):
     """Qualifications of qualifications."""
     return halves(size, ([], lambda i: f"c:->A{i}\n"), lambda i: "((((c:A{0}):A{0}):A{0}):A{0})==c;\n".format(i))
@@ -175,6 +208,7 @@ SHAPES = {
     "functions": functions, "arguments": arguments, "crossing": crossing, "crossing twice": crossing_twice,
     "long arguments": long_arguments, "qualified": qualified, "references": references, "names": names, "made": made,
     "chain": lambda size: chain(2400, 1000), "ifs": lambda size: ifs(150, 10_000),
+    "beside domain": beside_domain, "beside constants": beside_constants, "beside choices": beside_choices,
     "apart": apart, "formula": formula, "told": told, "narrow": narrow, "thin": thin, "one way": one_way,
 }
 

@@ -11,11 +11,11 @@ computes.
                                                    are refused with LIMIT, with --wide over traits whose terms grow,
                                                    so that many are refused with SIZE
 
-EVALUATOR is FOLDER:PACKAGE, a Python package that is no part of this repository: its modules base, syntax, script,
-prove and session read traits and scripts and say what each block comes to. `rows` is run where a worked example
-changes; what it writes is kept, and the gate evaluates it by the definitions alone. `random` is no part of the gate:
-run it, check the crate, see that each lemma holds, and delete the file. It prints how often each command, code and
-outcome came up.
+EVALUATOR is FOLDER:PACKAGE, a Python package that is no part of this repository: its modules base, syntax, traits,
+duties, script, prove and session read traits and scripts and say what each block comes to. `rows` is run where a worked
+example changes; what it writes is kept, and the gate evaluates it by the definitions alone. `random` is no part of the
+gate: run it, check the crate, see that each lemma holds, and delete the file. It prints how often each command, code
+and outcome came up.
 """
 import collections
 import importlib
@@ -70,8 +70,8 @@ def laid_out(e, indent, inside=False, ahead=0, behind=0):
     pad = " " * indent
     if isinstance(e, Items):
         lines = []
-        for i in e.items:
-            lines.append(laid_out(i, indent, behind=3))
+        for n, i in enumerate(e.items):
+            lines.append(laid_out(i, indent, ahead=0 if n else ahead, behind=3))
         body = f" ∷\n{pad}".join(lines + ["[]"])
         return f"({body})" if inside else body
     if isinstance(e, Record):
@@ -154,20 +154,21 @@ class Writer:
     def raw(self, r):
         if isinstance(r, self.larch.syntax.Qualified):
             return Call("said_of", self.raw(r.term), codes(r.sort.name))
-        arguments = "no_spelling"
-        for a in reversed(r.args):
-            arguments = Call("spelling", self.raw(a), arguments)
-        return Call("said", codes(r.name), arguments)
+        return Call("said", codes(r.name), Items(self.raw(a) for a in r.args))
 
     def equation(self, e):
-        right = "None" if e.right is None else Call("Some", self.raw(e.right.term))
-        return Record(left=self.raw(e.left), right=right)
+        if e.right is None:
+            return Call("lone", self.raw(e.left))
+        return Call("equal", self.raw(e.left), self.raw(e.right.term))
+
+    def word(self, text):
+        return Call("word", codes(text))
 
     def reference(self, r):
-        sig = "None"
-        if r.sig is not None:
-            sig = Call("Some", Record(domain=Items(codes(w.name) for w in r.sig.domain), range=codes(r.sig.range.name)))
-        return Record(name=codes(r.form.name), signature=sig)
+        form = Call("form", codes(r.form.name), str(r.form.word).lower(), str(r.form.markers))
+        if r.sig is None:
+            return Call("by_name", form)
+        return Call("by_signature", form, Items(self.word(w.name) for w in r.sig.domain), self.word(r.sig.range.name))
 
     def fact(self, f):
         letter = {"A": "Axiom", "L": "Lemma", "H": "Hypothesis", "D": "Derived"}[f[0]]
@@ -180,42 +181,46 @@ class Writer:
 
     def command(self, kind):
         k = kind[0]
-        plain = {"=>": "ByImplication", "/\\": "ByConjunction", "contradiction": "ByContradiction",
-                 "partition": "ByPartition", "qed": "Qed"}
+        plain = {"=>": "Implication", "/\\": "Conjunction", "contradiction": "Contradiction",
+                 "partition": "Partition", "qed": "Qed"}
         if k in plain:
-            return plain[k]
+            return f"command.{plain[k]}"
         if k == "declare":
-            return Call("Declare", Items(codes(n) for n in kind[1]), codes(kind[2]))
+            return Call("command.Declare", Items(self.word(n) for n in kind[1]), self.word(kind[2]))
         if k == "limit":
-            return Call("SetLimit", str(kind[1]))
+            return Call("command.Limit", str(kind[1]))
         if k == "boxes":
-            return Call("BoxChecking", str(kind[1]).lower())
+            return Call("command.BoxChecking", str(kind[1]).lower())
         if k == "height":
-            return Call("Height", self.reference(kind[1]), self.reference(kind[2]))
+            return Call("command.Height", self.reference(kind[1]), self.reference(kind[2]))
         if k == "status":
             way = {"left-to-right": "LeftToRight", "right-to-left": "RightToLeft", "multiset": "Multiset"}[kind[1]]
-            return Call("SetStatus", way, self.reference(kind[2]))
+            return Call("command.Status", way, self.reference(kind[2]))
         if k == "prove":
-            return Call("Prove", self.equation(kind[1]))
+            return Call("command.Prove", self.equation(kind[1]))
         if k == "cases":
-            return Call("ByCases", self.raw(kind[1].left))
+            return Call("command.Cases", self.equation(kind[1]))
         if k == "induction":
-            return Call("ByInduction", codes(kind[1]))
+            return Call("command.Induction", self.word(kind[1]))
         if k == "instantiate":
-            pairs = Items(Record(variable=codes(n), term=self.raw(e.left)) for n, e in kind[1])
-            return Call("Instantiate", pairs, self.fact(kind[2]))
+            pairs = Items(Call("instead", codes(n), self.raw(e.left)) for n, e in kind[1])
+            return Call("command.Instantiate", pairs, self.fact(kind[2]))
         if k == "pairs":
-            return Call("CriticalPairs", self.fact(kind[1]), self.fact(kind[2]))
+            return Call("command.CriticalPairs", self.fact(kind[1]), self.fact(kind[2]))
         if k == "normalize":
-            return Call("Normalize", self.fact(kind[1]))
+            return Call("command.Normalize", self.fact(kind[1]))
         if k == "mark":
-            return Call("Mark", str(kind[1]).lower())
+            return Call("command.Mark", str(kind[1]).lower())
         if k == "bad":
-            return Call("Bad", self.code(kind[1]))
+            return Call("command.Bad", self.code(kind[1]))
         raise ValueError(k)
 
     def commands(self, commands):
-        return Items(self.command(c.kind) for c in commands)
+        """Commands in order, a hundred or more equal ones as a repetition."""
+        found = [self.command(c.kind) for c in commands]
+        if len(found) > 100 and len({flat(f) for f in found[:-1]}) == 1:
+            return f"(repeat {len(found) - 1} {flat(Items(found[:1]), True)} ++ {flat(Items(found[-1:]), True)})"
+        return Items(found)
 
     def outcome(self, o):
         if o[0] == "proved":
@@ -242,8 +247,8 @@ class Larch:
     def __init__(self, evaluator):
         folder, package = evaluator.rsplit(":", 1)
         sys.path.insert(0, folder)
-        modules = ("base", "prove", "script", "session", "syntax")
-        self.base, self.prove, self.script, self.session, self.syntax = (
+        modules = ("base", "duties", "prove", "script", "session", "syntax", "traits")
+        self.base, self.duties, self.prove, self.script, self.session, self.syntax, self.traits = (
             importlib.import_module(f"{package}.{module}") for module in modules)
 
     def is_built_in(self, o):
@@ -439,35 +444,288 @@ ROWS = [
     ("a_term_is_too_large", "Twelve doublings pass 5,000 nodes.", doubles(12), [], "imply.1", "", ""),
 ]
 
-HEAD = """-- Traits and duties of the examples. Written by tools/make/replay_examples.py.
-use Rattle.std.specs.Prelude.{[], ◌∷◌, codes}
+LOGIC = """Logic: trait
+  introduces
+    c: -> S
+    p, q: S -> Bool
+  asserts
+    \\forall x: S
+      p(x) => q(x)
+  implies
+    \\forall x: S
+      p(x) => (q(x) /\\ p(x));
+      (q(x) \\/ ~p(x)) /\\ ((p(x) => q(x)) /\\ (q(c) \\/ ~p(c)))
+"""
+
+TURNS = """Turns: trait
+  introduces
+    f, g: S -> S
+    s: S -> S
+    h: S, S -> S
+    p: S -> Bool
+  asserts
+    \\forall x, y: S
+      f(x) == g(x);
+      h(s(x), y) == h(x, s(y))
+  implies
+    \\forall x, y: S
+      p(f(x));
+      p(h(s(x), s(y)))
+"""
+
+MEETS = """Meets: trait
+  introduces
+    a, b, c: -> S
+    f, k: S -> S
+    h: S, S -> Bool
+    q: S -> Bool
+  asserts
+    \\forall x, y: S
+      h(f(x), f(y));
+      f(a) == b;
+      k(x) == x;
+      f(f(x)) == x
+  implies
+    h(b, f(c));
+    h(b, k(b))
+"""
+
+EMPTIES = """Empties: trait
+  introduces
+    empty: -> Bag
+    empty: -> Set
+    card: Bag -> N
+    card: Set -> N
+  asserts
+    N generated by card: Bag -> N, card: Set -> N
+  implies
+    \\forall b: Bag, n: N
+      card(b) = n
+"""
+
+DOUBLED = """Doubled: trait
+  introduces
+    0: -> N
+    s: N -> N
+    d, t: N -> N
+  asserts
+    N generated by 0, s
+    \\forall x: N
+      d(0) == 0;
+      d(s(x)) == s(s(d(x)));
+      t(0) == 0;
+      t(s(x)) == s(s(s(t(x))))
+  converts d
+  converts t
+"""
+DOUBLED_AT_ONCE = DOUBLED.replace("Doubled:", "Both:").replace("converts d\n  converts t", "converts d, t")
+
+ROWS += [
+    ("an_implication_is_proved", "`=>` supposes the premise of a constant, and the conclusion is the goal.", LOGIC, [],
+     "imply.1", "", "resume by =>\ninstantiate x by xc in A1\nqed"),
+    ("conjuncts_are_subgoals", "`/\\` opens each conjunct, nested ones taken apart.", LOGIC, [], "imply.2", "",
+     "resume by /\\"),
+    ("truth_values_are_generated", "Induction on a variable of sort Bool needs no clause.", TRUTHS, [], "imply.1", "",
+     "resume by induction on b"),
+    ("a_declared_variable_has_a_reading", "What is declared in a block can be named.", SUMS, [], "imply.1", "",
+     "declare variables k: N\nprove k + 0 == k\nresume by induction on x\nqed"),
+    ("a_name_in_scope_may_be_declared_again", "A name that is in scope may be declared at its sort.", SUMS, [],
+     "imply.1", "", "declare variables x, k: N\nresume by induction on x"),
+    ("a_proof_may_end_twice", "`qed` and marks may stand behind the end of a proof.", SUMS, [], "imply.1", "",
+     "resume by induction on x\nqed\n[] all\nqed"),
+]
+
+# the name of the contract, what it says, and for each clause its name, the trait, the duty, the preamble and the block
+REFUSALS = [
+    ("registered_heights", "By default a fact goes from `g` to `f`; a height of `f` above `g` turns it.", [
+        ("default", TURNS, "imply.1", "", ""),
+        ("above", TURNS, "imply.1", "register height f > g", ""),
+        ("already_above", TURNS, "imply.1", "register height g > f", ""),
+        ("behind_it", TURNS, "imply.1", "", "register height f > g\nnormalize A1")]),
+    ("registered_statuses", "How an operator compares its arguments decides which side of a fact is the greater one.", [
+        ("default", TURNS, "imply.2", "", ""),
+        ("left_to_right", TURNS, "imply.2", "register status left-to-right h", ""),
+        ("right_to_left", TURNS, "imply.2", "register status right-to-left h", ""),
+        ("multiset", TURNS, "imply.2", "register status multiset h: S, S -> S", "")]),
+    ("what_is_no_operator", "References name one operator that isn't built in.", [
+        ("nothing", TURNS, "imply.1", "", "register height k > f"),
+        ("nothing_below", TURNS, "imply.1", "", "register height f > k"),
+        ("built_in", TURNS, "imply.1", "", "register height true > f"),
+        ("other_sorts", TURNS, "imply.2", "", "register status multiset h: S -> S"),
+        ("two", EMPTIES, "imply.1", "", "register status multiset card"),
+        ("one_of_two", EMPTIES, "imply.1", "", "register status multiset card: Set -> N")]),
+    ("what_is_not_declared", "A name has one sort in scope, which exists, and is no constant of the block.", [
+        ("unknown_sort", SUMS, "imply.1", "", "declare variables k: Nowhere"),
+        ("other_sort", SUMS, "imply.1", "", "declare variables x: Bool"),
+        ("sort_comes_first", SUMS, "imply.1", "", "declare variables x: Nowhere"),
+        ("declared_before", SUMS, "imply.1", "", "declare variables k: N\ndeclare variables k: Bool"),
+        ("one_of_several", SUMS, "imply.1", "", "declare variables k, x: Bool"),
+        ("constant", SUMS, "imply.2", "", "resume by induction on x\ndeclare variables xc: N")]),
+    ("what_has_no_reading", "Terms of commands are read by the theory, the scope and the constants of the block.", [
+        ("undeclared", SUMS, "imply.1", "", "prove k + 0 == k"),
+        ("several", EMPTIES, "imply.1", "", "prove empty = empty"),
+        ("qualified", EMPTIES, "imply.1", "", "prove empty: Bag = empty"),
+        ("unknown_sort", EMPTIES, "imply.1", "", "prove empty: Nowhere = empty"),
+        ("case", EMPTIES, "imply.1", "", "resume by cases card(b) = card(empty)"),
+        ("no_formula", SUMS, "imply.1", "", "resume by cases x + 0")]),
+    ("shapes_and_clauses", "A method wants a goal of its shape, and induction and partition want a clause.", [
+        ("implication", EMPTIES, "imply.1", "", "resume by =>"),
+        ("conjunction", EMPTIES, "imply.1", "", "resume by /\\"),
+        ("equality", SETS, "imply.1", "", "resume by partition"),
+        ("partitioned", EMPTIES, "imply.1", "", "resume by partition"),
+        ("variable", EMPTIES, "imply.1", "", "resume by induction on k"),
+        ("generated", EMPTIES, "imply.1", "", "resume by induction on b")]),
+    ("what_is_not_instantiated", "The fact comes first, and then pair by pair the variable before its term.", [
+        ("fact", SETS, "imply.1", "", "instantiate q by e in A9"),
+        ("clause", SETS, "imply.1", "", "instantiate e by e in A1"),
+        ("variable", SETS, "imply.1", "", "instantiate q by e in A3"),
+        ("reading", SETS, "imply.1", "", "instantiate e by undefined in A3"),
+        ("other_sort", SETS, "imply.1", "", "instantiate e by {} in A3"),
+        ("reading_of_the_first", SETS, "imply.1", "", "instantiate e by undefined, q by e in A3"),
+        ("variable_of_the_first", SETS, "imply.1", "", "instantiate q by e, e by undefined in A3"),
+        ("twice", SETS, "imply.1", "", "instantiate e by undefined, e by e in A3")]),
+    ("facts_by_name", "Facts are those of the current level, by letter, number and part.", [
+        ("first_of_pair", SETS, "imply.1", "", "critical-pairs A9 with A3"),
+        ("second_of_pair", SETS, "imply.1", "", "critical-pairs A3 with A9"),
+        ("number", SETS, "imply.1", "", "normalize A9"),
+        ("part", SETS, "imply.1", "", "normalize A3.2"),
+        ("first_part", SETS, "imply.1", "", "normalize A3.1"),
+        ("letter", SETS, "imply.1", "", "normalize L3"),
+        ("taken_out", SETS, "imply.1", "", "normalize A3\nnormalize A3")]),
+    ("pairs_in_turn", "Pairs are added until the goal is proved; of one fact the root is left out.", [
+        ("proved_by_the_first", MEETS, "imply.1", "", "critical-pairs A1 with A2"),
+        ("rest_takes_no_number", MEETS, "imply.1", "",
+         "resume by cases q(c)\ncritical-pairs A1 with A2\ninstantiate x by c in A3\nnormalize D2"),
+        ("each_takes_a_number", MEETS, "imply.2", "", "critical-pairs A1 with A2\nnormalize D2"),
+        ("no_more", MEETS, "imply.2", "", "critical-pairs A1 with A2\nnormalize D3"),
+        ("without_the_root", MEETS, "imply.2", "",
+         "critical-pairs A4 with A4\ncritical-pairs A1 with A2\nnormalize D2")]),
+]
+
+# the same, of what comes first
+ORDER = [
+    ("what_comes_first", "Of two refusals of a command this one is told.", [
+        ("line_before_mark", SUMS, "imply.1", "set box-checking on", "resume by induction on x\nwhat"),
+        ("line_before_end", SUMS, "imply.1", "", 'resume by induction on x\nprove x " y'),
+        ("end_before_setting", SUMS, "imply.1", "", "resume by induction on x\nset rewriting-limit 5"),
+        ("end_before_unchecking", SUMS, "imply.1", "", "resume by induction on x\nset box-checking off"),
+        ("end_before_reading", SUMS, "imply.1", "", "resume by induction on x\nresume by cases undefined"),
+        ("mark_before_reading", TABLES, "imply.1", "set box-checking on",
+         "resume by cases i \\in t\nresume by cases undefined"),
+        ("mark_before_open", TABLES, "imply.1", "set box-checking on", "resume by cases i \\in t\nqed"),
+        ("unchecking_where_marks_wait", TABLES, "imply.1", "set box-checking on",
+         "resume by induction on t\nset box-checking off"),
+        ("limit_before_size", doubles(12), "imply.1", "set rewriting-limit 11", "")]),
+    ("at_most_a_thousand_commands", "The 1,001st command of a block is SIZE, before a mark that is out of place.", [
+        ("last", TRUTHS, "imply.1", "", "set rewriting-limit 7\n" * 999 + "set rewriting-limit 8"),
+        ("one_more", TRUTHS, "imply.1", "set box-checking on", "set rewriting-limit 7\n" * 1000 + "[] none")]),
+    ("preambles", "Only declarations, settings and registrations stand in a preamble.", [
+        ("declared", SUMS, "imply.1", "declare variables k: N", "prove k + 0 == k"),
+        ("goal_comes_first", SUMS, "imply.1", "declare variables x: Bool", "declare variables x: Bool"),
+        ("end", SUMS, "imply.1", "qed", ""),
+        ("formula", SUMS, "imply.1", "set rewriting-limit 5\nprove 0 == 0", ""),
+        ("mark", SUMS, "imply.1", "set box-checking on\n[] none", ""),
+        ("line", SUMS, "imply.1", "what", ""),
+        ("bytes", SUMS, "imply.1", 'prove x " y', ""),
+        ("sort", SUMS, "imply.1", "declare variables k: N\ndeclare variables k: Nowhere", ""),
+        ("operator", SUMS, "imply.1", "register height zero > s", "")]),
+]
+
+FIRST_SCRIPT = """duty imply.1
+  resume by induction on x
+duty imply.2
+  resume by induction on y
+duty imply.3
+  resume by induction on y
+  resume by contradiction
+  instantiate x by xc in H1
+  normalize H2
+qed
+"""
+SECOND_SCRIPT = FIRST_SCRIPT.replace("imply.2\n  resume by induction on y", "imply.2\n  resume by induction on x")
+SLOW_SCRIPT = "set rewriting-limit 3\nduty imply.1\n"
+FAULTY_SCRIPT = """duty imply.9
+qed
+duty imply.1
+  resume by cases undefined
+duty imply.1
+duty convert.7
+"""
+UNREADY_SCRIPT = "% a remark\nset rewriting-limit 5\nqed\n"
+OTHER_CLAUSE = "duty convert.1\nresume by induction on x1\nduty convert.2\nnormalize L1\n"
+
+# the name of the contract, what it says, and for each clause its name (none where it is the only one), the trait and
+# its script
+REPORTS = [
+    ("a_session_of_two_reports", "Sums are proved; behind an edit of the second block the third has no lemma.", [
+        ("first", SUMS, FIRST_SCRIPT), ("second", SUMS, SECOND_SCRIPT)]),
+    ("refused_openings", "An opening is refused at the line of its block, wherever that is; without one at line 0.", [
+        ("block", THREE, SLOW_SCRIPT), ("moved", THREE, "% slow\n" + SLOW_SCRIPT), ("no_block", doubles(12), "")]),
+    ("refused_preambles", "A refused preamble refuses each duty, at its own line.", [
+        ("", SUMS, UNREADY_SCRIPT)]),
+    ("blocks_of_no_duty", "Behind the duties come the blocks that aren't replayed, in order.", [
+        ("", TRUTHS, FAULTY_SCRIPT)]),
+    ("lemmas_of_conversions", "A conversion serves those of its own clause alone.", [
+        ("another_clause", DOUBLED, OTHER_CLAUSE), ("one_clause", DOUBLED_AT_ONCE, OTHER_CLAUSE)]),
+]
+
+# the name of the contract, what it says, and for each clause its name, the trait, the script before and the script now;
+# None where nothing was reported before
+REDONE = [
+    ("what_is_done_again", "How many steps a report takes behind another one.", [
+        ("nothing_before", SUMS, None, FIRST_SCRIPT),
+        ("nothing_changed", SUMS, FIRST_SCRIPT, FIRST_SCRIPT),
+        ("edited", SUMS, FIRST_SCRIPT, SECOND_SCRIPT),
+        ("edited_back", SUMS, SECOND_SCRIPT, FIRST_SCRIPT),
+        ("moved", THREE, SLOW_SCRIPT, "% slow\n" + SLOW_SCRIPT),
+        ("other_preamble", THREE, SLOW_SCRIPT, SLOW_SCRIPT.replace("3", "4")),
+        ("cut", SUMS, FIRST_SCRIPT, FIRST_SCRIPT.replace("qed\n", "")),
+        ("last_command", SUMS, FIRST_SCRIPT, FIRST_SCRIPT.replace("normalize H2", "normalize H1"))]),
+]
+
+HEAD = """-- Traits, duties and scripts of the examples. Written by tools/make/replay_examples.py.
+use Rattle.std.specs.Prelude.{[], ◌∷◌, List, None, Some, codes}
+use Rattle.larch_base.specs.declared.fact_name.FactLetter.TheVariants.{Hypothesis, Lemma}
+use Rattle.larch_base.specs.declared.label.Label.TheVariants.{Convert, Imply}
+use Rattle.larch_base.specs.declared.code.Code.TheVariants as refusal
+use Rattle.larch_script_commands.specs.Written.{instead, lone, said, word}
+use Rattle.larch_script_commands.specs.declared.command.CommandKind.TheVariants as command
+use Rattle.larch_script_commands.specs.declared.script.Script.{Script}
 use Rattle.larch_term.specs.Operator.{PlainOperator, plain}
 use Rattle.larch_term.specs.Tree.{var, app, forest_of}
 use Rattle.larch_term.specs.BuiltIn.{built_in, bool_sort}
 use Rattle.larch_term.specs.Truth.{truth}
-use Rattle.larch_term.specs.declared.built_in.BuiltIn.TheVariants.{False, Not, Or, Implies, Equal, If}
+use Rattle.larch_term.specs.declared.built_in.BuiltIn.TheVariants.{False, Not, And, Or, Implies, Equal, If}
 use Rattle.larch_term.specs.declared.statement.Statement.TheVariants.{Equation, Generated, Partitioned}
 use Rattle.larch_term.specs.declared.statement.Theory.{Theory}
 use Rattle.larch_calculus.specs.Formula.{constant, apply_one, apply_two}
+use Rattle.larch_prove_meaning.specs.Facts.{whole_name}
 use Rattle.larch_prove_meaning.specs.Replays.{Duty}
+use Rattle.larch_prove_meaning.specs.Scripts.{ClaimedDuty}
 
 """
 
-RUST_HEAD = """//! What blocks come to, computed by the definitions. No function here does anything.
+RUST_HEAD = """//! SAYS No function here does anything.
 //!
 //! Written by `tools/make/replay_examples.py`; the traits and duties are in `specs/Worked.antt`.
-ghost use Rattle.std.specs.Prelude.{◌≡◌, true, false, [], ◌∷◌, codes, None, Some};
+ghost use Rattle.std.specs.Prelude.{◌≡◌, true, false, [], ◌∷◌, ◌++◌, codes, None, Some};
+ghost use Rattle.std.specs.List.{repeat};
 ghost use Rattle.larch_base.specs.declared.code.Code.TheVariants as refusal;
+ghost use Rattle.larch_base.specs.declared.fact_name.FactLetter.TheVariants.{Axiom, Derived, Hypothesis, Lemma};
+ghost use Rattle.larch_base.specs.declared.label.Label.TheVariants.{Convert, Imply};
+ghost use Rattle.larch_base.specs.declared.way.Way.TheVariants.{LeftToRight, RightToLeft, Multiset};
+ghost use Rattle.larch_script_commands.specs.Written.{by_name, by_signature, equal, form, instead, lone, said, said_of};
+ghost use Rattle.larch_script_commands.specs.Written.{word};
+ghost use Rattle.larch_script_commands.specs.declared.command.CommandKind.TheVariants as command;
 ghost use Rattle.larch_term.specs.Tree.{var, app, forest_of};
 ghost use Rattle.larch_term.specs.BuiltIn.{built_in, bool_sort};
 ghost use Rattle.larch_term.specs.declared.built_in.BuiltIn.TheVariants.{And, Or, Not, Equal, Iff, Implies, If, False};
 ghost use Rattle.larch_calculus.specs.Formula.{constant, apply_one, apply_two};
-ghost use Rattle.larch_prove_meaning.specs.Commands.{said, no_spelling, spelling, SetLimit, BoxChecking, Prove};
-ghost use Rattle.larch_prove_meaning.specs.Commands.{ByCases, ByImplication, ByContradiction, ByInduction, ByPartition};
-ghost use Rattle.larch_prove_meaning.specs.Commands.{Instantiate, CriticalPairs, Normalize, Qed, Mark};
-ghost use Rattle.larch_base.specs.declared.fact_name.FactLetter.TheVariants.{Axiom, Derived, Hypothesis};
 ghost use Rattle.larch_prove_meaning.specs.Facts.{whole_name};
-ghost use Rattle.larch_prove_meaning.specs.Replays.{replay, Proved, Suspended, Refused, AtOpening, AtCommand};
+ghost use Rattle.larch_prove_meaning.specs.Redo.{redo, trait_replayed};
+ghost use Rattle.larch_prove_meaning.specs.Replays.{replay, Proved, Suspended, Refused, InPreamble, AtOpening};
+ghost use Rattle.larch_prove_meaning.specs.Replays.{AtCommand};
+ghost use Rattle.larch_prove_meaning.specs.Reports.{DutyProved, DutyRefused, DutySuspended, ScriptFault, trait_lines};
 ghost use Rattle.larch_prove_meaning.specs.Worked as worked;
 """
 
@@ -481,46 +739,174 @@ def stem(text):
     return re.sub(r"(?<!^)([A-Z])", r"_\1", name).lower()
 
 
-def rows(larch):
-    specs, functions = [HEAD], [RUST_HEAD]
-    duties, writers, theories = {}, {}, {}
-    for name, says, trait, others, label, preamble, block in ROWS:
-        script = "\n".join(filter(None, [preamble, f"duty {label}", block])) + "\n"
-        full = proofs_before(trait, label) + script if not preamble else script
+class Book:
+    """The definitions that examples name: of each trait its operators, theories, duties and scripts."""
+
+    def __init__(self, larch):
+        self.larch, self.writers, self.names = larch, {}, {}
+
+    def writer(self, trait):
+        if trait not in self.writers:
+            prefix = f'doubles_{trait.count("s(") - 1}' if trait.startswith("Doubles") else stem(trait)
+            self.writers[trait] = Writer(self.larch, prefix)
+        return self.writers[trait]
+
+    def named(self, trait, kind, key, name, value):
+        """The name of a definition, which is made where it is wanted first."""
+        if (trait, kind, key) not in self.names:
+            self.names[trait, kind, key] = name
+            self.writer(trait).used.add(name)
+            self.writer(trait).definitions.append((None, name, kind, value))
+        return self.names[trait, kind, key]
+
+    def theory(self, trait, theory, label):
+        if (trait, "Theory", theory) in self.names:
+            return self.names[trait, "Theory", theory]
+        writer = self.writer(trait)
+        name = writer.prefix
+        if label.startswith("convert"):
+            name += "_converted" if f"{name}_converted" not in writer.used else "_converted_too"
+        value = Record(operators=Items(writer.operator(o) for o in theory.operators),
+                       statements=Items(writer.statement(s) for s in theory.statements))
+        return self.named(trait, "Theory", theory, name, value)
+
+    def replay(self, trait, others, label, preamble, block):
+        """What a block is said to come to, and what it comes to."""
+        writer = self.writer(trait)
         files = {f"{title(t)}.lsl": t for t in [trait] + others}
-        files[f"{title(trait)}.lp"] = (preamble + "\n" if preamble else "") + proofs_before(trait,
-                label) + f"duty {label}\n" + block + "\n"
-        (found,) = [d for t in larch.evaluate(files, 1000) if t.name == title(trait)
+        files[f"{title(trait)}.lp"] = ((preamble + "\n" if preamble else "") + proofs_before(trait, label)
+                                       + f"duty {label}\n" + block + "\n")
+        (found,) = [d for t in self.larch.evaluate(files, 1000) if t.name == title(trait)
                     for d in t.duties if str(d.label) == label]
-        key = (trait, label)
-        writer = writers.setdefault(trait,
-                                    Writer(larch, stem(trait) if not trait.startswith("Doubles")
-                                           else f'doubles_{trait.count("s(") - 1}'))
-        if key not in duties:
-            name_of_theory = theories.get((trait, found.theory))
-            if name_of_theory is None:
-                name_of_theory = writer.prefix + ("_converted" if label.startswith("convert") else "")
-                writer.theory(found.theory, name_of_theory, None)
-                theories[(trait, found.theory)] = name_of_theory
-            duties[key] = f'{writer.prefix}_{label.replace(".", "_")}'
-            value = Record(theory=name_of_theory, statement=writer.statement(found.statement),
-                           lemmas=writer.lemmas(found.lemmas))
-            writer.definitions.append((None, duties[key], "Duty", value))
-        outcome, commands = writer.outcome(found.outcome), writer.commands(found.block)
-        clause = Call("replay", f"worked.{duties[key]}", "1000", writer.commands(found.preamble), commands)
-        clause = qualified(clause, writer)
-        outcome = qualified(outcome, writer)
-        line = f"    ensures {{ {flat(clause)} ≡ {flat(outcome)} }}"
+        lemmas = found.lemmas if found.outcome[1:2] != (("preamble", 1),) and found.outcome[1:2] != (
+            ("preamble", 2),) else ()
+        name = f'{writer.prefix}_{label.replace(".", "_")}'
+        value = Record(theory=self.theory(trait, found.theory, label), statement=writer.statement(found.statement),
+                       lemmas=writer.lemmas(lemmas))
+        name = self.named(trait, "Duty", (label, lemmas), name, value)
+        clause = Call("replay", name, "1000", writer.commands(found.preamble), writer.commands(found.block))
+        return qualified(clause, writer), qualified(writer.outcome(found.outcome), writer)
+
+    def script(self, trait, text):
+        """The name of a script, and the file from which it is read."""
+        writer, script = self.writer(trait), self.larch.script.read_script(text, False)
+        number = sum(1 for t, kind, _ in self.names if t == trait and kind == "Script") + 1
+        value = Record(preamble=self.lines(writer, script.preamble),
+                       blocks=Items(Record(line=str(b.line), label=label(".".join(map(str, b.label))),
+                                           commands=self.lines(writer, b.commands)) for b in script.blocks))
+        return self.named(trait, "Script", text, f"{writer.prefix}_script_{number}", value)
+
+    def lines(self, writer, commands):
+        return Items(Record(line=str(c.line), kind=writer.command(c.kind)) for c in commands)
+
+    def claims(self, trait):
+        """The name of a trait's duties."""
+        writer, files = self.writer(trait), {f"{title(trait)}.lsl": trait}
+        flat_trait = self.larch.traits.flatten(files, title(trait), {})
+        duties = self.larch.duties.duties(files, title(trait), flat_trait, {})
+        value = Items(Record(label=label(str(d.label)),
+                             clause="None" if d.clause is None else Call("Some", str(d.clause + 1)),
+                             theory=self.theory(trait, d.theory, str(d.label)),
+                             statement=writer.statement(d.statement)) for d in duties)
+        return self.named(trait, "List ClaimedDuty", None, f"{writer.prefix}_claims", value)
+
+    def evaluated(self, trait, text):
+        (found,) = self.larch.evaluate({f"{title(trait)}.lsl": trait, f"{title(trait)}.lp": text}, 1000)
+        return found
+
+    def report(self, trait, text):
+        """The lines of a trait's report, and what they are."""
+        writer, found = self.writer(trait), self.evaluated(trait, text)
+        clause = Call("trait_lines", "1000", self.script(trait, text), self.claims(trait))
+        lines = []
+        for d in found.duties:
+            name = label(str(d.label))
+            if d.outcome[0] == "proved":
+                lines.append(Call("DutyProved", name))
+            elif d.outcome[0] == "suspended":
+                lines.append(Call("DutySuspended", name, str(d.outcome[1]), writer.term(d.outcome[2])))
+            else:
+                line = str(self.larch.session.refused_line(d))
+                lines.append(Call("DutyRefused", name, line, writer.code(d.outcome[2])))
+        for text in found.script_lines:
+            _, line, code = text.split()
+            lines.append(Call("ScriptFault", line, writer.code(code)))
+        return qualified(clause, writer), qualified(Items(lines), writer)
+
+    def redone(self, trait, before, now):
+        """How many steps a report takes behind another one."""
+        writer = self.writer(trait)
+
+        def replayed(text):
+            return "[]" if text is None else Call("trait_replayed", "1000", codes(title(trait)),
+                                                  self.script(trait, text), self.claims(trait))
+        clause = Call("redo", replayed(before), replayed(now))
+        steps = self.larch.session.redo_of([] if before is None else [self.evaluated(trait, before)],
+                                           [self.evaluated(trait, now)])
+        return qualified(clause, writer), str(steps)
+
+
+def label(text):
+    kind, number = text.split(".")
+    return Call(kind.capitalize(), number)
+
+
+def contract(module, name, says, clauses):
+    """A function whose clauses, by their names, are equations; and the answers to them."""
+    body = ""
+    for clause, left, right in clauses:
+        head = f"    ensures {clause} {{ " if clause else "    ensures { "
+        line = f"{head}{flat(left)} ≡ {flat(right)} }}"
         if len(line) > WIDTH:
-            left, right = laid_out(clause, 8, ahead=2, behind=1), laid_out(outcome, 10, behind=2)
-            line = f"    ensures {{ {left}\n        ≡ {right} }}"
-        functions.append(f"/// {says}\npub fn {name}()\n{line}\n{{}}\n")
-        answers(name)
-    for trait, writer in writers.items():
+            first = laid_out(left, 8, ahead=len(head) - 8, behind=1)
+            line = f"{head}{first}\n        ≡ {laid_out(right, 10, behind=2)} }}"
+        body += line + "\n"
+    answers(module, name, [clause for clause, _, _ in clauses])
+    return f"/// {says}\npub fn {name}()\n{body}{{}}\n"
+
+
+def rows(larch):
+    book = Book(larch)
+    examples = [contract("examples", name, says, [("", *book.replay(trait, others, of, preamble, block))])
+                for name, says, trait, others, of, preamble, block in ROWS]
+    refusals = [contract("refusals", name, says, [(clause, *book.replay(trait, [], of, preamble, block))
+                                                  for clause, trait, of, preamble, block in clauses])
+                for name, says, clauses in REFUSALS]
+    orders = [contract("order", name, says, [(clause, *book.replay(trait, [], of, preamble, block))
+                                             for clause, trait, of, preamble, block in clauses])
+              for name, says, clauses in ORDER]
+    reports = [contract("reports", name, says, [(clause, *book.report(trait, text)) for clause, trait, text in clauses])
+               for name, says, clauses in REPORTS]
+    reports += [contract("reports", name, says, [(clause, *book.redone(trait, before, now))
+                                                 for clause, trait, before, now in clauses])
+                for name, says, clauses in REDONE]
+    specs = [HEAD]
+    for trait, writer in book.writers.items():
         specs.append(f"-- ---- the trait {title(trait)}\n")
         specs += [definition(*d) for d in writer.definitions]
     write(os.path.join(CRATE, "specs", "Worked.antt"), "\n".join(specs))
-    write(os.path.join(CRATE, "src", "examples.rt"), "\n".join(functions))
+    for module, says, functions in [("examples", "What blocks come to, computed by the definitions.", examples),
+                                    ("refusals", "What single commands do, and when they are refused.", refusals),
+                                    ("order", "What comes first of several refusals, and what a preamble may have.",
+                                     orders),
+                                    ("reports", "What reports say, and how much of them is done again.", reports)]:
+        text = "\n".join(functions)
+        write(os.path.join(CRATE, "src", f"{module}.rt"), used(RUST_HEAD.replace("SAYS", says), text) + "\n" + text)
+
+
+def used(head, text):
+    """The lines of a head, with what the text names of them alone."""
+    out = []
+    for line in head.splitlines():
+        found = re.fullmatch(r"(ghost use .*\.)\{(.*)\};", line)
+        if found:
+            names = [n for n in found.group(2).split(", ")
+                     if re.search(r"(?<![\w.])" + re.escape(n.strip("◌")) + r"(?!\w)", text)]
+            if names:
+                out.append(f"{found.group(1)}{{{', '.join(names)}}};")
+        elif " as " not in line or f'{line.split(" as ")[1].strip(";")}.' in text:
+            out.append(line)
+    return "\n".join(out) + "\n"
 
 
 def qualified(e, writer):
@@ -542,17 +928,17 @@ def proofs_before(trait, label):
     return "".join(proofs[:int(label.split(".")[1]) - 1])
 
 
-def answers(name):
-    folder = os.path.join(CRATE, "proofs", "examples", name)
+def answers(module, name, clauses):
+    folder = os.path.join(CRATE, "proofs", module, name)
     os.makedirs(folder, exist_ok=True)
-    write(os.path.join(folder, "Answers.antt"), f"""use Rattle.std.specs.Prelude.{{refl}}
+    text = f"""use Rattle.std.specs.Prelude.{{refl}}
 use Rattle.larch_prove_meaning.specs.Computing.{{replaying}}
-use Rattle.larch_prove_meaning.proofs.examples.{name}.Goals as goal
-
-pub returns : goal.returns
-unfolding replaying
-returns c = refl
-""")
+use Rattle.larch_prove_meaning.proofs.{module}.{name}.Goals as goal
+"""
+    for clause in clauses:
+        returns = f"returns-clause-{clause}" if clause else "returns"
+        text += f"\npub {returns} : goal.{returns}\nunfolding replaying\n{returns} c = refl\n"
+    write(os.path.join(folder, "Answers.antt"), text)
 
 
 # ---- random blocks
@@ -887,18 +1273,13 @@ def random_blocks(larch, seed, count, mode):
 
 ALL_BUILT_IN = "{True, False, Not, And, Or, Implies, Iff, Equal, Unequal, If}"
 RANDOM_HEAD = re.sub(r"(BuiltIn\.TheVariants\.)\{.*\}", lambda m: m.group(1) + ALL_BUILT_IN, HEAD).replace(
-    "-- Traits and duties of the examples.",
-    "-- Random blocks.") + """use Rattle.std.specs.Prelude.{◌≡◌, refl, true, false, None, Some}
-use Rattle.larch_base.specs.declared.code.Code.TheVariants as refusal
-use Rattle.larch_base.specs.declared.way.Way.TheVariants.{LeftToRight, RightToLeft, Multiset}
-use Rattle.larch_prove_meaning.specs.Commands.{said, said_of, no_spelling, spelling, Declare, SetLimit, BoxChecking}
-use Rattle.larch_prove_meaning.specs.Commands.{Height, SetStatus, Prove, ByCases, ByImplication, ByConjunction}
-use Rattle.larch_prove_meaning.specs.Commands.{ByContradiction, ByInduction, ByPartition, Instantiate, CriticalPairs}
-use Rattle.larch_prove_meaning.specs.Commands.{Normalize, Qed, Mark, Bad}
+    "-- Traits, duties and scripts of the examples.", "-- Random blocks.").replace(
+    "{[], ◌∷◌, List, None, Some, codes}", "{◌≡◌, refl, [], ◌∷◌, true, false, List, None, Some, codes}").replace(
+    "{instead, lone, said, word}", "{by_name, by_signature, equal, form, instead, lone, said, said_of, word}").replace(
+    "{Hypothesis, Lemma}", "{Axiom, Derived, Hypothesis, Lemma}").replace(
+    "specs.Replays.{Duty}", "specs.Replays.{Duty, replay, Proved, Suspended, Refused, InPreamble, AtOpening, AtCommand}"
+) + """use Rattle.larch_base.specs.declared.way.Way.TheVariants.{LeftToRight, RightToLeft, Multiset}
 use Rattle.larch_prove_meaning.specs.Computing.{replaying}
-use Rattle.larch_base.specs.declared.fact_name.FactLetter.TheVariants.{Axiom, Derived, Hypothesis, Lemma}
-use Rattle.larch_prove_meaning.specs.Facts.{whole_name}
-use Rattle.larch_prove_meaning.specs.Replays.{replay, Proved, Suspended, Refused, InPreamble, AtOpening, AtCommand}
 
 """
 

@@ -127,6 +127,12 @@ pub first_text : (text : List ℕ) (w : Bool) (rs : List Line) → length text <
 first_text text w rs s e =
     subst (λ v. IsTextOf text v rs) (first_version text w rs e) (certificate_back false text w rs s e)
 
+-- what is read of the first version alone has it
+pub first_read : (text : List ℕ) (w : Bool) (rs : List Line) → read_certificate false text ≡ Ok (w, rs)
+    → read_certificate false text ≡ Ok (false, rs)
+first_read text w rs e =
+    subst (λ v. read_certificate false text ≡ Ok (v, rs)) (first_version text w rs e) e
+
 -- what is refused is the text of no writable certificate
 pub none_first : (refusal : FormRefusal) (text : List ℕ) → IfForm refusal (λ n. read_certificate false text ≡ Err n)
     → IfForm refusal (λ n. (c : List Line) → IsTextOf text false c → ⊥)

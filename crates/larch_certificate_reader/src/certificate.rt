@@ -45,11 +45,12 @@ impl From<Memory> for FormRefusal {
 
 /// The certificate whose text of the first version this is. A text that is no certificate is refused at its first
 /// line outside the grammar; `Memory` comes only out of memory. The time is linear in the text.
-#[tactic(auto, using(crate::proofs::Lines::first_text, larch_certificate_text::proofs::CertificateLaws::certificate_outside))]
+#[tactic(auto, using(crate::proofs::Lines::first_text, crate::proofs::Lines::first_read, larch_certificate_text::proofs::CertificateLaws::certificate_outside))]
 pub fn read_certificate(alloc: Global, text: &[u8]) -> Result<Certificate, FormRefusal>
     ensures text { IfOk result (λ c. IsTextOf text.now false c) }
     ensures outside { IfErr result (λ refusal. IfForm refusal (λ n. IsFirstOutside false text.now n)) }
     ensures none { IfErr result (λ refusal. IfForm refusal (λ n. (c : List Line) → IsTextOf text.now false c → ⊥)) }
+    ensures read { IfOk result (λ c. read_certificate false text.now ≡ Ok (false, c)) }
     ensures refused { IfErr result (λ refusal. IfForm refusal (λ n. read_certificate false text.now ≡ Err n)) }
 {
     match read_version(alloc, false, text) {
@@ -58,13 +59,16 @@ pub fn read_certificate(alloc: Global, text: &[u8]) -> Result<Certificate, FormR
     }
 }
 
-/// The certificate whose text this is, in either version.
+/// The certificate whose text this is, in either version, and which. A text that is no certificate of either is refused
+/// at its first line outside the grammar; `Memory` comes only out of memory.
 #[tactic(auto, using(larch_certificate_text::proofs::CertificateLaws::certificate_back, larch_certificate_text::proofs::CertificateLaws::certificate_outside))]
 pub fn read_either(alloc: Global, text: &[u8]) -> Result<Versioned, FormRefusal>
     ensures text { IfOk result (λ c. IsTextOf text.now c.second c.lines) }
     ensures outside { IfErr result (λ refusal. IfForm refusal (λ n. IsFirstOutside true text.now n)) }
     ensures none { IfErr result (λ refusal. IfForm refusal (λ n.
         (v : Bool) (c : List Line) → IsTextOf text.now v c → ⊥)) }
+    ensures read { IfOk result (λ c. read_certificate true text.now ≡ Ok (c.second, c.lines)) }
+    ensures refused { IfErr result (λ refusal. IfForm refusal (λ n. read_certificate true text.now ≡ Err n)) }
 {
     read_version(alloc, true, text)
 }

@@ -1,8 +1,12 @@
 -- Lemmas.
+mod Claims
 mod Conversions
 mod Copies
+mod Each
 mod Fresh
 mod Implied
 pub mod Plain
+pub mod Reached
 pub mod Sound
 pub mod Told
+pub mod Words

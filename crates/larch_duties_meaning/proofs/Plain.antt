@@ -1,14 +1,11 @@
 -- The operators of duties have plain names.
-use Rattle.std.proofs.Common.{◌≡◌, ℕ, suc, ◌+◌, Bool, true, false, cond, not, List, [], ◌∷◌, ◌++◌, map, All, Option}
+use Rattle.std.proofs.Common.{◌≡◌, ℕ, ◌+◌, Bool, true, false, cond, not, List, [], ◌∷◌, ◌++◌, map, All, Option}
 use Rattle.std.proofs.Common.{Some, None, Ok, Err, subst}
-use Rattle.std.specs.Prelude.{flat_map, length, nat_lt, option_map, unwrap_or}
+use Rattle.std.specs.Prelude.{option_map, unwrap_or}
 use Rattle.std.specs.Map.{lookup}
 use Rattle.std.proofs.lemmas.List.Elements.{All-nil, All-cons, All-map, All-append}
-use Rattle.larch_base.specs.declared.code.Code.TheVariants.{Arity, Size}
+use Rattle.larch_base.specs.declared.code.Code.TheVariants.{Arity}
 use Rattle.larch_base.specs.declared.fault.Fault.{Fault}
-use Rattle.larch_base.specs.declared.label.Label.{Label}
-use Rattle.larch_base.specs.declared.label.Label.TheVariants.{Assume, Imply, Convert}
-use Rattle.larch_base.specs.declared.limits.TheConstants.{MAX_DUTIES}
 use Rattle.larch_base.proofs.Lists.{all_from}
 use Rattle.larch_raw.specs.declared.declared.RawDecl.{RawDecl}
 use Rattle.larch_raw.specs.declared.declared.RawForm.{RawForm}
@@ -33,16 +30,15 @@ use Rattle.larch_shorthand.specs.Union.{injection, names_of, tag, tag_sort, unio
 use Rattle.larch_shorthand.specs.declared.expansion.Expansion.{Expansion}
 use Rattle.larch_flat_meaning.specs.Files.{Files}
 use Rattle.larch_flat_meaning.specs.Flat.{FlatTrait, flat, theory_of}
-use Rattle.larch_flat_meaning.specs.Gathered.{new_among}
 use Rattle.larch_flat_meaning.specs.Replacements.{Replacements, new_operator}
 use Rattle.larch_flat_meaning.specs.Stops.{surely}
 use Rattle.larch_flat_meaning.proofs.EachOperator.{Brings, HaveOperators, each_operator}
 use Rattle.larch_flat_meaning.proofs.Gathering.{every_flat, surely_was}
-use Rattle.larch_flat_meaning.proofs.Proper.{refused_if_was}
-use Rattle.larch_duties_meaning.specs.Conversions.{Clause, Conversion, clause_over, clause_theory, conversion_of}
+use Rattle.larch_duties_meaning.specs.Conversions.{Clause, clause_over, clause_theory}
 use Rattle.larch_duties_meaning.specs.Conversions.{copy_of}
-use Rattle.larch_duties_meaning.specs.Duties.{Duties, Duty, all_duties, clause_duties, duties, duties_of, is_its_copy}
-use Rattle.larch_duties_meaning.specs.Duties.{label_all, not_too_many, with_clauses}
+use Rattle.larch_duties_meaning.specs.Duties.{Duties, all_duties, duties, is_its_copy}
+use Rattle.larch_duties_meaning.specs.Duties.{with_clauses}
+use Rattle.larch_duties_meaning.proofs.Each.{HasClause, duties_have}
 use Rattle.larch_duties_meaning.specs.Implied.{implied_statements}
 
 -- the operator has a plain name
@@ -128,42 +124,17 @@ flat_plain files limit name t e =
     every_flat Any Any Any (HaveOperators IsPlain) (each_operator Any Any Any IsPlain plain_brought) files
     (λ m raw f. tt) limit name t e
 
--- a duty over a theory with plain names
-abbrev OverPlain : Duty → Type 0
-OverPlain d = HasPlainNames d.theory
+-- a theory with plain names
+abbrev IsPlainOver : Theory → Statement → Type 0
+IsPlainOver t s = HasPlainNames t
 
-labelled_plain : (kind : ℕ → Label) (n : ℕ) (theory : Theory) (ss : List Statement) → HasPlainNames theory
-    → All OverPlain (label_all kind n theory ss)
-labelled_plain kind n theory [] h = All-nil OverPlain
-labelled_plain kind n theory (s ∷ ss) h =
-    All-cons OverPlain (record { label = kind n; theory = theory; statement = s }) (label_all kind (suc n) theory ss) h
-    (labelled_plain kind (suc n) theory ss h)
+all_plain : (t : Theory) → HasPlainNames t → (ss : List Statement) → All (IsPlainOver t) ss
+all_plain t h ss = all_from (IsPlainOver t) ss (λ s c. h)
 
-clauses_plain : (n : ℕ) (theory : Theory) (cs : List Clause) → HasPlainNames theory
-    → All OverPlain (flat_map (λ d. d.duties) (clause_duties n theory cs))
-clauses_plain n theory [] h = All-nil OverPlain
-clauses_plain n theory (c ∷ cs) h =
-    All-append OverPlain (label_all Convert n (clause_theory theory c) (map is_its_copy c.copies))
-    (flat_map (λ d. d.duties) (clause_duties (n + length c.copies) theory cs))
-    (labelled_plain Convert n (clause_theory theory c) (map is_its_copy c.copies)
-    (All-append IsPlain theory.operators (map copy_of c.copies) h (each_plain copy_of (λ d. tt) c.copies)))
-    (clauses_plain (n + length c.copies) theory cs h)
-
-with_clauses_plain : (own : FlatTrait) (ss : List Statement) (d : Duties) → HasPlainNames (theory_of own)
-    → with_clauses own ss ≡ Ok d → All OverPlain (all_duties d)
-with_clauses_plain own ss d h e =
-    let make : Conversion → Clause = clause_over (theory_of own) in
-    let p = after_was (each (conversion_of own.operators) own.raw.conversions)
-    (λ cs. not_too_many own.raw.name.pos (duties_of own ss (map make cs))) d e in
-    let made : Duties = duties_of own ss (map make p.0) in
-    let r = refused_if_was Size own.raw.name.pos (nat_lt MAX_DUTIES (length (all_duties made))) (Ok made) d p.2 in
-    subst (λ x. All OverPlain (all_duties x)) (ok_inj r.1)
-    (All-append OverPlain made.own (flat_map (λ c. c.duties) made.clauses)
-    (All-append OverPlain (label_all Assume 1 (theory_of own) own.discharge)
-    (label_all Imply 1 (theory_of own) (new_among own.discharge ss))
-    (labelled_plain Assume 1 (theory_of own) own.discharge h)
-    (labelled_plain Imply 1 (theory_of own) (new_among own.discharge ss) h))
-    (clauses_plain 1 (theory_of own) (map make p.0) h))
+clause_plain : (t : Theory) → HasPlainNames t → (c : Clause) → HasClause IsPlainOver t c
+clause_plain t h c =
+    all_plain (clause_theory t c) (All-append IsPlain t.operators (map copy_of c.copies) h
+    (each_plain copy_of (λ d. tt) c.copies)) (map is_its_copy c.copies)
 
 -- and so have those of the theories of its duties
 pub duties_plain : (files : Files) (limit : ℕ) (name : List ℕ) (own : FlatTrait) (d : Duties)
@@ -171,5 +142,8 @@ pub duties_plain : (files : Files) (limit : ℕ) (name : List ℕ) (own : FlatTr
     → All (λ x. HasPlainNames x.theory) (all_duties d)
 unfolding duties
 duties_plain files limit name own d f e =
+    let t : Theory = theory_of own in
+    let h : HasPlainNames t = flat_plain files limit name own f in
     let p = after_was (implied_statements limit files own) (λ ss. surely (with_clauses own ss)) d e in
-    with_clauses_plain own p.0 d (flat_plain files limit name own f) (surely_was (with_clauses own p.0) d p.2)
+    duties_have IsPlainOver own Any (all_any own.raw.conversions) (all_plain t h own.discharge)
+    (λ raw c _ s. clause_plain t h (clause_over t c)) p.0 d (all_plain t h p.0) (surely_was (with_clauses own p.0) d p.2)

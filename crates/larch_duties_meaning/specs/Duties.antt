@@ -14,7 +14,7 @@ use Rattle.larch_term.specs.declared.statement.Statement.TheVariants.{Equation}
 use Rattle.larch_term.specs.declared.statement.Theory.{Theory}
 use Rattle.larch_traits_items.specs.Steps.{after, each}
 use Rattle.larch_flat_meaning.specs.Files.{Files}
-use Rattle.larch_flat_meaning.specs.Flat.{FlatTrait, theory_of}
+use Rattle.larch_flat_meaning.specs.Flat.{FlatTrait, flat, theory_of}
 use Rattle.larch_flat_meaning.specs.Gathered.{new_among}
 use Rattle.larch_flat_meaning.specs.Stops.{Stop, refused_if, surely}
 use Rattle.larch_duties_meaning.specs.Conversions.{Clause, Copied, clause_over, clause_theory, conversion_of, copy_of}
@@ -89,3 +89,8 @@ with_clauses own ss =
 -- the duties of a flat trait among at most so many files, or what is wrong with its claims first
 unfoldable pub duties : ℕ → Files → FlatTrait → Result Duties Stop
 duties limit files own = after (implied_statements limit files own) (λ ss. surely (with_clauses own ss))
+
+-- the duties of the trait of a name among at most so many files, or what is wrong first: its flat trait comes before its
+-- claims
+abbrev pub duties_named : ℕ → Files → List ℕ → Result Duties Stop
+duties_named limit files name = after (flat limit files name) (duties limit files)

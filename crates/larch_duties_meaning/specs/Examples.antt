@@ -1,17 +1,19 @@
 -- What the examples of duties are written with.
-use Rattle.std.specs.Prelude.{ℕ, Bool, codes, List, [], ◌∷◌, map, None, Result, Ok, Err}
+use Rattle.std.specs.Prelude.{ℕ, false, codes, List, [], ◌∷◌, ◌++◌, map, replicate, None, Result, Ok, Err}
 use Rattle.std.specs.Fmt.{digits}
 use Rattle.larch_base.specs.declared.code.Code.{Code}
-use Rattle.larch_base.specs.declared.label.Label.{Label}
+use Rattle.larch_base.specs.declared.label.Label.TheVariants.{Imply}
 use Rattle.larch_raw.specs.RawTree.{RawTree}
 use Rattle.larch_raw.specs.declared.declared.RawDecl.{RawDecl}
 use Rattle.larch_raw.specs.declared.declared.RawOpRef.{RawOpRef}
+use Rattle.larch_raw.specs.declared.equation.ClauseKind.TheVariants.{Generated}
 use Rattle.larch_raw.specs.declared.equation.RawConversion.{RawConversion}
 use Rattle.larch_raw.specs.declared.equation.RawEquation.{RawEquation}
 use Rattle.larch_raw.specs.declared.equation.RawItem.{RawItem}
+use Rattle.larch_raw.specs.declared.equation.RawItem.TheVariants.{Clause}
 use Rattle.larch_raw.specs.declared.equation.RawTrait.{RawTrait}
+use Rattle.larch_raw.specs.declared.reference.RawActual.{RawActual}
 use Rattle.larch_raw.specs.declared.reference.RawRef.{RawRef}
-use Rattle.larch_raw.specs.declared.reference.RawReference.{RawReference}
 use Rattle.larch_term.specs.BuiltIn.{is_built_in}
 use Rattle.larch_term.specs.Equality.{same_tree, same_statement}
 use Rattle.larch_term.specs.Operator.{PlainOperator}
@@ -19,6 +21,7 @@ use Rattle.larch_term.specs.OperatorKey.{same_operator}
 use Rattle.larch_term.specs.Tree.{Tree, var}
 use Rattle.larch_term.specs.declared.statement.Statement.{Statement}
 use Rattle.larch_term.specs.declared.statement.Statement.TheVariants.{Equation}
+use Rattle.larch_term.specs.declared.statement.Statement.TheVariants as statement
 use Rattle.larch_term.specs.declared.statement.Theory.{Theory}
 use Rattle.larch_sorts_meaning.specs.Read.{read_equation, read_term, unread_in}
 use Rattle.larch_sorts_meaning.specs.ReadingLists.{readings}
@@ -26,13 +29,12 @@ use Rattle.larch_sorts_meaning.specs.Unknown.{unknown_among}
 use Rattle.larch_traits_items.specs.Steps.{after}
 use Rattle.larch_shorthand.specs.Operators.{operator, constant, on}
 use Rattle.larch_flat_meaning.specs.Examples.{a_trait, assumes, bare, base, call, declares, files_of, including_one}
-use Rattle.larch_flat_meaning.specs.Examples.{states}
-use Rattle.larch_flat_meaning.specs.Examples.{word_at}
+use Rattle.larch_flat_meaning.specs.Examples.{base_a, base_f, base_theory, form_at, states, word_at}
 use Rattle.larch_flat_meaning.specs.Files.{Files}
 use Rattle.larch_flat_meaning.specs.Flat.{flat}
 use Rattle.larch_flat_meaning.specs.Replacements.{replacements_of}
 use Rattle.larch_flat_meaning.specs.Stops.{Stop, Refused}
-use Rattle.larch_duties_meaning.specs.Duties.{Duty, all_duties, duties}
+use Rattle.larch_duties_meaning.specs.Duties.{Duties, Duty, all_duties, duties}
 
 -- all words that an example unfolds
 unfoldable pub computing : Unit {0}
@@ -150,3 +152,118 @@ implies_trait name = record { name = word_at name 3 11; actuals = [] }
 -- T includes the trait that assumes Base
 abbrev pub on_weak : RawTrait
 on_weak = including_one (codes "T") (codes "Weak")
+
+-- a clause that the operators of these names generate a sort
+abbrev pub generates : List ℕ → List (List ℕ) → RawItem
+generates sort names = Clause Generated (word_at sort 4 5) (map (λ n. named_at n 4 20) names)
+
+-- that trait with further operators and items
+abbrev pub function_with : List RawDecl → List RawItem → RawTrait
+function_with declarations items =
+    record one_function {
+      declarations = one_function.declarations ++ declarations;
+      items = one_function.items ++ items;
+    }
+
+-- the duties of a trait that has these clauses `converts`
+abbrev pub with_clauses_of : RawTrait → List RawConversion → Result (List Duty) Stop
+with_clauses_of raw conversions =
+    duties_in (files_of ((codes "T", Ok (claiming [] [] conversions raw)) ∷ [])) (codes "T")
+
+-- the theory of that trait with these operators and statements behind its own
+abbrev pub function_theory : List PlainOperator → List Statement → Theory
+function_theory operators statements =
+    record {
+      operators = function (codes "f") ∷ (operator (codes "a") [] (codes "S") ∷ operators);
+      statements = fixed_by (codes "f") ∷ statements;
+    }
+
+-- two operators of S are the same
+abbrev pub same_functions : List ℕ → List ℕ → Statement
+same_functions one other =
+    Equation (on (function one) (var (codes "x1") (codes "S"))) (on (function other) (var (codes "x1") (codes "S")))
+
+-- an item that says the same of that trait as it does itself
+abbrev pub fixed_item : RawItem
+fixed_item = states (call (codes "f") (call (codes "a") [] ∷ [])) (call (codes "a") [])
+
+-- an item that says that its constant is itself
+abbrev pub itself_item : RawItem
+itself_item = states (call (codes "a") []) (call (codes "a") [])
+
+-- the declaration of an operator before its argument
+abbrev pub declares_minus : RawDecl
+declares_minus =
+    record {
+      forms = form_at (codes "- __") false 1 3 5 ∷ [];
+      sig = record { domain = word_at (codes "S") 3 9 ∷ []; range = word_at (codes "S") 3 14 };
+    }
+
+-- a reference to it
+abbrev pub named_minus : RawOpRef
+named_minus = record { form = form_at (codes "- __") false 1 6 12; sig = None }
+
+-- T has the operators of Base, and states nothing itself
+abbrev pub like_base : RawTrait
+like_base = a_trait (codes "T") [] base.declarations []
+
+-- an item of a trait with the operators of Base: what Base states
+abbrev pub base_item : RawItem
+base_item = states (call (codes "f") (call (codes "a") [] ∷ [])) (call (codes "b") [])
+
+-- an item of a trait with the operators of Base: f(a) is f(a)
+abbrev pub plain_item : RawItem
+plain_item = states (call (codes "f") (call (codes "a") [] ∷ [])) (call (codes "f") (call (codes "a") [] ∷ []))
+
+-- the same as it is stated
+abbrev pub plain_statement : Statement
+plain_statement =
+    Equation (on (base_f (codes "A") (codes "B")) (constant (base_a (codes "A"))))
+    (on (base_f (codes "A") (codes "B")) (constant (base_a (codes "A"))))
+
+-- the theory of a trait with the operators of Base that states nothing
+abbrev pub base_operators : Theory
+base_operators = record { operators = (base_theory (codes "A") (codes "B")).operators; statements = [] }
+
+-- a reference of an implied part with these actuals
+abbrev pub implies_by : List RawActual → RawRef
+implies_by actuals = record { name = word_at (codes "Base") 3 11; actuals = actuals }
+
+-- the duties of T among Base, whose trait is named otherwise, and T, which implies it
+abbrev pub implies_bad : Result (List Duty) Stop
+implies_bad =
+    duties_in
+    (files_of
+    ((codes "Base", Ok (a_trait (codes "Other") [] [] []))
+    ∷ (codes "T", Ok (claiming (implies_trait (codes "Base") ∷ []) [] [] like_base)) ∷ []))
+    (codes "T")
+
+-- so many duties of an empty theory
+abbrev pub so_many_duties : ℕ → Duties
+so_many_duties n =
+    record {
+      own = replicate n (record {
+        label = Imply 1;
+        theory = record { operators = []; statements = [] };
+        statement = plain_statement;
+      });
+      clauses = [];
+    }
+
+-- the duties of the trait of one function where it implies these items
+abbrev pub with_items : List RawItem → Result (List Duty) Stop
+with_items items = duties_in (files_of ((codes "T", Ok (claiming [] items [] one_function)) ∷ [])) (codes "T")
+
+-- its constant is itself
+abbrev pub same_itself : Statement
+same_itself = Equation the_constant the_constant
+
+-- its sort is generated by its constant and its function, under this name
+abbrev pub generated_by : List ℕ → Statement
+generated_by name = statement.Generated (codes "S") (operator (codes "a") [] (codes "S") ∷ function name ∷ [])
+
+-- its theory with minus, and with copies of its function and of minus
+abbrev pub with_second_copy : Theory
+with_second_copy =
+    function_theory (function (codes "- __") ∷ function (codes "f'") ∷ function (codes "conv2'") ∷ [])
+    (fixed_by (codes "f'") ∷ [])

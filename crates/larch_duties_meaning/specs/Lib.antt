@@ -1,3 +1,4 @@
+pub mod Claims
 pub mod Conversions
 pub mod Duties
 pub mod Examples

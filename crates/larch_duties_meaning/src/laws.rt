@@ -1,11 +1,13 @@
 //! What holds of all duties, for crates above to cite. No function here does anything.
-ghost use Rattle.std.specs.Prelude.{◌≡◌, ◌≤◌, ℕ, length, List, All, Ok};
+ghost use Rattle.std.specs.Prelude.{◌≡◌, ◌≤◌, ℕ, length, map, List, All, Ok};
 ghost use Rattle.larch_calculus.specs.Renaming.{HasPlainNames};
 ghost use Rattle.larch_flat_meaning.specs.Files.{Files};
 ghost use Rattle.larch_flat_meaning.specs.Flat.{FlatTrait, flat};
 ghost use Rattle.larch_flat_meaning.specs.Laws.{AreAmong, AreWorded, IsTold};
-ghost use Rattle.larch_duties_meaning.specs.Duties.{Duties, all_duties, duties};
-ghost use Rattle.larch_duties_meaning.specs.Laws.{IsSoundDuty};
+ghost use Rattle.larch_flat_meaning.specs.Reached.{AgreeOn, AreReached};
+ghost use Rattle.larch_duties_meaning.specs.Claims.{claims_in, duty_of};
+ghost use Rattle.larch_duties_meaning.specs.Duties.{Duties, all_duties, duties, duties_named};
+ghost use Rattle.larch_duties_meaning.specs.Laws.{IsDutyInWords, IsSoundDuty};
 
 /// The theory of each duty is a theory, and its statement is well sorted over the theory's operators, where all files
 /// are written with words; clauses in both name these operators alone, and each sort in both is Bool or stands in one
@@ -13,6 +15,13 @@ ghost use Rattle.larch_duties_meaning.specs.Laws.{IsSoundDuty};
 pub fn duties_are_sound()
     ensures { (files : Files) → AreWorded files → (limit : ℕ) (name : List ℕ) (own : FlatTrait) (d : Duties)
         → flat limit files name ≡ Ok own → duties limit files own ≡ Ok d → All IsSoundDuty (all_duties d) }
+{}
+
+/// Each sort and each variable in a duty, in its theory and in its statement, is a word, where all files are written with
+/// words.
+pub fn duties_are_in_words()
+    ensures { (files : Files) → AreWorded files → (limit : ℕ) (name : List ℕ) (own : FlatTrait) (d : Duties)
+        → flat limit files name ≡ Ok own → duties limit files own ≡ Ok d → All IsDutyInWords (all_duties d) }
 {}
 
 /// No operator of a duty's theory has the name of a constant of a box.
@@ -26,4 +35,18 @@ pub fn duties_have_plain_names()
 pub fn duties_are_told()
     ensures { (files : Files) (all : List (List ℕ)) → AreAmong files all → (limit : ℕ) → length all ≤ limit
         → (own : FlatTrait) → IsTold (duties limit files own) }
+{}
+
+/// Where files agree on what is reached from a name, the duties of its trait are the same, and what is wrong with them;
+/// and it doesn't matter how deep references are followed, if they are followed as deep as there are files.
+pub fn what_is_reached_decides_duties()
+    ensures same { (files other : Files) (name : List ℕ) (names : List (List ℕ)) → AreReached files name names
+        → AgreeOn names files other → (limit : ℕ) → duties_named limit files name ≡ duties_named limit other name }
+    ensures depths { (files : Files) (all : List (List ℕ)) → AreAmong files all → (limit other : ℕ) → length all ≤ limit
+        → length all ≤ other → (name : List ℕ) → duties_named limit files name ≡ duties_named other files name }
+{}
+
+/// Duties with the numbers of their clauses are the duties, in order.
+pub fn claims_are_duties()
+    ensures { (d : Duties) → map duty_of (claims_in d) ≡ all_duties d }
 {}

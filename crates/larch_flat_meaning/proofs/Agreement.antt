@@ -75,7 +75,7 @@ after_same : {A B E : Type 0} (a : Result A E) (go to : A → Result B E) → ((
 after_same (Ok x) go to h = h x
 after_same (Err e) go to h = refl
 
-all_same : {A G E : Type 0} (take to : A → G → Result G E) (xs : List A) (g : G)
+pub all_same : {A G E : Type 0} (take to : A → G → Result G E) (xs : List A) (g : G)
     → Every (λ x. (h : G) → take x h ≡ to x h) xs → all_taken take xs g ≡ all_taken to xs g
 all_same take to [] g h = refl
 all_same take to (x ∷ xs) g h =

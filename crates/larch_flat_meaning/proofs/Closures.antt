@@ -146,7 +146,7 @@ or_later : (a b : Bool) → b ≡ true → (a || b) ≡ true
 or_later true b e = refl
 or_later false b e = e
 
-any_has : (n : List ℕ) (names : Names) → Contains names n → list_any (bytes_eq n) names ≡ true
+pub any_has : (n : List ℕ) (names : Names) → Contains names n → list_any (bytes_eq n) names ≡ true
 any_has n [] c = absurd (contains_none n c)
 any_has n (m ∷ names) c =
     elim (contains_cases m n names c) [

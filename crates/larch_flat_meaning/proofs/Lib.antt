@@ -8,10 +8,12 @@ pub mod EachOperator
 pub mod Every
 pub mod Gathering
 pub mod Proper
+pub mod Reached
 pub mod Sizes
 pub mod Sound
 pub mod Shrinking
 pub mod Stated
+pub mod Texts
 pub mod Theory
 pub mod Unfolding
 pub mod Words

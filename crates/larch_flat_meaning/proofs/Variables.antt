@@ -3,12 +3,13 @@ use Rattle.std.proofs.Common.{◌≡◌, refl, ℕ, zero, suc, ◌<◌, ◌/◌,
 use Rattle.std.proofs.Common.{[], ◌∷◌, ◌++◌, map, All, Ok, ap, sym, subst, arith}
 use Rattle.std.specs.Char.{is_ascii_alphanumeric}
 use Rattle.std.specs.Fmt.{decimal, digit_glyph, digits, digits_onto}
-use Rattle.std.specs.Prelude.{codes, fold}
+use Rattle.std.specs.Prelude.{codes, filter, fold, not}
 use Rattle.std.proofs.lemmas.List.Elements.{All-nil, All-cons, All-head, All-tail, All-map, All-append, All-push}
-use Rattle.std.proofs.lemmas.List.Elements.{All-weaker}
+use Rattle.std.proofs.lemmas.List.Elements.{All-contains, All-weaker}
 use Rattle.larch_base.specs.Word.{begins_alphanumeric, goes_on}
 use Rattle.larch_base.specs.declared.code.Code.TheVariants.{Size}
 use Rattle.larch_base.proofs.Bools.{and_both}
+use Rattle.larch_base.proofs.Lists.{all_from}
 use Rattle.larch_raw.specs.Worded.{WordedItem, WordedTrait, WordedVar}
 use Rattle.larch_raw.specs.declared.equation.RawItem.{RawItem}
 use Rattle.larch_raw.specs.declared.equation.RawItem.TheVariants.{Clause, Equations}
@@ -27,7 +28,7 @@ use Rattle.larch_term.specs.declared.statement.Statement.TheVariants.{Equation, 
 use Rattle.larch_term.specs.declared.variable.Variable.{Variable}
 use Rattle.larch_renaming.specs.Renaming.{Renaming, rename_tree, renamed_statement, renamed_variable}
 use Rattle.larch_renaming.proofs.Renamed.{renamed_occurrences}
-use Rattle.larch_sorts_meaning.specs.Laws.{StatementVariables}
+use Rattle.larch_sorts_meaning.specs.Laws.{StatementSorts, StatementVariables}
 use Rattle.larch_traits_items.specs.Declarations.{declared_operators}
 use Rattle.larch_traits_items.specs.Items.{items_state}
 use Rattle.larch_traits_items.specs.Laws.{BindsWords, IsWord}
@@ -41,27 +42,33 @@ use Rattle.larch_shorthand.specs.Tuple.{all_set, component_of, components_of, is
 use Rattle.larch_shorthand.specs.Union.{case_of, is_back, is_tagged, names_of, tag, tag_sort, union_, union_statements}
 use Rattle.larch_shorthand.specs.declared.expansion.Expansion.{Expansion}
 use Rattle.larch_flat_meaning.specs.Files.{Files}
-use Rattle.larch_flat_meaning.specs.Flat.{FlatTrait, flat, renamed_mark, renamed_marked, take_flat, take_items}
-use Rattle.larch_flat_meaning.specs.Flat.{take_own, take_shorthand, theory_of, with_renamed, within}
-use Rattle.larch_flat_meaning.specs.Gathered.{Gathered, Marked, is_too_large, with_asserted, with_discharge}
-use Rattle.larch_flat_meaning.specs.Gathered.{with_marked, with_operators, with_taken}
-use Rattle.larch_flat_meaning.specs.Laws.{AreWorded}
+use Rattle.larch_flat_meaning.specs.Flat.{FlatTrait, finish_trait, flat, renamed_mark, renamed_marked, take_flat}
+use Rattle.larch_flat_meaning.specs.Flat.{take_items, take_own, take_shorthand, theory_of, with_renamed, within}
+use Rattle.larch_flat_meaning.specs.Gathered.{Gathered, Marked, is_too_large, stands_in, statements_in, with_asserted}
+use Rattle.larch_flat_meaning.specs.Gathered.{with_discharge, with_marked, with_operators, with_taken}
+use Rattle.larch_flat_meaning.specs.Laws.{AreWorded, IsInWords, gathered_in}
 use Rattle.larch_flat_meaning.specs.Replacements.{Replacements, new_operator, renaming, replacements_of}
 use Rattle.larch_flat_meaning.proofs.Gathering.{Keeps, every_flat}
 use Rattle.larch_flat_meaning.proofs.Proper.{refused_if_was}
 use Rattle.larch_flat_meaning.proofs.Sound.{AllMarked, marks_from, with_statement_all}
+use Rattle.larch_flat_meaning.proofs.Theory.{all_left, all_new}
+use Rattle.larch_flat_meaning.proofs.Words.{discharge_words}
 
 -- the variable's name is a word
-abbrev Named : Variable → Type 0
+abbrev pub Named : Variable → Type 0
 Named v = IsWord v.name
 
 -- the variables of the term are words
-abbrev Binds : Tree → Type 0
+abbrev pub Binds : Tree → Type 0
 Binds t = All Named (occurrences t)
 
 -- the variables of the statement are words
-abbrev Says : Statement → Type 0
+abbrev pub Says : Statement → Type 0
 Says s = StatementVariables IsWord s
+
+-- what has two properties has both
+pub both_hold : {A : Type 0} (P Q : A → Type 0) (xs : List A) → All P xs → All Q xs → All (λ x. P x × Q x) xs
+both_hold P Q xs a b = all_from (λ x. P x × Q x) xs (λ x c. (All-contains P xs x a c, All-contains Q xs x b c))
 
 glyph : (d : ℕ) → d < 10 → is_ascii_alphanumeric (digit_glyph false d) ≡ true
 glyph zero h = refl
@@ -101,7 +108,7 @@ number_word : (k : ℕ) → IsWord (codes "x" ++ decimal k)
 unfolding digits
 number_word k = digits_go 64 k [] refl
 
-of_number : (k : ℕ) (s : List ℕ) → Binds (var (codes "x" ++ decimal k) s)
+pub of_number : (k : ℕ) (s : List ℕ) → Binds (var (codes "x" ++ decimal k) s)
 of_number k s = All-cons Named (record { name = codes "x" ++ decimal k; sort = s }) [] (number_word k) (All-nil Named)
 
 of_z : (s : List ℕ) → Binds (var (codes "z") s)
@@ -238,28 +245,28 @@ expansion_says (Enumeration sort words) = enumeration_says sort.name (names_in w
 expansion_says (Tuple sort fields) = tuple_says sort.name fields
 expansion_says (Union sort fields) = union_says sort.name fields
 
--- the marked statements have words for variables
+-- the statements have words for variables, marked ones and those that are to be discharged
 abbrev Marks : Gathered → Type 0
-Marks g = AllMarked Says g.marked
+Marks g = AllMarked Says g.marked × All Says g.discharge
 
-renamed_binds : (r : Renaming) (t : Tree) → Binds t → Binds (rename_tree r t)
+pub renamed_binds : (r : Renaming) (t : Tree) → Binds t → Binds (rename_tree r t)
 renamed_binds r t h =
     subst (All Named) (sym (renamed_occurrences r t))
     (All-map Named (renamed_variable r) (occurrences t)
     (All-weaker Named (λ v. Named (renamed_variable r v)) (λ v k. k) (occurrences t) h))
 
-renamed_says : (r : Renaming) (s : Statement) → Says s → Says (renamed_statement r s)
+pub renamed_says : (r : Renaming) (s : Statement) → Says s → Says (renamed_statement r s)
 renamed_says r (Equation l q) h = (renamed_binds r l h.0, renamed_binds r q h.1)
 renamed_says r (Generated s gs) h = tt
 renamed_says r (Partitioned s gs) h = tt
 
 taken_by : (m : Marked) (g : Gathered) (b : Bool) → Says m.statement → Marks g
     → Marks (cond b (with_discharge m.statement g) (with_marked false m.statement g))
-taken_by m g true p h = h
-taken_by m g false p h = with_statement_all Says m.statement false g.marked p h
+taken_by m g true p h = (h.0, All-push Says g.discharge m.statement h.1 p)
+taken_by m g false p h = (with_statement_all Says m.statement false g.marked p h.0, h.1)
 
 taken_says : (assumes : Bool) (m : Marked) (g : Gathered) → Says m.statement → Marks g → Marks (with_taken assumes m g)
-taken_says true m g p h = with_statement_all Says m.statement true g.marked p h
+taken_says true m g p h = (with_statement_all Says m.statement true g.marked p h.0, h.1)
 taken_says false m g p h = taken_by m g m.assumed p h
 
 all_taken_says : (assumes : Bool) (ms : List Marked) (g : Gathered) → AllMarked Says ms → Marks g
@@ -274,7 +281,15 @@ asserted_says : (ss : List Statement) (g : Gathered) → All Says ss → Marks g
 asserted_says [] g a h = h
 asserted_says (s ∷ ss) g a h =
     asserted_says ss (with_marked false s g) (All-tail Says s ss a)
-    (with_statement_all Says s false g.marked (All-head Says s ss a) h)
+    (with_statement_all Says s false g.marked (All-head Says s ss a) h.0, h.1)
+
+pub renamed_marks : (by : Replacements) (ms : List Marked) → AllMarked Says ms → AllMarked Says (renamed_marked by ms)
+renamed_marks by ms a =
+    marks_from Says (map (renamed_mark by) ms) []
+    (All-map (λ m. Says m.statement) (renamed_mark by) ms
+    (All-weaker (λ m. Says m.statement) (λ m. Says (renamed_statement (renaming by) m.statement))
+    (λ m s. renamed_says (renaming by) m.statement s) ms a))
+    (All-nil (λ m. Says m.statement))
 
 says_flat : (r : RawReference) (g h : Gathered) (t : FlatTrait) → AllMarked Says t.marked → take_flat r g t ≡ Ok h
     → Marks g → Marks h
@@ -286,12 +301,7 @@ says_flat r g h t i e k =
     (Ok (with_renamed r.assumed t by g)) h p.2 in
     subst Marks (ok_inj q.1)
     (all_taken_says r.assumed (renamed_marked by t.marked) (with_operators (map (new_operator by) t.operators) g)
-    (marks_from Says (map (renamed_mark by) t.marked) []
-    (All-map (λ m. Says m.statement) (renamed_mark by) t.marked
-    (All-weaker (λ m. Says m.statement) (λ m. Says (renamed_statement (renaming by) m.statement))
-    (λ m s. renamed_says (renaming by) m.statement s) t.marked i))
-    (All-nil (λ m. Says m.statement)))
-    k)
+    (renamed_marks by t.marked i) k)
 
 says_shorthand : (s : RawShorthand) (g h : Gathered) → take_shorthand s g ≡ Ok h → Marks g → Marks h
 says_shorthand s g h e i =
@@ -302,7 +312,7 @@ says_shorthand s g h e i =
     (subst (λ y. All Says y.statements) (ok_inj (unless_was (wrong_in s) (Ok (expansion_of s)) x p.1).1)
     (expansion_says s)) i)
 
-item_words : (item : RawItem) → WordedItem item → BindsWords item
+pub item_words : (item : RawItem) → WordedItem item → BindsWords item
 item_words (Clause kind sort refs) h = tt
 item_words (Equations variables equations) h = All-weaker WordedVar (λ v. IsWord v.name.name) (λ v k. k.0) variables h.0
 
@@ -314,21 +324,40 @@ says_own raw g h w e i =
     subst Marks (ok_inj q.2) (asserted_says q.0 j
     (items_bind j.operators raw.items q.0 (All-weaker WordedItem BindsWords item_words raw.items w) q.1) i)
 
+says_finished : (raw : RawTrait) (g : Gathered) → Marks g → Marks (gathered_in (finish_trait raw g))
+says_finished raw g h = (
+  h.0,
+  all_new Says (filter (λ s. not (stands_in (statements_in g.marked) s)) g.discharge) [] (All-nil Says)
+      (all_left Says (λ s. not (stands_in (statements_in g.marked) s)) g.discharge h.1),
+)
+
 says_keeps : Keeps WordedTrait Any Any Marks
 says_keeps =
     record {
       references = λ raw w. all_any raw.references;
       shorthands = λ raw w. all_any raw.shorthands;
-      begins = All-nil (λ m. Says m.statement);
-      with_flat = λ r g h t _ i e k. says_flat r g h t i e k;
+      begins = (All-nil (λ m. Says m.statement), All-nil Says);
+      with_flat = λ r g h t _ i e k. says_flat r g h t i.0 e k;
       with_shorthand = λ s g h _ e i. says_shorthand s g h e i;
       with_own = λ raw g h w e i. says_own raw g h w.2 e i;
-      ends = λ raw g h. h;
+      ends = says_finished;
     }
 
--- the variables of the statements of a flat trait are words
+-- the variables of the statements of a flat trait are words, and those of what is to be discharged
+pub flat_says : (files : Files) → AreWorded files → (limit : ℕ) (name : List ℕ) (t : FlatTrait)
+    → flat limit files name ≡ Ok t → AllMarked Says t.marked × All Says t.discharge
+flat_says files w limit name t e = every_flat WordedTrait Any Any Marks says_keeps files w limit name t e
+
+-- and so are those of its theory
 pub variables_words : (files : Files) → AreWorded files → (limit : ℕ) (name : List ℕ) (t : FlatTrait)
     → flat limit files name ≡ Ok t
     → All (StatementVariables IsWord) (theory_of t).statements
 variables_words files w limit name t e =
-    All-map Says (λ m. m.statement) t.marked (every_flat WordedTrait Any Any Marks says_keeps files w limit name t e)
+    All-map Says (λ m. m.statement) t.marked (flat_says files w limit name t e).0
+
+-- each sort and each variable of what is to be discharged is a word
+pub discharge_in_words : (files : Files) → AreWorded files → (limit : ℕ) (name : List ℕ) (t : FlatTrait)
+    → flat limit files name ≡ Ok t → All IsInWords t.discharge
+discharge_in_words files w limit name t e =
+    both_hold (StatementSorts IsWord) Says t.discharge (discharge_words files w limit name t e)
+    (flat_says files w limit name t e).1

@@ -50,7 +50,7 @@ use Rattle.larch_flat_meaning.specs.Replacements.{replace, replace_form, replace
 use Rattle.larch_flat_meaning.proofs.EachOperator.{Brings, HaveOperators, each_operator}
 use Rattle.larch_flat_meaning.proofs.Gathering.{every_flat}
 use Rattle.larch_flat_meaning.proofs.Proper.{refused_if_was}
-use Rattle.larch_flat_meaning.proofs.Theory.{flat_stated}
+use Rattle.larch_flat_meaning.proofs.Theory.{flat_discharge, flat_stated}
 
 -- each sort of the operator is a word
 abbrev HasWordSorts : PlainOperator → Type 0
@@ -271,12 +271,24 @@ module _ (P Q : List ℕ → Type 0) (w : (s : List ℕ) → P s → Q s) where
   statement_weaker (Partitioned s gs) h =
       (w s h.0, All-weaker (OperatorSorts P) (OperatorSorts Q) (λ g k. All-weaker P Q w (sorts_of_operator g) k) gs h.1)
 
+-- the sorts of what is stated over operators whose sorts are words are words
+pub stated_words : (fs : List PlainOperator) → All (OperatorSorts IsWord) fs → (s : Statement) → IsStatedOver fs s
+    → StatementSorts IsWord s
+stated_words fs h s k = statement_weaker (IsSortOf fs) IsWord (word_exists fs h) s k.2
+
 -- the sorts of its statements are words
 pub statements_words : (files : Files) → AreWorded files → (limit : ℕ) (name : List ℕ) (t : FlatTrait)
     → flat limit files name ≡ Ok t
     → All (StatementSorts IsWord) (theory_of t).statements
 statements_words files w limit name t e =
     All-weaker (IsStatedOver t.operators) (StatementSorts IsWord)
-    (λ s h. statement_weaker (IsSortOf t.operators) IsWord
-    (word_exists t.operators (operators_words files w limit name t e)) s h.2)
+    (stated_words t.operators (operators_words files w limit name t e))
     (theory_of t).statements (flat_stated files w limit name t e)
+
+-- and so are those of what is to be discharged
+pub discharge_words : (files : Files) → AreWorded files → (limit : ℕ) (name : List ℕ) (t : FlatTrait)
+    → flat limit files name ≡ Ok t → All (StatementSorts IsWord) t.discharge
+discharge_words files w limit name t e =
+    All-weaker (IsStatedOver t.operators) (StatementSorts IsWord)
+    (stated_words t.operators (operators_words files w limit name t e)) t.discharge
+    (flat_discharge files w limit name t e)

@@ -1,5 +1,5 @@
 -- What examples are written with, and the traits of the examples.
-use Rattle.std.specs.Prelude.{ℕ, Bool, true, false, bytes_eq, codes, List, [], ◌∷◌, map, Some, None, Result, Ok, Err}
+use Rattle.std.specs.Prelude.{ℕ, zero, suc, Bool, true, false, bytes_eq, codes, List, [], ◌∷◌, map, Some, None, Result, Ok, Err}
 use Rattle.std.specs.Prelude.{replicate}
 use Rattle.std.specs.Fmt.{digits}
 use Rattle.std.specs.Map.{lookup}
@@ -21,7 +21,7 @@ use Rattle.larch_raw.specs.declared.shorthand.RawShorthand.TheVariants.{Enumerat
 use Rattle.larch_term.specs.BuiltIn.{built_in, is_built_in}
 use Rattle.larch_term.specs.Equality.{same_tree, same_statement}
 use Rattle.larch_term.specs.OperatorKey.{same_operator}
-use Rattle.larch_term.specs.Tree.{var}
+use Rattle.larch_term.specs.Tree.{Tree, var}
 use Rattle.larch_term.specs.Truth.{truth}
 use Rattle.larch_term.specs.declared.built_in.BuiltIn.TheVariants.{Unequal}
 use Rattle.larch_term.specs.Operator.{PlainOperator}
@@ -34,7 +34,7 @@ use Rattle.larch_sorts_meaning.specs.Unknown.{unknown_among}
 use Rattle.larch_shorthand.specs.Operators.{operator, constant, on, on_two}
 use Rattle.larch_flat_meaning.specs.Files.{Files}
 use Rattle.larch_flat_meaning.specs.Flat.{FlatTrait, flat, theory_of}
-use Rattle.larch_flat_meaning.specs.Gathered.{Gathered}
+use Rattle.larch_flat_meaning.specs.Gathered.{Gathered, Marked}
 use Rattle.larch_flat_meaning.specs.Replacements.{replacements_of}
 use Rattle.larch_flat_meaning.specs.Stops.{Stop, Refused}
 
@@ -383,3 +383,44 @@ abbrev pub bad_files : Files
 bad_files =
     files_of
     ((codes "T", Ok (a_trait (codes "Other") [] [] [])) ∷ (codes "U", Ok (including_one (codes "U") (codes "T"))) ∷ [])
+
+-- an old name that stands at column 24, by a form with two markers
+abbrev pub form_for : List ℕ → RawActual
+form_for old = Replace (form_at (codes "__ + __") false 2 1 1) (bare old 2 24) None
+
+-- n for the constant of this name, at this sort
+abbrev pub for_constant : List ℕ → List ℕ → RawActual
+for_constant old sort =
+    Replace (bare (codes "n") 1 1) (bare old 2 24) (Some (record { domain = []; range = word sort }))
+
+-- the flat trait of a trait that includes one with a constant true of a sort A, with these actuals
+abbrev pub of_own_truth : List RawActual → Result (Theory × List Bool × List Statement) Stop
+of_own_truth actuals =
+    shown
+    (flat 256
+    (files_of
+    ((codes "Own", Ok (a_trait (codes "Own") [] (declares (codes "true") [] (codes "A") ∷ []) []))
+    ∷ (codes "T", Ok (a_trait (codes "T") (includes (codes "Own") 2 12 actuals ∷ []) [] [])) ∷ []))
+    (codes "T"))
+
+-- a term of so many nodes and one more
+abbrev pub tall : ℕ → Tree
+tall zero = constant (base_a (codes "A"))
+tall (suc n) = on (base_f (codes "A") (codes "A")) (tall n)
+
+-- so many times one statement, of so many nodes and two more
+abbrev pub so_stated : ℕ → ℕ → List Marked
+so_stated n size =
+    replicate n (record { statement = Equation (tall size) (constant (base_a (codes "A"))); assumed = false })
+
+-- only statements are gathered
+abbrev pub stating : List Marked → Gathered
+stating ms = record { operators = []; marked = ms; discharge = [] }
+
+-- a flat trait with nothing in it
+abbrev pub nothing_flat : FlatTrait
+nothing_flat = record { raw = a_trait (codes "Base") [] [] []; operators = []; marked = []; discharge = [] }
+
+-- a code at a line and a column, of an answer of another kind
+abbrev pub faulty : Code → ℕ → ℕ → Fault
+faulty code line column = record { pos = record { line = line; column = column }; code = code }

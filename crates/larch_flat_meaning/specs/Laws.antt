@@ -6,8 +6,9 @@ use Rattle.larch_term.specs.BuiltIn.{IsBuiltIn}
 use Rattle.larch_term.specs.Operator.{PlainOperator}
 use Rattle.larch_term.specs.Statement.{IsStatementOver}
 use Rattle.larch_term.specs.declared.statement.Statement.{Statement}
-use Rattle.larch_sorts_meaning.specs.Laws.{IsSortOf, StatementSorts}
-use Rattle.larch_traits_items.specs.Laws.{NamesOwn}
+use Rattle.larch_term.specs.declared.statement.Theory.{Theory}
+use Rattle.larch_sorts_meaning.specs.Laws.{IsSortOf, OperatorSorts, StatementSorts, StatementVariables}
+use Rattle.larch_traits_items.specs.Laws.{IsWord, NamesOwn}
 use Rattle.larch_flat_meaning.specs.Files.{Files, Reaches, is_there}
 use Rattle.larch_flat_meaning.specs.Flat.{FlatTrait}
 use Rattle.larch_flat_meaning.specs.Gathered.{Gathered}
@@ -52,3 +53,11 @@ gathered_in t = record { operators = t.operators; marked = t.marked; discharge =
 -- the traits of all files are written with words
 abbrev pub AreWorded : Files → Type 0
 AreWorded files = (name : List ℕ) (raw : RawTrait) → files name ≡ Some (Ok raw) → WordedTrait raw
+
+-- each sort and each variable in the statement is a word
+abbrev pub IsInWords : Statement → Type 0
+IsInWords s = StatementSorts IsWord s × StatementVariables IsWord s
+
+-- each sort and each variable in the theory is a word
+abbrev pub IsTheoryInWords : Theory → Type 0
+IsTheoryInWords t = All (OperatorSorts IsWord) t.operators × All IsInWords t.statements

@@ -4,5 +4,6 @@ pub mod Flat
 pub mod Gathered
 pub mod Laws
 pub mod Reach
+pub mod Reached
 pub mod Replacements
 pub mod Stops

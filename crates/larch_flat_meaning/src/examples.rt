@@ -1,14 +1,16 @@
 //! Flat traits worked out, as the definitions compute them. No function here does anything.
-ghost use Rattle.std.specs.Prelude.{◌≡◌, true, false, codes, [], ◌∷◌, Ok, Err, replicate};
+ghost use Rattle.std.specs.Prelude.{◌≡◌, true, false, codes, [], ◌∷◌, ◌++◌, Ok, Err, replicate};
 ghost use Rattle.larch_base.specs.declared.code.Code.TheVariants.{Arity, BadReference, BuiltIn, Cycle, FieldTwice};
-ghost use Rattle.larch_base.specs.declared.code.Code.TheVariants.{NoReading, Rename, TraitName, UnknownTrait};
+ghost use Rattle.larch_base.specs.declared.code.Code.TheVariants.{NoReading, Rename, Size, TraitName, UnknownTrait};
 ghost use Rattle.larch_raw.specs.declared.reference.RawActual.TheVariants.{Plain};
 ghost use Rattle.larch_flat_meaning.specs.Examples.{a_trait, alone, assumptions, bad_files, bare, base_statement};
 ghost use Rattle.larch_flat_meaning.specs.Examples.{base_theory, beside_base, circle, constants, declares_truth, diamond};
 ghost use Rattle.larch_flat_meaning.specs.Examples.{for_old, for_one, including_one, made_theory, no_circle, no_theory};
 ghost use Rattle.larch_flat_meaning.specs.Examples.{of_base, of_formal, of_overloaded, shown, so_many, sorts_made};
-ghost use Rattle.larch_flat_meaning.specs.Examples.{states_nothing, twice_named, unfit, wrong};
-ghost use Rattle.larch_flat_meaning.specs.Flat.{flat};
+ghost use Rattle.larch_flat_meaning.specs.Examples.{faulty, for_constant, form_at, form_for, includes, nothing_flat};
+ghost use Rattle.larch_flat_meaning.specs.Examples.{of_own_truth, so_stated, states_nothing, stating, twice_named};
+ghost use Rattle.larch_flat_meaning.specs.Examples.{unfit, wrong};
+ghost use Rattle.larch_flat_meaning.specs.Flat.{flat, take_flat, take_rest};
 ghost use Rattle.larch_flat_meaning.specs.Gathered.{is_too_large};
 
 /// All replacements act at once: two sorts change places.
@@ -86,4 +88,35 @@ pub fn each_code_stands_in_its_place()
     ensures no_reading { alone states_nothing ≡ wrong NoReading 4 5 }
     ensures size { is_too_large (so_many 1001) ≡ true }
     ensures not_yet { is_too_large (so_many 1000) ≡ false }
+{}
+
+/// What can't be renamed, where it stands.
+pub fn what_cannot_be_renamed()
+    ensures markers { beside_base (of_base (form_for (codes "f") ∷ [])) ≡ wrong Rename 2 24 }
+    ensures sort_to_form { beside_base (of_base (form_for (codes "A") ∷ [])) ≡ wrong Rename 2 24 }
+    ensures no_signature { of_overloaded (for_constant (codes "e") (codes "C") ∷ []) ≡ wrong Rename 2 24 }
+    ensures formal_to_form { of_formal (Plain (form_at (codes "__ + __") false 2 2 17) ∷ []) ≡ wrong Rename 2 17 }
+    ensures formal_named { of_formal (Plain (bare (codes "C") 2 17) ∷ for_old (codes "D") (codes "A") 2 24 ∷ [])
+        ≡ wrong Rename 2 24 }
+    ensures truth { beside_base (of_base (for_old (codes "n") (codes "true") 2 24 ∷ [])) ≡ wrong Rename 2 24 }
+    ensures signed_truth { beside_base (of_base (for_constant (codes "true") (codes "Bool") ∷ []))
+        ≡ wrong Rename 2 24 }
+    ensures bare_truth { of_own_truth (for_old (codes "n") (codes "true") 2 24 ∷ []) ≡ wrong Rename 2 24 }
+    ensures own_truth { of_own_truth (for_constant (codes "true") (codes "A") ∷ [])
+        ≡ Ok (constants ((codes "n", codes "A") ∷ []), [], []) }
+{}
+
+/// What is too large, and where SIZE stands: at a reference behind its other codes, and at the trait's name behind all
+/// others.
+pub fn what_is_too_large()
+    ensures statements { is_too_large (stating (so_stated 1001 0)) ≡ true }
+    ensures statements_fit { is_too_large (stating (so_stated 1000 0)) ≡ false }
+    ensures nodes { is_too_large (stating (so_stated 1 99 ++ so_stated 999 98)) ≡ true }
+    ensures nodes_fit { is_too_large (stating (so_stated 1000 98)) ≡ false }
+    ensures reference { take_flat (includes (codes "Base") 2 12 []) (so_many 1001) nothing_flat
+        ≡ Err (faulty Size 2 12) }
+    ensures rename_first { take_flat (includes (codes "Base") 2 12 (for_old (codes "n") (codes "m") 2 24 ∷ []))
+        (so_many 1001) nothing_flat ≡ Err (faulty Rename 2 24) }
+    ensures name { take_rest (a_trait (codes "T") [] [] []) (so_many 1001) ≡ Err (faulty Size 1 1) }
+    ensures items_first { take_rest states_nothing (so_many 1001) ≡ Err (faulty NoReading 4 5) }
 {}

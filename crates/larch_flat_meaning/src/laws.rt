@@ -1,6 +1,6 @@
 //! What holds of all flat traits, for crates above to cite. No function here does anything.
 ghost use Rattle.std.specs.Prelude.{◌≡◌, ◌≤◌, ℕ, suc, true, false, bytes_eq, length, List, All, [], ◌∷◌, Ok};
-ghost use Rattle.std.specs.Prelude.{nat_lt, ◌<◌, Contains, Err};
+ghost use Rattle.std.specs.Prelude.{nat_lt, ◌<◌, ◌≢◌, ◌↔◌, AllPairs, Contains, Err, Some};
 ghost use Rattle.std.specs.Bool.{Decides};
 ghost use Rattle.larch_base.specs.declared.fault.Fault.{Fault};
 ghost use Rattle.larch_base.specs.declared.limits.TheConstants.{MAX_OPERATORS};
@@ -18,8 +18,10 @@ ghost use Rattle.larch_traits_items.specs.Laws.{IsWord};
 ghost use Rattle.larch_flat_meaning.specs.Files.{Files, Reaches, closure, is_there, targets_in};
 ghost use Rattle.larch_flat_meaning.specs.Flat.{FlatTrait, flat, flat_by, flat_file, take_flat, take_own, take_rest, theory_of};
 ghost use Rattle.larch_flat_meaning.specs.Gathered.{Gathered, is_too_large, with_operators};
-ghost use Rattle.larch_flat_meaning.specs.Laws.{AgreeFrom, AreAmong, AreWorded, IsKeptBy, IsStatedOver, IsTold, gathered_in};
+ghost use Rattle.larch_flat_meaning.specs.Laws.{AgreeFrom, AreAmong, AreWorded, IsInWords, IsKeptBy, IsStatedOver};
+ghost use Rattle.larch_flat_meaning.specs.Laws.{IsTold, gathered_in};
 ghost use Rattle.larch_flat_meaning.specs.Reach.{reach_count};
+ghost use Rattle.larch_flat_meaning.specs.Reached.{AgreeOn, AreReached, Leads};
 ghost use Rattle.larch_flat_meaning.specs.Replacements.{Replacements, new_operator, renaming, replacements_of};
 
 /// References that are followed deeper tell no other answer.
@@ -34,6 +36,12 @@ pub fn deeper_tells_the_same()
 pub fn files_are_deep_enough()
     ensures { (files : Files) (all : List (List ℕ)) → AreAmong files all → (limit : ℕ) → length all ≤ limit
         → (name : List ℕ) → IsTold (flat limit files name) }
+{}
+
+/// References that are followed as deep as there are files, or deeper, tell one answer.
+pub fn depths_tell_the_same()
+    ensures { (files : Files) (all : List (List ℕ)) → AreAmong files all → (limit other : ℕ) → length all ≤ limit
+        → length all ≤ other → (name : List ℕ) → flat limit files name ≡ flat other files name }
 {}
 
 /// A flat trait is that of its text, where its references are followed just as deep.
@@ -68,6 +76,26 @@ pub fn reached_files_decide()
         → flat_by n limit files name ≡ flat_by n limit other name }
     ensures flat { (limit : ℕ) (files other : Files) (name : List ℕ) → AgreeFrom files other name
         → flat limit files name ≡ flat limit other name }
+{}
+
+/// What is reached from a name over all references is what they lead to, each name once, in one order.
+pub fn what_is_reached_is_led_to()
+    ensures led { (files : Files) (name : List ℕ) (names : List (List ℕ)) → AreReached files name names
+        → (m : List ℕ) → Contains names m ↔ Leads files name m }
+    ensures different { (files : Files) (name : List ℕ) (names : List (List ℕ)) → AreReached files name names
+        → AllPairs (λ a b. a ≢ b) names }
+    ensures one { (files : Files) (name : List ℕ) (names others : List (List ℕ)) → AreReached files name names
+        → AreReached files name others → names ≡ others }
+{}
+
+/// Where files agree on what is reached from a name, the same is reached in both, and the flat trait is the same.
+pub fn what_is_reached_decides()
+    ensures reached { (files other : Files) (name : List ℕ) (names : List (List ℕ)) → AreReached files name names
+        → AgreeOn names files other → AreReached other name names }
+    ensures agree { (files other : Files) (name : List ℕ) (names : List (List ℕ)) → AreReached files name names
+        → AgreeOn names files other → (m : List ℕ) → Contains names m → AgreeFrom files other m }
+    ensures flat { (files other : Files) (name : List ℕ) (names : List (List ℕ)) → AreReached files name names
+        → AgreeOn names files other → (limit : ℕ) → flat limit files name ≡ flat limit other name }
 {}
 
 /// What is taken for a cycle is one: a name of a file is among those that another one leads to exactly where it is
@@ -110,7 +138,14 @@ pub fn flat_trait_names_its_own()
         → flat limit files name ≡ Ok t → All (IsStatedOver t.operators) t.discharge }
 {}
 
-/// Each sort and each variable in a flat trait is a word, where all files are written with words.
+/// A flat trait has the text of its file.
+pub fn flat_traits_keep_their_texts()
+    ensures { (limit : ℕ) (files : Files) (name : List ℕ) (t : FlatTrait) → flat limit files name ≡ Ok t
+        → files name ≡ Some (Ok t.raw) }
+{}
+
+/// Each sort and each variable in a flat trait, and in what is to be discharged, is a word, where all files are written
+/// with words.
 pub fn flat_traits_are_in_words()
     ensures operators { (files : Files) → AreWorded files → (limit : ℕ) (name : List ℕ) (t : FlatTrait)
         → flat limit files name ≡ Ok t → All (OperatorSorts IsWord) t.operators }
@@ -118,6 +153,8 @@ pub fn flat_traits_are_in_words()
         → flat limit files name ≡ Ok t → All (StatementSorts IsWord) (theory_of t).statements }
     ensures variables { (files : Files) → AreWorded files → (limit : ℕ) (name : List ℕ) (t : FlatTrait)
         → flat limit files name ≡ Ok t → All (StatementVariables IsWord) (theory_of t).statements }
+    ensures discharge { (files : Files) → AreWorded files → (limit : ℕ) (name : List ℕ) (t : FlatTrait)
+        → flat limit files name ≡ Ok t → All IsInWords t.discharge }
 {}
 
 /// Once there are too many operators SIZE is certain, unless something else is wrong before it; and what that is

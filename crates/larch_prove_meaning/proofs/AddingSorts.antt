@@ -1,5 +1,6 @@
 -- Adding keeps facts well sorted.
-use Rattle.std.specs.Prelude.{◌≡◌, ℕ, zero, suc, Bool, true, false, cond, not, ◌&&◌, List, [], ◌∷◌, ◌++◌, map, filter}
+use Rattle.std.specs.Prelude.{◌≡◌, ℕ, zero, suc, Bool, true, false, cond, not, ◌&&◌, ◌||◌, List, [], ◌∷◌, ◌++◌, map}
+use Rattle.std.specs.Prelude.{filter}
 use Rattle.std.specs.Prelude.{All, Contains, bytes_eq, Option, Some, None, option_map, option_and_then, refl}
 use Rattle.std.specs.List.{flat_map}
 use Rattle.std.proofs.Common.{inl, inr, ap, ap₂, sym, subst, ◌∙◌}
@@ -27,15 +28,15 @@ use Rattle.larch_order.specs.declared.precedence.Ranked.{Ranked}
 use Rattle.larch_rewrite_meaning.specs.Matching.{match_term}
 use Rattle.larch_rewrite_meaning.specs.NormalForm.{normal}
 use Rattle.larch_rewrite_meaning.specs.Sides.{Sides, sides_of, sides_under, flip, AreSidesOver}
-use Rattle.larch_rewrite_meaning.specs.Work.{Work, Made, OverLimit, OverSize, then_work, within_size}
+use Rattle.larch_rewrite_meaning.specs.Work.{Work, Made, OverLimit, OverSize, then_work, is_large, within_size}
 use Rattle.larch_rewrite_meaning.proofs.Matches.{IsBound, AreBound, matched_fits, match_over, terms_inherited}
 use Rattle.larch_rewrite_meaning.proofs.Matches.{AllTermsOver}
 use Rattle.larch_rewrite_meaning.proofs.SortsKept.{normal_keeps}
-use Rattle.larch_prove_meaning.specs.Facts.{Fact, Facts, Adding, Treatment, Drop, Contradict, Replace, Keep, serving}
+use Rattle.larch_prove_meaning.specs.Facts.{Fact, Facts, Manner, Treatment, Drop, Contradict, Replace, Keep, serving}
 use Rattle.larch_prove_meaning.specs.Facts.{is_value, truth_to_right, sort_within, matched_sides, consequences_by}
 use Rattle.larch_prove_meaning.specs.Facts.{first_consequences, deduce, equality_term, orient, replaced_or_kept}
-use Rattle.larch_prove_meaning.specs.Facts.{treatment_of, treatment, with_rule, with_contradiction, is_too_much}
-use Rattle.larch_prove_meaning.specs.Facts.{normal_sides, add_by, add, most_taken}
+use Rattle.larch_prove_meaning.specs.Facts.{treatment_of, treatment, with_rule, with_contradiction, is_full}
+use Rattle.larch_prove_meaning.specs.Facts.{normal_sides, add_waiting, add, most_taken}
 
 -- facts whose rules are well sorted over operators
 abbrev AreFactsOver : List PlainOperator → List Fact → Type 0
@@ -165,14 +166,8 @@ consequences_over fs (row ∷ rows) e found r h q =
 
 deduced_over : (fs : List PlainOperator) (e : Sides) (found : List Sides) → AreSidesOver fs e → deduce e ≡ Some found
     → AreAllOver fs found
-deduced_over fs e found h q = by_value (is_value e.right) q
-  where
-    by_value : (v : Bool)
-        → (elim v [ true ↦ first_consequences (deduction_rows (sort_within e.left)) e | false ↦ None ]) ≡ Some found
-        → AreAllOver fs found
-    by_value true k = consequences_over fs (deduction_rows (sort_within e.left)) e found
-        (rows_over fs (sort_within e.left)) h k
-    by_value false k = cc
+deduced_over fs e found h q =
+    consequences_over fs (deduction_rows (sort_within e.left)) e found (rows_over fs (sort_within e.left)) h q
 
 -- ---- the rule that an equation makes
 
@@ -255,12 +250,12 @@ treatment_over fs ranks e h = by_test (same_tree e.left e.right)
 
 -- ---- adding
 
-serving_over : (fs : List PlainOperator) (how : Adding) (facts : Facts) → AreFactsOver fs facts.rules
-    → All (AreSidesOver fs) (serving how facts)
-serving_over fs how facts h =
-    all_from (AreSidesOver fs) (serving how facts) (λ e c.
-    let found = contained_in_map (λ (fact : Fact). fact.sides) (filter how.serves facts.rules) e c in
-    let kept = contained_in_filter how.serves facts.rules found.0 found.1 in
+serving_over : (fs : List PlainOperator) (manner : Manner) (facts : Facts) → AreFactsOver fs facts.rules
+    → All (AreSidesOver fs) (serving manner facts)
+serving_over fs manner facts h =
+    all_from (AreSidesOver fs) (serving manner facts) (λ e c.
+    let found = contained_in_map (λ (fact : Fact). fact.sides) (filter manner.serves facts.rules) e c in
+    let kept = contained_in_filter manner.serves facts.rules found.0 found.1 in
     subst (AreSidesOver fs) found.2 (at_contained facts.rules found.0 h kept.0))
   where
     at_contained : (rules : List Fact) (fact : Fact) → All (λ f. AreSidesOver fs f.sides) rules → Contains rules fact
@@ -318,60 +313,61 @@ AddsOver fs adds = (part : ℕ) (waiting : List Sides) (facts : Facts) (b : ℕ)
     → AreFactsOver fs facts.rules → AreAllOver fs waiting → adds part waiting facts b ≡ Made made r
     → AreFactsOver fs made.rules
 
-by_treatment : (fs : List PlainOperator) (n : ℕ) (how : Adding) (part : ℕ) (waiting : List Sides) (facts : Facts)
-    (c : ℕ) (made : Facts) (r : ℕ) (t : Treatment) → AddsOver fs (add_by n how) → AreFactsOver fs facts.rules
+by_treatment : (fs : List PlainOperator) (n : ℕ) (manner : Manner) (part : ℕ) (waiting : List Sides) (facts : Facts)
+    (c : ℕ) (made : Facts) (r : ℕ) (t : Treatment) → AddsOver fs (add_waiting n manner) → AreFactsOver fs facts.rules
     → AreAllOver fs waiting → IsTreatmentOver fs t
     → (elim t [
-      | Drop ↦ add_by n how part waiting facts c
-      | Contradict ↦ add_by n how part waiting (with_contradiction facts) c
-      | Replace others ↦ add_by n how part (others ++ waiting) facts c
-      | Keep rule ↦ within_size (is_too_much rule facts)
-          (add_by n how (suc part) waiting (with_rule how.name (suc part) rule facts) c)
+      | Drop ↦ add_waiting n manner part waiting facts c
+      | Contradict ↦ add_waiting n manner part waiting (with_contradiction facts) c
+      | Replace others ↦ add_waiting n manner part (others ++ waiting) facts c
+      | Keep rule ↦ within_size (is_large rule.left || is_full facts)
+          (add_waiting n manner (suc part) waiting (with_rule manner.name (suc part) rule facts) c)
     ]) ≡ Made made r
     → AreFactsOver fs made.rules
-by_treatment fs n how part waiting facts c made r Drop go f w t h = go part waiting facts c made r f w h
-by_treatment fs n how part waiting facts c made r Contradict go f w t h =
+by_treatment fs n manner part waiting facts c made r Drop go f w t h = go part waiting facts c made r f w h
+by_treatment fs n manner part waiting facts c made r Contradict go f w t h =
     go part waiting (with_contradiction facts) c made r f w h
-by_treatment fs n how part waiting facts c made r (Replace others) go f w t h =
+by_treatment fs n manner part waiting facts c made r (Replace others) go f w t h =
     go part (others ++ waiting) facts c made r f (append_over fs others waiting t w) h
-by_treatment fs n how part waiting facts c made r (Keep rule) go f w t h =
-    go (suc part) waiting (with_rule how.name (suc part) rule facts) c made r
-    (with_rule_over fs how.name (suc part) rule facts f t) w
-    (within_made (is_too_much rule facts)
-    (add_by n how (suc part) waiting (with_rule how.name (suc part) rule facts) c) made r h)
+by_treatment fs n manner part waiting facts c made r (Keep rule) go f w t h =
+    go (suc part) waiting (with_rule manner.name (suc part) rule facts) c made r
+    (with_rule_over fs manner.name (suc part) rule facts f t) w
+    (within_made (is_large rule.left || is_full facts)
+    (add_waiting n manner (suc part) waiting (with_rule manner.name (suc part) rule facts) c) made r h)
 
-by_sides : (fs : List PlainOperator) (n : ℕ) (how : Adding) (part : ℕ) (waiting : List Sides) (facts : Facts)
-    (made : Facts) (r : ℕ) (w : Work Sides) → AddsOver fs (add_by n how) → AreFactsOver fs facts.rules
+by_sides : (fs : List PlainOperator) (n : ℕ) (manner : Manner) (part : ℕ) (waiting : List Sides) (facts : Facts)
+    (made : Facts) (r : ℕ) (w : Work Sides) → AddsOver fs (add_waiting n manner) → AreFactsOver fs facts.rules
     → AreAllOver fs waiting → ((d : Sides) (c : ℕ) → w ≡ Made d c → AreSidesOver fs d)
-    → then_work w (λ found c. elim (treatment how.ranks found) [
-      | Drop ↦ add_by n how part waiting facts c
-      | Contradict ↦ add_by n how part waiting (with_contradiction facts) c
-      | Replace others ↦ add_by n how part (others ++ waiting) facts c
-      | Keep rule ↦ within_size (is_too_much rule facts)
-          (add_by n how (suc part) waiting (with_rule how.name (suc part) rule facts) c)
+    → then_work w (λ found c. elim (treatment manner.ranks found) [
+      | Drop ↦ add_waiting n manner part waiting facts c
+      | Contradict ↦ add_waiting n manner part waiting (with_contradiction facts) c
+      | Replace others ↦ add_waiting n manner part (others ++ waiting) facts c
+      | Keep rule ↦ within_size (is_large rule.left || is_full facts)
+          (add_waiting n manner (suc part) waiting (with_rule manner.name (suc part) rule facts) c)
     ]) ≡ Made made r
     → AreFactsOver fs made.rules
-by_sides fs n how part waiting facts made r (Made d c) go f w s h =
-    by_treatment fs n how part waiting facts c made r (treatment how.ranks d) go f w
-    (treatment_over fs how.ranks d (s d c refl)) h
-by_sides fs n how part waiting facts made r OverLimit go f w s h = cc
-by_sides fs n how part waiting facts made r OverSize go f w s h = cc
+by_sides fs n manner part waiting facts made r (Made d c) go f w s h =
+    by_treatment fs n manner part waiting facts c made r (treatment manner.ranks d) go f w
+    (treatment_over fs manner.ranks d (s d c refl)) h
+by_sides fs n manner part waiting facts made r OverLimit go f w s h = cc
+by_sides fs n manner part waiting facts made r OverSize go f w s h = cc
 
-add_by_over : (fs : List PlainOperator) (n : ℕ) (how : Adding) → AddsOver fs (add_by n how)
-add_by_over fs zero how part waiting facts b made r f w h = cc
-add_by_over fs (suc n) how part [] facts b made r f w h =
+add_waiting_over : (fs : List PlainOperator) (n : ℕ) (manner : Manner) → AddsOver fs (add_waiting n manner)
+add_waiting_over fs zero manner part waiting facts b made r f w h = cc
+add_waiting_over fs (suc n) manner part [] facts b made r f w h =
     subst (λ (k : Facts). AreFactsOver fs k.rules) (made_term h) f
-add_by_over fs (suc n) how part (e ∷ waiting) facts b made r f w h =
-    by_sides fs n how part waiting facts made r (normal_sides (serving how facts) e b) (add_by_over fs n how) f
+add_waiting_over fs (suc n) manner part (e ∷ waiting) facts b made r f w h =
+    by_sides fs n manner part waiting facts made r (normal_sides (serving manner facts) e b)
+    (add_waiting_over fs n manner) f
     (λ d c. w d (contains_later e d waiting c))
-    (λ d c q. normal_sides_over fs (serving how facts) e d b c (serving_over fs how facts f)
+    (λ d c q. normal_sides_over fs (serving manner facts) e d b c (serving_over fs manner facts f)
     (w e (contains_here e waiting)) q) h
 
 -- where the facts and an equation are well sorted over operators, so are the facts behind its adding
-pub add_over : (fs : List PlainOperator) (how : Adding) (e : Sides) (facts : Facts) (b : ℕ) (made : Facts) (r : ℕ)
-    → All (λ fact. AreSidesOver fs fact.sides) facts.rules → AreSidesOver fs e → add how e facts b ≡ Made made r
+pub add_over : (fs : List PlainOperator) (manner : Manner) (e : Sides) (facts : Facts) (b : ℕ) (made : Facts) (r : ℕ)
+    → All (λ fact. AreSidesOver fs fact.sides) facts.rules → AreSidesOver fs e → add manner e facts b ≡ Made made r
     → All (λ fact. AreSidesOver fs fact.sides) made.rules
 unfolding add
-add_over fs how e facts b made r f s h =
-    add_by_over fs (most_taken b) how 0 (e ∷ []) facts b made r f (one_over fs e s)
-    (within_made _ (add_by (most_taken b) how 0 (e ∷ []) facts b) made r h)
+add_over fs manner e facts b made r f s h =
+    add_waiting_over fs (most_taken b) manner 0 (e ∷ []) facts b made r f (one_over fs e s)
+    (within_made _ (add_waiting (most_taken b) manner 0 (e ∷ []) facts b) made r h)

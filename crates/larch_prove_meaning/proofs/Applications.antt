@@ -1,5 +1,6 @@
 -- The left side of a fact is no variable.
-use Rattle.std.specs.Prelude.{◌≡◌, ℕ, zero, suc, Bool, true, false, cond, List, [], ◌∷◌, ◌++◌, All, bytes_eq, Option}
+use Rattle.std.specs.Prelude.{◌≡◌, ℕ, zero, suc, Bool, true, false, cond, ◌||◌, List, [], ◌∷◌, ◌++◌, All, bytes_eq}
+use Rattle.std.specs.Prelude.{Option}
 use Rattle.std.specs.Prelude.{Some, None, refl}
 use Rattle.std.proofs.Common.{subst}
 use Rattle.std.proofs.lemmas.List.Elements.{All-push}
@@ -14,11 +15,11 @@ use Rattle.larch_pairs_critical.specs.Overlap.{IsApplication}
 use Rattle.larch_order.specs.Greater.{greater}
 use Rattle.larch_order.specs.declared.precedence.Ranked.{Ranked}
 use Rattle.larch_rewrite_meaning.specs.Sides.{Sides, flip}
-use Rattle.larch_rewrite_meaning.specs.Work.{Work, Made, OverLimit, OverSize, then_work, within_size}
-use Rattle.larch_prove_meaning.specs.Facts.{Fact, Facts, Adding, Treatment, Drop, Contradict, Replace, Keep, serving}
+use Rattle.larch_rewrite_meaning.specs.Work.{Work, Made, OverLimit, OverSize, then_work, is_large, within_size}
+use Rattle.larch_prove_meaning.specs.Facts.{Fact, Facts, Manner, Treatment, Drop, Contradict, Replace, Keep, serving}
 use Rattle.larch_prove_meaning.specs.Facts.{is_value, truth_to_right, deduce, equality_term, orient, replaced_or_kept}
-use Rattle.larch_prove_meaning.specs.Facts.{treatment_of, treatment, with_rule, with_contradiction, is_too_much}
-use Rattle.larch_prove_meaning.specs.Facts.{normal_sides, add_by, add, most_taken}
+use Rattle.larch_prove_meaning.specs.Facts.{treatment_of, treatment, with_rule, with_contradiction, is_full}
+use Rattle.larch_prove_meaning.specs.Facts.{normal_sides, add_waiting, add, most_taken}
 use Rattle.larch_prove_meaning.proofs.AddingSorts.{made_term, within_made}
 
 -- no left side is a variable
@@ -82,56 +83,59 @@ abbrev AddsApplications : (ℕ → List Sides → Facts → ℕ → Work Facts) 
 AddsApplications adds = (part : ℕ) (waiting : List Sides) (facts : Facts) (b : ℕ) (made : Facts) (r : ℕ)
     → RewriteApplications facts.rules → adds part waiting facts b ≡ Made made r → RewriteApplications made.rules
 
-by_treatment : (n : ℕ) (how : Adding) (part : ℕ) (waiting : List Sides) (facts : Facts) (c : ℕ) (made : Facts) (r : ℕ)
-    (t : Treatment) → AddsApplications (add_by n how) → RewriteApplications facts.rules → KeepsApplications t
+by_treatment : (n : ℕ) (manner : Manner) (part : ℕ) (waiting : List Sides) (facts : Facts) (c : ℕ) (made : Facts)
+    (r : ℕ) (t : Treatment) → AddsApplications (add_waiting n manner) → RewriteApplications facts.rules
+    → KeepsApplications t
     → (elim t [
-      | Drop ↦ add_by n how part waiting facts c
-      | Contradict ↦ add_by n how part waiting (with_contradiction facts) c
-      | Replace others ↦ add_by n how part (others ++ waiting) facts c
-      | Keep rule ↦ within_size (is_too_much rule facts)
-          (add_by n how (suc part) waiting (with_rule how.name (suc part) rule facts) c)
+      | Drop ↦ add_waiting n manner part waiting facts c
+      | Contradict ↦ add_waiting n manner part waiting (with_contradiction facts) c
+      | Replace others ↦ add_waiting n manner part (others ++ waiting) facts c
+      | Keep rule ↦ within_size (is_large rule.left || is_full facts)
+          (add_waiting n manner (suc part) waiting (with_rule manner.name (suc part) rule facts) c)
     ]) ≡ Made made r
     → RewriteApplications made.rules
-by_treatment n how part waiting facts c made r Drop go f t h = go part waiting facts c made r f h
-by_treatment n how part waiting facts c made r Contradict go f t h =
+by_treatment n manner part waiting facts c made r Drop go f t h = go part waiting facts c made r f h
+by_treatment n manner part waiting facts c made r Contradict go f t h =
     go part waiting (with_contradiction facts) c made r f h
-by_treatment n how part waiting facts c made r (Replace others) go f t h = go part
+by_treatment n manner part waiting facts c made r (Replace others) go f t h = go part
     (others ++ waiting) facts c made r f h
-by_treatment n how part waiting facts c made r (Keep rule) go f t h =
-    let name : FactName = how.name in
+by_treatment n manner part waiting facts c made r (Keep rule) go f t h =
+    let name : FactName = manner.name in
     go (suc part) waiting (with_rule name (suc part) rule facts) c made r
     (All-push (λ fact. IsApplication fact.sides.left) facts.rules
     (record { name = record name { part = suc part }; sides = rule }) f t)
-    (within_made (is_too_much rule facts)
-    (add_by n how (suc part) waiting (with_rule name (suc part) rule facts) c) made r h)
+    (within_made (is_large rule.left || is_full facts)
+    (add_waiting n manner (suc part) waiting (with_rule name (suc part) rule facts) c) made r h)
 
-by_sides : (n : ℕ) (how : Adding) (part : ℕ) (waiting : List Sides) (facts : Facts) (made : Facts) (r : ℕ)
-    (w : Work Sides) → AddsApplications (add_by n how) → RewriteApplications facts.rules
-    → then_work w (λ found c. elim (treatment how.ranks found) [
-      | Drop ↦ add_by n how part waiting facts c
-      | Contradict ↦ add_by n how part waiting (with_contradiction facts) c
-      | Replace others ↦ add_by n how part (others ++ waiting) facts c
-      | Keep rule ↦ within_size (is_too_much rule facts)
-          (add_by n how (suc part) waiting (with_rule how.name (suc part) rule facts) c)
+by_sides : (n : ℕ) (manner : Manner) (part : ℕ) (waiting : List Sides) (facts : Facts) (made : Facts) (r : ℕ)
+    (w : Work Sides) → AddsApplications (add_waiting n manner) → RewriteApplications facts.rules
+    → then_work w (λ found c. elim (treatment manner.ranks found) [
+      | Drop ↦ add_waiting n manner part waiting facts c
+      | Contradict ↦ add_waiting n manner part waiting (with_contradiction facts) c
+      | Replace others ↦ add_waiting n manner part (others ++ waiting) facts c
+      | Keep rule ↦ within_size (is_large rule.left || is_full facts)
+          (add_waiting n manner (suc part) waiting (with_rule manner.name (suc part) rule facts) c)
     ]) ≡ Made made r
     → RewriteApplications made.rules
-by_sides n how part waiting facts made r (Made d c) go f h =
-    by_treatment n how part waiting facts c made r (treatment how.ranks d) go f (treatment_application how.ranks d) h
-by_sides n how part waiting facts made r OverLimit go f h = cc
-by_sides n how part waiting facts made r OverSize go f h = cc
+by_sides n manner part waiting facts made r (Made d c) go f h =
+    by_treatment n manner part waiting facts c made r (treatment manner.ranks d) go f
+    (treatment_application manner.ranks d) h
+by_sides n manner part waiting facts made r OverLimit go f h = cc
+by_sides n manner part waiting facts made r OverSize go f h = cc
 
-add_by_applications : (n : ℕ) (how : Adding) → AddsApplications (add_by n how)
-add_by_applications zero how part waiting facts b made r f h = cc
-add_by_applications (suc n) how part [] facts b made r f h =
+add_waiting_applications : (n : ℕ) (manner : Manner) → AddsApplications (add_waiting n manner)
+add_waiting_applications zero manner part waiting facts b made r f h = cc
+add_waiting_applications (suc n) manner part [] facts b made r f h =
     subst (λ (k : Facts). RewriteApplications k.rules) (made_term h) f
-add_by_applications (suc n) how part (e ∷ waiting) facts b made r f h =
-    by_sides n how part waiting facts made r (normal_sides (serving how facts) e b) (add_by_applications n how) f h
+add_waiting_applications (suc n) manner part (e ∷ waiting) facts b made r f h =
+    by_sides n manner part waiting facts made r (normal_sides (serving manner facts) e b)
+    (add_waiting_applications n manner) f h
 
 -- where no fact rewrites a variable, none does behind an adding
-pub add_applications : (how : Adding) (e : Sides) (facts : Facts) (b : ℕ) (made : Facts) (r : ℕ)
-    → All (λ fact. IsApplication fact.sides.left) facts.rules → add how e facts b ≡ Made made r
+pub add_applications : (manner : Manner) (e : Sides) (facts : Facts) (b : ℕ) (made : Facts) (r : ℕ)
+    → All (λ fact. IsApplication fact.sides.left) facts.rules → add manner e facts b ≡ Made made r
     → All (λ fact. IsApplication fact.sides.left) made.rules
 unfolding add
-add_applications how e facts b made r f h =
-    add_by_applications (most_taken b) how 0 (e ∷ []) facts b made r f
-    (within_made _ (add_by (most_taken b) how 0 (e ∷ []) facts b) made r h)
+add_applications manner e facts b made r f h =
+    add_waiting_applications (most_taken b) manner 0 (e ∷ []) facts b made r f
+    (within_made _ (add_waiting (most_taken b) manner 0 (e ∷ []) facts b) made r h)

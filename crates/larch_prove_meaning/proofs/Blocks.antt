@@ -2,7 +2,7 @@
 use Rattle.std.specs.Prelude.{◌≡◌, List, [], ◌∷◌, ◌++◌, Result, Ok, Err, refl}
 use Rattle.std.proofs.Common.{◌∙◌, sym}
 use Rattle.larch_traits_items.specs.Steps.{after}
-use Rattle.larch_prove_meaning.specs.Commands.{Command}
+use Rattle.larch_script_commands.specs.declared.command.CommandKind.{CommandKind}
 use Rattle.larch_prove_meaning.specs.Levels.{Proof}
 use Rattle.larch_prove_meaning.specs.Replays.{all_stepped, step_command}
 
@@ -16,7 +16,7 @@ after_same (Ok x) f g e = e x
 after_same (Err y) f g e = refl
 
 -- a block in two parts
-pub stepped_in_parts : (cs ds : List Command) (p : Proof)
+pub stepped_in_parts : (cs ds : List CommandKind) (p : Proof)
     → all_stepped (cs ++ ds) p ≡ after (all_stepped cs p) (λ q. all_stepped ds q)
 stepped_in_parts [] ds p = refl
 stepped_in_parts (c ∷ cs) ds p =

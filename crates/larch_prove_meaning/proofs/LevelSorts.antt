@@ -1,5 +1,6 @@
 -- The levels of a proof stay well sorted where goals are opened and proved.
-use Rattle.std.specs.Prelude.{◌≡◌, ◌+◌, ℕ, Bool, true, false, List, [], ◌∷◌, ◌++◌, All, Contains, Result, Ok, Err, refl}
+use Rattle.std.specs.Prelude.{◌≡◌, ◌+◌, ℕ, Bool, true, false, List, [], ◌∷◌, ◌++◌, All, Contains, Result, Ok, Err}
+use Rattle.std.specs.Prelude.{refl}
 use Rattle.std.specs.List.{flat_map}
 use Rattle.std.proofs.Common.{inl, inr, ap, subst, ◌∙◌}
 use Rattle.std.proofs.lemmas.List.Elements.{All-weaker, All-cons, All-nil, All-head, All-tail}
@@ -14,19 +15,20 @@ use Rattle.larch_term.specs.Tree.{Tree}
 use Rattle.larch_term.specs.declared.statement.Theory.{Theory}
 use Rattle.larch_traits_items.specs.Steps.{after}
 use Rattle.larch_calculus.proofs.Sorted.{Knows, term_over_more}
+use Rattle.larch_sorts_meaning.specs.Scope.{Variables}
 use Rattle.larch_pairs_critical.specs.Overlap.{IsApplication}
 use Rattle.larch_rewrite_meaning.specs.NormalForm.{normal}
 use Rattle.larch_rewrite_meaning.specs.Sides.{Sides, AreSidesOver}
 use Rattle.larch_rewrite_meaning.specs.Work.{Work, Made, OverLimit, OverSize}
 use Rattle.larch_rewrite_meaning.proofs.SortsKept.{normal_keeps}
-use Rattle.larch_prove_meaning.specs.Facts.{Adding, Fact, Facts, add, rules_of, whole_name}
+use Rattle.larch_prove_meaning.specs.Facts.{Manner, Fact, Facts, add, rules_of, whole_name}
 use Rattle.larch_prove_meaning.specs.Levels.{EarlierDuty, Level, Next, OfDuty, OfProof, OfSubgoal, Proof, Purpose}
 use Rattle.larch_prove_meaning.specs.Levels.{added_by, all_constants, all_serve, all_supposed, begun, derive}
 use Rattle.larch_prove_meaning.specs.Levels.{derived_by, is_settled, level_for, normal_goal, open_subgoal, opened_from}
 use Rattle.larch_prove_meaning.specs.Levels.{rise, settle_goal, suppose, unless, with_constants, with_facts, with_goal}
 use Rattle.larch_prove_meaning.specs.Levels.{with_mark, work_result}
 use Rattle.larch_prove_meaning.specs.Plans.{IsFormulaOver, IsPlanOver, IsSubgoalOver, Plan, Subgoal, holds}
-use Rattle.larch_prove_meaning.specs.WellSorted.{IsFactOver, IsLevelOver, IsPurposeOver}
+use Rattle.larch_prove_meaning.specs.WellSorted.{AreNamedApart, IsFactOver, IsLevelOver, IsPurposeOver}
 use Rattle.larch_prove_meaning.proofs.AddingSorts.{add_over, truth_over}
 use Rattle.larch_prove_meaning.proofs.Applications.{add_applications}
 
@@ -99,22 +101,42 @@ level_more fs gs k l h = record {
 
 -- a proof's parts that stay, and its levels, which are well sorted
 pub record IsOf (t : Theory) (ls : List EarlierDuty) (cs : List PlainOperator) (u : Theory) (ks : List EarlierDuty)
-    (ds : List PlainOperator) (l : Level) (ms : List Level) : Type 0 where
+    (ds : List PlainOperator) (vs : Variables) (l : Level) (ms : List Level) : Type 0 where
   pub theory : u ≡ t
   pub lemmas : ks ≡ ls
   pub constants : ds ≡ cs
+  pub scope : AreNamedApart vs
   pub current : IsLevelOver (t.operators ++ cs) l
   pub below : All (IsLevelOver (t.operators ++ cs)) ms
 
 abbrev pub Is : Theory → List EarlierDuty → List PlainOperator → Proof → Type 0
-Is t ls cs p = IsOf t ls cs p.theory p.lemmas p.constants p.current p.below
+Is t ls cs p = IsOf t ls cs p.theory p.lemmas p.constants p.scope p.current p.below
 
 -- with another current level, and others below
 pub moved : (t : Theory) (ls : List EarlierDuty) (cs : List PlainOperator) (p : Proof) (l : Level) (ms : List Level)
     → Is t ls cs p → IsLevelOver (t.operators ++ cs) l → All (IsLevelOver (t.operators ++ cs)) ms
     → Is t ls cs (record p { current = l; below = ms })
 moved t ls cs p l ms h k m =
-    record { theory = h.theory; lemmas = h.lemmas; constants = h.constants; current = k; below = m }
+    record {
+      theory = h.theory;
+      lemmas = h.lemmas;
+      constants = h.constants;
+      scope = h.scope;
+      current = k;
+      below = m;
+    }
+
+-- with other variables in scope
+pub scoped : (t : Theory) (ls : List EarlierDuty) (cs : List PlainOperator) (p : Proof) (vs : Variables) → Is t ls cs p
+    → AreNamedApart vs → Is t ls cs (record p { scope = vs })
+scoped t ls cs p vs h k = record {
+  theory = h.theory;
+  lemmas = h.lemmas;
+  constants = h.constants;
+  scope = k;
+  current = h.current;
+  below = h.below;
+}
 
 with_facts_over : (t : Theory) (ls : List EarlierDuty) (cs : List PlainOperator) (p : Proof) (facts : Facts)
     → Is t ls cs p
@@ -123,6 +145,7 @@ with_facts_over t ls cs p facts h k = record {
   theory = h.theory;
   lemmas = h.lemmas;
   constants = h.constants;
+  scope = h.scope;
   current = record {
     purpose = h.current.purpose;
     facts = k;
@@ -139,6 +162,7 @@ with_goal_over t ls cs p g h k = record {
   theory = h.theory;
   lemmas = h.lemmas;
   constants = h.constants;
+  scope = h.scope;
   current = record {
     purpose = h.current.purpose;
     facts = h.current.facts;
@@ -165,12 +189,12 @@ pub added_keeps : (t : Theory) (ls : List EarlierDuty) (cs : List PlainOperator)
     → Is t ls cs q
 added_keeps t ls cs serves name e p q h s k =
     let fs = t.operators ++ cs in
-    let how : Adding = record { serves = serves; ranks = p.ranks; name = name } in
-    let m = between (work_result (add how e p.current.facts p.limit)) (λ facts. Ok (with_facts facts p)) q k in
-    let w = work_done (add how e p.current.facts p.limit) m.made m.first in
-    let sorted = add_over fs how e p.current.facts p.limit m.made w.0
+    let manner : Manner = record { serves = serves; ranks = p.ranks; name = name } in
+    let m = between (work_result (add manner e p.current.facts p.limit)) (λ facts. Ok (with_facts facts p)) q k in
+    let w = work_done (add manner e p.current.facts p.limit) m.made m.first in
+    let sorted = add_over fs manner e p.current.facts p.limit m.made w.0
     (fact_sides fs p.current.facts.rules h.current.facts) s w.1 in
-    let applied = add_applications how e p.current.facts p.limit m.made w.0
+    let applied = add_applications manner e p.current.facts p.limit m.made w.0
     (fact_applications fs p.current.facts.rules h.current.facts) w.1 in
     subst (Is t ls cs) (ok_inj m.second)
     (with_facts_over t ls cs p m.made h (λ i f g. (sorted i f g, applied i f g)))
@@ -349,6 +373,7 @@ with_constants_over t ls cs ds p h =
       theory = h.theory;
       lemmas = h.lemmas;
       constants = ap (λ c. c ++ ds) h.constants;
+      scope = h.scope;
       current = level_more fs gs k p.current h.current;
       below = All-weaker (IsLevelOver fs) (IsLevelOver gs) (level_more fs gs k) p.below h.below;
     }

@@ -2,8 +2,11 @@ pub mod FreeNames
 pub mod Blocks
 pub mod Positions
 pub mod Redone
+pub mod Scopes
 pub mod AddingSorts
 pub mod Applications
+pub mod NormalSides
+pub mod Taking
 pub mod LevelSorts
 pub mod NewConstants
 pub mod StepSorts

@@ -25,59 +25,50 @@ use Rattle.larch_calculus.proofs.Observed.{partition_over}
 use Rattle.larch_calculus.proofs.Sorted.{generation_over, knows_more, statement_over_more}
 use Rattle.larch_traits_items.specs.Steps.{after}
 use Rattle.larch_rewrite_meaning.specs.Sides.{Sides, AreSidesOver, sides_of}
-use Rattle.larch_prove_meaning.specs.Commands.{Bad, BoxChecking, ByCases, ByConjunction, ByContradiction, ByImplication}
-use Rattle.larch_prove_meaning.specs.Commands.{ByInduction, ByPartition, Command, CriticalPairs, Declare, Height}
-use Rattle.larch_prove_meaning.specs.Commands.{Instantiate, Mark, Normalize, Prove, Qed, SetLimit, SetStatus}
+use Rattle.larch_script_commands.specs.declared.command.CommandKind.{CommandKind}
+use Rattle.larch_script_commands.specs.declared.command.CommandKind.TheVariants as command
 use Rattle.larch_prove_meaning.specs.Facts.{whole_name}
 use Rattle.larch_prove_meaning.specs.Levels.{EarlierDuty, Proof, add_equation, all_serve, normal_goal, settle_goal}
 use Rattle.larch_prove_meaning.specs.Levels.{with_constants, with_goal}
 use Rattle.larch_prove_meaning.specs.NewNames.{constant_named, free_name}
 use Rattle.larch_prove_meaning.specs.Plans.{IsFormulaOver, IsSubgoalOver, holds}
-use Rattle.larch_prove_meaning.specs.Replays.{Duty, InPreamble, AtOpening, all_prepared, all_stepped, begun_with, blank}
+use Rattle.larch_prove_meaning.specs.Replays.{Duty, InPreamble, AtOpening, all_prepared, all_stepped, begun_with}
+use Rattle.larch_prove_meaning.specs.Replays.{blank}
 use Rattle.larch_prove_meaning.specs.Replays.{duty_opened, each_added, generation_opened, goal_made, lemmas_added}
 use Rattle.larch_prove_meaning.specs.Replays.{locate, partition_opened, prepare, scope_of, step, theory_added}
-use Rattle.larch_prove_meaning.specs.Steps.{own_operators, taken_names}
+use Rattle.larch_prove_meaning.specs.Replays.{told_number}
+use Rattle.larch_prove_meaning.specs.Steps.{own_operators, taken_names, texts, with_all_new}
 use Rattle.larch_prove_meaning.specs.WellSorted.{AreLemmasOver, GoesOn, IsFactOver, IsLevelOver, IsWellSortedDuty}
 use Rattle.larch_prove_meaning.specs.WellSorted.{IsWellSortedProof}
 use Rattle.larch_prove_meaning.proofs.AddingSorts.{equality_over, truth_over}
 use Rattle.larch_prove_meaning.proofs.LevelSorts.{Is, Keeps, added_keeps, between, goal_keeps, ok_inj, settled_keeps}
-use Rattle.larch_prove_meaning.proofs.LevelSorts.{supposed_keeps, with_constants_over, with_goal_over}
+use Rattle.larch_prove_meaning.proofs.LevelSorts.{scoped, supposed_keeps, with_constants_over, with_goal_over}
 use Rattle.larch_prove_meaning.proofs.NewConstants.{grown_new, none_are_new, own_taken, predicate_new, two_new}
 use Rattle.larch_prove_meaning.proofs.PartitionPlans.{formula_over}
+use Rattle.larch_prove_meaning.proofs.Scopes.{all_new_apart, none_apart}
 use Rattle.larch_prove_meaning.proofs.StepSorts.{AreGiven, Leads, all_keep, own_are, declared_keeps, heightened_keeps}
 use Rattle.larch_prove_meaning.proofs.StepSorts.{located_done, replied, stays, status_keeps, step_keeps}
 
 -- ---- the preamble
 
-prepared_keeps : (t : Theory) (ls : List EarlierDuty) (cs : List PlainOperator) (c : Command)
+prepared_keeps : (t : Theory) (ls : List EarlierDuty) (cs : List PlainOperator) (c : CommandKind)
     → Keeps t ls cs (prepare c)
-prepared_keeps t ls cs (Declare ns s) p q h k = declared_keeps t ls cs ns s p q h k
-prepared_keeps t ls cs (SetLimit n) p q h k = subst (Is t ls cs) (ok_inj k) h
-prepared_keeps t ls cs (BoxChecking on) p q h k = subst (Is t ls cs) (ok_inj k) h
-prepared_keeps t ls cs (Height f g) p q h k = heightened_keeps t ls cs f g p q h k
-prepared_keeps t ls cs (SetStatus way f) p q h k = status_keeps t ls cs way f p q h k
-prepared_keeps t ls cs (Prove e) p q h k = cc
-prepared_keeps t ls cs (ByCases e) p q h k = cc
-prepared_keeps t ls cs ByImplication p q h k = cc
-prepared_keeps t ls cs ByConjunction p q h k = cc
-prepared_keeps t ls cs ByContradiction p q h k = cc
-prepared_keeps t ls cs (ByInduction n) p q h k = cc
-prepared_keeps t ls cs ByPartition p q h k = cc
-prepared_keeps t ls cs (Instantiate is n) p q h k = cc
-prepared_keeps t ls cs (CriticalPairs n m) p q h k = cc
-prepared_keeps t ls cs (Normalize n) p q h k = cc
-prepared_keeps t ls cs Qed p q h k = cc
-prepared_keeps t ls cs (Mark proved) p q h k = cc
-prepared_keeps t ls cs (Bad code) p q h k = cc
+prepared_keeps t ls cs (command.Declare ns s) p q h k = declared_keeps t ls cs (texts ns) s.name p q h k
+prepared_keeps t ls cs (command.Limit n) p q h k = subst (Is t ls cs) (ok_inj k) h
+prepared_keeps t ls cs (command.BoxChecking on) p q h k = subst (Is t ls cs) (ok_inj k) h
+prepared_keeps t ls cs (command.Height f g) p q h k = heightened_keeps t ls cs f g p q h k
+prepared_keeps t ls cs (command.Status way f) p q h k = status_keeps t ls cs way f p q h k
+prepared_keeps t ls cs c p q h k = cc
 
-all_prepared_keep : (t : Theory) (ls : List EarlierDuty) (cs : List PlainOperator) (n : ℕ) (preamble : List Command)
+all_prepared_keep : (t : Theory) (ls : List EarlierDuty) (cs : List PlainOperator) (n : ℕ) (preamble : List CommandKind)
     (p q : Proof) → Is t ls cs p → all_prepared n preamble p ≡ Ok q → Is t ls cs q
 unfolding all_prepared
 all_prepared_keep t ls cs n [] p q h k = subst (Is t ls cs) (replied p q k) h
 all_prepared_keep t ls cs n (c ∷ preamble) p q h k =
-    let m = between (locate (InPreamble n) (prepare c p)) (λ r. all_prepared (suc n) preamble r) q k in
+    let m = between (locate (InPreamble (told_number n)) (prepare c p)) (λ r. all_prepared (suc n) preamble r) q k in
     all_prepared_keep t ls cs (suc n) preamble m.made q
-    (prepared_keeps t ls cs c p m.made h (located_done (InPreamble n) (prepare c p) m.made m.first)) m.second
+    (prepared_keeps t ls cs c p m.made h (located_done (InPreamble (told_number n)) (prepare c p) m.made m.first))
+    m.second
 
 -- ---- facts of the theory and the lemmas
 
@@ -204,8 +195,10 @@ goal_opened_keeps : (t : Theory) (ls : List EarlierDuty) (s : Statement) (p q : 
 goal_opened_keeps t ls (Equation l r) p q h w k =
     let fs = t.operators ++ [] in
     let o = statement_over_more t.operators fs (knows_more t.operators []) (Equation l r) w in
+    let vs = with_all_new [] (scope_of l ++ scope_of r ++ p.scope) in
     stays t ls [] q (subst (Is t ls []) (ok_inj k)
-    (with_goal_over t ls [] (record p { scope = scope_of l ++ scope_of r ++ p.scope }) (formula l r) h
+    (with_goal_over t ls [] (record p { scope = vs }) (formula l r)
+    (scoped t ls [] p vs h (all_new_apart [] (scope_of l ++ scope_of r ++ p.scope) none_apart))
     (formula_over fs l r o.0 o.1 o.2)))
 goal_opened_keeps t ls (Generated s gs) p q h w k = generation_keeps t ls s gs p q h w k
 goal_opened_keeps t ls (Partitioned s os) p q h w k = partition_keeps t ls s os p q h w k
@@ -250,6 +243,7 @@ blank_is duty limit =
       theory = refl;
       lemmas = refl;
       constants = refl;
+      scope = none_apart;
       current = record {
         purpose = tt;
         facts = All-nil (IsFactOver fs);
@@ -267,6 +261,7 @@ sorted_of t ls cs q g h =
       theory = subst (λ (u : Theory). All (IsStatementOver u.operators) u.statements) (sym h.theory) g.theory;
       lemmas = subst (λ (u : Theory). AreLemmasOver u.operators q.lemmas) (sym h.theory)
           (subst (AreLemmasOver t.operators) (sym h.lemmas) g.lemmas);
+      scope = h.scope;
       levels = subst (λ fs. All (IsLevelOver fs) (q.current ∷ q.below)) (sym e)
           (All-cons (IsLevelOver (t.operators ++ cs)) q.current q.below h.current h.below);
     }
@@ -277,6 +272,7 @@ itself p h = record {
   theory = refl;
   lemmas = refl;
   constants = refl;
+  scope = h.scope;
   current = All-head (IsLevelOver (own_operators p)) p.current p.below h.levels;
   below = All-tail (IsLevelOver (own_operators p)) p.current p.below h.levels;
 }
@@ -292,7 +288,7 @@ goes_on p q l = record {
 }
 
 -- the opening of a duty, whose constants are new
-begun_leads : (duty : Duty) (limit : ℕ) (preamble : List Command) (p : Proof) → IsWellSortedDuty duty
+begun_leads : (duty : Duty) (limit : ℕ) (preamble : List CommandKind) (p : Proof) → IsWellSortedDuty duty
     → begun_with duty limit preamble ≡ Ok p → Leads duty.theory duty.lemmas [] p
 begun_leads duty limit preamble p w k =
     let t = duty.theory in
@@ -311,36 +307,36 @@ new_of t ls cs q l n =
     subst (λ (u : Theory). AreNew u q.constants) (sym l.sorted.theory)
     (subst (AreNew t) (sym l.sorted.constants) (l.new n))
 
-pub begun_new : (duty : Duty) (limit : ℕ) (preamble : List Command) (p : Proof) → IsWellSortedDuty duty
+pub begun_new : (duty : Duty) (limit : ℕ) (preamble : List CommandKind) (p : Proof) → IsWellSortedDuty duty
     → begun_with duty limit preamble ≡ Ok p → AreNew p.theory p.constants
 begun_new duty limit preamble p w k =
     new_of duty.theory duty.lemmas [] p (begun_leads duty limit preamble p w k) (none_are_new duty.theory)
 
-pub step_new : (c : Command) (p q : Proof) → IsWellSortedProof p → AreNew p.theory p.constants → step c p ≡ Ok q
+pub step_new : (c : CommandKind) (p q : Proof) → IsWellSortedProof p → AreNew p.theory p.constants → step c p ≡ Ok q
     → AreNew q.theory q.constants
 step_new c p q h n k =
     new_of p.theory p.lemmas p.constants q
     (step_keeps p.theory p.lemmas p.constants c p q (given p h) (itself p h) k) n
 
-pub block_new : (block : List Command) (p q : Proof) → IsWellSortedProof p → AreNew p.theory p.constants
+pub block_new : (block : List CommandKind) (p q : Proof) → IsWellSortedProof p → AreNew p.theory p.constants
     → all_stepped block p ≡ Ok q → AreNew q.theory q.constants
 block_new block p q h n k =
     new_of p.theory p.lemmas p.constants q
     (all_keep p.theory p.lemmas p.constants block p q (given p h) (itself p h) k) n
 
-pub begun_sorted : (duty : Duty) (limit : ℕ) (preamble : List Command) (p : Proof) → IsWellSortedDuty duty
+pub begun_sorted : (duty : Duty) (limit : ℕ) (preamble : List CommandKind) (p : Proof) → IsWellSortedDuty duty
     → begun_with duty limit preamble ≡ Ok p → IsWellSortedProof p
 begun_sorted duty limit preamble p w k =
     let l = begun_leads duty limit preamble p w k in
     sorted_of duty.theory duty.lemmas l.made p (record { theory = w.theory; lemmas = w.lemmas }) l.sorted
 
-pub step_sorted : (c : Command) (p q : Proof) → IsWellSortedProof p → step c p ≡ Ok q
+pub step_sorted : (c : CommandKind) (p q : Proof) → IsWellSortedProof p → step c p ≡ Ok q
     → IsWellSortedProof q × GoesOn p q
 step_sorted c p q h k =
     let l = step_keeps p.theory p.lemmas p.constants c p q (given p h) (itself p h) k in
     (sorted_of p.theory p.lemmas l.made q (given p h) l.sorted, goes_on p q l)
 
-pub block_sorted : (block : List Command) (p q : Proof) → IsWellSortedProof p → all_stepped block p ≡ Ok q
+pub block_sorted : (block : List CommandKind) (p q : Proof) → IsWellSortedProof p → all_stepped block p ≡ Ok q
     → IsWellSortedProof q × GoesOn p q
 block_sorted block p q h k =
     let l = all_keep p.theory p.lemmas p.constants block p q (given p h) (itself p h) k in

@@ -1,146 +1,103 @@
 -- What has to be replayed again.
 use Rattle.std.specs.Prelude.{◌≡◌, ◌≤◌, ◌+◌, ◌&&◌, ◌==◌, ℕ, suc, Bool, true, false, cond, List, [], ◌∷◌, All, Contains}
-use Rattle.std.specs.Prelude.{length, sum_by, find, bytes_eq, Option, Some, None, refl}
+use Rattle.std.specs.Prelude.{length, map, sum_by, find, bytes_eq, Decides, Option, Some, None, refl}
 use Rattle.std.specs.List.{AllPairs}
 use Rattle.std.specs.Cmp.Lexicographic.{pointwise}
 use Rattle.std.proofs.Common.{inl, inr, arith, ap, ap₂, ◌∙◌, subst}
-use Rattle.std.proofs.lemmas.Bool.Decides.{Decides-eqb}
+use Rattle.std.proofs.lemmas.Bool.Decides.{Decides-and, Decides-eqb, Decides-like}
 use Rattle.std.proofs.lemmas.List.Sums.{sum_by-cons, sum_by-le-sum_by}
-use Rattle.std.proofs.lemmas.Slice.Eq.{bytes_eq-Decides}
-use Rattle.larch_base.specs.CodeText.{code_text}
+use Rattle.std.proofs.lemmas.Slice.Eq.{bytes_eq-Decides, slice_eq-Decides}
 use Rattle.larch_base.specs.declared.label.Label.{Label}
 use Rattle.larch_base.specs.declared.label.Label.TheVariants.{Assume, Imply, Convert}
-use Rattle.larch_base.specs.declared.way.Way.{Way}
-use Rattle.larch_base.specs.declared.way.Way.TheVariants.{LeftToRight, RightToLeft, Multiset}
+use Rattle.larch_base.proofs.Lists.{pairs_tail, pairs_head}
+use Rattle.larch_base.proofs.Members.{contains_here, contains_later, contains_cases, contains_none}
+use Rattle.larch_script_commands.specs.Bare.{bare_kind}
+use Rattle.larch_script_commands.specs.Same.{same_kind}
+use Rattle.larch_script_commands.specs.declared.command.CommandKind.{CommandKind}
+use Rattle.larch_script_commands.proofs.Decided.{kind_Decides, kinds_Decide}
 use Rattle.larch_term.specs.Operator.{PlainOperator}
 use Rattle.larch_term.specs.Equality.{same_operator, same_statement}
 use Rattle.larch_term.specs.declared.statement.Statement.{Statement}
+use Rattle.larch_term.specs.declared.statement.Theory.{Theory}
 use Rattle.larch_term.proofs.Decided.{operator_Decides, statement_Decides}
-use Rattle.larch_base.proofs.Lists.{pairs_tail, pairs_head}
-use Rattle.larch_base.proofs.Members.{contains_here, contains_later, contains_cases, contains_none}
-use Rattle.larch_base.specs.declared.fact_name.FactLetter.{FactLetter}
-use Rattle.larch_base.specs.declared.fact_name.FactLetter.TheVariants.{Axiom, Derived, Hypothesis, Lemma}
-use Rattle.larch_base.specs.declared.fact_name.FactName.{FactName}
-use Rattle.larch_prove_meaning.specs.Commands.{Command, Spelling, Spellings, said, said_of, no_spelling, spelling}
-use Rattle.larch_prove_meaning.specs.Commands.{SpelledEquation, SpelledSignature, Reference, Instance}
-use Rattle.larch_prove_meaning.specs.Commands.{Declare, SetLimit, BoxChecking, Height, SetStatus, Prove, ByCases}
-use Rattle.larch_prove_meaning.specs.Commands.{ByImplication, ByConjunction, ByContradiction, ByInduction, ByPartition}
-use Rattle.larch_prove_meaning.specs.Commands.{Instantiate, CriticalPairs, Normalize, Qed, Mark, Bad}
 use Rattle.larch_prove_meaning.specs.Levels.{EarlierDuty}
-use Rattle.larch_prove_meaning.specs.Replays.{is_same_mark}
+use Rattle.larch_prove_meaning.specs.Replays.{Duty}
 use Rattle.larch_prove_meaning.specs.Scripts.{same_label}
-use Rattle.larch_prove_meaning.specs.Steps.{same_fact_name, same_letter}
-use Rattle.larch_prove_meaning.specs.Redo.{Replayed, behind_common, begin_alike, redone, redo, is_of_one, same_option}
-use Rattle.larch_prove_meaning.specs.Redo.{same_spelling, same_spellings, same_equation, same_signature, same_reference}
-use Rattle.larch_prove_meaning.specs.Redo.{same_instance, same_way, same_command, same_lemma}
+use Rattle.larch_prove_meaning.specs.Redo.{Replayed, behind_common, begin_alike, redone, redo, is_of_one, same_duty}
+use Rattle.larch_prove_meaning.specs.Redo.{same_lemma, same_theory}
 
 both : {a b : Bool} → a ≡ true → b ≡ true → (a && b) ≡ true
 both p q = ap₂ (λ a b. a && b) p q
 
--- ---- each test is passed by one thing twice
+-- ---- the tests tell exactly what is equal
 
-name_self : (n : List ℕ) → bytes_eq n n ≡ true
-name_self n = (bytes_eq-Decides n n).1 refl
+theory_by : List PlainOperator → List Statement → Theory
+theory_by fs ss = record { operators = fs; statements = ss }
 
-number_self : (n : ℕ) → (n == n) ≡ true
-number_self n = (Decides-eqb n n).1 refl
+pub theory_Decides : (t u : Theory) → Decides (same_theory t u) (t ≡ u)
+unfolding theory_by
+theory_Decides t u =
+    let fs = pointwise same_operator t.operators u.operators in
+    let ss = pointwise same_statement t.statements u.statements in
+    Decides-like (same_theory t u) (λ h. ap₂ theory_by h.0 h.1)
+    (λ e. (ap (λ (v : Theory). v.operators) e, ap (λ (v : Theory). v.statements) e))
+    (Decides-and fs ss (slice_eq-Decides operator_Decides t.operators u.operators fs refl)
+    (slice_eq-Decides statement_Decides t.statements u.statements ss refl))
 
-all_self : {A : Type 0} (same : A → A → Bool) → ((x : A) → same x x ≡ true) → (xs : List A)
-    → pointwise same xs xs ≡ true
-all_self same h [] = refl
-all_self same h (x ∷ xs) = both (h x) (all_self same h xs)
+lemma_by : ℕ → Statement → EarlierDuty
+lemma_by n s = record { number = n; statement = s }
 
-option_self : {A : Type 0} (same : A → A → Bool) → ((x : A) → same x x ≡ true) → (o : Option A)
-    → same_option same o o ≡ true
-option_self same h None = refl
-option_self same h (Some x) = h x
+pub lemma_Decides : (l m : EarlierDuty) → Decides (same_lemma l m) (l ≡ m)
+unfolding lemma_by
+lemma_Decides l m =
+    Decides-like (same_lemma l m) (λ h. ap₂ lemma_by h.0 h.1)
+    (λ e. (ap (λ (k : EarlierDuty). k.number) e, ap (λ (k : EarlierDuty). k.statement) e))
+    (Decides-and (l.number == m.number) (same_statement l.statement m.statement) (Decides-eqb l.number m.number)
+    (statement_Decides l.statement m.statement))
 
-mutual
-  spelling_self : (t : Spelling) → same_spelling t t ≡ true
-  spelling_self (said n ts) = both (name_self n) (spellings_self ts)
-  spelling_self (said_of t s) = both (spelling_self t) (name_self s)
+duty_by : Theory → Statement × List EarlierDuty → Duty
+duty_by t p = record { theory = t; statement = p.0; lemmas = p.1 }
 
-  spellings_self : (ts : Spellings) → same_spellings ts ts ≡ true
-  spellings_self no_spelling = refl
-  spellings_self (spelling t ts) = both (spelling_self t) (spellings_self ts)
+pub duty_Decides : (d e : Duty) → Decides (same_duty d e) (d ≡ e)
+unfolding duty_by
+duty_Decides d e =
+    let ls = pointwise same_lemma d.lemmas e.lemmas in
+    Decides-like (same_duty d e)
+    (λ h. ap₂ duty_by h.0
+    (ap₂ (λ (s : Statement) (ks : List EarlierDuty). let p : Statement × List EarlierDuty = (s, ks) in p) h.1.0 h.1.1))
+    (λ k. (
+      ap (λ (x : Duty). x.theory) k,
+      (ap (λ (x : Duty). x.statement) k, ap (λ (x : Duty). x.lemmas) k),
+    ))
+    (Decides-and (same_theory d.theory e.theory) (same_statement d.statement e.statement && ls)
+    (theory_Decides d.theory e.theory)
+    (Decides-and (same_statement d.statement e.statement) ls (statement_Decides d.statement e.statement)
+    (slice_eq-Decides lemma_Decides d.lemmas e.lemmas ls refl)))
 
-equation_self : (e : SpelledEquation) → same_equation e e ≡ true
-equation_self e = both (spelling_self e.left) (option_self same_spelling spelling_self e.right)
-
-signature_self : (s : SpelledSignature) → same_signature s s ≡ true
-signature_self s = both (all_self bytes_eq name_self s.domain) (name_self s.range)
-
-reference_self : (r : Reference) → same_reference r r ≡ true
-reference_self r = both (name_self r.name) (option_self same_signature signature_self r.signature)
-
-instance_self : (i : Instance) → same_instance i i ≡ true
-instance_self i = both (name_self i.variable) (spelling_self i.term)
-
-way_self : (w : Way) → same_way w w ≡ true
-way_self LeftToRight = refl
-way_self RightToLeft = refl
-way_self Multiset = refl
-
-letter_self : (l : FactLetter) → same_letter l l ≡ true
-letter_self Axiom = refl
-letter_self Lemma = refl
-letter_self Hypothesis = refl
-letter_self Derived = refl
-
-fact_self : (n : FactName) → same_fact_name n n ≡ true
-fact_self n = both (letter_self n.letter) (both (number_self n.number) (number_self n.part))
-
-mark_self : (b : Bool) → is_same_mark b b ≡ true
-mark_self true = refl
-mark_self false = refl
-
-command_self : (c : Command) → same_command c c ≡ true
-command_self (Declare ns s) = both (all_self bytes_eq name_self ns) (name_self s)
-command_self (SetLimit n) = number_self n
-command_self (BoxChecking on) = mark_self on
-command_self (Height f g) = both (reference_self f) (reference_self g)
-command_self (SetStatus w f) = both (way_self w) (reference_self f)
-command_self (Prove e) = equation_self e
-command_self (ByCases t) = spelling_self t
-command_self ByImplication = refl
-command_self ByConjunction = refl
-command_self ByContradiction = refl
-command_self (ByInduction n) = name_self n
-command_self ByPartition = refl
-command_self (Instantiate is n) = both (all_self same_instance instance_self is) (fact_self n)
-command_self (CriticalPairs n m) = both (fact_self n) (fact_self m)
-command_self (Normalize n) = fact_self n
-command_self Qed = refl
-command_self (Mark b) = mark_self b
-command_self (Bad code) = name_self (code_text code)
-
-operator_self : (f : PlainOperator) → same_operator f f ≡ true
-operator_self f = (operator_Decides f f).1 refl
-
-statement_self : (s : Statement) → same_statement s s ≡ true
-statement_self s = (statement_Decides s s).1 refl
-
-lemma_self : (l : EarlierDuty) → same_lemma l l ≡ true
-lemma_self l = both (number_self l.number) (statement_self l.statement)
+-- two replays begin alike where they start from the same behind preambles that are equal without positions
+pub alike_Decides : (r q : Replayed)
+    → Decides (begin_alike r q) ((r.duty ≡ q.duty) × (map bare_kind r.preamble ≡ map bare_kind q.preamble))
+alike_Decides r q =
+    Decides-and (same_duty r.duty q.duty) (pointwise same_kind r.preamble q.preamble) (duty_Decides r.duty q.duty)
+    (kinds_Decide r.preamble q.preamble)
 
 label_self : (l : Label) → same_label l l ≡ true
-label_self (Assume n) = number_self n
-label_self (Imply n) = number_self n
-label_self (Convert n) = number_self n
+label_self (Assume n) = (Decides-eqb n n).1 refl
+label_self (Imply n) = (Decides-eqb n n).1 refl
+label_self (Convert n) = (Decides-eqb n n).1 refl
 
 one_self : (r : Replayed) → is_of_one r r ≡ true
-one_self r = both (name_self r.trait_name) (label_self r.label)
+one_self r = both ((bytes_eq-Decides r.trait_name r.trait_name).1 refl) (label_self r.label)
 
 alike_self : (r : Replayed) → begin_alike r r ≡ true
-alike_self r =
-    both (both (both (all_self same_operator operator_self r.duty.theory.operators)
-    (all_self same_statement statement_self r.duty.theory.statements))
-    (both (statement_self r.duty.statement) (all_self same_lemma lemma_self r.duty.lemmas)))
-    (all_self same_command command_self r.preamble)
+alike_self r = (alike_Decides r r).1 (refl, refl)
+
+command_self : (c : CommandKind) → same_kind c c ≡ true
+command_self c = (kind_Decides c c).1 refl
 
 -- ---- what is redone
 
-common_none : (cs : List Command) → behind_common cs cs ≡ 0
+common_none : (cs : List CommandKind) → behind_common cs cs ≡ 0
 common_none [] = refl
 common_none (c ∷ cs) = ap (λ t. cond t (behind_common cs cs) (length (c ∷ cs))) (command_self c) ∙ common_none cs
 
@@ -153,13 +110,13 @@ within : (t : Bool) (n m : ℕ) → n ≤ m → cond t n m ≤ m
 within true n m h = h
 within false n m h = omega arith
 
-common_most : (before now : List Command) → behind_common before now ≤ length now
+common_most : (before now : List CommandKind) → behind_common before now ≤ length now
 common_most [] cs = omega arith
 common_most (b ∷ bs) [] = omega arith
 common_most (b ∷ bs) (c ∷ cs) =
     let h = common_most bs cs in
     let k : behind_common bs cs ≤ suc (length cs) = omega (arith, h) in
-    within (same_command b c) (behind_common bs cs) (suc (length cs)) k
+    within (same_kind b c) (behind_common bs cs) (suc (length cs)) k
 
 redone_most : (now : Replayed) (before : Option Replayed) → redone now before ≤ 1 + length now.block
 redone_most now None = omega arith

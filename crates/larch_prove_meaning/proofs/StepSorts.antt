@@ -9,6 +9,12 @@ use Rattle.larch_base.specs.declared.code.Code.TheVariants as refusal
 use Rattle.larch_base.specs.declared.fact_name.FactName.{FactName}
 use Rattle.larch_base.specs.declared.fault.Fault.{Fault}
 use Rattle.larch_base.specs.declared.way.Way.{Way}
+use Rattle.larch_raw.specs.declared.declared.RawOpRef.{RawOpRef}
+use Rattle.larch_raw.specs.declared.equation.RawEquation.{RawEquation}
+use Rattle.larch_script_commands.specs.Same.{same_fact_name, same_truth}
+use Rattle.larch_script_commands.specs.declared.command.CommandKind.{CommandKind}
+use Rattle.larch_script_commands.specs.declared.command.CommandKind.TheVariants as command
+use Rattle.larch_script_commands.specs.declared.command.RawInstance.{RawInstance}
 use Rattle.larch_base.proofs.Lists.{all_from}
 use Rattle.larch_base.proofs.Members.{contained_in_filter, contained_in_map, contains_here, contains_later}
 use Rattle.larch_base.proofs.Options.{some_inj}
@@ -38,30 +44,28 @@ use Rattle.larch_pairs_critical.specs.declared.pair.Pair.{Pair}
 use Rattle.larch_pairs_critical.proofs.OverOperators.{pairs_over}
 use Rattle.larch_pairs_critical.proofs.Sorting.{all_sorted}
 use Rattle.larch_pairs.specs.Unify.{Oversize}
-use Rattle.larch_prove_meaning.specs.Commands.{Bad, BoxChecking, ByCases, ByConjunction, ByContradiction, ByImplication}
-use Rattle.larch_prove_meaning.specs.Commands.{ByInduction, ByPartition, Command, CriticalPairs, Declare, Height}
-use Rattle.larch_prove_meaning.specs.Commands.{Instance, Instantiate, Mark, Normalize, Prove, Qed, Reference, SetLimit}
-use Rattle.larch_prove_meaning.specs.Commands.{SetStatus, SpelledEquation, Spelling, placed_equation, spelled_formula}
 use Rattle.larch_prove_meaning.specs.Facts.{Fact}
 use Rattle.larch_prove_meaning.specs.Levels.{EarlierDuty, OfProof, Proof, all_constants, all_serve, begun, derive}
 use Rattle.larch_prove_meaning.specs.Levels.{derived_by, is_settled, level_for, normal_goal, settle_goal, unless}
 use Rattle.larch_prove_meaning.specs.Plans.{Cases, Conjunction, Contradiction, Implication, Induction, IsFormulaOver}
 use Rattle.larch_prove_meaning.specs.Plans.{IsMethodOver, IsSubgoalOver, Method, Partition, Setting, plan, with_found}
-use Rattle.larch_prove_meaning.specs.Replays.{Refusal, RefusalPlace, all_stepped, by_kind, count_command, in_turn}
-use Rattle.larch_prove_meaning.specs.Replays.{is_quiet, is_same_mark, locate, mark_taken, mark_command, step}
-use Rattle.larch_prove_meaning.specs.Replays.{step_command}
+use Rattle.larch_prove_meaning.specs.Replays.{Refusal, RefusalPlace, all_stepped, by_kind, count_command}
+use Rattle.larch_prove_meaning.specs.Replays.{is_quiet, locate, mark_taken, mark_command, step}
+use Rattle.larch_prove_meaning.specs.Replays.{step_command, unless_marks_wait, unless_proved}
 use Rattle.larch_prove_meaning.specs.Steps.{all_derived, as_sides, carried_out, clauses, declare, equations_of}
 use Rattle.larch_prove_meaning.specs.Steps.{fact_named, has_name, heighten, instantiate, instantiation, level_opened}
-use Rattle.larch_prove_meaning.specs.Steps.{normalize, own_operators, pair_facts, read_sides, read_lone, read_or, refer}
-use Rattle.larch_prove_meaning.specs.Steps.{resume, rule_of, same_fact_name, serves_beside, sides_or, stands_once}
-use Rattle.larch_prove_meaning.specs.Steps.{taken_names, variable_in, with_way, without}
+use Rattle.larch_prove_meaning.specs.Steps.{normalize, own_operators, pair_facts, read_sides, read_lone, read_or}
+use Rattle.larch_prove_meaning.specs.Steps.{refer}
+use Rattle.larch_prove_meaning.specs.Steps.{resume, rule_of, serves_beside, sides_or, stands_once}
+use Rattle.larch_prove_meaning.specs.Steps.{taken_names, texts, variable_in, with_all_new, with_way, without}
 use Rattle.larch_prove_meaning.specs.WellSorted.{AreLemmasOver, IsFactOver, IsLevelOver}
 use Rattle.larch_prove_meaning.proofs.AddingSorts.{sides_under_over}
 use Rattle.larch_prove_meaning.proofs.LevelSorts.{Is, Keeps, begun_keeps, between, derived_keeps, either_way}
-use Rattle.larch_prove_meaning.proofs.LevelSorts.{goal_keeps, moved, ok_inj, settled_keeps, unless_passed}
+use Rattle.larch_prove_meaning.proofs.LevelSorts.{goal_keeps, moved, ok_inj, scoped, settled_keeps, unless_passed}
 use Rattle.larch_prove_meaning.proofs.NewConstants.{grown_new, own_taken, plan_new}
 use Rattle.larch_prove_meaning.proofs.PartitionPlans.{formula_over}
 use Rattle.larch_prove_meaning.proofs.PlanSorts.{plan_over}
+use Rattle.larch_prove_meaning.proofs.Scopes.{all_new_apart}
 
 -- ---- what a step leads to
 
@@ -121,39 +125,20 @@ sides_read fs (Equation l r) e h k = subst (AreSidesOver fs) (ok_inj k) h
 sides_read fs (Generated s gs) e h k = cc
 sides_read fs (Partitioned s gs) e h k = cc
 
-read_over : (t : Theory) (ls : List EarlierDuty) (cs : List PlainOperator) (p : Proof) (spelled : SpelledEquation)
-    (e : Sides) → Is t ls cs p → read_sides p spelled ≡ Ok e → AreSidesOver (t.operators ++ cs) e
-read_over t ls cs p spelled e h k =
+read_over : (t : Theory) (ls : List EarlierDuty) (cs : List PlainOperator) (p : Proof) (raw : RawEquation)
+    (e : Sides) → Is t ls cs p → read_sides p raw ≡ Ok e → AreSidesOver (t.operators ++ cs) e
+read_over t ls cs p raw e h k =
     let fs = own_operators p in
-    let raw = placed_equation spelled in
     let m = between (read_or (read_equation fs p.scope raw)) as_sides e k in
     let found = equation_ok fs p.scope raw m.made (read_done (read_equation fs p.scope raw) m.made m.first) in
     subst (λ gs. AreSidesOver gs e) (own_are t ls cs p h)
     (sides_read fs m.made e (statement_over fs p.scope raw m.made found.1.0) m.second)
 
-formula_side : (fs : List PlainOperator) (p : Proof) (spelled : Spelling) (s : Statement) (e : Sides)
-    → ReadsEquation fs p.scope (placed_equation (spelled_formula spelled)) s → as_sides s ≡ Ok e
-    → sort_of e.left ≡ bool_sort
-formula_side fs p spelled (Equation l r) e h k = subst (λ (d : Sides). sort_of d.left ≡ bool_sort) (ok_inj k) h.1.0
-formula_side fs p spelled (Generated s gs) e h k = cc
-formula_side fs p spelled (Partitioned s gs) e h k = cc
-
-formula_read : (t : Theory) (ls : List EarlierDuty) (cs : List PlainOperator) (p : Proof) (spelled : Spelling)
-    (e : Sides) → Is t ls cs p → read_sides p (spelled_formula spelled) ≡ Ok e
-    → IsFormulaOver (t.operators ++ cs) e.left
-formula_read t ls cs p spelled e h k =
-    let fs = own_operators p in
-    let raw = placed_equation (spelled_formula spelled) in
-    let m = between (read_or (read_equation fs p.scope raw)) as_sides e k in
-    let found = equation_ok fs p.scope raw m.made (read_done (read_equation fs p.scope raw) m.made m.first) in
-    ((read_over t ls cs p (spelled_formula spelled) e h k).0, formula_side fs p spelled m.made e found.1.0 m.second)
-
-lone_over : (t : Theory) (ls : List EarlierDuty) (cs : List PlainOperator) (p : Proof) (s : List ℕ) (spelled : Spelling)
-    (u : Tree) → Is t ls cs p → read_lone p s spelled ≡ Ok u
+lone_over : (t : Theory) (ls : List EarlierDuty) (cs : List PlainOperator) (p : Proof) (s : List ℕ) (raw : RawEquation)
+    (u : Tree) → Is t ls cs p → read_lone p s raw ≡ Ok u
     → IsTermOver (t.operators ++ cs) u × (sort_of u ≡ s)
-lone_over t ls cs p s spelled u h k =
+lone_over t ls cs p s raw u h k =
     let fs = own_operators p in
-    let raw = placed_equation (spelled_formula spelled) in
     let found = term_ok fs p.scope (Some s) raw u (read_done (read_term fs p.scope (Some s) raw) u k) in
     (subst (λ gs. IsTermOver gs u) (own_are t ls cs p h) (well_sorted fs p.scope raw.left u found.1.0.0), found.1.0.1)
 
@@ -188,6 +173,7 @@ without_keeps t ls cs n p h =
       theory = h.theory;
       lemmas = h.lemmas;
       constants = h.constants;
+      scope = h.scope;
       current = record {
         purpose = h.current.purpose;
         facts = all_from (IsFactOver fs) (filter (serves_beside n) p.current.facts.rules) (λ fact c.
@@ -243,7 +229,7 @@ normalized_keeps t ls cs n p q h k =
     (fact_over t ls cs p n m.made h m.first).0 d.first) d.second
 
 -- what is bound for the first pair, and for the others
-instance_over : (t : Theory) (ls : List EarlierDuty) (cs : List PlainOperator) (p : Proof) (i : Instance) (b : Bool)
+instance_over : (t : Theory) (ls : List EarlierDuty) (cs : List PlainOperator) (p : Proof) (i : RawInstance) (b : Bool)
     (rest : Result (List Entry) Code) (o : Option Variable) (es : List Entry) → Is t ls cs p
     → ((ds : List Entry) → rest ≡ Ok ds → AreBound (IsTermOver (t.operators ++ cs)) ds)
     → with_found refusal.Variable o (λ v.
@@ -264,29 +250,30 @@ instance_over t ls cs p i b rest (Some v) es h go q =
     (lone_over t ls cs p v.sort i.term m.made h m.first) (go d.made d.first))
 
 instances_over : (t : Theory) (ls : List EarlierDuty) (cs : List PlainOperator) (p : Proof) (e : Sides)
-    (names : List (List ℕ)) (is : List Instance) (es : List Entry) → Is t ls cs p → instantiation p e names is ≡ Ok es
+    (names : List (List ℕ)) (is : List RawInstance) (es : List Entry) → Is t ls cs p
+    → instantiation p e names is ≡ Ok es
     → AreBound (IsTermOver (t.operators ++ cs)) es
 instances_over t ls cs p e names [] es h k =
     subst (AreBound (IsTermOver (t.operators ++ cs))) (ok_inj k) (All-nil (IsBound (IsTermOver (t.operators ++ cs))))
 instances_over t ls cs p e names (i ∷ is) es h k =
-    instance_over t ls cs p i (stands_once names i.variable) (instantiation p e names is)
-    (variable_in e i.variable) es h
+    instance_over t ls cs p i (stands_once names i.name.name) (instantiation p e names is)
+    (variable_in e i.name.name) es h
     (λ ds d. instances_over t ls cs p e names is ds h d) k
 
-instantiated_keeps : (t : Theory) (ls : List EarlierDuty) (cs : List PlainOperator) (is : List Instance) (n : FactName)
-    → Keeps t ls cs (instantiate is n)
+instantiated_keeps : (t : Theory) (ls : List EarlierDuty) (cs : List PlainOperator) (is : List RawInstance)
+    (n : FactName) → Keeps t ls cs (instantiate is n)
 instantiated_keeps t ls cs is n p q h k =
     let fs = t.operators ++ cs in
     let m = between (fact_named n p) (λ e.
-    after (instantiation p e (map (λ i. i.variable) is) is) (λ es.
+    after (instantiation p e (map (λ i. i.name.name) is) is) (λ es.
     after (derived_by (serves_beside n) (sides_under es e) p) settle_goal)) q k in
-    let s = between (instantiation p m.made (map (λ i. i.variable) is) is) (λ es.
+    let s = between (instantiation p m.made (map (λ i. i.name.name) is) is) (λ es.
     after (derived_by (serves_beside n) (sides_under es m.made) p) settle_goal) q m.second in
     let d = between (derived_by (serves_beside n) (sides_under s.made m.made) p) settle_goal q s.second in
     settled_keeps t ls cs d.made q
     (derived_keeps t ls cs (serves_beside n) (sides_under s.made m.made) p d.made h
     (sides_under_over fs s.made m.made
-    (instances_over t ls cs p m.made (map (λ i. i.variable) is) is s.made h s.first)
+    (instances_over t ls cs p m.made (map (λ i. i.name.name) is) is s.made h s.first)
     (fact_over t ls cs p n m.made h m.first).0) d.first) d.second
 
 derived_all_keep : (t : Theory) (ls : List EarlierDuty) (cs : List PlainOperator) (es : List Sides)
@@ -350,16 +337,18 @@ pub declared_keeps : (t : Theory) (ls : List EarlierDuty) (cs : List PlainOperat
 declared_keeps t ls cs ns s p q h k =
     let a = unless_passed refusal.UnknownSort _ _ q k in
     let b = unless_passed refusal.Variable _ _ q a in
-    subst (Is t ls cs) (ok_inj b) h
+    subst (Is t ls cs) (ok_inj b)
+    (scoped t ls cs p (with_all_new p.scope (map (λ n. (n, s)) ns)) h
+    (all_new_apart p.scope (map (λ n. (n, s)) ns) h.scope))
 
-pub heightened_keeps : (t : Theory) (ls : List EarlierDuty) (cs : List PlainOperator) (upper lower : Reference)
+pub heightened_keeps : (t : Theory) (ls : List EarlierDuty) (cs : List PlainOperator) (upper lower : RawOpRef)
     → Keeps t ls cs (heighten upper lower)
 heightened_keeps t ls cs upper lower p q h k =
     let m = between (refer p upper) _ q k in
     let n = between (refer p lower) _ q m.second in
     subst (Is t ls cs) (ok_inj n.second) h
 
-pub status_keeps : (t : Theory) (ls : List EarlierDuty) (cs : List PlainOperator) (way : Way) (r : Reference)
+pub status_keeps : (t : Theory) (ls : List EarlierDuty) (cs : List PlainOperator) (way : Way) (r : RawOpRef)
     → Keeps t ls cs (with_way way r)
 status_keeps t ls cs way r p q h k =
     let m = between (refer p r) _ q k in
@@ -367,34 +356,36 @@ status_keeps t ls cs way r p q h k =
 
 -- ---- all commands
 
-pub carried_keeps : (t : Theory) (ls : List EarlierDuty) (cs : List PlainOperator) (c : Command) (p q : Proof)
+pub carried_keeps : (t : Theory) (ls : List EarlierDuty) (cs : List PlainOperator) (c : CommandKind) (p q : Proof)
     → AreGiven t ls → Is t ls cs p → carried_out c p ≡ Ok q → Leads t ls cs q
-carried_keeps t ls cs (Declare ns s) p q g h k = stays t ls cs q (declared_keeps t ls cs ns s p q h k)
-carried_keeps t ls cs (SetLimit n) p q g h k = stays t ls cs q (subst (Is t ls cs) (ok_inj k) h)
-carried_keeps t ls cs (BoxChecking on) p q g h k = stays t ls cs q (subst (Is t ls cs) (ok_inj k) h)
-carried_keeps t ls cs (Height f u) p q g h k = stays t ls cs q (heightened_keeps t ls cs f u p q h k)
-carried_keeps t ls cs (SetStatus way f) p q g h k = stays t ls cs q (status_keeps t ls cs way f p q h k)
-carried_keeps t ls cs (Prove e) p q g h k =
+carried_keeps t ls cs (command.Declare ns s) p q g h k =
+    stays t ls cs q (declared_keeps t ls cs (texts ns) s.name p q h k)
+carried_keeps t ls cs (command.Limit n) p q g h k = stays t ls cs q (subst (Is t ls cs) (ok_inj k) h)
+carried_keeps t ls cs (command.BoxChecking on) p q g h k = stays t ls cs q (subst (Is t ls cs) (ok_inj k) h)
+carried_keeps t ls cs (command.Height f u) p q g h k = stays t ls cs q (heightened_keeps t ls cs f u p q h k)
+carried_keeps t ls cs (command.Status way f) p q g h k = stays t ls cs q (status_keeps t ls cs way f p q h k)
+carried_keeps t ls cs (command.Prove e) p q g h k =
     let m = between (read_sides p e) (λ sides. level_opened (formula sides.left sides.right) p) q k in
     let s = read_over t ls cs p e m.made h m.first in
     stays t ls cs q
     (level_keeps t ls cs (formula m.made.left m.made.right)
     (formula_over (t.operators ++ cs) m.made.left m.made.right s.0 s.1 s.2) p q h m.second)
-carried_keeps t ls cs (ByCases e) p q g h k =
-    let m = between (read_sides p (spelled_formula e)) (λ sides. resume (Cases sides.left) p) q k in
-    resumed_keeps t ls cs (Cases m.made.left) p q g h (formula_read t ls cs p e m.made h m.first) m.second
-carried_keeps t ls cs ByImplication p q g h k = resumed_keeps t ls cs Implication p q g h tt k
-carried_keeps t ls cs ByConjunction p q g h k = resumed_keeps t ls cs Conjunction p q g h tt k
-carried_keeps t ls cs ByContradiction p q g h k = resumed_keeps t ls cs Contradiction p q g h tt k
-carried_keeps t ls cs (ByInduction n) p q g h k = resumed_keeps t ls cs (Induction n) p q g h tt k
-carried_keeps t ls cs ByPartition p q g h k = resumed_keeps t ls cs Partition p q g h tt k
-carried_keeps t ls cs (Instantiate is n) p q g h k = stays t ls cs q (instantiated_keeps t ls cs is n p q h k)
-carried_keeps t ls cs (CriticalPairs n m) p q g h k = stays t ls cs q (paired_keeps t ls cs n m p q h k)
-carried_keeps t ls cs (Normalize n) p q g h k = stays t ls cs q (normalized_keeps t ls cs n p q h k)
-carried_keeps t ls cs Qed p q g h k =
+carried_keeps t ls cs (command.Cases e) p q g h k =
+    let m = between (read_lone p bool_sort e) (λ f. resume (Cases f) p) q k in
+    resumed_keeps t ls cs (Cases m.made) p q g h (lone_over t ls cs p bool_sort e m.made h m.first) m.second
+carried_keeps t ls cs command.Implication p q g h k = resumed_keeps t ls cs Implication p q g h tt k
+carried_keeps t ls cs command.Conjunction p q g h k = resumed_keeps t ls cs Conjunction p q g h tt k
+carried_keeps t ls cs command.Contradiction p q g h k = resumed_keeps t ls cs Contradiction p q g h tt k
+carried_keeps t ls cs (command.Induction x) p q g h k = resumed_keeps t ls cs (Induction x.name) p q g h tt k
+carried_keeps t ls cs command.Partition p q g h k = resumed_keeps t ls cs Partition p q g h tt k
+carried_keeps t ls cs (command.Instantiate is n) p q g h k =
+    stays t ls cs q (instantiated_keeps t ls cs is n p q h k)
+carried_keeps t ls cs (command.CriticalPairs n m) p q g h k = stays t ls cs q (paired_keeps t ls cs n m p q h k)
+carried_keeps t ls cs (command.Normalize n) p q g h k = stays t ls cs q (normalized_keeps t ls cs n p q h k)
+carried_keeps t ls cs command.Qed p q g h k =
     stays t ls cs q (subst (Is t ls cs) (ok_inj (unless_passed refusal.Open p.is_proved (Ok p) q k)) h)
-carried_keeps t ls cs (Mark proved) p q g h k = stays t ls cs q (subst (Is t ls cs) (ok_inj k) h)
-carried_keeps t ls cs (Bad code) p q g h k = cc
+carried_keeps t ls cs (command.Mark proved) p q g h k = stays t ls cs q (subst (Is t ls cs) (ok_inj k) h)
+carried_keeps t ls cs (command.Bad code) p q g h k = cc
 
 -- ---- steps
 
@@ -403,7 +394,7 @@ mark_keeps : (t : Theory) (ls : List EarlierDuty) (cs : List PlainOperator) (pro
 mark_keeps t ls cs proved [] p q h k = cc
 mark_keeps t ls cs proved (m ∷ ms) p q h k =
     subst (Is t ls cs)
-    (ok_inj (unless_passed refusal.Mark (is_same_mark m proved) (Ok (record p { waiting = ms })) q k)) h
+    (ok_inj (unless_passed refusal.Mark (same_truth m proved) (Ok (record p { waiting = ms })) q k)) h
 
 marked_keeps : (t : Theory) (ls : List EarlierDuty) (cs : List PlainOperator) (proved : Bool)
     → Keeps t ls cs (mark_command proved)
@@ -411,59 +402,31 @@ marked_keeps t ls cs proved p q h k =
     either_way (Is t ls cs) p.checking (mark_taken proved p.waiting p) (Ok p) q
     (mark_keeps t ls cs proved p.waiting p q h) (λ e. subst (Is t ls cs) (ok_inj e) h) k
 
-turn_keeps : (t : Theory) (ls : List EarlierDuty) (cs : List PlainOperator) (may_wait may_end : Bool) (c : Command)
-    (p q : Proof) → AreGiven t ls → Is t ls cs p → in_turn may_wait may_end c p ≡ Ok q → Leads t ls cs q
-turn_keeps t ls cs may_wait may_end c p q g h k =
-    carried_keeps t ls cs c p q g h
-    (unless_passed refusal.Done (may_end || not p.is_proved) (carried_out c p) q
-    (unless_passed refusal.Mark (may_wait || is_quiet p.waiting)
-    (unless refusal.Done (may_end || not p.is_proved) (carried_out c p)) q k))
+-- what comes where no mark waits and the duty isn't proved
+in_turn : (c : CommandKind) (p q : Proof) → unless_marks_wait p (unless_proved p (carried_out c p)) ≡ Ok q
+    → carried_out c p ≡ Ok q
+in_turn c p q k =
+    unless_passed refusal.Done (not p.is_proved) (carried_out c p) q
+    (unless_passed refusal.Mark (is_quiet p.waiting) (unless_proved p (carried_out c p)) q k)
 
-kind_keeps : (t : Theory) (ls : List EarlierDuty) (cs : List PlainOperator) (c : Command) (p q : Proof)
+kind_keeps : (t : Theory) (ls : List EarlierDuty) (cs : List PlainOperator) (c : CommandKind) (p q : Proof)
     → AreGiven t ls → Is t ls cs p → by_kind c p ≡ Ok q → Leads t ls cs q
-kind_keeps t ls cs (Mark proved) p q g h k = stays t ls cs q (marked_keeps t ls cs proved p q h k)
-kind_keeps t ls cs Qed p q g h k = turn_keeps t ls cs false true Qed p q g h k
-kind_keeps t ls cs (BoxChecking false) p q g h k = turn_keeps t ls cs true false (BoxChecking false) p q g h k
-kind_keeps t ls cs (BoxChecking true) p q g h k = turn_keeps t ls cs false false (BoxChecking true) p q g h k
-kind_keeps t ls cs (Declare ns s) p q g h k = turn_keeps t ls cs false false (Declare ns s) p q g h k
-kind_keeps t ls cs (SetLimit n) p q g h k = turn_keeps t ls cs false false (SetLimit n) p q g h k
-kind_keeps t ls cs (Height f u) p q g h k = turn_keeps t ls cs false false (Height f u) p q g h k
-kind_keeps t ls cs (SetStatus way f) p q g h k = turn_keeps t ls cs false false (SetStatus way f) p q g h k
-kind_keeps t ls cs (Prove e) p q g h k = turn_keeps t ls cs false false (Prove e) p q g h k
-kind_keeps t ls cs (ByCases e) p q g h k = turn_keeps t ls cs false false (ByCases e) p q g h k
-kind_keeps t ls cs ByImplication p q g h k = turn_keeps t ls cs false false ByImplication p q g h k
-kind_keeps t ls cs ByConjunction p q g h k = turn_keeps t ls cs false false ByConjunction p q g h k
-kind_keeps t ls cs ByContradiction p q g h k = turn_keeps t ls cs false false ByContradiction p q g h k
-kind_keeps t ls cs (ByInduction n) p q g h k = turn_keeps t ls cs false false (ByInduction n) p q g h k
-kind_keeps t ls cs ByPartition p q g h k = turn_keeps t ls cs false false ByPartition p q g h k
-kind_keeps t ls cs (Instantiate is n) p q g h k = turn_keeps t ls cs false false (Instantiate is n) p q g h k
-kind_keeps t ls cs (CriticalPairs n m) p q g h k = turn_keeps t ls cs false false (CriticalPairs n m) p q g h k
-kind_keeps t ls cs (Normalize n) p q g h k = turn_keeps t ls cs false false (Normalize n) p q g h k
-kind_keeps t ls cs (Bad code) p q g h k = turn_keeps t ls cs false false (Bad code) p q g h k
+kind_keeps t ls cs (command.Mark proved) p q g h k = stays t ls cs q (marked_keeps t ls cs proved p q h k)
+kind_keeps t ls cs command.Qed p q g h k =
+    carried_keeps t ls cs command.Qed p q g h
+    (unless_passed refusal.Mark (is_quiet p.waiting) (carried_out command.Qed p) q k)
+kind_keeps t ls cs (command.BoxChecking false) p q g h k =
+    carried_keeps t ls cs (command.BoxChecking false) p q g h
+    (unless_passed refusal.Done (not p.is_proved) (carried_out (command.BoxChecking false) p) q k)
+kind_keeps t ls cs c p q g h k = carried_keeps t ls cs c p q g h (in_turn c p q k)
 
 -- a command that is counted, or a line that is none
-step_cases : (c : Command) (p q : Proof) → step c p ≡ Ok q → count_command c p ≡ Ok q
+step_cases : (c : CommandKind) (p q : Proof) → step c p ≡ Ok q → count_command c p ≡ Ok q
 unfolding step
-step_cases (Bad code) p q k = cc
-step_cases (Declare ns s) p q k = k
-step_cases (SetLimit n) p q k = k
-step_cases (BoxChecking on) p q k = k
-step_cases (Height f u) p q k = k
-step_cases (SetStatus way f) p q k = k
-step_cases (Prove e) p q k = k
-step_cases (ByCases e) p q k = k
-step_cases ByImplication p q k = k
-step_cases ByConjunction p q k = k
-step_cases ByContradiction p q k = k
-step_cases (ByInduction n) p q k = k
-step_cases ByPartition p q k = k
-step_cases (Instantiate is n) p q k = k
-step_cases (CriticalPairs n m) p q k = k
-step_cases (Normalize n) p q k = k
-step_cases Qed p q k = k
-step_cases (Mark proved) p q k = k
+step_cases (command.Bad code) p q k = cc
+step_cases c p q k = k
 
-pub step_keeps : (t : Theory) (ls : List EarlierDuty) (cs : List PlainOperator) (c : Command) (p q : Proof)
+pub step_keeps : (t : Theory) (ls : List EarlierDuty) (cs : List PlainOperator) (c : CommandKind) (p q : Proof)
     → AreGiven t ls → Is t ls cs p → step c p ≡ Ok q → Leads t ls cs q
 step_keeps t ls cs c p q g h k =
     kind_keeps t ls cs c (record p { commands = p.commands + 1 }) q g h
@@ -481,7 +444,7 @@ pub located_done : (place : RefusalPlace) (x : Result Proof Code) (q : Proof) �
 located_done place (Ok p) q e = ap (λ r. Ok r) (replied p q e)
 located_done place (Err code) q e = cc
 
-pub all_keep : (t : Theory) (ls : List EarlierDuty) (cs : List PlainOperator) (block : List Command) (p q : Proof)
+pub all_keep : (t : Theory) (ls : List EarlierDuty) (cs : List PlainOperator) (block : List CommandKind) (p q : Proof)
     → AreGiven t ls → Is t ls cs p → all_stepped block p ≡ Ok q → Leads t ls cs q
 all_keep t ls cs [] p q g h k = stays t ls cs q (subst (Is t ls cs) (replied p q k) h)
 all_keep t ls cs (c ∷ block) p q g h k =

@@ -78,12 +78,9 @@ first_consequences (row ∷ rows) e = elim (consequences_by row e) [
   | Some found ↦ Some found
 ]
 
--- what follows from an equation by the first deduction row that matches; each of them has a truth value on its right
+-- what follows from an equation by the first deduction row that matches
 abbrev pub deduce : Sides → Option (List Sides)
-deduce e = elim (is_value e.right) [
-  | true ↦ first_consequences (deduction_rows (sort_within e.left)) e
-  | false ↦ None
-]
+deduce e = first_consequences (deduction_rows (sort_within e.left)) e
 
 -- that two terms are equal, or at Bool equivalent
 abbrev pub equality_term : Sides → Tree
@@ -135,9 +132,9 @@ with_rule name part rule facts = record facts {
 abbrev pub with_contradiction : Facts → Facts
 with_contradiction facts = record facts { contradictory = true }
 
--- whether a rule can't be added: its left side is too large, or there are as many facts as a level has
-abbrev pub is_too_much : Sides → Facts → Bool
-is_too_much rule facts = is_large rule.left || not (nat_lt (length facts.rules) MAX_FACTS)
+-- whether there are as many facts as a level may have
+abbrev pub is_full : Facts → Bool
+is_full facts = not (nat_lt (length facts.rules) MAX_FACTS)
 
 -- both sides in normal form, the left one first
 abbrev pub normal_sides : List Sides → Sides → ℕ → Work Sides
@@ -145,32 +142,37 @@ normal_sides rules e b =
     then_work (normal rules e.left b) (λ l c.
     then_work (normal rules e.right c) (λ r d. Made (record { left = l; right = r }) d))
 
--- how an adding is told: which facts serve as rules, the precedence, and the name
-pub record Adding : Type 0 where
+-- how equations are added: which facts serve as rules, by which precedence rules are oriented, and under which name
+pub record Manner : Type 0 where
   pub serves : Fact → Bool
   pub ranks : List Ranked
   pub name : FactName
 
--- the rules that serve in an adding
-abbrev pub serving : Adding → Facts → List Sides
-serving how facts = rules_of (filter how.serves facts.rules)
+-- the rules that serve
+abbrev pub serving : Manner → Facts → List Sides
+serving manner facts = rules_of (filter manner.serves facts.rules)
 
--- Equations are added in order, so many being taken at most; so many rules were made before. What follows from an
--- equation is added in its place.
-abbrev pub add_by : ℕ → Adding → ℕ → List Sides → Facts → ℕ → Work Facts
-add_by zero how part waiting facts b = OverLimit
-add_by (suc n) how part [] facts b = Made facts b
-add_by (suc n) how part (e ∷ waiting) facts b =
-    then_work (normal_sides (serving how facts) e b) (λ found c. elim (treatment how.ranks found) [
-      | Drop ↦ add_by n how part waiting facts c
-      | Contradict ↦ add_by n how part waiting (with_contradiction facts) c
-      | Replace others ↦ add_by n how part (others ++ waiting) facts c
-      | Keep rule ↦ within_size (is_too_much rule facts)
-          (add_by n how (suc part) waiting (with_rule how.name (suc part) rule facts) c)
-    ])
+-- How adding goes on where so many rules were made, these equations wait, and this one, with normal sides, is taken:
+-- what follows from it is added in its place.
+abbrev pub by_treatment : (ℕ → List Sides → Facts → ℕ → Work Facts) → Manner → ℕ → List Sides → Facts → Sides → ℕ
+    → Work Facts
+by_treatment next manner made waiting facts e b = elim (treatment manner.ranks e) [
+  | Drop ↦ next made waiting facts b
+  | Contradict ↦ next made waiting (with_contradiction facts) b
+  | Replace others ↦ next made (others ++ waiting) facts b
+  | Keep rule ↦ within_size (is_large rule.left || is_full facts)
+      (next (suc made) waiting (with_rule manner.name (suc made) rule facts) b)
+]
 
--- How many equations an adding takes at most. Twice the nodes of both sides fall at each taking unless a rule was
--- applied, and an application adds twice as many as two terms have.
+-- equations that wait are added in order; the first number falls at each one that is taken, and never comes to 0
+abbrev pub add_waiting : ℕ → Manner → ℕ → List Sides → Facts → ℕ → Work Facts
+add_waiting zero manner made waiting facts b = OverLimit
+add_waiting (suc n) manner made [] facts b = Made facts b
+add_waiting (suc n) manner made (e ∷ waiting) facts b =
+    then_work (normal_sides (serving manner facts) e b)
+    (λ found c. by_treatment (λ k es fs r. add_waiting n manner k es fs r) manner made waiting facts found c)
+
+-- more equations than an adding takes
 abbrev pub most_taken : ℕ → ℕ
 most_taken b = (4 * MAX_TERM_NODES + 4) * (b + 1)
 
@@ -179,6 +181,6 @@ abbrev pub max_fact_number : ℕ
 max_fact_number = 4_294_967_295
 
 -- an equation is added to facts under a name, with a budget
-unfoldable pub add : Adding → Sides → Facts → ℕ → Work Facts
-add how e facts b =
-    within_size (nat_lt max_fact_number how.name.number) (add_by (most_taken b) how 0 (e ∷ []) facts b)
+unfoldable pub add : Manner → Sides → Facts → ℕ → Work Facts
+add manner e facts b =
+    within_size (nat_lt max_fact_number manner.name.number) (add_waiting (most_taken b) manner 0 (e ∷ []) facts b)

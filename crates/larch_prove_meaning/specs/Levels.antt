@@ -152,6 +152,7 @@ opened_from done parent below (s ∷ ss) p =
 abbrev pub rise : List Level → Level → Next
 rise [] level p = Ok (with_mark true (record p { current = level; below = []; is_proved = true }))
 rise (parent ∷ below) level p = elim level.purpose [
+  -- never: nothing stands below the duty's level
   | OfDuty ↦ Ok p
   | OfSubgoal ↦ opened_from (λ q. rise below parent q) parent below parent.remaining (with_mark true p)
   | OfProof f ↦

@@ -1,7 +1,7 @@
 pub mod Facts
+pub mod Taking
 pub mod NewNames
 pub mod Plans
-pub mod Commands
 pub mod Levels
 pub mod Steps
 pub mod Replays

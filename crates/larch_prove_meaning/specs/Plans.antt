@@ -160,7 +160,8 @@ induction_subgoals taken x goal (f ∷ fs) =
     record { constants = cs; hypotheses = supposed_of x goal cs; goal = goal_at x goal (app f (constant_terms cs)) }
     ∷ induction_subgoals (names_of cs ++ taken) x goal fs
 
--- arguments of these sorts, the first having a number: a term at a place, and these constants in turn at the others
+-- arguments of these sorts, the first having a number: a term at a place, and these constants in turn at the others,
+-- of which there never are fewer
 abbrev pub arguments_around : ℕ → Tree → ℕ → List (List ℕ) → List PlainOperator → Forest
 arguments_around place t k [] cs = none
 arguments_around place t k (s ∷ ss) [] = elim (k == place) [

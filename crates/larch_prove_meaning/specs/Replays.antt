@@ -1,5 +1,5 @@
 -- A block is replayed: its opening, and then command by command.
-use Rattle.std.specs.Prelude.{ℕ, suc, ◌+◌, min, ◌||◌, nat_lt, Bool, true, false, not, if◌then◌else◌, List, [], ◌∷◌}
+use Rattle.std.specs.Prelude.{ℕ, suc, ◌+◌, min, nat_lt, Bool, true, false, not, if◌then◌else◌, List, [], ◌∷◌}
 use Rattle.std.specs.Prelude.{◌++◌, map, codes, Result, Ok, Err}
 use Rattle.std.specs.List.{flat_map}
 use Rattle.larch_base.specs.declared.code.Code.{Code}
@@ -7,6 +7,9 @@ use Rattle.larch_base.specs.declared.code.Code.TheVariants as refusal
 use Rattle.larch_base.specs.declared.fact_name.FactLetter.{FactLetter}
 use Rattle.larch_base.specs.declared.fact_name.FactLetter.TheVariants.{Axiom, Lemma}
 use Rattle.larch_base.specs.declared.limits.TheConstants.{MAX_COMMANDS}
+use Rattle.larch_script_commands.specs.Same.{same_truth}
+use Rattle.larch_script_commands.specs.declared.command.CommandKind.{CommandKind}
+use Rattle.larch_script_commands.specs.declared.command.CommandKind.TheVariants as command
 use Rattle.larch_term.specs.Operator.{PlainOperator, plain}
 use Rattle.larch_term.specs.Tree.{Tree, var}
 use Rattle.larch_term.specs.BuiltIn.{bool_sort}
@@ -19,17 +22,16 @@ use Rattle.larch_calculus.specs.Formula.{constant, apply_one, equality, formula}
 use Rattle.larch_calculus.specs.Generation.{place_name, generation_formula}
 use Rattle.larch_calculus.specs.Observation.{observations}
 use Rattle.larch_traits_items.specs.Steps.{after}
+use Rattle.larch_sorts_meaning.specs.Scope.{Variables}
 use Rattle.larch_order.specs.Precedence.{precedence_of}
 use Rattle.larch_rewrite_meaning.specs.Sides.{Sides, sides_of}
 use Rattle.larch_prove_meaning.specs.Facts.{whole_name, no_facts, max_fact_number}
 use Rattle.larch_prove_meaning.specs.NewNames.{free_name, constant_named}
 use Rattle.larch_prove_meaning.specs.Plans.{holds}
-use Rattle.larch_prove_meaning.specs.Commands.{Command, Declare, SetLimit, BoxChecking, Height, SetStatus, Qed, Mark}
-use Rattle.larch_prove_meaning.specs.Commands.{Bad}
 use Rattle.larch_prove_meaning.specs.Levels.{Proof, EarlierDuty, Next, OfDuty, add_equation, all_supposed, normal_goal}
 use Rattle.larch_prove_meaning.specs.Levels.{settle_goal}
 use Rattle.larch_prove_meaning.specs.Levels.{with_goal, with_constants, open_goals, unless}
-use Rattle.larch_prove_meaning.specs.Steps.{carried_out, taken_names}
+use Rattle.larch_prove_meaning.specs.Steps.{carried_out, taken_names, with_all_new}
 
 -- where a block is refused: at a command of the preamble, at its opening, or at a command, these being counted from 1
 pub data RefusalPlace : Type 0 where
@@ -49,16 +51,11 @@ pub data Outcome : Type 0 where
   Suspended : ℕ → Tree → Outcome
   Refused : Refusal → Outcome
 
--- the kind of mark that a waiting one is
-abbrev pub is_same_mark : Bool → Bool → Bool
-is_same_mark true proved = proved
-is_same_mark false proved = not proved
-
 -- a mark must be the next one that waits
 abbrev pub mark_taken : Bool → List Bool → Next
 mark_taken proved [] p = Err refusal.Mark
 mark_taken proved (first ∷ others) p =
-    unless refusal.Mark (is_same_mark first proved) (Ok (record p { waiting = others }))
+    unless refusal.Mark (same_truth first proved) (Ok (record p { waiting = others }))
 
 -- a mark does nothing where boxes aren't checked
 abbrev pub mark_command : Bool → Next
@@ -72,37 +69,39 @@ abbrev pub is_quiet : List Bool → Bool
 is_quiet [] = true
 is_quiet (first ∷ others) = false
 
--- a command that is no mark: none may wait for it, and the duty may not be proved, unless the command lets that be
-abbrev pub in_turn : Bool → Bool → Command → Next
-in_turn may_wait may_end c p =
-    unless refusal.Mark (may_wait || is_quiet p.waiting)
-    (unless refusal.Done (may_end || not p.is_proved) (carried_out c p))
+-- what is refused while a mark waits
+abbrev pub unless_marks_wait : Proof → Result Proof Code → Result Proof Code
+unless_marks_wait p answer = unless refusal.Mark (is_quiet p.waiting) answer
+
+-- what is refused once the duty is proved
+abbrev pub unless_proved : Proof → Result Proof Code → Result Proof Code
+unless_proved p answer = unless refusal.Done (not p.is_proved) answer
 
 -- a command by its kind: `qed` may stand behind the end, and unchecking boxes where marks wait
-abbrev pub by_kind : Command → Next
-by_kind (Mark proved) p = mark_command proved p
-by_kind Qed p = in_turn false true Qed p
-by_kind (BoxChecking false) p = in_turn true false (BoxChecking false) p
-by_kind c p = in_turn false false c p
+abbrev pub by_kind : CommandKind → Next
+by_kind (command.Mark proved) p = mark_command proved p
+by_kind command.Qed p = unless_marks_wait p (carried_out command.Qed p)
+by_kind (command.BoxChecking false) p = unless_proved p (carried_out (command.BoxChecking false) p)
+by_kind c p = unless_marks_wait p (unless_proved p (carried_out c p))
 
 -- a command counts among those of the block, which are so many at most
-abbrev pub count_command : Command → Next
+abbrev pub count_command : CommandKind → Next
 count_command c p =
     unless refusal.Size (nat_lt p.commands MAX_COMMANDS) (by_kind c (record p { commands = p.commands + 1 }))
 
 -- one command of a block; what is wrong with its line comes first
-unfoldable pub step : Command → Next
-step (Bad code) p = Err code
+unfoldable pub step : CommandKind → Next
+step (command.Bad code) p = Err code
 step c p = count_command c p
 
 -- a command of the preamble: only declarations, settings and registrations may stand there
-abbrev pub prepare : Command → Next
-prepare (Declare ns s) p = carried_out (Declare ns s) p
-prepare (SetLimit n) p = carried_out (SetLimit n) p
-prepare (BoxChecking on) p = carried_out (BoxChecking on) p
-prepare (Height f g) p = carried_out (Height f g) p
-prepare (SetStatus way f) p = carried_out (SetStatus way f) p
-prepare (Bad code) p = Err code
+abbrev pub prepare : CommandKind → Next
+prepare (command.Declare ns s) p = carried_out (command.Declare ns s) p
+prepare (command.Limit n) p = carried_out (command.Limit n) p
+prepare (command.BoxChecking on) p = carried_out (command.BoxChecking on) p
+prepare (command.Height f g) p = carried_out (command.Height f g) p
+prepare (command.Status way f) p = carried_out (command.Status way f) p
+prepare (command.Bad code) p = Err code
 prepare c p = Err refusal.Command
 
 -- what a step leads to, or where it is refused
@@ -110,21 +109,21 @@ abbrev pub locate : RefusalPlace → Result Proof Code → Result Proof Refusal
 locate place (Ok p) = Ok p
 locate place (Err code) = Err (record { place = place; code = code })
 
--- the preamble, its commands being counted from a number
-unfoldable pub all_prepared : ℕ → List Command → Proof → Result Proof Refusal
-all_prepared k [] p = Ok p
-all_prepared k (c ∷ cs) p = after (locate (InPreamble k) (prepare c p)) (λ q. all_prepared (suc k) cs q)
-
 -- a number as an outcome tells it: so much at most
 abbrev pub told_number : ℕ → ℕ
 told_number n = min n max_fact_number
 
+-- the preamble, its commands being counted from a number
+unfoldable pub all_prepared : ℕ → List CommandKind → Proof → Result Proof Refusal
+all_prepared k [] p = Ok p
+all_prepared k (c ∷ cs) p = after (locate (InPreamble (told_number k)) (prepare c p)) (λ q. all_prepared (suc k) cs q)
+
 -- one command of a block, with the place at which it is refused
-abbrev pub step_command : Command → Proof → Result Proof Refusal
+abbrev pub step_command : CommandKind → Proof → Result Proof Refusal
 step_command c p = locate (AtCommand (told_number (p.commands + 1))) (step c p)
 
 -- the commands of a block, one behind the other
-abbrev pub all_stepped : List Command → Proof → Result Proof Refusal
+abbrev pub all_stepped : List CommandKind → Proof → Result Proof Refusal
 all_stepped [] p = Ok p
 all_stepped (c ∷ cs) p = after (step_command c p) (λ q. all_stepped cs q)
 
@@ -143,14 +142,15 @@ abbrev pub lemmas_added : List EarlierDuty → Next
 lemmas_added [] p = Ok p
 lemmas_added (l ∷ ls) p = after (each_added Lemma l.number (sides_of l.statement) p) (λ q. lemmas_added ls q)
 
--- variables as a scope
-abbrev pub scope_of : Tree → List (List ℕ × List ℕ)
+-- the variables of a term with their sorts
+abbrev pub scope_of : Tree → Variables
 scope_of t = map (λ v. (v.name, v.sort)) (variables_of t)
 
--- the goal of an equation is its formula, whose variables come before those in scope
+-- the goal of an equation is its formula, whose variables come into scope before those that were there
 abbrev pub equation_opened : Sides → Next
 equation_opened e p =
-    Ok (with_goal (formula e.left e.right) (record p { scope = scope_of e.left ++ scope_of e.right ++ p.scope }))
+    Ok (with_goal (formula e.left e.right)
+    (record p { scope = with_all_new [] (scope_of e.left ++ scope_of e.right ++ p.scope) }))
 
 -- the goal of a generation clause: a new predicate, which what the generators make inherits, holds of x
 abbrev pub generation_opened : List ℕ → List PlainOperator → Next
@@ -213,12 +213,12 @@ blank duty limit = record {
 }
 
 -- a proof as it is behind the preamble and its opening
-abbrev pub begun_with : Duty → ℕ → List Command → Result Proof Refusal
+abbrev pub begun_with : Duty → ℕ → List CommandKind → Result Proof Refusal
 begun_with duty limit preamble =
     after (all_prepared 1 preamble (blank duty limit)) (λ p. locate AtOpening (duty_opened duty.statement p))
 
 -- a block from its opening to its last command
-abbrev pub replay_block : Duty → ℕ → List Command → List Command → Result Proof Refusal
+abbrev pub replay_block : Duty → ℕ → List CommandKind → List CommandKind → Result Proof Refusal
 replay_block duty limit preamble block = after (begun_with duty limit preamble) (λ p. all_stepped block p)
 
 -- what a proof has come to
@@ -227,5 +227,5 @@ outcome_of (Err refused) = Refused refused
 outcome_of (Ok p) = if p.is_proved then Proved else Suspended (told_number (open_goals p)) p.current.goal
 
 -- the outcome of a block behind a preamble
-abbrev pub replay : Duty → ℕ → List Command → List Command → Outcome
+abbrev pub replay : Duty → ℕ → List CommandKind → List CommandKind → Outcome
 replay duty limit preamble block = outcome_of (replay_block duty limit preamble block)

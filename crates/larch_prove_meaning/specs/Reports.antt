@@ -5,12 +5,14 @@ use Rattle.std.specs.List.{list_any}
 use Rattle.larch_base.specs.declared.code.Code.{Code}
 use Rattle.larch_base.specs.declared.code.Code.TheVariants.{UnknownDuty, DutyTwice}
 use Rattle.larch_base.specs.declared.label.Label.{Label}
+use Rattle.larch_script_commands.specs.declared.command.RawCommand.{RawCommand}
+use Rattle.larch_script_commands.specs.declared.script.Block.{Block}
+use Rattle.larch_script_commands.specs.declared.script.Script.{Script}
 use Rattle.larch_term.specs.Tree.{Tree}
 use Rattle.larch_prove_meaning.specs.Levels.{EarlierDuty}
 use Rattle.larch_prove_meaning.specs.Replays.{Outcome, Proved, Suspended, Refused, RefusalPlace, InPreamble, AtOpening}
 use Rattle.larch_prove_meaning.specs.Replays.{AtCommand, Duty, replay}
-use Rattle.larch_prove_meaning.specs.Scripts.{ScriptCommand, Block, Script, ClaimedDuty, commands_of, same_label}
-use Rattle.larch_prove_meaning.specs.Scripts.{block_of}
+use Rattle.larch_prove_meaning.specs.Scripts.{ClaimedDuty, block_of, commands_of, same_label}
 
 -- a duty with its number among those of the trait, from 1, and its outcome
 pub record Answered : Type 0 where
@@ -37,7 +39,7 @@ lemmas_for duty earlier =
     (filter (λ a. is_proved a.outcome && may_serve a.duty.clause duty.clause) earlier)
 
 -- the commands of a block, none where there is no block
-abbrev pub commands_in : Option Block → List ScriptCommand
+abbrev pub commands_in : Option Block → List RawCommand
 commands_in None = []
 commands_in (Some b) = b.commands
 
@@ -59,8 +61,8 @@ all_answered limit script earlier k (d ∷ ds) =
     let a : Answered = record { number = k; duty = d; outcome = outcome_for limit script earlier d } in
     all_answered limit script (earlier ++ a ∷ []) (suc k) ds
 
--- the line of a command with a number, from 1
-abbrev pub line_at : List ScriptCommand → ℕ → ℕ
+-- the line of a command with a number, from 1; what is refused is always one of them
+abbrev pub line_at : List RawCommand → ℕ → ℕ
 line_at [] k = 0
 line_at (c ∷ cs) k = if k == 1 then c.line else line_at cs (k - 1)
 

@@ -2,25 +2,12 @@
 use Rattle.std.specs.Prelude.{ℕ, ◌==◌, Bool, false, List, map, Option, find}
 use Rattle.larch_base.specs.declared.label.Label.{Label}
 use Rattle.larch_base.specs.declared.label.Label.TheVariants.{Assume, Imply, Convert}
+use Rattle.larch_script_commands.specs.declared.command.CommandKind.{CommandKind}
+use Rattle.larch_script_commands.specs.declared.command.RawCommand.{RawCommand}
+use Rattle.larch_script_commands.specs.declared.script.Block.{Block}
+use Rattle.larch_script_commands.specs.declared.script.Script.{Script}
 use Rattle.larch_term.specs.declared.statement.Statement.{Statement}
 use Rattle.larch_term.specs.declared.statement.Theory.{Theory}
-use Rattle.larch_prove_meaning.specs.Commands.{Command}
-
--- a command with its line
-pub record ScriptCommand : Type 0 where
-  pub line : ℕ
-  pub command : Command
-
--- a block: the line and the label of its duty, and its commands
-pub record Block : Type 0 where
-  pub line : ℕ
-  pub label : Label
-  pub commands : List ScriptCommand
-
--- a script: its preamble, and its blocks
-pub record Script : Type 0 where
-  pub preamble : List ScriptCommand
-  pub blocks : List Block
 
 -- a duty of a trait: its label, the `converts` clause that it belongs to, if it does, its theory, and what it states
 pub record ClaimedDuty : Type 0 where
@@ -30,8 +17,8 @@ pub record ClaimedDuty : Type 0 where
   pub statement : Statement
 
 -- commands without their lines
-abbrev pub commands_of : List ScriptCommand → List Command
-commands_of cs = map (λ c. c.command) cs
+abbrev pub commands_of : List RawCommand → List CommandKind
+commands_of cs = map (λ c. c.kind) cs
 
 -- whether two labels are one
 abbrev pub same_label : Label → Label → Bool

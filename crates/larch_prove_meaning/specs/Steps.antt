@@ -1,15 +1,22 @@
 -- What each command does, and when it is refused.
 use Rattle.std.specs.Prelude.{ℕ, ◌==◌, ◌&&◌, Bool, true, false, not, if◌then◌else◌, List, [], ◌∷◌, ◌++◌, map, filter}
-use Rattle.std.specs.Prelude.{fold, length, bytes_eq, Option, Some, None, Result, Ok, Err, find}
+use Rattle.std.specs.Prelude.{fold, length, bytes_eq, Option, Some, None, is_some, Result, Ok, Err, find}
 use Rattle.std.specs.List.{list_any, list_all}
 use Rattle.larch_base.specs.declared.code.Code.{Code}
 use Rattle.larch_base.specs.declared.code.Code.TheVariants as refusal
-use Rattle.larch_base.specs.declared.fact_name.FactLetter.{FactLetter}
-use Rattle.larch_base.specs.declared.fact_name.FactLetter.TheVariants.{Axiom, Derived, Hypothesis, Lemma}
 use Rattle.larch_base.specs.declared.fact_name.FactName.{FactName}
 use Rattle.larch_base.specs.declared.fault.Fault.{Fault}
 use Rattle.larch_base.specs.declared.way.Way.{Way}
+use Rattle.larch_raw.specs.declared.declared.RawOpRef.{RawOpRef}
+use Rattle.larch_raw.specs.declared.declared.RawSig.{RawSig}
+use Rattle.larch_raw.specs.declared.declared.RawWord.{RawWord}
+use Rattle.larch_raw.specs.declared.equation.RawEquation.{RawEquation}
+use Rattle.larch_script_commands.specs.Same.{same_fact_name}
+use Rattle.larch_script_commands.specs.declared.command.CommandKind.{CommandKind}
+use Rattle.larch_script_commands.specs.declared.command.CommandKind.TheVariants as command
+use Rattle.larch_script_commands.specs.declared.command.RawInstance.{RawInstance}
 use Rattle.larch_term.specs.Operator.{PlainOperator, plain, name_bytes}
+use Rattle.larch_term.specs.BuiltIn.{bool_sort}
 use Rattle.larch_term.specs.Tree.{Tree}
 use Rattle.larch_term.specs.Equality.{same_name, same_operator}
 use Rattle.larch_term.specs.Variable.{variables_of}
@@ -22,7 +29,7 @@ use Rattle.larch_sorts_known.specs.Sorts.{exists_sort}
 use Rattle.larch_calculus.specs.Formula.{formula}
 use Rattle.larch_traits_items.specs.Steps.{after}
 use Rattle.larch_sorts_meaning.specs.Read.{read_equation, read_term}
-use Rattle.larch_sorts_meaning.specs.Scope.{Variables, sort_in}
+use Rattle.larch_sorts_meaning.specs.Scope.{Variables, sort_in, with_variable}
 use Rattle.larch_order.specs.Precedence.{raise, with_status}
 use Rattle.larch_rewrite_meaning.specs.Sides.{Sides, sides_under}
 use Rattle.larch_pairs_critical.specs.Pairs.{critical_pairs}
@@ -32,12 +39,6 @@ use Rattle.larch_pairs_critical.specs.declared.pair.Rule.{Rule}
 use Rattle.larch_prove_meaning.specs.Facts.{Fact}
 use Rattle.larch_prove_meaning.specs.Plans.{Method, Setting, plan, with_found, Cases, Implication, Conjunction}
 use Rattle.larch_prove_meaning.specs.Plans.{Contradiction, Induction, Partition}
-use Rattle.larch_prove_meaning.specs.Commands.{Command, SpelledEquation, Spelling, SpelledSignature, Reference}
-use Rattle.larch_prove_meaning.specs.Commands.{Instance}
-use Rattle.larch_prove_meaning.specs.Commands.{placed_equation, spelled_formula}
-use Rattle.larch_prove_meaning.specs.Commands.{Declare, SetLimit, BoxChecking, Height, SetStatus, Prove, ByCases}
-use Rattle.larch_prove_meaning.specs.Commands.{ByImplication, ByConjunction, ByContradiction, ByInduction, ByPartition}
-use Rattle.larch_prove_meaning.specs.Commands.{Instantiate, CriticalPairs, Normalize, Qed, Mark, Bad}
 use Rattle.larch_prove_meaning.specs.Levels.{Proof, Next, OfProof, level_for, with_facts, derive, derived_by}
 use Rattle.larch_prove_meaning.specs.Levels.{normal_goal}
 use Rattle.larch_prove_meaning.specs.Levels.{settle_goal, begun, unless, is_settled}
@@ -51,30 +52,33 @@ read_or (Err fault) = Err fault.code
 abbrev pub own_operators : Proof → List PlainOperator
 own_operators p = p.theory.operators ++ p.constants
 
--- the sides of a statement that was read; only equations are
+-- the sides of a statement that was read; what is read is never a clause
 abbrev pub as_sides : Statement → Result Sides Code
 as_sides (Equation l r) = Ok (record { left = l; right = r })
 as_sides (Generated s fs) = Err refusal.NoReading
 as_sides (Partitioned s fs) = Err refusal.NoReading
 
 -- what an equation or formula of a command reads as
-abbrev pub read_sides : Proof → SpelledEquation → Result Sides Code
-read_sides p e = after (read_or (read_equation (own_operators p) p.scope (placed_equation e))) as_sides
+abbrev pub read_sides : Proof → RawEquation → Result Sides Code
+read_sides p e = after (read_or (read_equation (own_operators p) p.scope e)) as_sides
 
 -- what a term of a command reads as, at a sort
-abbrev pub read_lone : Proof → List ℕ → Spelling → Result Tree Code
-read_lone p s t =
-    read_or (read_term (own_operators p) p.scope (Some s) (placed_equation (spelled_formula t)))
+abbrev pub read_lone : Proof → List ℕ → RawEquation → Result Tree Code
+read_lone p s t = read_or (read_term (own_operators p) p.scope (Some s) t)
+
+-- the texts of words
+abbrev pub texts : List RawWord → List (List ℕ)
+texts ws = map (λ w. w.name) ws
 
 -- whether an operator has this signature
-abbrev pub has_signature : Option SpelledSignature → PlainOperator → Bool
+abbrev pub has_signature : Option RawSig → PlainOperator → Bool
 has_signature None f = true
 has_signature (Some sig) f =
-    same_operator f (record { name = f.name; domain = sig.domain; range = sig.range })
+    same_operator f (record { name = f.name; domain = texts sig.domain; range = sig.range.name })
 
 -- whether a reference names an operator
-abbrev pub is_referred : Reference → PlainOperator → Bool
-is_referred r f = same_name f.name (plain r.name) && has_signature r.signature f
+abbrev pub is_referred : RawOpRef → PlainOperator → Bool
+is_referred r f = same_name f.name (plain r.form.name) && has_signature r.sig f
 
 -- the only one of operators
 abbrev pub the_only : List PlainOperator → Result PlainOperator Code
@@ -83,7 +87,7 @@ the_only (f ∷ []) = Ok f
 the_only (f ∷ g ∷ fs) = Err refusal.Operator
 
 -- the one operator that a reference names, a built-in one being none
-abbrev pub refer : Proof → Reference → Result PlainOperator Code
+abbrev pub refer : Proof → RawOpRef → Result PlainOperator Code
 refer p r = the_only (filter (is_referred r) (own_operators p))
 
 -- whether a variable may have this sort: its name has no other sort
@@ -95,31 +99,32 @@ agrees (Some z) s = bytes_eq z s
 abbrev pub may_declare : Proof → List ℕ → List ℕ → Bool
 may_declare p s n = not (list_any (λ c. same_name c.name (plain n)) p.constants) && agrees (sort_in p.scope n) s
 
--- the variables in scope with one more, unless its name is there
-abbrev pub with_variable : List ℕ → Variables → List ℕ → Variables
-with_variable s scope n = elim (sort_in scope n) [
-  | None ↦ scope ++ (n, s) ∷ []
-  | Some z ↦ scope
-]
+-- the variables in scope with one more behind them, unless its name is there
+abbrev pub with_new : Variables → List ℕ × List ℕ → Variables
+with_new scope v = with_variable (not (is_some (sort_in scope v.0))) scope v.0 v.1
+
+-- the variables in scope with others in turn: each name is there once, as it comes first
+abbrev pub with_all_new : Variables → Variables → Variables
+with_all_new scope vs = fold with_new scope vs
 
 -- variables are declared at a sort
 abbrev pub declare : List (List ℕ) → List ℕ → Next
 declare ns s p =
     unless refusal.UnknownSort (exists_sort p.theory.operators s)
     (unless refusal.Variable (list_all (may_declare p s) ns)
-    (Ok (record p { scope = fold (with_variable s) p.scope ns })))
+    (Ok (record p { scope = with_all_new p.scope (map (λ n. (n, s)) ns) })))
 
 -- boxes are checked from now on; or aren't, and what waits is forgotten
 abbrev pub check_boxes : Bool → Proof → Proof
 check_boxes on p = record p { checking = on; waiting = if on then p.waiting else [] }
 
 -- a first operator is registered as higher than a second
-abbrev pub heighten : Reference → Reference → Next
+abbrev pub heighten : RawOpRef → RawOpRef → Next
 heighten upper lower p =
     after (refer p upper) (λ f. after (refer p lower) (λ g. Ok (record p { ranks = raise p.ranks f g })))
 
 -- an operator is registered with a status
-abbrev pub with_way : Way → Reference → Next
+abbrev pub with_way : Way → RawOpRef → Next
 with_way way r p = after (refer p r) (λ f. Ok (record p { ranks = with_status p.ranks f way }))
 
 -- the clauses by which methods go: that of truth values, the theory's, and those among the lemmas
@@ -144,18 +149,6 @@ abbrev pub level_opened : Tree → Next
 level_opened f p =
     after (normal_goal (record p { current = level_for (OfProof f) p.current f; below = p.current ∷ p.below }))
     settle_goal
-
--- whether two facts come from the same
-abbrev pub same_letter : FactLetter → FactLetter → Bool
-same_letter Axiom Axiom = true
-same_letter Lemma Lemma = true
-same_letter Hypothesis Hypothesis = true
-same_letter Derived Derived = true
-same_letter l m = false
-
--- whether two names of facts are one
-abbrev pub same_fact_name : FactName → FactName → Bool
-same_fact_name n m = same_letter n.letter m.letter && ((n.number == m.number) && (n.part == m.part))
 
 -- whether a fact has a name
 abbrev pub has_name : FactName → Fact → Bool
@@ -192,19 +185,19 @@ abbrev pub stands_once : List (List ℕ) → List ℕ → Bool
 stands_once ns n = length (filter (bytes_eq n) ns) == 1
 
 -- the substitution that a command writes for an equation, pair by pair; all the names that it writes are looked at
-abbrev pub instantiation : Proof → Sides → List (List ℕ) → List Instance → Result (List Entry) Code
+abbrev pub instantiation : Proof → Sides → List (List ℕ) → List RawInstance → Result (List Entry) Code
 instantiation p e names [] = Ok []
 instantiation p e names (i ∷ is) =
-    with_found refusal.Variable (variable_in e i.variable) (λ v.
-    unless refusal.Variable (stands_once names i.variable)
+    with_found refusal.Variable (variable_in e i.name.name) (λ v.
+    unless refusal.Variable (stands_once names i.name.name)
     (after (read_lone p v.sort i.term) (λ t.
     after (instantiation p e names is) (λ es. Ok (record { name = v.name; sort = v.sort; term = t } ∷ es)))))
 
 -- an instance of a fact is added, while the fact itself doesn't serve as a rule
-abbrev pub instantiate : List Instance → FactName → Next
+abbrev pub instantiate : List RawInstance → FactName → Next
 instantiate is n p =
     after (fact_named n p) (λ e.
-    after (instantiation p e (map (λ i. i.variable) is) is) (λ es.
+    after (instantiation p e (map (λ i. i.name.name) is) is) (λ es.
     after (derived_by (serves_beside n) (sides_under es e) p) settle_goal))
 
 -- equations are added in turn, until the goal is proved
@@ -233,22 +226,23 @@ pair_facts n m p =
     after (all_derived found p) settle_goal)))
 
 -- what a command does whose turn it is
-abbrev pub carried_out : Command → Next
-carried_out (Declare ns s) p = declare ns s p
-carried_out (SetLimit n) p = Ok (record p { limit = n })
-carried_out (BoxChecking on) p = Ok (check_boxes on p)
-carried_out (Height upper lower) p = heighten upper lower p
-carried_out (SetStatus way r) p = with_way way r p
-carried_out (Prove e) p = after (read_sides p e) (λ sides. level_opened (formula sides.left sides.right) p)
-carried_out (ByCases t) p = after (read_sides p (spelled_formula t)) (λ sides. resume (Cases sides.left) p)
-carried_out ByImplication p = resume Implication p
-carried_out ByConjunction p = resume Conjunction p
-carried_out ByContradiction p = resume Contradiction p
-carried_out (ByInduction n) p = resume (Induction n) p
-carried_out ByPartition p = resume Partition p
-carried_out (Instantiate is n) p = instantiate is n p
-carried_out (CriticalPairs n m) p = pair_facts n m p
-carried_out (Normalize n) p = normalize n p
-carried_out Qed p = unless refusal.Open p.is_proved (Ok p)
-carried_out (Mark proved) p = Ok p
-carried_out (Bad code) p = Err code
+abbrev pub carried_out : CommandKind → Next
+carried_out (command.Declare ns s) p = declare (texts ns) s.name p
+carried_out (command.Limit n) p = Ok (record p { limit = n })
+carried_out (command.BoxChecking on) p = Ok (check_boxes on p)
+carried_out (command.Height upper lower) p = heighten upper lower p
+carried_out (command.Status way r) p = with_way way r p
+carried_out (command.Prove e) p = after (read_sides p e) (λ sides. level_opened (formula sides.left sides.right) p)
+carried_out (command.Cases t) p = after (read_lone p bool_sort t) (λ f. resume (Cases f) p)
+carried_out command.Implication p = resume Implication p
+carried_out command.Conjunction p = resume Conjunction p
+carried_out command.Contradiction p = resume Contradiction p
+carried_out (command.Induction x) p = resume (Induction x.name) p
+carried_out command.Partition p = resume Partition p
+carried_out (command.Instantiate is n) p = instantiate is n p
+carried_out (command.CriticalPairs n m) p = pair_facts n m p
+carried_out (command.Normalize n) p = normalize n p
+carried_out command.Qed p = unless refusal.Open p.is_proved (Ok p)
+-- never: marks and bad lines have no turn
+carried_out (command.Mark proved) p = Ok p
+carried_out (command.Bad code) p = Err code

@@ -1,8 +1,10 @@
--- Proofs whose goals, facts and remaining subgoals are well sorted on all levels.
-use Rattle.std.specs.Prelude.{◌≡◌, List, ◌∷◌, All}
+-- Proofs whose goals, facts and remaining subgoals are well sorted on all levels, and whose scope has each name once.
+use Rattle.std.specs.Prelude.{◌≡◌, ◌≢◌, List, ◌∷◌, All}
+use Rattle.std.specs.List.{AllPairs}
 use Rattle.larch_term.specs.Operator.{PlainOperator}
 use Rattle.larch_term.specs.Statement.{IsStatementOver, IsWellSortedTheory}
 use Rattle.larch_calculus.specs.Theories.{IsFront}
+use Rattle.larch_sorts_meaning.specs.Scope.{Variables}
 use Rattle.larch_pairs_critical.specs.Overlap.{IsApplication}
 use Rattle.larch_rewrite_meaning.specs.Sides.{AreSidesOver}
 use Rattle.larch_prove_meaning.specs.Facts.{Fact}
@@ -38,11 +40,16 @@ pub record IsWellSortedDuty (duty : Duty) : Type 0 where
   pub statement : IsStatementOver duty.theory.operators duty.statement
   pub lemmas : AreLemmasOver duty.theory.operators duty.lemmas
 
+-- no two variables have one name
+abbrev pub AreNamedApart : Variables → Type 0
+AreNamedApart vs = AllPairs (λ v w. v.0 ≢ w.0) vs
+
 -- the theory and the lemmas are well sorted over the theory's operators, and each level is so over these and the
--- constants of the block
+-- constants of the block; a name in scope has one sort
 pub record IsWellSortedProof (p : Proof) : Type 0 where
   pub theory : IsWellSortedTheory p.theory
   pub lemmas : AreLemmasOver p.theory.operators p.lemmas
+  pub scope : AreNamedApart p.scope
   pub levels : All (IsLevelOver (own_operators p)) (p.current ∷ p.below)
 
 -- the second proof has the theory and the lemmas of the first, all its constants and maybe more

@@ -1,14 +1,22 @@
--- Traits and duties of the examples. Written by tools/make/replay_examples.py.
-use Rattle.std.specs.Prelude.{[], ◌∷◌, codes}
+-- Traits, duties and scripts of the examples. Written by tools/make/replay_examples.py.
+use Rattle.std.specs.Prelude.{[], ◌∷◌, List, None, Some, codes}
+use Rattle.larch_base.specs.declared.fact_name.FactLetter.TheVariants.{Hypothesis, Lemma}
+use Rattle.larch_base.specs.declared.label.Label.TheVariants.{Convert, Imply}
+use Rattle.larch_base.specs.declared.code.Code.TheVariants as refusal
+use Rattle.larch_script_commands.specs.Written.{instead, lone, said, word}
+use Rattle.larch_script_commands.specs.declared.command.CommandKind.TheVariants as command
+use Rattle.larch_script_commands.specs.declared.script.Script.{Script}
 use Rattle.larch_term.specs.Operator.{PlainOperator, plain}
 use Rattle.larch_term.specs.Tree.{var, app, forest_of}
 use Rattle.larch_term.specs.BuiltIn.{built_in, bool_sort}
 use Rattle.larch_term.specs.Truth.{truth}
-use Rattle.larch_term.specs.declared.built_in.BuiltIn.TheVariants.{False, Not, Or, Implies, Equal, If}
+use Rattle.larch_term.specs.declared.built_in.BuiltIn.TheVariants.{False, Not, And, Or, Implies, Equal, If}
 use Rattle.larch_term.specs.declared.statement.Statement.TheVariants.{Equation, Generated, Partitioned}
 use Rattle.larch_term.specs.declared.statement.Theory.{Theory}
 use Rattle.larch_calculus.specs.Formula.{constant, apply_one, apply_two}
+use Rattle.larch_prove_meaning.specs.Facts.{whole_name}
 use Rattle.larch_prove_meaning.specs.Replays.{Duty}
+use Rattle.larch_prove_meaning.specs.Scripts.{ClaimedDuty}
 
 -- ---- the trait Truths
 
@@ -29,6 +37,30 @@ truths_imply_1 = record {
   statement = Equation (apply_one truths_f (var (codes "b") (codes "Bool"))) truth;
   lemmas = [];
 }
+
+abbrev pub truths_script_1 : Script
+truths_script_1 = record {
+  preamble = [];
+  blocks = record { line = 1; label = Imply 9; commands = record { line = 2; kind = command.Qed } ∷ [] } ∷
+      record {
+        line = 3;
+        label = Imply 1;
+        commands = record { line = 4; kind = command.Cases (lone (said (codes "undefined") [])) } ∷ [];
+      } ∷
+      record { line = 5; label = Imply 1; commands = [] } ∷
+      record { line = 6; label = Convert 7; commands = [] } ∷
+      [];
+}
+
+abbrev pub truths_claims : List ClaimedDuty
+truths_claims =
+    record {
+      label = Imply 1;
+      clause = None;
+      theory = truths;
+      statement = Equation (apply_one truths_f (var (codes "b") (codes "Bool"))) truth;
+    } ∷
+    []
 
 -- ---- the trait Numbers
 
@@ -99,6 +131,155 @@ numbers_imply_3 = record {
       [];
 }
 
+abbrev pub numbers_script_1 : Script
+numbers_script_1 = record {
+  preamble = [];
+  blocks = record {
+    line = 1;
+    label = Imply 1;
+    commands = record { line = 2; kind = command.Induction (word (codes "x")) } ∷ [];
+  } ∷
+      record {
+        line = 3;
+        label = Imply 2;
+        commands = record { line = 4; kind = command.Induction (word (codes "y")) } ∷ [];
+      } ∷
+      record {
+        line = 5;
+        label = Imply 3;
+        commands = record { line = 6; kind = command.Induction (word (codes "y")) } ∷
+            record { line = 7; kind = command.Contradiction } ∷
+            record {
+              line = 8;
+              kind = command.Instantiate (instead (codes "x") (said (codes "xc") []) ∷ []) (whole_name Hypothesis 1);
+            } ∷
+            record { line = 9; kind = command.Normalize (whole_name Hypothesis 2) } ∷
+            record { line = 10; kind = command.Qed } ∷
+            [];
+      } ∷
+      [];
+}
+
+abbrev pub numbers_claims : List ClaimedDuty
+numbers_claims =
+    record {
+      label = Imply 1;
+      clause = None;
+      theory = numbers;
+      statement = Equation
+          (apply_two numbers_plus (constant numbers_nought) (var (codes "x") (codes "N")))
+          (var (codes "x") (codes "N"));
+    } ∷
+    record {
+      label = Imply 2;
+      clause = None;
+      theory = numbers;
+      statement = Equation
+          (apply_two numbers_plus (apply_one numbers_s (var (codes "x") (codes "N"))) (var (codes "y") (codes "N")))
+          (apply_one numbers_s (apply_two numbers_plus (var (codes "x") (codes "N")) (var (codes "y") (codes "N"))));
+    } ∷
+    record {
+      label = Imply 3;
+      clause = None;
+      theory = numbers;
+      statement = Equation
+          (apply_two numbers_plus (var (codes "x") (codes "N")) (var (codes "y") (codes "N")))
+          (apply_two numbers_plus (var (codes "y") (codes "N")) (var (codes "x") (codes "N")));
+    } ∷
+    []
+
+abbrev pub numbers_script_2 : Script
+numbers_script_2 = record {
+  preamble = [];
+  blocks = record {
+    line = 1;
+    label = Imply 1;
+    commands = record { line = 2; kind = command.Induction (word (codes "x")) } ∷ [];
+  } ∷
+      record {
+        line = 3;
+        label = Imply 2;
+        commands = record { line = 4; kind = command.Induction (word (codes "x")) } ∷ [];
+      } ∷
+      record {
+        line = 5;
+        label = Imply 3;
+        commands = record { line = 6; kind = command.Induction (word (codes "y")) } ∷
+            record { line = 7; kind = command.Contradiction } ∷
+            record {
+              line = 8;
+              kind = command.Instantiate (instead (codes "x") (said (codes "xc") []) ∷ []) (whole_name Hypothesis 1);
+            } ∷
+            record { line = 9; kind = command.Normalize (whole_name Hypothesis 2) } ∷
+            record { line = 10; kind = command.Qed } ∷
+            [];
+      } ∷
+      [];
+}
+
+abbrev pub numbers_script_3 : Script
+numbers_script_3 = record {
+  preamble = record { line = 2; kind = command.Limit 5 } ∷ record { line = 3; kind = command.Qed } ∷ [];
+  blocks = [];
+}
+
+abbrev pub numbers_script_4 : Script
+numbers_script_4 = record {
+  preamble = [];
+  blocks = record {
+    line = 1;
+    label = Imply 1;
+    commands = record { line = 2; kind = command.Induction (word (codes "x")) } ∷ [];
+  } ∷
+      record {
+        line = 3;
+        label = Imply 2;
+        commands = record { line = 4; kind = command.Induction (word (codes "y")) } ∷ [];
+      } ∷
+      record {
+        line = 5;
+        label = Imply 3;
+        commands = record { line = 6; kind = command.Induction (word (codes "y")) } ∷
+            record { line = 7; kind = command.Contradiction } ∷
+            record {
+              line = 8;
+              kind = command.Instantiate (instead (codes "x") (said (codes "xc") []) ∷ []) (whole_name Hypothesis 1);
+            } ∷
+            record { line = 9; kind = command.Normalize (whole_name Hypothesis 2) } ∷
+            [];
+      } ∷
+      [];
+}
+
+abbrev pub numbers_script_5 : Script
+numbers_script_5 = record {
+  preamble = [];
+  blocks = record {
+    line = 1;
+    label = Imply 1;
+    commands = record { line = 2; kind = command.Induction (word (codes "x")) } ∷ [];
+  } ∷
+      record {
+        line = 3;
+        label = Imply 2;
+        commands = record { line = 4; kind = command.Induction (word (codes "y")) } ∷ [];
+      } ∷
+      record {
+        line = 5;
+        label = Imply 3;
+        commands = record { line = 6; kind = command.Induction (word (codes "y")) } ∷
+            record { line = 7; kind = command.Contradiction } ∷
+            record {
+              line = 8;
+              kind = command.Instantiate (instead (codes "x") (said (codes "xc") []) ∷ []) (whole_name Hypothesis 1);
+            } ∷
+            record { line = 9; kind = command.Normalize (whole_name Hypothesis 1) } ∷
+            record { line = 10; kind = command.Qed } ∷
+            [];
+      } ∷
+      [];
+}
+
 -- ---- the trait Three
 
 abbrev pub three_nought : PlainOperator
@@ -114,7 +295,8 @@ abbrev pub three : Theory
 three = record {
   operators = three_nought ∷ three_s ∷ three_plus ∷ [];
   statements = Generated (codes "N") (three_nought ∷ three_s ∷ []) ∷
-      Equation (apply_two three_plus (var (codes "x") (codes "N")) (constant three_nought))
+      Equation
+      (apply_two three_plus (var (codes "x") (codes "N")) (constant three_nought))
       (var (codes "x") (codes "N")) ∷
       Equation
       (apply_two three_plus (var (codes "x") (codes "N")) (apply_one three_s (var (codes "y") (codes "N"))))
@@ -132,6 +314,39 @@ three_imply_1 = record {
       (apply_one three_s (apply_one three_s (constant three_nought))))
       (apply_one three_s (apply_one three_s (apply_one three_s (constant three_nought))));
   lemmas = [];
+}
+
+abbrev pub three_script_1 : Script
+three_script_1 = record {
+  preamble = record { line = 1; kind = command.Limit 3 } ∷ [];
+  blocks = record { line = 2; label = Imply 1; commands = [] } ∷ [];
+}
+
+abbrev pub three_claims : List ClaimedDuty
+three_claims =
+    record {
+      label = Imply 1;
+      clause = None;
+      theory = three;
+      statement = Equation
+          (apply_two
+          three_plus
+          (apply_one three_s (constant three_nought))
+          (apply_one three_s (apply_one three_s (constant three_nought))))
+          (apply_one three_s (apply_one three_s (apply_one three_s (constant three_nought))));
+    } ∷
+    []
+
+abbrev pub three_script_2 : Script
+three_script_2 = record {
+  preamble = record { line = 2; kind = command.Limit 3 } ∷ [];
+  blocks = record { line = 3; label = Imply 1; commands = [] } ∷ [];
+}
+
+abbrev pub three_script_3 : Script
+three_script_3 = record {
+  preamble = record { line = 1; kind = command.Limit 4 } ∷ [];
+  blocks = record { line = 2; label = Imply 1; commands = [] } ∷ [];
 }
 
 -- ---- the trait Steps
@@ -587,3 +802,416 @@ doubles_12_imply_1 = record {
       (constant doubles_12_c);
   lemmas = [];
 }
+
+abbrev pub doubles_12_script_1 : Script
+doubles_12_script_1 = record { preamble = []; blocks = [] }
+
+abbrev pub doubles_12_claims : List ClaimedDuty
+doubles_12_claims =
+    record {
+      label = Imply 1;
+      clause = None;
+      theory = doubles_12;
+      statement = Equation
+          (apply_two
+          doubles_12_f
+          (apply_one
+          doubles_12_s
+          (apply_one
+          doubles_12_s
+          (apply_one
+          doubles_12_s
+          (apply_one
+          doubles_12_s
+          (apply_one
+          doubles_12_s
+          (apply_one
+          doubles_12_s
+          (apply_one
+          doubles_12_s
+          (apply_one
+          doubles_12_s
+          (apply_one
+          doubles_12_s
+          (apply_one
+          doubles_12_s
+          (apply_one doubles_12_s (apply_one doubles_12_s (constant doubles_12_nought)))))))))))))
+          (constant doubles_12_c))
+          (constant doubles_12_c);
+    } ∷
+    []
+
+-- ---- the trait Logic
+
+abbrev pub logic_c : PlainOperator
+logic_c = record { name = plain (codes "c"); domain = []; range = codes "S" }
+
+abbrev pub logic_p : PlainOperator
+logic_p = record { name = plain (codes "p"); domain = codes "S" ∷ []; range = codes "Bool" }
+
+abbrev pub logic_q : PlainOperator
+logic_q = record { name = plain (codes "q"); domain = codes "S" ∷ []; range = codes "Bool" }
+
+abbrev pub logic : Theory
+logic = record {
+  operators = logic_c ∷ logic_p ∷ logic_q ∷ [];
+  statements = Equation
+      (apply_two
+      (built_in Implies bool_sort)
+      (apply_one logic_p (var (codes "x") (codes "S")))
+      (apply_one logic_q (var (codes "x") (codes "S"))))
+      truth ∷
+      [];
+}
+
+abbrev pub logic_imply_1 : Duty
+logic_imply_1 = record {
+  theory = logic;
+  statement = Equation
+      (apply_two
+      (built_in Implies bool_sort)
+      (apply_one logic_p (var (codes "x") (codes "S")))
+      (apply_two
+      (built_in And bool_sort)
+      (apply_one logic_q (var (codes "x") (codes "S")))
+      (apply_one logic_p (var (codes "x") (codes "S")))))
+      truth;
+  lemmas = [];
+}
+
+abbrev pub logic_imply_2 : Duty
+logic_imply_2 = record {
+  theory = logic;
+  statement = Equation
+      (apply_two
+      (built_in And bool_sort)
+      (apply_two
+      (built_in Or bool_sort)
+      (apply_one logic_q (var (codes "x") (codes "S")))
+      (apply_one (built_in Not bool_sort) (apply_one logic_p (var (codes "x") (codes "S")))))
+      (apply_two
+      (built_in And bool_sort)
+      (apply_two
+      (built_in Implies bool_sort)
+      (apply_one logic_p (var (codes "x") (codes "S")))
+      (apply_one logic_q (var (codes "x") (codes "S"))))
+      (apply_two
+      (built_in Or bool_sort)
+      (apply_one logic_q (constant logic_c))
+      (apply_one (built_in Not bool_sort) (apply_one logic_p (constant logic_c))))))
+      truth;
+  lemmas = [];
+}
+
+-- ---- the trait Turns
+
+abbrev pub turns_f : PlainOperator
+turns_f = record { name = plain (codes "f"); domain = codes "S" ∷ []; range = codes "S" }
+
+abbrev pub turns_g : PlainOperator
+turns_g = record { name = plain (codes "g"); domain = codes "S" ∷ []; range = codes "S" }
+
+abbrev pub turns_s : PlainOperator
+turns_s = record { name = plain (codes "s"); domain = codes "S" ∷ []; range = codes "S" }
+
+abbrev pub turns_h : PlainOperator
+turns_h = record { name = plain (codes "h"); domain = codes "S" ∷ codes "S" ∷ []; range = codes "S" }
+
+abbrev pub turns_p : PlainOperator
+turns_p = record { name = plain (codes "p"); domain = codes "S" ∷ []; range = codes "Bool" }
+
+abbrev pub turns : Theory
+turns = record {
+  operators = turns_f ∷ turns_g ∷ turns_s ∷ turns_h ∷ turns_p ∷ [];
+  statements = Equation
+      (apply_one turns_f (var (codes "x") (codes "S")))
+      (apply_one turns_g (var (codes "x") (codes "S"))) ∷
+      Equation
+      (apply_two turns_h (apply_one turns_s (var (codes "x") (codes "S"))) (var (codes "y") (codes "S")))
+      (apply_two turns_h (var (codes "x") (codes "S")) (apply_one turns_s (var (codes "y") (codes "S")))) ∷
+      [];
+}
+
+abbrev pub turns_imply_1 : Duty
+turns_imply_1 = record {
+  theory = turns;
+  statement = Equation (apply_one turns_p (apply_one turns_f (var (codes "x") (codes "S")))) truth;
+  lemmas = [];
+}
+
+abbrev pub turns_imply_2 : Duty
+turns_imply_2 = record {
+  theory = turns;
+  statement = Equation
+      (apply_one
+      turns_p
+      (apply_two
+      turns_h
+      (apply_one turns_s (var (codes "x") (codes "S")))
+      (apply_one turns_s (var (codes "y") (codes "S")))))
+      truth;
+  lemmas = [];
+}
+
+-- ---- the trait Empties
+
+abbrev pub empties_empty : PlainOperator
+empties_empty = record { name = plain (codes "empty"); domain = []; range = codes "Bag" }
+
+abbrev pub empties_empty_too : PlainOperator
+empties_empty_too = record { name = plain (codes "empty"); domain = []; range = codes "Set" }
+
+abbrev pub empties_card : PlainOperator
+empties_card = record { name = plain (codes "card"); domain = codes "Bag" ∷ []; range = codes "N" }
+
+abbrev pub empties_card_too : PlainOperator
+empties_card_too = record { name = plain (codes "card"); domain = codes "Set" ∷ []; range = codes "N" }
+
+abbrev pub empties : Theory
+empties = record {
+  operators = empties_empty ∷ empties_empty_too ∷ empties_card ∷ empties_card_too ∷ [];
+  statements = Generated (codes "N") (empties_card ∷ empties_card_too ∷ []) ∷ [];
+}
+
+abbrev pub empties_imply_1 : Duty
+empties_imply_1 = record {
+  theory = empties;
+  statement = Equation
+      (apply_two
+      (built_in Equal (codes "N"))
+      (apply_one empties_card (var (codes "b") (codes "Bag")))
+      (var (codes "n") (codes "N")))
+      truth;
+  lemmas = [];
+}
+
+-- ---- the trait Meets
+
+abbrev pub meets_a : PlainOperator
+meets_a = record { name = plain (codes "a"); domain = []; range = codes "S" }
+
+abbrev pub meets_b : PlainOperator
+meets_b = record { name = plain (codes "b"); domain = []; range = codes "S" }
+
+abbrev pub meets_c : PlainOperator
+meets_c = record { name = plain (codes "c"); domain = []; range = codes "S" }
+
+abbrev pub meets_f : PlainOperator
+meets_f = record { name = plain (codes "f"); domain = codes "S" ∷ []; range = codes "S" }
+
+abbrev pub meets_k : PlainOperator
+meets_k = record { name = plain (codes "k"); domain = codes "S" ∷ []; range = codes "S" }
+
+abbrev pub meets_h : PlainOperator
+meets_h = record { name = plain (codes "h"); domain = codes "S" ∷ codes "S" ∷ []; range = codes "Bool" }
+
+abbrev pub meets_q : PlainOperator
+meets_q = record { name = plain (codes "q"); domain = codes "S" ∷ []; range = codes "Bool" }
+
+abbrev pub meets : Theory
+meets = record {
+  operators = meets_a ∷ meets_b ∷ meets_c ∷ meets_f ∷ meets_k ∷ meets_h ∷ meets_q ∷ [];
+  statements = Equation
+      (apply_two
+      meets_h
+      (apply_one meets_f (var (codes "x") (codes "S")))
+      (apply_one meets_f (var (codes "y") (codes "S"))))
+      truth ∷
+      Equation (apply_one meets_f (constant meets_a)) (constant meets_b) ∷
+      Equation (apply_one meets_k (var (codes "x") (codes "S"))) (var (codes "x") (codes "S")) ∷
+      Equation (apply_one meets_f (apply_one meets_f (var (codes "x") (codes "S")))) (var (codes "x") (codes "S")) ∷
+      [];
+}
+
+abbrev pub meets_imply_1 : Duty
+meets_imply_1 = record {
+  theory = meets;
+  statement = Equation (apply_two meets_h (constant meets_b) (apply_one meets_f (constant meets_c))) truth;
+  lemmas = [];
+}
+
+abbrev pub meets_imply_2 : Duty
+meets_imply_2 = record {
+  theory = meets;
+  statement = Equation (apply_two meets_h (constant meets_b) (apply_one meets_k (constant meets_b))) truth;
+  lemmas = [];
+}
+
+-- ---- the trait Doubled
+
+abbrev pub doubled_script_1 : Script
+doubled_script_1 = record {
+  preamble = [];
+  blocks = record {
+    line = 1;
+    label = Convert 1;
+    commands = record { line = 2; kind = command.Induction (word (codes "x1")) } ∷ [];
+  } ∷
+      record {
+        line = 3;
+        label = Convert 2;
+        commands = record { line = 4; kind = command.Normalize (whole_name Lemma 1) } ∷ [];
+      } ∷
+      [];
+}
+
+abbrev pub doubled_nought : PlainOperator
+doubled_nought = record { name = plain (codes "0"); domain = []; range = codes "N" }
+
+abbrev pub doubled_s : PlainOperator
+doubled_s = record { name = plain (codes "s"); domain = codes "N" ∷ []; range = codes "N" }
+
+abbrev pub doubled_d : PlainOperator
+doubled_d = record { name = plain (codes "d"); domain = codes "N" ∷ []; range = codes "N" }
+
+abbrev pub doubled_t : PlainOperator
+doubled_t = record { name = plain (codes "t"); domain = codes "N" ∷ []; range = codes "N" }
+
+abbrev pub doubled_d_copy : PlainOperator
+doubled_d_copy = record { name = plain (codes "d'"); domain = codes "N" ∷ []; range = codes "N" }
+
+abbrev pub doubled_converted : Theory
+doubled_converted = record {
+  operators = doubled_nought ∷ doubled_s ∷ doubled_d ∷ doubled_t ∷ doubled_d_copy ∷ [];
+  statements = Generated (codes "N") (doubled_nought ∷ doubled_s ∷ []) ∷
+      Equation (apply_one doubled_d (constant doubled_nought)) (constant doubled_nought) ∷
+      Equation
+      (apply_one doubled_d (apply_one doubled_s (var (codes "x") (codes "N"))))
+      (apply_one doubled_s (apply_one doubled_s (apply_one doubled_d (var (codes "x") (codes "N"))))) ∷
+      Equation (apply_one doubled_t (constant doubled_nought)) (constant doubled_nought) ∷
+      Equation
+      (apply_one doubled_t (apply_one doubled_s (var (codes "x") (codes "N"))))
+      (apply_one
+      doubled_s
+      (apply_one doubled_s (apply_one doubled_s (apply_one doubled_t (var (codes "x") (codes "N")))))) ∷
+      Equation (apply_one doubled_d_copy (constant doubled_nought)) (constant doubled_nought) ∷
+      Equation
+      (apply_one doubled_d_copy (apply_one doubled_s (var (codes "x") (codes "N"))))
+      (apply_one doubled_s (apply_one doubled_s (apply_one doubled_d_copy (var (codes "x") (codes "N"))))) ∷
+      [];
+}
+
+abbrev pub doubled_t_copy : PlainOperator
+doubled_t_copy = record { name = plain (codes "t'"); domain = codes "N" ∷ []; range = codes "N" }
+
+abbrev pub doubled_converted_too : Theory
+doubled_converted_too = record {
+  operators = doubled_nought ∷ doubled_s ∷ doubled_d ∷ doubled_t ∷ doubled_t_copy ∷ [];
+  statements = Generated (codes "N") (doubled_nought ∷ doubled_s ∷ []) ∷
+      Equation (apply_one doubled_d (constant doubled_nought)) (constant doubled_nought) ∷
+      Equation
+      (apply_one doubled_d (apply_one doubled_s (var (codes "x") (codes "N"))))
+      (apply_one doubled_s (apply_one doubled_s (apply_one doubled_d (var (codes "x") (codes "N"))))) ∷
+      Equation (apply_one doubled_t (constant doubled_nought)) (constant doubled_nought) ∷
+      Equation
+      (apply_one doubled_t (apply_one doubled_s (var (codes "x") (codes "N"))))
+      (apply_one
+      doubled_s
+      (apply_one doubled_s (apply_one doubled_s (apply_one doubled_t (var (codes "x") (codes "N")))))) ∷
+      Equation (apply_one doubled_t_copy (constant doubled_nought)) (constant doubled_nought) ∷
+      Equation
+      (apply_one doubled_t_copy (apply_one doubled_s (var (codes "x") (codes "N"))))
+      (apply_one
+      doubled_s
+      (apply_one doubled_s (apply_one doubled_s (apply_one doubled_t_copy (var (codes "x") (codes "N")))))) ∷
+      [];
+}
+
+abbrev pub doubled_claims : List ClaimedDuty
+doubled_claims =
+    record {
+      label = Convert 1;
+      clause = Some 1;
+      theory = doubled_converted;
+      statement = Equation
+          (apply_one doubled_d (var (codes "x1") (codes "N")))
+          (apply_one doubled_d_copy (var (codes "x1") (codes "N")));
+    } ∷
+    record {
+      label = Convert 2;
+      clause = Some 2;
+      theory = doubled_converted_too;
+      statement = Equation
+          (apply_one doubled_t (var (codes "x1") (codes "N")))
+          (apply_one doubled_t_copy (var (codes "x1") (codes "N")));
+    } ∷
+    []
+
+-- ---- the trait Both
+
+abbrev pub both_script_1 : Script
+both_script_1 = record {
+  preamble = [];
+  blocks = record {
+    line = 1;
+    label = Convert 1;
+    commands = record { line = 2; kind = command.Induction (word (codes "x1")) } ∷ [];
+  } ∷
+      record {
+        line = 3;
+        label = Convert 2;
+        commands = record { line = 4; kind = command.Normalize (whole_name Lemma 1) } ∷ [];
+      } ∷
+      [];
+}
+
+abbrev pub both_nought : PlainOperator
+both_nought = record { name = plain (codes "0"); domain = []; range = codes "N" }
+
+abbrev pub both_s : PlainOperator
+both_s = record { name = plain (codes "s"); domain = codes "N" ∷ []; range = codes "N" }
+
+abbrev pub both_d : PlainOperator
+both_d = record { name = plain (codes "d"); domain = codes "N" ∷ []; range = codes "N" }
+
+abbrev pub both_t : PlainOperator
+both_t = record { name = plain (codes "t"); domain = codes "N" ∷ []; range = codes "N" }
+
+abbrev pub both_d_copy : PlainOperator
+both_d_copy = record { name = plain (codes "d'"); domain = codes "N" ∷ []; range = codes "N" }
+
+abbrev pub both_t_copy : PlainOperator
+both_t_copy = record { name = plain (codes "t'"); domain = codes "N" ∷ []; range = codes "N" }
+
+abbrev pub both_converted : Theory
+both_converted = record {
+  operators = both_nought ∷ both_s ∷ both_d ∷ both_t ∷ both_d_copy ∷ both_t_copy ∷ [];
+  statements = Generated (codes "N") (both_nought ∷ both_s ∷ []) ∷
+      Equation (apply_one both_d (constant both_nought)) (constant both_nought) ∷
+      Equation
+      (apply_one both_d (apply_one both_s (var (codes "x") (codes "N"))))
+      (apply_one both_s (apply_one both_s (apply_one both_d (var (codes "x") (codes "N"))))) ∷
+      Equation (apply_one both_t (constant both_nought)) (constant both_nought) ∷
+      Equation
+      (apply_one both_t (apply_one both_s (var (codes "x") (codes "N"))))
+      (apply_one both_s (apply_one both_s (apply_one both_s (apply_one both_t (var (codes "x") (codes "N")))))) ∷
+      Equation (apply_one both_d_copy (constant both_nought)) (constant both_nought) ∷
+      Equation
+      (apply_one both_d_copy (apply_one both_s (var (codes "x") (codes "N"))))
+      (apply_one both_s (apply_one both_s (apply_one both_d_copy (var (codes "x") (codes "N"))))) ∷
+      Equation (apply_one both_t_copy (constant both_nought)) (constant both_nought) ∷
+      Equation
+      (apply_one both_t_copy (apply_one both_s (var (codes "x") (codes "N"))))
+      (apply_one both_s (apply_one both_s (apply_one both_s (apply_one both_t_copy (var (codes "x") (codes "N")))))) ∷
+      [];
+}
+
+abbrev pub both_claims : List ClaimedDuty
+both_claims =
+    record {
+      label = Convert 1;
+      clause = Some 1;
+      theory = both_converted;
+      statement = Equation
+          (apply_one both_d (var (codes "x1") (codes "N")))
+          (apply_one both_d_copy (var (codes "x1") (codes "N")));
+    } ∷
+    record {
+      label = Convert 2;
+      clause = Some 1;
+      theory = both_converted;
+      statement = Equation
+          (apply_one both_t (var (codes "x1") (codes "N")))
+          (apply_one both_t_copy (var (codes "x1") (codes "N")));
+    } ∷
+    []

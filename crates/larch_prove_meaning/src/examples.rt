@@ -1,18 +1,19 @@
 //! What blocks come to, computed by the definitions. No function here does anything.
 //!
 //! Written by `tools/make/replay_examples.py`; the traits and duties are in `specs/Worked.antt`.
-ghost use Rattle.std.specs.Prelude.{◌≡◌, true, false, [], ◌∷◌, codes, None, Some};
+ghost use Rattle.std.specs.Prelude.{◌≡◌, true, false, [], ◌∷◌, codes};
 ghost use Rattle.larch_base.specs.declared.code.Code.TheVariants as refusal;
-ghost use Rattle.larch_term.specs.Tree.{var, app, forest_of};
-ghost use Rattle.larch_term.specs.BuiltIn.{built_in, bool_sort};
-ghost use Rattle.larch_term.specs.declared.built_in.BuiltIn.TheVariants.{And, Or, Not, Equal, Iff, Implies, If, False};
-ghost use Rattle.larch_calculus.specs.Formula.{constant, apply_one, apply_two};
-ghost use Rattle.larch_prove_meaning.specs.Commands.{said, no_spelling, spelling, SetLimit, BoxChecking, Prove, ByCases};
-ghost use Rattle.larch_prove_meaning.specs.Commands.{ByImplication, ByContradiction, ByInduction, ByPartition, Instantiate};
-ghost use Rattle.larch_prove_meaning.specs.Commands.{CriticalPairs, Normalize, Qed, Mark};
 ghost use Rattle.larch_base.specs.declared.fact_name.FactLetter.TheVariants.{Axiom, Derived, Hypothesis};
+ghost use Rattle.larch_script_commands.specs.Written.{equal, instead, lone, said};
+ghost use Rattle.larch_script_commands.specs.Written.{word};
+ghost use Rattle.larch_script_commands.specs.declared.command.CommandKind.TheVariants as command;
+ghost use Rattle.larch_term.specs.Tree.{var};
+ghost use Rattle.larch_term.specs.BuiltIn.{built_in, bool_sort};
+ghost use Rattle.larch_term.specs.declared.built_in.BuiltIn.TheVariants.{Or, Not, Equal, Implies};
+ghost use Rattle.larch_calculus.specs.Formula.{constant, apply_one, apply_two};
 ghost use Rattle.larch_prove_meaning.specs.Facts.{whole_name};
-ghost use Rattle.larch_prove_meaning.specs.Replays.{replay, Proved, Suspended, Refused, AtOpening, AtCommand};
+ghost use Rattle.larch_prove_meaning.specs.Replays.{replay, Proved, Suspended, Refused, AtOpening};
+ghost use Rattle.larch_prove_meaning.specs.Replays.{AtCommand};
 ghost use Rattle.larch_prove_meaning.specs.Worked as worked;
 
 /// Neither fact says what `f(b)` is: one goal stays open.
@@ -23,28 +24,24 @@ pub fn an_open_goal_is_suspended()
 
 /// By cases on `b`, each fact proves one goal.
 pub fn cases_close_it()
-    ensures { replay
-        worked.truths_imply_1
-        1000
-        []
-        (ByCases (said (codes "b") no_spelling) ∷ Qed ∷ [])
+    ensures { replay worked.truths_imply_1 1000 [] (command.Cases (lone (said (codes "b") [])) ∷ command.Qed ∷ [])
         ≡ Proved }
 {}
 
 /// `=>` is refused where the goal is no implication.
 pub fn an_implication_is_wanted()
-    ensures { replay worked.truths_imply_1 1000 [] (ByImplication ∷ Qed ∷ [])
+    ensures { replay worked.truths_imply_1 1000 [] (command.Implication ∷ command.Qed ∷ [])
         ≡ Refused (record { place = AtCommand 1; code = refusal.Shape }) }
 {}
 
 /// Zero on the left: by induction.
 pub fn induction_on_numbers()
-    ensures { replay worked.numbers_imply_1 1000 [] (ByInduction (codes "x") ∷ []) ≡ Proved }
+    ensures { replay worked.numbers_imply_1 1000 [] (command.Induction (word (codes "x")) ∷ []) ≡ Proved }
 {}
 
 /// Successor on the left: by induction, with the first duty as a lemma.
 pub fn induction_with_a_lemma()
-    ensures { replay worked.numbers_imply_2 1000 [] (ByInduction (codes "y") ∷ []) ≡ Proved }
+    ensures { replay worked.numbers_imply_2 1000 [] (command.Induction (word (codes "y")) ∷ []) ≡ Proved }
 {}
 
 /// Sums can be exchanged: by induction, then by contradiction, with an instance of a hypothesis.
@@ -53,20 +50,18 @@ pub fn a_hypothesis_is_instantiated()
         worked.numbers_imply_3
         1000
         []
-        (ByInduction (codes "y") ∷
-        ByContradiction ∷
-        Instantiate
-        (record { variable = codes "x"; term = said (codes "xc") no_spelling } ∷ [])
-        (whole_name Hypothesis 1) ∷
-        Normalize (whole_name Hypothesis 2) ∷
-        Qed ∷
+        (command.Induction (word (codes "y")) ∷
+        command.Contradiction ∷
+        command.Instantiate (instead (codes "x") (said (codes "xc") []) ∷ []) (whole_name Hypothesis 1) ∷
+        command.Normalize (whole_name Hypothesis 2) ∷
+        command.Qed ∷
         [])
         ≡ Proved }
 {}
 
 /// By induction on the other variable two goals stay open.
 pub fn the_wrong_variable_is_suspended()
-    ensures { replay worked.numbers_imply_2 1000 [] (ByInduction (codes "x") ∷ [])
+    ensures { replay worked.numbers_imply_2 1000 [] (command.Induction (word (codes "x")) ∷ [])
         ≡ Suspended
         2
         (apply_two
@@ -80,19 +75,19 @@ pub fn the_wrong_variable_is_suspended()
 
 /// `qed` is refused while a goal is open.
 pub fn qed_wants_all_proved()
-    ensures { replay worked.numbers_imply_2 1000 [] (ByInduction (codes "x") ∷ Qed ∷ [])
+    ensures { replay worked.numbers_imply_2 1000 [] (command.Induction (word (codes "x")) ∷ command.Qed ∷ [])
         ≡ Refused (record { place = AtCommand 2; code = refusal.Open }) }
 {}
 
 /// Four applications are one too many under a limit of three.
 pub fn a_limit_is_passed()
-    ensures { replay worked.three_imply_1 1000 (SetLimit 3 ∷ []) []
+    ensures { replay worked.three_imply_1 1000 (command.Limit 3 ∷ []) []
         ≡ Refused (record { place = AtOpening; code = refusal.Limit }) }
 {}
 
 /// A limit of four lets them be.
 pub fn a_limit_is_met()
-    ensures { replay worked.three_imply_1 1000 (SetLimit 4 ∷ []) [] ≡ Proved }
+    ensures { replay worked.three_imply_1 1000 (command.Limit 4 ∷ []) [] ≡ Proved }
 {}
 
 /// A sort is generated by other operators, by induction on its values.
@@ -101,11 +96,9 @@ pub fn a_generation_is_proved()
         worked.steps_imply_1
         1000
         []
-        (ByInduction (codes "x") ∷
-        Instantiate
-        (record { variable = codes "x1"; term = said (codes "xc") no_spelling } ∷ [])
-        (whole_name Hypothesis 2) ∷
-        Qed ∷
+        (command.Induction (word (codes "x")) ∷
+        command.Instantiate (instead (codes "x1") (said (codes "xc") []) ∷ []) (whole_name Hypothesis 2) ∷
+        command.Qed ∷
         [])
         ≡ Proved }
 {}
@@ -116,12 +109,10 @@ pub fn a_critical_pair_contradicts()
         worked.sets_imply_1
         1000
         []
-        (ByContradiction ∷
-        CriticalPairs (whole_name Axiom 4) (whole_name Hypothesis 1) ∷
-        Instantiate
-        (record { variable = codes "v1"; term = said (codes "ec") no_spelling } ∷ [])
-        (whole_name Derived 1) ∷
-        Qed ∷
+        (command.Contradiction ∷
+        command.CriticalPairs (whole_name Axiom 4) (whole_name Hypothesis 1) ∷
+        command.Instantiate (instead (codes "v1") (said (codes "ec") []) ∷ []) (whole_name Derived 1) ∷
+        command.Qed ∷
         [])
         ≡ Proved }
 {}
@@ -132,12 +123,9 @@ pub fn observers_show_the_same()
         worked.sets_imply_2
         1000
         []
-        (ByPartition ∷
-        ByCases
-        (said
-        (codes "__ = __")
-        (spelling (said (codes "ac") no_spelling) (spelling (said (codes "e") no_spelling) no_spelling))) ∷
-        Qed ∷
+        (command.Partition ∷
+        command.Cases (lone (said (codes "__ = __") (said (codes "ac") [] ∷ said (codes "e") [] ∷ []))) ∷
+        command.Qed ∷
         [])
         ≡ Proved }
 {}
@@ -169,26 +157,45 @@ pub fn marks_in_order()
     ensures { replay
         worked.tables_imply_1
         1000
-        (BoxChecking true ∷ [])
-        (ByInduction (codes "t") ∷ Mark false ∷ Mark true ∷ Mark false ∷ Mark true ∷ Mark true ∷ Qed ∷ [])
+        (command.BoxChecking true ∷ [])
+        (command.Induction (word (codes "t")) ∷
+        command.Mark false ∷
+        command.Mark true ∷
+        command.Mark false ∷
+        command.Mark true ∷
+        command.Mark true ∷
+        command.Qed ∷
+        [])
         ≡ Proved }
 {}
 
 /// A mark that isn't the next to wait is refused.
 pub fn a_mark_out_of_order()
-    ensures { replay worked.tables_imply_1 1000 (BoxChecking true ∷ []) (ByInduction (codes "t") ∷ Mark true ∷ [])
+    ensures { replay
+        worked.tables_imply_1
+        1000
+        (command.BoxChecking true ∷ [])
+        (command.Induction (word (codes "t")) ∷ command.Mark true ∷ [])
         ≡ Refused (record { place = AtCommand 2; code = refusal.Mark }) }
 {}
 
 /// The same mark does nothing where boxes aren't checked.
 pub fn marks_unchecked()
-    ensures { replay worked.tables_imply_1 1000 (BoxChecking false ∷ []) (ByInduction (codes "t") ∷ Mark true ∷ [])
+    ensures { replay
+        worked.tables_imply_1
+        1000
+        (command.BoxChecking false ∷ [])
+        (command.Induction (word (codes "t")) ∷ command.Mark true ∷ [])
         ≡ Proved }
 {}
 
 /// While a mark waits, no other command is taken.
 pub fn a_mark_is_owed()
-    ensures { replay worked.tables_imply_1 1000 (BoxChecking true ∷ []) (ByInduction (codes "t") ∷ Qed ∷ [])
+    ensures { replay
+        worked.tables_imply_1
+        1000
+        (command.BoxChecking true ∷ [])
+        (command.Induction (word (codes "t")) ∷ command.Qed ∷ [])
         ≡ Refused (record { place = AtCommand 2; code = refusal.Mark }) }
 {}
 
@@ -197,8 +204,8 @@ pub fn a_waiting_mark_comes_first()
     ensures { replay
         worked.tables_imply_1
         1000
-        (BoxChecking true ∷ [])
-        (ByInduction (codes "t") ∷ SetLimit 10 ∷ [])
+        (command.BoxChecking true ∷ [])
+        (command.Induction (word (codes "t")) ∷ command.Limit 10 ∷ [])
         ≡ Refused (record { place = AtCommand 2; code = refusal.Mark }) }
 {}
 
@@ -208,19 +215,12 @@ pub fn a_proved_formula_is_a_fact()
         worked.numbers_imply_1
         1000
         []
-        (Prove
-        (record {
-          left = said
-              (codes "__ + __")
-              (spelling
-              (said (codes "s") (spelling (said (codes "0") no_spelling) no_spelling))
-              (spelling (said (codes "x") no_spelling) no_spelling));
-          right = Some (said (codes "s") (spelling (said (codes "x") no_spelling) no_spelling));
-        }) ∷
-        ByInduction (codes "x") ∷
-        Instantiate
-        (record { variable = codes "x"; term = said (codes "0") no_spelling } ∷ [])
-        (whole_name Derived 1) ∷
+        (command.Prove
+        (equal
+        (said (codes "__ + __") (said (codes "s") (said (codes "0") [] ∷ []) ∷ said (codes "x") [] ∷ []))
+        (said (codes "s") (said (codes "x") [] ∷ []))) ∷
+        command.Induction (word (codes "x")) ∷
+        command.Instantiate (instead (codes "x") (said (codes "0") []) ∷ []) (whole_name Derived 1) ∷
         [])
         ≡ Suspended
         1
@@ -232,7 +232,7 @@ pub fn a_proved_formula_is_a_fact()
 
 /// The constants of a subgoal are new beside those of the one before.
 pub fn constants_of_all_subgoals_differ()
-    ensures { replay worked.shapes_imply_1 1000 [] (ByInduction (codes "t") ∷ [])
+    ensures { replay worked.shapes_imply_1 1000 [] (command.Induction (word (codes "t")) ∷ [])
         ≡ Suspended
         1
         (apply_two
@@ -245,12 +245,12 @@ pub fn constants_of_all_subgoals_differ()
 
 /// An operator is converted, by induction.
 pub fn a_conversion_is_proved()
-    ensures { replay worked.tables_convert_1 1000 [] (ByInduction (codes "x1") ∷ []) ≡ Proved }
+    ensures { replay worked.tables_convert_1 1000 [] (command.Induction (word (codes "x1")) ∷ []) ≡ Proved }
 {}
 
 /// Another one, whose definition has a choice.
 pub fn a_conversion_with_a_choice()
-    ensures { replay worked.tables_convert_2 1000 [] (ByInduction (codes "x1") ∷ []) ≡ Proved }
+    ensures { replay worked.tables_convert_2 1000 [] (command.Induction (word (codes "x1")) ∷ []) ≡ Proved }
 {}
 
 /// What an included trait assumes holds in another spelling of its variable.
@@ -282,92 +282,92 @@ pub fn a_term_grows()
         worked.doubles_8_p
         (apply_two
         worked.doubles_8_p
-        (apply_two worked.doubles_8_p (constant worked.doubles_8_c) (constant worked.doubles_8_c))
-        (apply_two worked.doubles_8_p (constant worked.doubles_8_c) (constant worked.doubles_8_c)))
         (apply_two
         worked.doubles_8_p
-        (apply_two worked.doubles_8_p (constant worked.doubles_8_c) (constant worked.doubles_8_c))
-        (apply_two worked.doubles_8_p (constant worked.doubles_8_c) (constant worked.doubles_8_c))))
+        (constant worked.doubles_8_c)
+        (constant worked.doubles_8_c))
         (apply_two
         worked.doubles_8_p
+        (constant worked.doubles_8_c)
+        (constant worked.doubles_8_c)))
         (apply_two
         worked.doubles_8_p
-        (apply_two worked.doubles_8_p (constant worked.doubles_8_c) (constant worked.doubles_8_c))
-        (apply_two worked.doubles_8_p (constant worked.doubles_8_c) (constant worked.doubles_8_c)))
         (apply_two
         worked.doubles_8_p
-        (apply_two worked.doubles_8_p (constant worked.doubles_8_c) (constant worked.doubles_8_c))
-        (apply_two worked.doubles_8_p (constant worked.doubles_8_c) (constant worked.doubles_8_c)))))
+        (constant worked.doubles_8_c)
+        (constant worked.doubles_8_c))
         (apply_two
         worked.doubles_8_p
+        (constant worked.doubles_8_c)
+        (constant worked.doubles_8_c))))
         (apply_two
         worked.doubles_8_p
         (apply_two
         worked.doubles_8_p
-        (apply_two worked.doubles_8_p (constant worked.doubles_8_c) (constant worked.doubles_8_c))
-        (apply_two worked.doubles_8_p (constant worked.doubles_8_c) (constant worked.doubles_8_c)))
         (apply_two
         worked.doubles_8_p
-        (apply_two worked.doubles_8_p (constant worked.doubles_8_c) (constant worked.doubles_8_c))
-        (apply_two worked.doubles_8_p (constant worked.doubles_8_c) (constant worked.doubles_8_c))))
+        (constant worked.doubles_8_c)
+        (constant worked.doubles_8_c))
         (apply_two
         worked.doubles_8_p
+        (constant worked.doubles_8_c)
+        (constant worked.doubles_8_c)))
         (apply_two
         worked.doubles_8_p
-        (apply_two worked.doubles_8_p (constant worked.doubles_8_c) (constant worked.doubles_8_c))
-        (apply_two worked.doubles_8_p (constant worked.doubles_8_c) (constant worked.doubles_8_c)))
         (apply_two
         worked.doubles_8_p
-        (apply_two worked.doubles_8_p (constant worked.doubles_8_c) (constant worked.doubles_8_c))
-        (apply_two worked.doubles_8_p (constant worked.doubles_8_c) (constant worked.doubles_8_c))))))
+        (constant worked.doubles_8_c)
+        (constant worked.doubles_8_c))
         (apply_two
         worked.doubles_8_p
+        (constant worked.doubles_8_c)
+        (constant worked.doubles_8_c)))))
         (apply_two
         worked.doubles_8_p
         (apply_two
         worked.doubles_8_p
         (apply_two
         worked.doubles_8_p
-        (apply_two worked.doubles_8_p (constant worked.doubles_8_c) (constant worked.doubles_8_c))
-        (apply_two worked.doubles_8_p (constant worked.doubles_8_c) (constant worked.doubles_8_c)))
         (apply_two
         worked.doubles_8_p
-        (apply_two worked.doubles_8_p (constant worked.doubles_8_c) (constant worked.doubles_8_c))
-        (apply_two worked.doubles_8_p (constant worked.doubles_8_c) (constant worked.doubles_8_c))))
+        (constant worked.doubles_8_c)
+        (constant worked.doubles_8_c))
         (apply_two
         worked.doubles_8_p
+        (constant worked.doubles_8_c)
+        (constant worked.doubles_8_c)))
         (apply_two
         worked.doubles_8_p
-        (apply_two worked.doubles_8_p (constant worked.doubles_8_c) (constant worked.doubles_8_c))
-        (apply_two worked.doubles_8_p (constant worked.doubles_8_c) (constant worked.doubles_8_c)))
         (apply_two
         worked.doubles_8_p
-        (apply_two worked.doubles_8_p (constant worked.doubles_8_c) (constant worked.doubles_8_c))
-        (apply_two worked.doubles_8_p (constant worked.doubles_8_c) (constant worked.doubles_8_c)))))
+        (constant worked.doubles_8_c)
+        (constant worked.doubles_8_c))
         (apply_two
         worked.doubles_8_p
+        (constant worked.doubles_8_c)
+        (constant worked.doubles_8_c))))
         (apply_two
         worked.doubles_8_p
         (apply_two
         worked.doubles_8_p
-        (apply_two worked.doubles_8_p (constant worked.doubles_8_c) (constant worked.doubles_8_c))
-        (apply_two worked.doubles_8_p (constant worked.doubles_8_c) (constant worked.doubles_8_c)))
         (apply_two
         worked.doubles_8_p
-        (apply_two worked.doubles_8_p (constant worked.doubles_8_c) (constant worked.doubles_8_c))
-        (apply_two worked.doubles_8_p (constant worked.doubles_8_c) (constant worked.doubles_8_c))))
+        (constant worked.doubles_8_c)
+        (constant worked.doubles_8_c))
         (apply_two
         worked.doubles_8_p
+        (constant worked.doubles_8_c)
+        (constant worked.doubles_8_c)))
         (apply_two
         worked.doubles_8_p
-        (apply_two worked.doubles_8_p (constant worked.doubles_8_c) (constant worked.doubles_8_c))
-        (apply_two worked.doubles_8_p (constant worked.doubles_8_c) (constant worked.doubles_8_c)))
         (apply_two
         worked.doubles_8_p
-        (apply_two worked.doubles_8_p (constant worked.doubles_8_c) (constant worked.doubles_8_c))
-        (apply_two worked.doubles_8_p (constant worked.doubles_8_c) (constant worked.doubles_8_c)))))))
+        (constant worked.doubles_8_c)
+        (constant worked.doubles_8_c))
         (apply_two
         worked.doubles_8_p
+        (constant worked.doubles_8_c)
+        (constant worked.doubles_8_c))))))
         (apply_two
         worked.doubles_8_p
         (apply_two
@@ -376,92 +376,92 @@ pub fn a_term_grows()
         worked.doubles_8_p
         (apply_two
         worked.doubles_8_p
-        (apply_two worked.doubles_8_p (constant worked.doubles_8_c) (constant worked.doubles_8_c))
-        (apply_two worked.doubles_8_p (constant worked.doubles_8_c) (constant worked.doubles_8_c)))
         (apply_two
         worked.doubles_8_p
-        (apply_two worked.doubles_8_p (constant worked.doubles_8_c) (constant worked.doubles_8_c))
-        (apply_two worked.doubles_8_p (constant worked.doubles_8_c) (constant worked.doubles_8_c))))
+        (constant worked.doubles_8_c)
+        (constant worked.doubles_8_c))
         (apply_two
         worked.doubles_8_p
+        (constant worked.doubles_8_c)
+        (constant worked.doubles_8_c)))
         (apply_two
         worked.doubles_8_p
-        (apply_two worked.doubles_8_p (constant worked.doubles_8_c) (constant worked.doubles_8_c))
-        (apply_two worked.doubles_8_p (constant worked.doubles_8_c) (constant worked.doubles_8_c)))
         (apply_two
         worked.doubles_8_p
-        (apply_two worked.doubles_8_p (constant worked.doubles_8_c) (constant worked.doubles_8_c))
-        (apply_two worked.doubles_8_p (constant worked.doubles_8_c) (constant worked.doubles_8_c)))))
+        (constant worked.doubles_8_c)
+        (constant worked.doubles_8_c))
         (apply_two
         worked.doubles_8_p
+        (constant worked.doubles_8_c)
+        (constant worked.doubles_8_c))))
         (apply_two
         worked.doubles_8_p
         (apply_two
         worked.doubles_8_p
-        (apply_two worked.doubles_8_p (constant worked.doubles_8_c) (constant worked.doubles_8_c))
-        (apply_two worked.doubles_8_p (constant worked.doubles_8_c) (constant worked.doubles_8_c)))
         (apply_two
         worked.doubles_8_p
-        (apply_two worked.doubles_8_p (constant worked.doubles_8_c) (constant worked.doubles_8_c))
-        (apply_two worked.doubles_8_p (constant worked.doubles_8_c) (constant worked.doubles_8_c))))
+        (constant worked.doubles_8_c)
+        (constant worked.doubles_8_c))
         (apply_two
         worked.doubles_8_p
+        (constant worked.doubles_8_c)
+        (constant worked.doubles_8_c)))
         (apply_two
         worked.doubles_8_p
-        (apply_two worked.doubles_8_p (constant worked.doubles_8_c) (constant worked.doubles_8_c))
-        (apply_two worked.doubles_8_p (constant worked.doubles_8_c) (constant worked.doubles_8_c)))
         (apply_two
         worked.doubles_8_p
-        (apply_two worked.doubles_8_p (constant worked.doubles_8_c) (constant worked.doubles_8_c))
-        (apply_two worked.doubles_8_p (constant worked.doubles_8_c) (constant worked.doubles_8_c))))))
+        (constant worked.doubles_8_c)
+        (constant worked.doubles_8_c))
         (apply_two
         worked.doubles_8_p
+        (constant worked.doubles_8_c)
+        (constant worked.doubles_8_c)))))
         (apply_two
         worked.doubles_8_p
         (apply_two
         worked.doubles_8_p
         (apply_two
         worked.doubles_8_p
-        (apply_two worked.doubles_8_p (constant worked.doubles_8_c) (constant worked.doubles_8_c))
-        (apply_two worked.doubles_8_p (constant worked.doubles_8_c) (constant worked.doubles_8_c)))
         (apply_two
         worked.doubles_8_p
-        (apply_two worked.doubles_8_p (constant worked.doubles_8_c) (constant worked.doubles_8_c))
-        (apply_two worked.doubles_8_p (constant worked.doubles_8_c) (constant worked.doubles_8_c))))
+        (constant worked.doubles_8_c)
+        (constant worked.doubles_8_c))
         (apply_two
         worked.doubles_8_p
+        (constant worked.doubles_8_c)
+        (constant worked.doubles_8_c)))
         (apply_two
         worked.doubles_8_p
-        (apply_two worked.doubles_8_p (constant worked.doubles_8_c) (constant worked.doubles_8_c))
-        (apply_two worked.doubles_8_p (constant worked.doubles_8_c) (constant worked.doubles_8_c)))
         (apply_two
         worked.doubles_8_p
-        (apply_two worked.doubles_8_p (constant worked.doubles_8_c) (constant worked.doubles_8_c))
-        (apply_two worked.doubles_8_p (constant worked.doubles_8_c) (constant worked.doubles_8_c)))))
+        (constant worked.doubles_8_c)
+        (constant worked.doubles_8_c))
         (apply_two
         worked.doubles_8_p
+        (constant worked.doubles_8_c)
+        (constant worked.doubles_8_c))))
         (apply_two
         worked.doubles_8_p
         (apply_two
         worked.doubles_8_p
-        (apply_two worked.doubles_8_p (constant worked.doubles_8_c) (constant worked.doubles_8_c))
-        (apply_two worked.doubles_8_p (constant worked.doubles_8_c) (constant worked.doubles_8_c)))
         (apply_two
         worked.doubles_8_p
-        (apply_two worked.doubles_8_p (constant worked.doubles_8_c) (constant worked.doubles_8_c))
-        (apply_two worked.doubles_8_p (constant worked.doubles_8_c) (constant worked.doubles_8_c))))
+        (constant worked.doubles_8_c)
+        (constant worked.doubles_8_c))
         (apply_two
         worked.doubles_8_p
+        (constant worked.doubles_8_c)
+        (constant worked.doubles_8_c)))
         (apply_two
         worked.doubles_8_p
-        (apply_two worked.doubles_8_p (constant worked.doubles_8_c) (constant worked.doubles_8_c))
-        (apply_two worked.doubles_8_p (constant worked.doubles_8_c) (constant worked.doubles_8_c)))
         (apply_two
         worked.doubles_8_p
-        (apply_two worked.doubles_8_p (constant worked.doubles_8_c) (constant worked.doubles_8_c))
-        (apply_two worked.doubles_8_p (constant worked.doubles_8_c) (constant worked.doubles_8_c))))))))
+        (constant worked.doubles_8_c)
+        (constant worked.doubles_8_c))
         (apply_two
         worked.doubles_8_p
+        (constant worked.doubles_8_c)
+        (constant worked.doubles_8_c)))))))
         (apply_two
         worked.doubles_8_p
         (apply_two
@@ -472,92 +472,92 @@ pub fn a_term_grows()
         worked.doubles_8_p
         (apply_two
         worked.doubles_8_p
-        (apply_two worked.doubles_8_p (constant worked.doubles_8_c) (constant worked.doubles_8_c))
-        (apply_two worked.doubles_8_p (constant worked.doubles_8_c) (constant worked.doubles_8_c)))
         (apply_two
         worked.doubles_8_p
-        (apply_two worked.doubles_8_p (constant worked.doubles_8_c) (constant worked.doubles_8_c))
-        (apply_two worked.doubles_8_p (constant worked.doubles_8_c) (constant worked.doubles_8_c))))
+        (constant worked.doubles_8_c)
+        (constant worked.doubles_8_c))
         (apply_two
         worked.doubles_8_p
+        (constant worked.doubles_8_c)
+        (constant worked.doubles_8_c)))
         (apply_two
         worked.doubles_8_p
-        (apply_two worked.doubles_8_p (constant worked.doubles_8_c) (constant worked.doubles_8_c))
-        (apply_two worked.doubles_8_p (constant worked.doubles_8_c) (constant worked.doubles_8_c)))
         (apply_two
         worked.doubles_8_p
-        (apply_two worked.doubles_8_p (constant worked.doubles_8_c) (constant worked.doubles_8_c))
-        (apply_two worked.doubles_8_p (constant worked.doubles_8_c) (constant worked.doubles_8_c)))))
+        (constant worked.doubles_8_c)
+        (constant worked.doubles_8_c))
         (apply_two
         worked.doubles_8_p
+        (constant worked.doubles_8_c)
+        (constant worked.doubles_8_c))))
         (apply_two
         worked.doubles_8_p
         (apply_two
         worked.doubles_8_p
-        (apply_two worked.doubles_8_p (constant worked.doubles_8_c) (constant worked.doubles_8_c))
-        (apply_two worked.doubles_8_p (constant worked.doubles_8_c) (constant worked.doubles_8_c)))
         (apply_two
         worked.doubles_8_p
-        (apply_two worked.doubles_8_p (constant worked.doubles_8_c) (constant worked.doubles_8_c))
-        (apply_two worked.doubles_8_p (constant worked.doubles_8_c) (constant worked.doubles_8_c))))
+        (constant worked.doubles_8_c)
+        (constant worked.doubles_8_c))
         (apply_two
         worked.doubles_8_p
+        (constant worked.doubles_8_c)
+        (constant worked.doubles_8_c)))
         (apply_two
         worked.doubles_8_p
-        (apply_two worked.doubles_8_p (constant worked.doubles_8_c) (constant worked.doubles_8_c))
-        (apply_two worked.doubles_8_p (constant worked.doubles_8_c) (constant worked.doubles_8_c)))
         (apply_two
         worked.doubles_8_p
-        (apply_two worked.doubles_8_p (constant worked.doubles_8_c) (constant worked.doubles_8_c))
-        (apply_two worked.doubles_8_p (constant worked.doubles_8_c) (constant worked.doubles_8_c))))))
+        (constant worked.doubles_8_c)
+        (constant worked.doubles_8_c))
         (apply_two
         worked.doubles_8_p
+        (constant worked.doubles_8_c)
+        (constant worked.doubles_8_c)))))
         (apply_two
         worked.doubles_8_p
         (apply_two
         worked.doubles_8_p
         (apply_two
         worked.doubles_8_p
-        (apply_two worked.doubles_8_p (constant worked.doubles_8_c) (constant worked.doubles_8_c))
-        (apply_two worked.doubles_8_p (constant worked.doubles_8_c) (constant worked.doubles_8_c)))
         (apply_two
         worked.doubles_8_p
-        (apply_two worked.doubles_8_p (constant worked.doubles_8_c) (constant worked.doubles_8_c))
-        (apply_two worked.doubles_8_p (constant worked.doubles_8_c) (constant worked.doubles_8_c))))
+        (constant worked.doubles_8_c)
+        (constant worked.doubles_8_c))
         (apply_two
         worked.doubles_8_p
+        (constant worked.doubles_8_c)
+        (constant worked.doubles_8_c)))
         (apply_two
         worked.doubles_8_p
-        (apply_two worked.doubles_8_p (constant worked.doubles_8_c) (constant worked.doubles_8_c))
-        (apply_two worked.doubles_8_p (constant worked.doubles_8_c) (constant worked.doubles_8_c)))
         (apply_two
         worked.doubles_8_p
-        (apply_two worked.doubles_8_p (constant worked.doubles_8_c) (constant worked.doubles_8_c))
-        (apply_two worked.doubles_8_p (constant worked.doubles_8_c) (constant worked.doubles_8_c)))))
+        (constant worked.doubles_8_c)
+        (constant worked.doubles_8_c))
         (apply_two
         worked.doubles_8_p
+        (constant worked.doubles_8_c)
+        (constant worked.doubles_8_c))))
         (apply_two
         worked.doubles_8_p
         (apply_two
         worked.doubles_8_p
-        (apply_two worked.doubles_8_p (constant worked.doubles_8_c) (constant worked.doubles_8_c))
-        (apply_two worked.doubles_8_p (constant worked.doubles_8_c) (constant worked.doubles_8_c)))
         (apply_two
         worked.doubles_8_p
-        (apply_two worked.doubles_8_p (constant worked.doubles_8_c) (constant worked.doubles_8_c))
-        (apply_two worked.doubles_8_p (constant worked.doubles_8_c) (constant worked.doubles_8_c))))
+        (constant worked.doubles_8_c)
+        (constant worked.doubles_8_c))
         (apply_two
         worked.doubles_8_p
+        (constant worked.doubles_8_c)
+        (constant worked.doubles_8_c)))
         (apply_two
         worked.doubles_8_p
-        (apply_two worked.doubles_8_p (constant worked.doubles_8_c) (constant worked.doubles_8_c))
-        (apply_two worked.doubles_8_p (constant worked.doubles_8_c) (constant worked.doubles_8_c)))
         (apply_two
         worked.doubles_8_p
-        (apply_two worked.doubles_8_p (constant worked.doubles_8_c) (constant worked.doubles_8_c))
-        (apply_two worked.doubles_8_p (constant worked.doubles_8_c) (constant worked.doubles_8_c)))))))
+        (constant worked.doubles_8_c)
+        (constant worked.doubles_8_c))
         (apply_two
         worked.doubles_8_p
+        (constant worked.doubles_8_c)
+        (constant worked.doubles_8_c))))))
         (apply_two
         worked.doubles_8_p
         (apply_two
@@ -566,90 +566,474 @@ pub fn a_term_grows()
         worked.doubles_8_p
         (apply_two
         worked.doubles_8_p
-        (apply_two worked.doubles_8_p (constant worked.doubles_8_c) (constant worked.doubles_8_c))
-        (apply_two worked.doubles_8_p (constant worked.doubles_8_c) (constant worked.doubles_8_c)))
         (apply_two
         worked.doubles_8_p
-        (apply_two worked.doubles_8_p (constant worked.doubles_8_c) (constant worked.doubles_8_c))
-        (apply_two worked.doubles_8_p (constant worked.doubles_8_c) (constant worked.doubles_8_c))))
+        (constant worked.doubles_8_c)
+        (constant worked.doubles_8_c))
         (apply_two
         worked.doubles_8_p
+        (constant worked.doubles_8_c)
+        (constant worked.doubles_8_c)))
         (apply_two
         worked.doubles_8_p
-        (apply_two worked.doubles_8_p (constant worked.doubles_8_c) (constant worked.doubles_8_c))
-        (apply_two worked.doubles_8_p (constant worked.doubles_8_c) (constant worked.doubles_8_c)))
         (apply_two
         worked.doubles_8_p
-        (apply_two worked.doubles_8_p (constant worked.doubles_8_c) (constant worked.doubles_8_c))
-        (apply_two worked.doubles_8_p (constant worked.doubles_8_c) (constant worked.doubles_8_c)))))
+        (constant worked.doubles_8_c)
+        (constant worked.doubles_8_c))
         (apply_two
         worked.doubles_8_p
+        (constant worked.doubles_8_c)
+        (constant worked.doubles_8_c))))
         (apply_two
         worked.doubles_8_p
         (apply_two
         worked.doubles_8_p
-        (apply_two worked.doubles_8_p (constant worked.doubles_8_c) (constant worked.doubles_8_c))
-        (apply_two worked.doubles_8_p (constant worked.doubles_8_c) (constant worked.doubles_8_c)))
         (apply_two
         worked.doubles_8_p
-        (apply_two worked.doubles_8_p (constant worked.doubles_8_c) (constant worked.doubles_8_c))
-        (apply_two worked.doubles_8_p (constant worked.doubles_8_c) (constant worked.doubles_8_c))))
+        (constant worked.doubles_8_c)
+        (constant worked.doubles_8_c))
         (apply_two
         worked.doubles_8_p
+        (constant worked.doubles_8_c)
+        (constant worked.doubles_8_c)))
         (apply_two
         worked.doubles_8_p
-        (apply_two worked.doubles_8_p (constant worked.doubles_8_c) (constant worked.doubles_8_c))
-        (apply_two worked.doubles_8_p (constant worked.doubles_8_c) (constant worked.doubles_8_c)))
         (apply_two
         worked.doubles_8_p
-        (apply_two worked.doubles_8_p (constant worked.doubles_8_c) (constant worked.doubles_8_c))
-        (apply_two worked.doubles_8_p (constant worked.doubles_8_c) (constant worked.doubles_8_c))))))
+        (constant worked.doubles_8_c)
+        (constant worked.doubles_8_c))
         (apply_two
         worked.doubles_8_p
+        (constant worked.doubles_8_c)
+        (constant worked.doubles_8_c)))))
         (apply_two
         worked.doubles_8_p
         (apply_two
         worked.doubles_8_p
         (apply_two
         worked.doubles_8_p
-        (apply_two worked.doubles_8_p (constant worked.doubles_8_c) (constant worked.doubles_8_c))
-        (apply_two worked.doubles_8_p (constant worked.doubles_8_c) (constant worked.doubles_8_c)))
         (apply_two
         worked.doubles_8_p
-        (apply_two worked.doubles_8_p (constant worked.doubles_8_c) (constant worked.doubles_8_c))
-        (apply_two worked.doubles_8_p (constant worked.doubles_8_c) (constant worked.doubles_8_c))))
+        (constant worked.doubles_8_c)
+        (constant worked.doubles_8_c))
         (apply_two
         worked.doubles_8_p
+        (constant worked.doubles_8_c)
+        (constant worked.doubles_8_c)))
         (apply_two
         worked.doubles_8_p
-        (apply_two worked.doubles_8_p (constant worked.doubles_8_c) (constant worked.doubles_8_c))
-        (apply_two worked.doubles_8_p (constant worked.doubles_8_c) (constant worked.doubles_8_c)))
         (apply_two
         worked.doubles_8_p
-        (apply_two worked.doubles_8_p (constant worked.doubles_8_c) (constant worked.doubles_8_c))
-        (apply_two worked.doubles_8_p (constant worked.doubles_8_c) (constant worked.doubles_8_c)))))
+        (constant worked.doubles_8_c)
+        (constant worked.doubles_8_c))
         (apply_two
         worked.doubles_8_p
+        (constant worked.doubles_8_c)
+        (constant worked.doubles_8_c))))
         (apply_two
         worked.doubles_8_p
         (apply_two
         worked.doubles_8_p
-        (apply_two worked.doubles_8_p (constant worked.doubles_8_c) (constant worked.doubles_8_c))
-        (apply_two worked.doubles_8_p (constant worked.doubles_8_c) (constant worked.doubles_8_c)))
         (apply_two
         worked.doubles_8_p
-        (apply_two worked.doubles_8_p (constant worked.doubles_8_c) (constant worked.doubles_8_c))
-        (apply_two worked.doubles_8_p (constant worked.doubles_8_c) (constant worked.doubles_8_c))))
+        (constant worked.doubles_8_c)
+        (constant worked.doubles_8_c))
         (apply_two
         worked.doubles_8_p
+        (constant worked.doubles_8_c)
+        (constant worked.doubles_8_c)))
         (apply_two
         worked.doubles_8_p
-        (apply_two worked.doubles_8_p (constant worked.doubles_8_c) (constant worked.doubles_8_c))
-        (apply_two worked.doubles_8_p (constant worked.doubles_8_c) (constant worked.doubles_8_c)))
         (apply_two
         worked.doubles_8_p
-        (apply_two worked.doubles_8_p (constant worked.doubles_8_c) (constant worked.doubles_8_c))
-        (apply_two worked.doubles_8_p (constant worked.doubles_8_c) (constant worked.doubles_8_c))))))))))
+        (constant worked.doubles_8_c)
+        (constant worked.doubles_8_c))
+        (apply_two
+        worked.doubles_8_p
+        (constant worked.doubles_8_c)
+        (constant worked.doubles_8_c))))))))
+        (apply_two
+        worked.doubles_8_p
+        (apply_two
+        worked.doubles_8_p
+        (apply_two
+        worked.doubles_8_p
+        (apply_two
+        worked.doubles_8_p
+        (apply_two
+        worked.doubles_8_p
+        (apply_two
+        worked.doubles_8_p
+        (apply_two
+        worked.doubles_8_p
+        (constant worked.doubles_8_c)
+        (constant worked.doubles_8_c))
+        (apply_two
+        worked.doubles_8_p
+        (constant worked.doubles_8_c)
+        (constant worked.doubles_8_c)))
+        (apply_two
+        worked.doubles_8_p
+        (apply_two
+        worked.doubles_8_p
+        (constant worked.doubles_8_c)
+        (constant worked.doubles_8_c))
+        (apply_two
+        worked.doubles_8_p
+        (constant worked.doubles_8_c)
+        (constant worked.doubles_8_c))))
+        (apply_two
+        worked.doubles_8_p
+        (apply_two
+        worked.doubles_8_p
+        (apply_two
+        worked.doubles_8_p
+        (constant worked.doubles_8_c)
+        (constant worked.doubles_8_c))
+        (apply_two
+        worked.doubles_8_p
+        (constant worked.doubles_8_c)
+        (constant worked.doubles_8_c)))
+        (apply_two
+        worked.doubles_8_p
+        (apply_two
+        worked.doubles_8_p
+        (constant worked.doubles_8_c)
+        (constant worked.doubles_8_c))
+        (apply_two
+        worked.doubles_8_p
+        (constant worked.doubles_8_c)
+        (constant worked.doubles_8_c)))))
+        (apply_two
+        worked.doubles_8_p
+        (apply_two
+        worked.doubles_8_p
+        (apply_two
+        worked.doubles_8_p
+        (apply_two
+        worked.doubles_8_p
+        (constant worked.doubles_8_c)
+        (constant worked.doubles_8_c))
+        (apply_two
+        worked.doubles_8_p
+        (constant worked.doubles_8_c)
+        (constant worked.doubles_8_c)))
+        (apply_two
+        worked.doubles_8_p
+        (apply_two
+        worked.doubles_8_p
+        (constant worked.doubles_8_c)
+        (constant worked.doubles_8_c))
+        (apply_two
+        worked.doubles_8_p
+        (constant worked.doubles_8_c)
+        (constant worked.doubles_8_c))))
+        (apply_two
+        worked.doubles_8_p
+        (apply_two
+        worked.doubles_8_p
+        (apply_two
+        worked.doubles_8_p
+        (constant worked.doubles_8_c)
+        (constant worked.doubles_8_c))
+        (apply_two
+        worked.doubles_8_p
+        (constant worked.doubles_8_c)
+        (constant worked.doubles_8_c)))
+        (apply_two
+        worked.doubles_8_p
+        (apply_two
+        worked.doubles_8_p
+        (constant worked.doubles_8_c)
+        (constant worked.doubles_8_c))
+        (apply_two
+        worked.doubles_8_p
+        (constant worked.doubles_8_c)
+        (constant worked.doubles_8_c))))))
+        (apply_two
+        worked.doubles_8_p
+        (apply_two
+        worked.doubles_8_p
+        (apply_two
+        worked.doubles_8_p
+        (apply_two
+        worked.doubles_8_p
+        (apply_two
+        worked.doubles_8_p
+        (constant worked.doubles_8_c)
+        (constant worked.doubles_8_c))
+        (apply_two
+        worked.doubles_8_p
+        (constant worked.doubles_8_c)
+        (constant worked.doubles_8_c)))
+        (apply_two
+        worked.doubles_8_p
+        (apply_two
+        worked.doubles_8_p
+        (constant worked.doubles_8_c)
+        (constant worked.doubles_8_c))
+        (apply_two
+        worked.doubles_8_p
+        (constant worked.doubles_8_c)
+        (constant worked.doubles_8_c))))
+        (apply_two
+        worked.doubles_8_p
+        (apply_two
+        worked.doubles_8_p
+        (apply_two
+        worked.doubles_8_p
+        (constant worked.doubles_8_c)
+        (constant worked.doubles_8_c))
+        (apply_two
+        worked.doubles_8_p
+        (constant worked.doubles_8_c)
+        (constant worked.doubles_8_c)))
+        (apply_two
+        worked.doubles_8_p
+        (apply_two
+        worked.doubles_8_p
+        (constant worked.doubles_8_c)
+        (constant worked.doubles_8_c))
+        (apply_two
+        worked.doubles_8_p
+        (constant worked.doubles_8_c)
+        (constant worked.doubles_8_c)))))
+        (apply_two
+        worked.doubles_8_p
+        (apply_two
+        worked.doubles_8_p
+        (apply_two
+        worked.doubles_8_p
+        (apply_two
+        worked.doubles_8_p
+        (constant worked.doubles_8_c)
+        (constant worked.doubles_8_c))
+        (apply_two
+        worked.doubles_8_p
+        (constant worked.doubles_8_c)
+        (constant worked.doubles_8_c)))
+        (apply_two
+        worked.doubles_8_p
+        (apply_two
+        worked.doubles_8_p
+        (constant worked.doubles_8_c)
+        (constant worked.doubles_8_c))
+        (apply_two
+        worked.doubles_8_p
+        (constant worked.doubles_8_c)
+        (constant worked.doubles_8_c))))
+        (apply_two
+        worked.doubles_8_p
+        (apply_two
+        worked.doubles_8_p
+        (apply_two
+        worked.doubles_8_p
+        (constant worked.doubles_8_c)
+        (constant worked.doubles_8_c))
+        (apply_two
+        worked.doubles_8_p
+        (constant worked.doubles_8_c)
+        (constant worked.doubles_8_c)))
+        (apply_two
+        worked.doubles_8_p
+        (apply_two
+        worked.doubles_8_p
+        (constant worked.doubles_8_c)
+        (constant worked.doubles_8_c))
+        (apply_two
+        worked.doubles_8_p
+        (constant worked.doubles_8_c)
+        (constant worked.doubles_8_c)))))))
+        (apply_two
+        worked.doubles_8_p
+        (apply_two
+        worked.doubles_8_p
+        (apply_two
+        worked.doubles_8_p
+        (apply_two
+        worked.doubles_8_p
+        (apply_two
+        worked.doubles_8_p
+        (apply_two
+        worked.doubles_8_p
+        (constant worked.doubles_8_c)
+        (constant worked.doubles_8_c))
+        (apply_two
+        worked.doubles_8_p
+        (constant worked.doubles_8_c)
+        (constant worked.doubles_8_c)))
+        (apply_two
+        worked.doubles_8_p
+        (apply_two
+        worked.doubles_8_p
+        (constant worked.doubles_8_c)
+        (constant worked.doubles_8_c))
+        (apply_two
+        worked.doubles_8_p
+        (constant worked.doubles_8_c)
+        (constant worked.doubles_8_c))))
+        (apply_two
+        worked.doubles_8_p
+        (apply_two
+        worked.doubles_8_p
+        (apply_two
+        worked.doubles_8_p
+        (constant worked.doubles_8_c)
+        (constant worked.doubles_8_c))
+        (apply_two
+        worked.doubles_8_p
+        (constant worked.doubles_8_c)
+        (constant worked.doubles_8_c)))
+        (apply_two
+        worked.doubles_8_p
+        (apply_two
+        worked.doubles_8_p
+        (constant worked.doubles_8_c)
+        (constant worked.doubles_8_c))
+        (apply_two
+        worked.doubles_8_p
+        (constant worked.doubles_8_c)
+        (constant worked.doubles_8_c)))))
+        (apply_two
+        worked.doubles_8_p
+        (apply_two
+        worked.doubles_8_p
+        (apply_two
+        worked.doubles_8_p
+        (apply_two
+        worked.doubles_8_p
+        (constant worked.doubles_8_c)
+        (constant worked.doubles_8_c))
+        (apply_two
+        worked.doubles_8_p
+        (constant worked.doubles_8_c)
+        (constant worked.doubles_8_c)))
+        (apply_two
+        worked.doubles_8_p
+        (apply_two
+        worked.doubles_8_p
+        (constant worked.doubles_8_c)
+        (constant worked.doubles_8_c))
+        (apply_two
+        worked.doubles_8_p
+        (constant worked.doubles_8_c)
+        (constant worked.doubles_8_c))))
+        (apply_two
+        worked.doubles_8_p
+        (apply_two
+        worked.doubles_8_p
+        (apply_two
+        worked.doubles_8_p
+        (constant worked.doubles_8_c)
+        (constant worked.doubles_8_c))
+        (apply_two
+        worked.doubles_8_p
+        (constant worked.doubles_8_c)
+        (constant worked.doubles_8_c)))
+        (apply_two
+        worked.doubles_8_p
+        (apply_two
+        worked.doubles_8_p
+        (constant worked.doubles_8_c)
+        (constant worked.doubles_8_c))
+        (apply_two
+        worked.doubles_8_p
+        (constant worked.doubles_8_c)
+        (constant worked.doubles_8_c))))))
+        (apply_two
+        worked.doubles_8_p
+        (apply_two
+        worked.doubles_8_p
+        (apply_two
+        worked.doubles_8_p
+        (apply_two
+        worked.doubles_8_p
+        (apply_two
+        worked.doubles_8_p
+        (constant worked.doubles_8_c)
+        (constant worked.doubles_8_c))
+        (apply_two
+        worked.doubles_8_p
+        (constant worked.doubles_8_c)
+        (constant worked.doubles_8_c)))
+        (apply_two
+        worked.doubles_8_p
+        (apply_two
+        worked.doubles_8_p
+        (constant worked.doubles_8_c)
+        (constant worked.doubles_8_c))
+        (apply_two
+        worked.doubles_8_p
+        (constant worked.doubles_8_c)
+        (constant worked.doubles_8_c))))
+        (apply_two
+        worked.doubles_8_p
+        (apply_two
+        worked.doubles_8_p
+        (apply_two
+        worked.doubles_8_p
+        (constant worked.doubles_8_c)
+        (constant worked.doubles_8_c))
+        (apply_two
+        worked.doubles_8_p
+        (constant worked.doubles_8_c)
+        (constant worked.doubles_8_c)))
+        (apply_two
+        worked.doubles_8_p
+        (apply_two
+        worked.doubles_8_p
+        (constant worked.doubles_8_c)
+        (constant worked.doubles_8_c))
+        (apply_two
+        worked.doubles_8_p
+        (constant worked.doubles_8_c)
+        (constant worked.doubles_8_c)))))
+        (apply_two
+        worked.doubles_8_p
+        (apply_two
+        worked.doubles_8_p
+        (apply_two
+        worked.doubles_8_p
+        (apply_two
+        worked.doubles_8_p
+        (constant worked.doubles_8_c)
+        (constant worked.doubles_8_c))
+        (apply_two
+        worked.doubles_8_p
+        (constant worked.doubles_8_c)
+        (constant worked.doubles_8_c)))
+        (apply_two
+        worked.doubles_8_p
+        (apply_two
+        worked.doubles_8_p
+        (constant worked.doubles_8_c)
+        (constant worked.doubles_8_c))
+        (apply_two
+        worked.doubles_8_p
+        (constant worked.doubles_8_c)
+        (constant worked.doubles_8_c))))
+        (apply_two
+        worked.doubles_8_p
+        (apply_two
+        worked.doubles_8_p
+        (apply_two
+        worked.doubles_8_p
+        (constant worked.doubles_8_c)
+        (constant worked.doubles_8_c))
+        (apply_two
+        worked.doubles_8_p
+        (constant worked.doubles_8_c)
+        (constant worked.doubles_8_c)))
+        (apply_two
+        worked.doubles_8_p
+        (apply_two
+        worked.doubles_8_p
+        (constant worked.doubles_8_c)
+        (constant worked.doubles_8_c))
+        (apply_two
+        worked.doubles_8_p
+        (constant worked.doubles_8_c)
+        (constant worked.doubles_8_c))))))))))
         (constant worked.doubles_8_c)) }
 {}
 
@@ -657,4 +1041,70 @@ pub fn a_term_grows()
 pub fn a_term_is_too_large()
     ensures { replay worked.doubles_12_imply_1 1000 [] []
         ≡ Refused (record { place = AtOpening; code = refusal.Size }) }
+{}
+
+/// `=>` supposes the premise of a constant, and the conclusion is the goal.
+pub fn an_implication_is_proved()
+    ensures { replay
+        worked.logic_imply_1
+        1000
+        []
+        (command.Implication ∷
+        command.Instantiate (instead (codes "x") (said (codes "xc") []) ∷ []) (whole_name Axiom 1) ∷
+        command.Qed ∷
+        [])
+        ≡ Proved }
+{}
+
+/// `/\` opens each conjunct, nested ones taken apart.
+pub fn conjuncts_are_subgoals()
+    ensures { replay worked.logic_imply_2 1000 [] (command.Conjunction ∷ [])
+        ≡ Suspended
+        2
+        (apply_two
+        (built_in Or bool_sort)
+        (apply_one worked.logic_q (var (codes "x") (codes "S")))
+        (apply_one (built_in Not bool_sort) (apply_one worked.logic_p (var (codes "x") (codes "S"))))) }
+{}
+
+/// Induction on a variable of sort Bool needs no clause.
+pub fn truth_values_are_generated()
+    ensures { replay worked.truths_imply_1 1000 [] (command.Induction (word (codes "b")) ∷ []) ≡ Proved }
+{}
+
+/// What is declared in a block can be named.
+pub fn a_declared_variable_has_a_reading()
+    ensures { replay
+        worked.numbers_imply_1
+        1000
+        []
+        (command.Declare (word (codes "k") ∷ []) (word (codes "N")) ∷
+        command.Prove
+        (equal (said (codes "__ + __") (said (codes "k") [] ∷ said (codes "0") [] ∷ [])) (said (codes "k") [])) ∷
+        command.Induction (word (codes "x")) ∷
+        command.Qed ∷
+        [])
+        ≡ Proved }
+{}
+
+/// A name that is in scope may be declared at its sort.
+pub fn a_name_in_scope_may_be_declared_again()
+    ensures { replay
+        worked.numbers_imply_1
+        1000
+        []
+        (command.Declare (word (codes "x") ∷ word (codes "k") ∷ []) (word (codes "N")) ∷
+        command.Induction (word (codes "x")) ∷
+        [])
+        ≡ Proved }
+{}
+
+/// `qed` and marks may stand behind the end of a proof.
+pub fn a_proof_may_end_twice()
+    ensures { replay
+        worked.numbers_imply_1
+        1000
+        []
+        (command.Induction (word (codes "x")) ∷ command.Qed ∷ command.Mark true ∷ command.Qed ∷ [])
+        ≡ Proved }
 {}

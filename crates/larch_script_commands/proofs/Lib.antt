@@ -1,1 +1,2 @@
 pub mod TreeLists
+pub mod Decided

@@ -1,4 +1,5 @@
 pub mod Enumeration
+pub mod Examples
 pub mod Expansion
 pub mod Operators
 pub mod Refusal

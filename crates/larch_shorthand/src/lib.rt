@@ -3,6 +3,7 @@
 
 mod append;
 mod enumeration;
+pub mod examples;
 mod expansion;
 pub mod laws;
 mod operators;

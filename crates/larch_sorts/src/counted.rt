@@ -14,8 +14,8 @@ use crate::sides::truth;
 use crate::width::{are_wide, is_wide};
 use larch_base::{Memory, let_go};
 use larch_raw::{RawEquation, RawTerm};
-use larch_sorts_counts::tally::{count_at, meeting, total};
-use larch_sorts_counts::{Count, Counted, Numbers, counts_of};
+use larch_sorts_counts::tally::{count_at, meeting, span, total};
+use larch_sorts_counts::{Count, Counted, Numbers, SortCounts, counts_of};
 use larch_sorts_meaning::{Found, ReadRefusal, Scope};
 use larch_sorts_signature::{Reading, Signature};
 use larch_term::{Sort, bool_sort};
@@ -65,7 +65,7 @@ pub(crate) fn counted_at(
     if numbers.len() <= number {
         return Ok(None);
     }
-    match count_at(counted.counts.as_slice(), number) {
+    match count_at(&counted.counts, number) {
         Count::Never => Ok(Some(None)),
         Count::Often => Ok(Some(Some(Found::Several))),
         Count::Once => {
@@ -98,11 +98,11 @@ pub(crate) fn counted_anywhere(
     let Some(counted) = counts_of(alloc, numbers, scope, raw)? else {
         return Ok(None);
     };
-    match total(numbers.len(), counted.counts.as_slice()) {
+    match total(numbers.len(), &counted.counts) {
         Count::Never => Ok(Some(None)),
         Count::Often => Ok(Some(Some(Found::Several))),
         Count::Once => {
-            let counts = counted.counts.as_slice();
+            let counts = &counted.counts;
             let Some(sort) = sort_met(numbers, counts, counts) else {
                 return Ok(None);
             };
@@ -189,11 +189,7 @@ fn counted_both(
     let Some(both) = counts_of_both(alloc, numbers, scope, left, right)? else {
         return Ok(None);
     };
-    match meeting(
-        numbers.len(),
-        both.left.counts.as_slice(),
-        both.right.counts.as_slice(),
-    ) {
+    match meeting(numbers.len(), &both.left.counts, &both.right.counts) {
         None => Ok(None),
         Some(Count::Never) => Ok(Some(None)),
         Some(Count::Often) => Ok(Some(Some(Found::Several))),
@@ -249,11 +245,7 @@ fn picked_both(
     let Some(numbers) = signature.numbers() else {
         return Ok(None);
     };
-    let Some(sort) = sort_met(
-        numbers,
-        both.left.counts.as_slice(),
-        both.right.counts.as_slice(),
-    ) else {
+    let Some(sort) = sort_met(numbers, &both.left.counts, &both.right.counts) else {
         return Ok(None);
     };
     let Some(left) = picked_at(alloc, signature, scope, left, &both.left, sort)? else {
@@ -266,8 +258,9 @@ fn picked_both(
 }
 
 // The first sort that is counted in both.
-fn sort_met<'a>(numbers: &'a Numbers, left: &[Count], right: &[Count]) -> Option<&'a Sort> {
-    for i in 0..numbers.len() {
+fn sort_met<'a>(numbers: &'a Numbers, left: &SortCounts, right: &SortCounts) -> Option<&'a Sort> {
+    let (first, end) = span(left, numbers.len());
+    for i in first..end {
         if !is_never(count_at(left, i)) && !is_never(count_at(right, i)) {
             return numbers.sort(i);
         }

@@ -3,22 +3,38 @@ use larch_base::Memory;
 use larch_raw::{RawNode, RawTerm, RawTerms};
 use larch_sorts_meaning::{Scope, variable_sort};
 use larch_sorts_signature::{Overloads, Signature};
+use larch_term::BuiltIn;
 
 // So many sorts of one term are many: a table of them is large.
 const MANY: usize = 64;
 
-// At how many sorts a term reads at most, as far as names and known sorts tell, and whether the table of it, or that of
-// one of its parts, may be large. Names without arguments have theirs before.
+// Counts go through all operators of a name, tables through those that can take the arguments: where a name has more than
+// so many times as many operators as any part has sorts, tables take less.
+const SHARE: usize = 16;
+
+// At how many sorts a term reads at most, as far as names and known sorts tell; whether the table of it, or that of one
+// of its parts, may be large; at how many sorts any part reads at most; and how many operators a name with arguments has
+// at most. Names without arguments have their tables before.
 #[derive(Clone, Copy)]
 struct Width {
     sorts: usize,
     is_large: bool,
+    most_sorts: usize,
+    most_operators: usize,
 }
 
-// Whether a term is worth counting: else its tables are small.
+// What has one sort.
+const ONE: Width = Width {
+    sorts: 1,
+    is_large: false,
+    most_sorts: 1,
+    most_operators: 0,
+};
+
+// Whether a term is worth counting: else its tables are small, or take less.
 pub(crate) fn is_wide(signature: &Signature, scope: &Scope, raw: &RawTerm) -> Result<bool, Memory> {
     let width = width_of(signature, scope, raw)?;
-    Ok(width.is_large)
+    Ok(width.is_large && is_worth(width))
 }
 
 // The same of two terms, whose tables are compared.
@@ -30,7 +46,13 @@ pub(crate) fn are_wide(
 ) -> Result<bool, Memory> {
     let left = width_of(signature, scope, left)?;
     let right = width_of(signature, scope, right)?;
-    Ok(left.is_large || right.is_large || MANY < left.sorts && MANY < right.sorts)
+    let is_large = left.is_large || right.is_large || MANY < left.sorts && MANY < right.sorts;
+    Ok(is_large && is_worth(together(left, right)))
+}
+
+// Whether no name has too many operators for its parts to be counted.
+fn is_worth(width: Width) -> bool {
+    width.most_operators <= width.most_sorts.saturating_mul(SHARE)
 }
 
 // How wide a term is.
@@ -40,45 +62,71 @@ fn width_of(signature: &Signature, scope: &Scope, raw: &RawTerm) -> Result<Width
     match raw.node() {
         RawNode::Apply(name, arguments, _) => {
             if variable_sort(scope, name, arguments).is_some() {
-                return Ok(Width {
-                    sorts: 1,
-                    is_large: false,
-                });
+                return Ok(ONE);
             }
-            let inner = width_of_all(signature, scope, arguments)?;
+            let (inner, last) = width_of_all(signature, scope, arguments)?;
             let Some(overloads) = signature.named(name) else {
                 return Ok(inner);
             };
-            let sorts = sorts_made(signature, scope, overloads, arguments, inner.sorts)?;
-            let is_large = inner.is_large || MANY < sorts && !arguments.as_slice().is_empty();
-            Ok(Width { sorts, is_large })
+            // A choice has the sort of its last argument.
+            let ways = if name.bytes() == BuiltIn::If.name() {
+                last
+            } else {
+                inner.sorts
+            };
+            let sorts = sorts_made(signature, scope, overloads, arguments, ways)?;
+            if arguments.as_slice().is_empty() {
+                return Ok(Width {
+                    sorts,
+                    is_large: false,
+                    most_sorts: sorts,
+                    most_operators: 0,
+                });
+            }
+            Ok(Width {
+                sorts,
+                is_large: inner.is_large || MANY < sorts,
+                most_sorts: larger(inner.most_sorts, sorts),
+                most_operators: larger(inner.most_operators, overloads.as_slice().len()),
+            })
         }
         RawNode::Qualified(term, _, _) => {
             let inner = width_of(signature, scope, term)?;
-            Ok(Width {
-                sorts: 1,
-                is_large: inner.is_large,
-            })
+            Ok(Width { sorts: 1, ..inner })
         }
     }
 }
 
-// How many sorts arguments have together, one of each.
+// How wide arguments are together, which have so many sorts, one of each, and how many sorts the last one has.
 #[cycle(width)]
 #[tactic(auto, using(larch_raw::specs::RawTree::raw_nodes_all_is_sum))]
 fn width_of_all(
     signature: &Signature,
     scope: &Scope,
     arguments: &RawTerms,
-) -> Result<Width, Memory> {
-    let mut sorts = 1usize;
-    let mut is_large = false;
+) -> Result<(Width, usize), Memory> {
+    let mut all = ONE;
+    let mut last = 1;
     for argument in arguments.as_slice() {
         let width = width_of(signature, scope, argument)?;
-        sorts = sorts.saturating_mul(width.sorts);
-        is_large = is_large || width.is_large;
+        all = together(all, width);
+        last = width.sorts;
     }
-    Ok(Width { sorts, is_large })
+    Ok((all, last))
+}
+
+// How wide two arguments are together.
+fn together(left: Width, right: Width) -> Width {
+    Width {
+        sorts: left.sorts.saturating_mul(right.sorts),
+        is_large: left.is_large || right.is_large,
+        most_sorts: larger(left.most_sorts, right.most_sorts),
+        most_operators: larger(left.most_operators, right.most_operators),
+    }
+}
+
+fn larger(left: usize, right: usize) -> usize {
+    if left < right { right } else { left }
 }
 
 // How many sorts operators make at most of arguments that have their sorts in so many ways: no more than there are

@@ -2,3 +2,4 @@ pub mod Counting
 pub mod CountsTold
 pub mod Numbering
 pub mod Products
+pub mod Spreading

@@ -2,3 +2,4 @@ pub mod Count
 pub mod Counted
 pub mod Counts
 pub mod Numbers
+pub mod Spread

@@ -11,7 +11,7 @@ ghost use Rattle.larch_sorts_counts.specs.declared.count.Count.TheVariants.{Once
 
 use crate::count::Count;
 use crate::numbers::Numbers;
-use crate::tally::{alone, count_at, counts_made, total};
+use crate::tally::{SortCounts, alone, count_at, counts_made, total};
 use larch_base::{Memory, Name, Sequence};
 use larch_raw::{RawNode, RawTerm, RawTerms};
 use larch_sorts_meaning::{ReadRefusal, Scope, head_of, variable_sort};
@@ -22,7 +22,7 @@ use std::alloc::Global;
 #[cycle(counted)]
 pub struct Counted {
     /// How often it reads at the sort of each number, and last at sorts without a number.
-    pub counts: Sequence<Count>,
+    pub counts: SortCounts,
     /// The same of its arguments, or of the term that it qualifies.
     pub arguments: Vec<Counted>,
 }
@@ -55,7 +55,7 @@ pub fn counts_of(
     let Some(counted) = counts_from_parts(alloc, numbers, scope, raw)? else {
         return Ok(None);
     };
-    if let Count::Never = total(numbers.len(), counted.counts.as_slice()) {
+    if let Count::Never = total(numbers.len(), &counted.counts) {
         return Err(ReadRefusal::NoReading(head_of(raw)));
     }
     Ok(Some(counted))
@@ -121,7 +121,7 @@ fn counts_of_all(
         let Some(counted) = counts_of(alloc, numbers, scope, argument)? else {
             return Ok(None);
         };
-        let Count::Never = count_at(counted.counts.as_slice(), numbers.len()) else {
+        let Count::Never = count_at(&counted.counts, numbers.len()) else {
             return Ok(None);
         };
         all.push(counted)?;
@@ -130,7 +130,7 @@ fn counts_of_all(
 }
 
 // The counts of what a name makes of no arguments, where it has none and they are kept.
-fn word<'a>(numbers: &'a Numbers, name: &Name, arguments: &RawTerms) -> Option<&'a [Count]>
+fn word<'a>(numbers: &'a Numbers, name: &Name, arguments: &RawTerms) -> Option<&'a SortCounts>
     ensures { IfSome (option_copied result) (λ counts. (arguments.now ≡ [])
         × (Some counts ≡ lookup (bytes_eq name.now) numbers.now.words.entries)) }
 {
@@ -141,12 +141,12 @@ fn word<'a>(numbers: &'a Numbers, name: &Name, arguments: &RawTerms) -> Option<&
 }
 
 // These counts, of a term without arguments.
-fn copied(alloc: Global, counts: &[Count]) -> Result<Counted, Memory>
+fn copied(alloc: Global, counts: &SortCounts) -> Result<Counted, Memory>
     ensures { IfOk result (λ counted. counts_in counted ≡ counts.now) }
 {
-    let counts = Vec::from_slice(alloc, counts)?;
+    let counts = counts.copy(alloc)?;
     Ok(Counted {
-        counts: Sequence::from_vec(counts),
+        counts,
         arguments: Vec::new(alloc),
     })
 }
@@ -202,7 +202,7 @@ fn within(
     if numbers.len() <= number {
         return Ok(None);
     }
-    let count = count_at(counted.counts.as_slice(), number);
+    let count = count_at(&counted.counts, number);
     let counts = alone(alloc, numbers.len(), number, count)?;
     let mut arguments = Vec::with_capacity(alloc, 1)?;
     arguments.push(counted)?;

@@ -10,3 +10,4 @@ mod words;
 pub use count::Count;
 pub use counts::{Counted, counts_of};
 pub use numbers::{Numbered, Numbers, all_differ};
+pub use tally::SortCounts;

@@ -4,12 +4,15 @@ ghost use Rattle.std.specs.Prelude.{◌≡◌, ℕ, List, IfOk, IsTrue, bytes_eq
 ghost use Rattle.larch_sorts_counts.specs.Numbers.{AreDifferent, AreWords, number_of, as_numbers, numbers_under};
 ghost use Rattle.larch_sorts_meaning.specs.Signature.{kept_under};
 
-use crate::count::Count;
+use crate::tally::SortCounts;
 use crate::words::words_of;
 use indexmap::{IndexMap, IndexSet};
 use larch_base::{Memory, Name, Sequence};
 use larch_term::{Operator, Operators, Sort};
 use std::alloc::Global;
+
+// Names of at most so many operators come before those of more.
+const LIMITS: [usize; 4] = [64, 1_024, 16_384, 1_000_000_000];
 
 /// An operator as the numbers of its sorts.
 #[derive(Drop)]
@@ -24,7 +27,7 @@ pub struct Numbered {
 pub struct Numbers {
     sorts: IndexSet<Sort>,
     names: IndexMap<Name, Sequence<Numbered>>,
-    words: IndexMap<Name, Sequence<Count>>,
+    words: IndexMap<Name, SortCounts>,
 }
 
 // By a call, so that a proof takes one apart in one place alone.
@@ -51,7 +54,7 @@ impl Numbers {
         ensures words { IfOk result (λ numbers.
             AreWords (length numbers.sorts.keys) numbers.names.entries numbers.words.entries) }
     {
-        let sorts = set_of(alloc, sorts)?;
+        let sorts = set_of(alloc, sorts, index)?;
         let names = names_of(alloc, &sorts, index)?;
         let words = words_of(alloc, sorts.len(), &names)?;
         Ok(Numbers {
@@ -72,11 +75,10 @@ impl Numbers {
     }
 
     // The counts of what a name makes of no arguments, where they are kept.
-    pub(crate) fn word(&self, name: &Name) -> Option<&[Count]>
+    pub(crate) fn word(&self, name: &Name) -> Option<&SortCounts>
         ensures { option_copied result ≡ lookup (bytes_eq name.now) self.now.words.entries }
     {
-        let counts = self.words.get(name)?;
-        Some(counts.as_slice())
+        self.words.get(name)
     }
 
     /// How many sorts there are. It takes no memory.
@@ -116,14 +118,52 @@ pub fn all_differ(alloc: Global, operators: &[Operator]) -> Result<bool, Memory>
     Ok(true)
 }
 
-// Sorts, each once.
-fn set_of(alloc: Global, sorts: &[Sort]) -> Result<IndexSet<Sort>, Memory> {
+// Sorts, each once: first those that names of few operators make, so that what one name makes has numbers that stand
+// close together, and last those that nothing makes.
+fn set_of(
+    alloc: Global,
+    sorts: &[Sort],
+    index: &IndexMap<Name, Operators>,
+) -> Result<IndexSet<Sort>, Memory> {
     let mut set = IndexSet::new(alloc);
+    for most in &LIMITS {
+        for name in index.keys() {
+            put_made(index, name, *most, &mut set)?;
+        }
+    }
     for sort in sorts {
+        put(sort, &mut set)?;
+    }
+    Ok(set)
+}
+
+// Puts the sorts that the operators of a name make behind others, if there are at most so many operators.
+fn put_made(
+    index: &IndexMap<Name, Operators>,
+    name: &Name,
+    most: usize,
+    set: &mut IndexSet<Sort>,
+) -> Result<(), Memory> {
+    let Some(operators) = index.get(name) else {
+        return Ok(());
+    };
+    let operators = operators.as_slice();
+    if operators.len() > most {
+        return Ok(());
+    }
+    for operator in operators {
+        put(operator.range(), set)?;
+    }
+    Ok(())
+}
+
+// Puts a sort behind others, if it isn't there.
+fn put(sort: &Sort, set: &mut IndexSet<Sort>) -> Result<(), Memory> {
+    if !set.contains(sort) {
         let sort = sort.copy()?;
         set.insert(sort)?;
     }
-    Ok(set)
+    Ok(())
 }
 
 // The operators of each name as the numbers of their sorts.

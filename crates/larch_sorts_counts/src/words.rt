@@ -3,22 +3,22 @@ ghost use Rattle.std.specs.Prelude.{◌≡◌, ℕ, List, [], IfOk, IfSome, OnOk
 ghost use Rattle.larch_sorts_counts.specs.Count.{counts_made};
 ghost use Rattle.larch_sorts_counts.specs.Numbers.{AreWords, numbers_under};
 
-use crate::count::Count;
 use crate::numbers::Numbered;
-use crate::tally::counts_made;
+use crate::tally::{SortCounts, counts_made, made_between};
 use indexmap::IndexMap;
 use larch_base::{Memory, Name, Sequence};
 use std::alloc::Global;
 
-// The counts of a name are kept where the sorts are at most so many times its operators.
+// The counts of a name are kept where they are at most so many times its operators.
 const SHARE: usize = 16;
 
-// The counts of what names make of no arguments, for names that have many operators beside so many sorts.
+// The counts of what names make of no arguments, for names that have many operators beside the sorts between which they
+// make something.
 pub(crate) fn words_of(
     alloc: Global,
     size: usize,
     names: &IndexMap<Name, Sequence<Numbered>>,
-) -> Result<IndexMap<Name, Sequence<Count>>, Memory>
+) -> Result<IndexMap<Name, SortCounts>, Memory>
     ensures { IfOk result (λ words. AreWords size names.now.entries words.entries) }
 {
     let mut words = IndexMap::new(alloc);
@@ -35,7 +35,7 @@ fn note(
     size: usize,
     names: &IndexMap<Name, Sequence<Numbered>>,
     name: &Name,
-    words: &mut IndexMap<Name, Sequence<Count>>,
+    words: &mut IndexMap<Name, SortCounts>,
 ) -> Result<(), Memory>
     ensures { OnOk result ((n : List ℕ)
         → IfSome (lookup (bytes_eq n) words.old.entries)
@@ -47,7 +47,8 @@ fn note(
         return Ok(());
     };
     let operators = operators.as_slice();
-    if operators.len() < size / SHARE {
+    let (first, end) = made_between(size, operators);
+    if operators.len() < end.saturating_sub(first) / SHARE {
         return Ok(());
     }
     let counts = counts_made(alloc, size, operators, &[])?;

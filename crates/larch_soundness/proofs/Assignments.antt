@@ -1,14 +1,15 @@
 -- Assignments with other values for some variables, and the truth of what is so under all of them.
 use Rattle.std.proofs.Common.{◌≡◌, ◌≢◌, ◌≤◌, ◌==◌, ◌&&◌, ℕ, zero, suc, inl, inr, ◌⊎◌, Bool, true, false, cond, List, []}
-use Rattle.std.proofs.Common.{◌∷◌, ◌++◌, bytes_eq, refl, sym, ◌∙◌, ap, subst, arith}
+use Rattle.std.proofs.Common.{◌∷◌, bytes_eq, Contains, refl, sym, ◌∙◌, ap, subst, arith}
 use Rattle.std.proofs.lemmas.Slice.Eq.{bytes_eq-Decides}
 use Rattle.larch_base.proofs.Bools.{and_left, and_right, and_both}
-use Rattle.larch_base.proofs.Members.{contains_none, contains_cases, contains_left, contains_right}
+use Rattle.larch_base.proofs.Members.{contains_none, contains_cases}
 use Rattle.larch_term.specs.Tree.{Tree}
-use Rattle.larch_term.specs.Variable.{occurrences}
+use Rattle.larch_term.specs.Variable.{occurrences, variables_of}
+use Rattle.larch_term_law.proofs.Occurring.{all_have, all_keep, listed_occurs}
 use Rattle.larch_term.specs.declared.variable.Variable.{Variable}
-use Rattle.larch_models.specs.Interpretation.{Interpretation, Assignment, value_of, InRange}
-use Rattle.larch_models.specs.Computed.{all_up_to, update, all_assignments, zeros}
+use Rattle.larch_models_meaning.specs.Interpretation.{Interpretation, Assignment, value_of, InRange}
+use Rattle.larch_models_meaning.specs.Computed.{all_up_to, update, all_assignments, variables_of_both, zeros}
 use Rattle.larch_soundness.proofs.Values.{Alike, value_alike, same_numbers, numbers_same}
 
 -- whether the variable of this name and sort is this other one
@@ -118,28 +119,33 @@ merged_alike (w ∷ ws) a b v c =
 abbrev pub IsLocal : (Assignment → Assignment) → Type 0
 IsLocal f = (a b : Assignment) (ws : List Variable) → Alike a b ws → Alike (f a) (f b) ws
 
+-- what occurs in one of two terms is among their variables
+of_left : (l r : Tree) (w : Variable) → Contains (occurrences l) w → Contains (variables_of_both l r) w
+of_left l r w c = all_keep (variables_of l) (occurrences r) w ((listed_occurs l w).1 c)
+
+of_right : (l r : Tree) (w : Variable) → Contains (occurrences r) w → Contains (variables_of_both l r) w
+of_right l r w c = all_have (variables_of l) (occurrences r) w c
+
 -- two terms have one value under every assignment that is so changed
 abbrev pub Agree : Interpretation → (Assignment → Assignment) → Tree → Tree → Type 0
 Agree m f l r = (a : Assignment) → InRange m.last a → value_of m (f a) l ≡ value_of m (f a) r
 
 abbrev pub agree : Interpretation → (Assignment → Assignment) → Tree → Tree → Bool
 agree m f l r =
-    all_assignments m.last (occurrences l ++ occurrences r) zeros (λ a. value_of m (f a) l == value_of m (f a) r)
+    all_assignments m.last (variables_of_both l r) zeros (λ a. value_of m (f a) l == value_of m (f a) r)
 
 pub agree_so : (m : Interpretation) (f : Assignment → Assignment) → IsLocal f → (l r : Tree) → agree m f l r ≡ true
     → Agree m f l r
 agree_so m f local l r h a g =
-    let ws = occurrences l ++ occurrences r in
+    let ws = variables_of_both l r in
     let b = merged ws zeros a in
     let like : Alike b a ws = merged_alike ws zeros a in
-    sym (value_alike m (f b) (f a) l
-    (local b a (occurrences l) (λ w c. like w (contains_left (occurrences l) (occurrences r) w c))))
+    sym (value_alike m (f b) (f a) l (local b a (occurrences l) (λ w c. like w (of_left l r w c))))
     ∙ same_numbers (value_of m (f b) l) (value_of m (f b) r)
     (assignments_at m.last ws zeros a (λ c. value_of m (f c) l == value_of m (f c) r) h g)
-    ∙ value_alike m (f b) (f a) r
-    (local b a (occurrences r) (λ w c. like w (contains_right (occurrences l) (occurrences r) w c)))
+    ∙ value_alike m (f b) (f a) r (local b a (occurrences r) (λ w c. like w (of_right l r w c)))
 
 pub agree_if : (m : Interpretation) (f : Assignment → Assignment) (l r : Tree) → Agree m f l r → agree m f l r ≡ true
 agree_if m f l r h =
-    assignments_if m.last (occurrences l ++ occurrences r) zeros (λ a. value_of m (f a) l == value_of m (f a) r)
+    assignments_if m.last (variables_of_both l r) zeros (λ a. value_of m (f a) l == value_of m (f a) r)
     (zeros_in_range m.last) (λ a g. numbers_same (value_of m (f a) l) (value_of m (f a) r) (h a g))

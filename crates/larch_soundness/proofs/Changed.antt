@@ -19,8 +19,8 @@ use Rattle.larch_calculus.specs.Theories.{extend, AreNew}
 use Rattle.larch_calculus.proofs.Freeing.{known_not_placed}
 use Rattle.larch_calculus.proofs.Names.{placed_at}
 use Rattle.larch_calculus.proofs.Observed.{observation_is}
-use Rattle.larch_models.specs.Interpretation.{Interpretation, Assignment, values_of, Within}
-use Rattle.larch_models.specs.Models.{with_value, Holds, IsModel}
+use Rattle.larch_models_meaning.specs.Interpretation.{Interpretation, Assignment, values_of, Within}
+use Rattle.larch_models_meaning.specs.Models.{with_value, Holds, IsModel}
 use Rattle.larch_soundness.proofs.Values.{SameTables, value_same}
 
 -- a new table where there is one

@@ -9,9 +9,9 @@ use Rattle.larch_term.specs.declared.statement.Statement.{Statement}
 use Rattle.larch_term.specs.declared.statement.Statement.TheVariants.{Equation, Generated, Partitioned}
 use Rattle.larch_term.specs.declared.statement.Theory.{Theory}
 use Rattle.larch_calculus.specs.Observation.{Observation, observations_of}
-use Rattle.larch_models.specs.Interpretation.{Interpretation, IsInterpretation}
-use Rattle.larch_models.specs.Models.{with_value, ShowsSame, Holds, IsModel}
-use Rattle.larch_models.specs.Computed.{all_up_to, shows_same, holds_partitioned, holds, all_hold}
+use Rattle.larch_models_meaning.specs.Interpretation.{Interpretation, IsInterpretation}
+use Rattle.larch_models_meaning.specs.Models.{with_value, ShowsSame, Holds, IsModel}
+use Rattle.larch_models_meaning.specs.Computed.{all_up_to, shows_same, holds_partitioned, holds, all_hold}
 use Rattle.larch_soundness.proofs.Assignments.{up_to_at, up_to_if, agree_so, agree_if}
 use Rattle.larch_soundness.proofs.LeastSets.{arguments_at, arguments_if, all_at, all_if, implied_so, implied_if}
 use Rattle.larch_soundness.proofs.LeastSets.{generated_so, generated_if}

@@ -14,10 +14,10 @@ use Rattle.larch_term.specs.declared.statement.Theory.{Theory}
 use Rattle.larch_calculus.specs.Example.{number_sort, nought, successor, plus, numbers_generated, sum_with_nought}
 use Rattle.larch_calculus.specs.Example.{sum_with_successor, numbers}
 use Rattle.larch_calculus.specs.Formula.{constant}
-use Rattle.larch_models.specs.Computed.{holds, all_hold}
+use Rattle.larch_models_meaning.specs.Computed.{holds, all_hold}
 use Rattle.larch_soundness.specs.Conditions.{Refutes}
 use Rattle.larch_soundness.specs.Counterexamples.{sort_n, constant_a, constant_b, predicate, alike}
-use Rattle.larch_models.specs.Standard.{standard}
+use Rattle.larch_models_meaning.specs.Standard.{standard}
 use Rattle.larch_soundness.proofs.Computing.{model_so}
 use Rattle.larch_soundness.proofs.Standards.{standard_interprets}
 

@@ -7,7 +7,7 @@ use Rattle.larch_term.specs.Operator.{PlainOperator}
 use Rattle.larch_term.specs.Tree.{Tree, Forest, var, app, none, more}
 use Rattle.larch_term.specs.declared.variable.Variable.{Variable}
 use Rattle.larch_calculus.specs.Freed.{place_of, variable_for, free_constants, freed_all}
-use Rattle.larch_models.specs.Interpretation.{Interpretation, Assignment, value_of, values_of, Within, InRange}
+use Rattle.larch_models_meaning.specs.Interpretation.{Interpretation, Assignment, value_of, values_of, Within, InRange}
 use Rattle.larch_soundness.proofs.Changed.{taken, changed, always, given_by}
 
 -- the values of variables

@@ -14,9 +14,10 @@ use Rattle.larch_term.specs.OperatorKey.{same_name}
 use Rattle.larch_calculus.specs.Formula.{apply_one, conjunction}
 use Rattle.larch_calculus.specs.Generation.{variables_from, variable_terms, holding, conjunction_from, implied_by}
 use Rattle.larch_calculus.specs.Generation.{generation_formula}
-use Rattle.larch_models.specs.Interpretation.{Interpretation, Assignment, value_of, values_of, bit, is_one, first}
-use Rattle.larch_models.specs.Interpretation.{Within, IsInterpretation}
-use Rattle.larch_models.specs.Models.{ArgumentsIn, Holds}
+use Rattle.larch_models_meaning.specs.Interpretation.{Interpretation, Assignment, value_of, values_of, bit, is_one}
+use Rattle.larch_models_meaning.specs.Interpretation.{first}
+use Rattle.larch_models_meaning.specs.Interpretation.{Within, IsInterpretation}
+use Rattle.larch_models_meaning.specs.Models.{ArgumentsIn, Holds}
 use Rattle.larch_soundness.proofs.Freed.{of_variables, of_variables_within}
 use Rattle.larch_soundness.proofs.Values.{is_one_bit}
 

@@ -13,8 +13,8 @@ use Rattle.larch_calculus.specs.Identity.{Proposition, letter, always, never, de
 use Rattle.larch_calculus.specs.Identity.{equal, unequal, chosen, term_of, agree, value, IsIdentity, propositional}
 use Rattle.larch_calculus.specs.Identity.{equal_itself, equal_exchanged, unequal_denied, chosen_first, chosen_second}
 use Rattle.larch_calculus.specs.Identity.{chosen_same}
-use Rattle.larch_models.specs.Interpretation.{Interpretation, Assignment, value_of, bit, is_one, InRange}
-use Rattle.larch_models.specs.Interpretation.{IsInterpretation}
+use Rattle.larch_models_meaning.specs.Interpretation.{Interpretation, Assignment, value_of, bit, is_one, InRange}
+use Rattle.larch_models_meaning.specs.Interpretation.{IsInterpretation}
 use Rattle.larch_soundness.proofs.Values.{is_one_bit, bit_is_one}
 
 -- the truth values of an assignment

@@ -13,9 +13,9 @@ use Rattle.larch_term.specs.declared.statement.Statement.{Statement}
 use Rattle.larch_term.specs.declared.statement.Statement.TheVariants.{Equation}
 use Rattle.larch_calculus.specs.Formula.{constant}
 use Rattle.larch_calculus.specs.Generation.{only, equation_at, induction_hypotheses}
-use Rattle.larch_models.specs.Interpretation.{Interpretation, Assignment, value_of, Within, InRange}
-use Rattle.larch_models.specs.Models.{ArgumentsIn, Holds}
-use Rattle.larch_models.specs.Computed.{update}
+use Rattle.larch_models_meaning.specs.Interpretation.{Interpretation, Assignment, value_of, Within, InRange}
+use Rattle.larch_models_meaning.specs.Models.{ArgumentsIn, Holds}
+use Rattle.larch_models_meaning.specs.Computed.{update}
 use Rattle.larch_soundness.proofs.Assignments.{is_variable, Agree}
 use Rattle.larch_soundness.proofs.Changed.{Gives}
 use Rattle.larch_soundness.proofs.Values.{value_substituted, SameTables, value_same}

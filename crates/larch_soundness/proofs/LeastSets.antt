@@ -7,9 +7,10 @@ use Rattle.larch_base.proofs.Bools.{true_or_false, and_left, and_right, and_both
 use Rattle.larch_base.proofs.Members.{contains_none, contains_cases, contains_here, contains_later}
 use Rattle.larch_term.specs.Operator.{PlainOperator}
 use Rattle.larch_term.specs.declared.statement.Statement.TheVariants.{Generated}
-use Rattle.larch_models.specs.Interpretation.{Interpretation, bit, Within}
-use Rattle.larch_models.specs.Models.{ArgumentsIn, IsClosedUnder, Holds}
-use Rattle.larch_models.specs.Computed.{all_arguments, arguments_in, is_unmade, made_in, steps_for, holds_generated}
+use Rattle.larch_models_meaning.specs.Interpretation.{Interpretation, bit, Within}
+use Rattle.larch_models_meaning.specs.Models.{ArgumentsIn, IsClosedUnder, Holds}
+use Rattle.larch_models_meaning.specs.Computed.{all_arguments, arguments_in, is_unmade, made_in, steps_for}
+use Rattle.larch_models_meaning.specs.Computed.{holds_generated}
 use Rattle.larch_soundness.proofs.Assignments.{last_or_before, up_to_at, up_to_if}
 use Rattle.larch_soundness.proofs.Values.{bit_within, same_numbers, numbers_same}
 

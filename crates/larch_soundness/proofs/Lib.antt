@@ -3,6 +3,7 @@ pub mod Assignments
 pub mod Changed
 pub mod Computing
 pub mod Counterexamples
+pub mod FirstFailing
 pub mod Freed
 pub mod Generating
 pub mod Identities

@@ -12,9 +12,9 @@ use Rattle.larch_term.specs.declared.statement.Statement.TheVariants.{Equation}
 use Rattle.larch_calculus.specs.Derivable.{AreApart}
 use Rattle.larch_calculus.specs.Observation.{Observation, arguments_with, variables_beside, observer_term}
 use Rattle.larch_calculus.specs.Observation.{other_variables, AreDifferent}
-use Rattle.larch_models.specs.Interpretation.{Interpretation, Assignment, value_of, values_of, Within, InRange}
-use Rattle.larch_models.specs.Models.{with_value, ShowsSame, Holds}
-use Rattle.larch_models.specs.Computed.{update}
+use Rattle.larch_models_meaning.specs.Interpretation.{Interpretation, Assignment, value_of, values_of, Within, InRange}
+use Rattle.larch_models_meaning.specs.Models.{with_value, ShowsSame, Holds}
+use Rattle.larch_models_meaning.specs.Computed.{update}
 use Rattle.larch_soundness.proofs.Assignments.{updated_in_range, updated_here, updated_elsewhere}
 use Rattle.larch_soundness.proofs.Values.{Alike, value_alike}
 

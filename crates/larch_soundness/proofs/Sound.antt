@@ -35,10 +35,11 @@ use Rattle.larch_calculus.proofs.Observed.{partition_over}
 use Rattle.larch_calculus.proofs.Sorted.{truth_over, falsity_over, extended_well_sorted, with_statements_well_sorted}
 use Rattle.larch_calculus.proofs.Sorted.{generation_over, suppositions_over}
 use Rattle.larch_calculus.proofs.WellSorted.{well_sorted}
-use Rattle.larch_models.specs.Interpretation.{Interpretation, Assignment, value_of, values_of, bit, is_one, first}
-use Rattle.larch_models.specs.Interpretation.{Within, InRange, IsInterpretation}
-use Rattle.larch_models.specs.Models.{ArgumentsIn, IsClosedUnder, Holds, IsModel}
-use Rattle.larch_models.specs.Computed.{update, zeros}
+use Rattle.larch_models_meaning.specs.Interpretation.{Interpretation, Assignment, value_of, values_of, bit, is_one}
+use Rattle.larch_models_meaning.specs.Interpretation.{first}
+use Rattle.larch_models_meaning.specs.Interpretation.{Within, InRange, IsInterpretation}
+use Rattle.larch_models_meaning.specs.Models.{ArgumentsIn, IsClosedUnder, Holds, IsModel}
+use Rattle.larch_models_meaning.specs.Computed.{update, zeros}
 use Rattle.larch_soundness.proofs.Assignments.{updated_itself, updated_here, updated_in_range, updated_alike}
 use Rattle.larch_soundness.proofs.Assignments.{zeros_in_range, agree, agree_so, agree_if}
 use Rattle.larch_soundness.proofs.Changed.{taken, changed, Spares, same_tables, known_observer, extended_model}

@@ -11,9 +11,10 @@ use Rattle.larch_term.specs.declared.built_in.BuiltIn.{BuiltIn}
 use Rattle.larch_term.specs.declared.built_in.BuiltIn.TheVariants.{True, False, Not, And, Or, Implies, Iff, Equal}
 use Rattle.larch_term.specs.declared.built_in.BuiltIn.TheVariants.{Unequal, If}
 use Rattle.larch_term.specs.OperatorKey.{same_operator, operator_Decides}
-use Rattle.larch_models.specs.Interpretation.{Interpretation, meaning, Within, IsInterpretation}
-use Rattle.larch_models.specs.Standard.{last_sort, built_in_among, every_built_in, standard_last, standard_value}
-use Rattle.larch_models.specs.Standard.{standard}
+use Rattle.larch_models_meaning.specs.Interpretation.{Interpretation, meaning, Within, IsInterpretation}
+use Rattle.larch_models_meaning.specs.Standard.{last_sort, built_in_among, every_built_in, standard_last}
+use Rattle.larch_models_meaning.specs.Standard.{standard_value}
+use Rattle.larch_models_meaning.specs.Standard.{standard}
 use Rattle.larch_soundness.proofs.Values.{meaning_within}
 
 among_is : (f : PlainOperator) (bs : List BuiltIn) (b : BuiltIn) → built_in_among f bs ≡ Some b

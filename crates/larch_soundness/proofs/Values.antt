@@ -16,8 +16,9 @@ use Rattle.larch_term.specs.declared.variable.Variable.{Variable}
 use Rattle.larch_term.specs.declared.built_in.BuiltIn.{BuiltIn}
 use Rattle.larch_term.specs.declared.built_in.BuiltIn.TheVariants.{True, False, Not, And, Or, Implies, Iff, Equal}
 use Rattle.larch_term.specs.declared.built_in.BuiltIn.TheVariants.{Unequal, If}
-use Rattle.larch_models.specs.Interpretation.{Interpretation, Assignment, value_of, values_of, bit, is_one, first}
-use Rattle.larch_models.specs.Interpretation.{others, meaning, Within, InRange, IsInterpretation}
+use Rattle.larch_models_meaning.specs.Interpretation.{Interpretation, Assignment, value_of, values_of, bit, is_one}
+use Rattle.larch_models_meaning.specs.Interpretation.{first}
+use Rattle.larch_models_meaning.specs.Interpretation.{others, meaning, Within, InRange, IsInterpretation}
 
 pub bit_within : (b : Bool) → bit b ≤ 1
 bit_within true = omega arith

@@ -18,9 +18,9 @@ use Rattle.larch_calculus.specs.Generation.{place_name, generation_hypotheses, c
 use Rattle.larch_calculus.specs.Generation.{induction_hypotheses}
 use Rattle.larch_calculus.specs.Observation.{Observation, observations_of, observer_term, observations}
 use Rattle.larch_calculus.specs.Theories.{IsIncluded, IsNewName, AreConstants, with_statements, extend}
-use Rattle.larch_models.specs.Computed.{holds}
-use Rattle.larch_models.specs.Interpretation.{Interpretation}
-use Rattle.larch_models.specs.Models.{IsModel}
+use Rattle.larch_models_meaning.specs.Computed.{holds}
+use Rattle.larch_models_meaning.specs.Interpretation.{Interpretation}
+use Rattle.larch_models_meaning.specs.Models.{IsModel}
 
 -- the theory is well sorted and has the model, in which the statement fails
 pub record Refutes (m : Interpretation) (t : Theory) (s : Statement) : Type 0 where

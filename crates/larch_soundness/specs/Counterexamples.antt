@@ -10,9 +10,9 @@ use Rattle.larch_term.specs.declared.variable.Variable.{Variable}
 use Rattle.larch_term.specs.Truth.{truth}
 use Rattle.larch_calculus.specs.Example.{number_sort, nought, x_number}
 use Rattle.larch_calculus.specs.Formula.{constant, apply_one, apply_two, equality}
-use Rattle.larch_models.specs.Examples.{two_values}
-use Rattle.larch_models.specs.Interpretation.{Interpretation, first, others, bit, is_one}
-use Rattle.larch_models.specs.Standard.{standard, is_named}
+use Rattle.larch_models_meaning.specs.Examples.{two_values}
+use Rattle.larch_models_meaning.specs.Interpretation.{Interpretation, first, others, bit, is_one}
+use Rattle.larch_models_meaning.specs.Standard.{standard, is_named}
 
 abbrev pub sort_n : List ℕ
 sort_n = codes "N"

@@ -10,7 +10,7 @@ ghost use Rattle.larch_calculus.specs.Formula.{constant, apply_one};
 ghost use Rattle.larch_calculus.specs.Freed.{free_constants};
 ghost use Rattle.larch_calculus.specs.Observation.{Observation, observations_of, other_variables, AreDifferent};
 ghost use Rattle.larch_calculus.specs.Theories.{IsNewName};
-ghost use Rattle.larch_models.specs.Computed.{holds};
+ghost use Rattle.larch_models_meaning.specs.Computed.{holds};
 ghost use Rattle.larch_soundness.specs.Conditions.{Refutes, WeakenPremises, FreshPremises, CasesPremises};
 ghost use Rattle.larch_soundness.specs.Conditions.{InductPremises, ObservePremises, OccursNot, GeneratedPremises};
 ghost use Rattle.larch_soundness.specs.Conditions.{PartitionedPremises};
@@ -21,8 +21,8 @@ ghost use Rattle.larch_soundness.specs.Counterexamples.{own_values, observer_of_
 ghost use Rattle.larch_soundness.specs.Counterexamples.{one_values, operator_p, operator_q, equal_pairs, pair_values};
 ghost use Rattle.larch_soundness.specs.Counterexamples.{box_constant, one_twice, predicate, holding_everywhere};
 ghost use Rattle.larch_soundness.specs.Counterexamples.{true_values, alike, ill_sorted, sorted_again};
-ghost use Rattle.larch_models.specs.Examples.{modulo_two};
-ghost use Rattle.larch_models.specs.Models.{IsModel};
+ghost use Rattle.larch_models_meaning.specs.Examples.{modulo_two};
+ghost use Rattle.larch_models_meaning.specs.Models.{IsModel};
 
 /// `fresh` of constants that aren't new: `a == b` is stated of two constants, and with `x` for `a` would follow
 /// `x == b`.

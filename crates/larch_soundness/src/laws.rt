@@ -1,5 +1,6 @@
 //! What holds of finite models, for crates above to cite. No function here does anything.
-ghost use Rattle.std.specs.Prelude.{◌≡◌, ◌↔◌, ◌≤◌, ℕ, List, Bool, true, false};
+ghost use Rattle.std.specs.Prelude.{◌≡◌, ◌↔◌, ◌≤◌, ℕ, List, Bool, true, false, None, Some};
+ghost use Rattle.std.specs.List.{list_all};
 ghost use Rattle.larch_term.specs.BuiltIn.{IsBuiltIn};
 ghost use Rattle.larch_term.specs.Operator.{PlainOperator};
 ghost use Rattle.larch_term.specs.Statement.{IsStatementOver, IsWellSortedTheory};
@@ -11,11 +12,13 @@ ghost use Rattle.larch_term.specs.Truth.{truth};
 ghost use Rattle.larch_calculus.specs.Derivable.{Derivable};
 ghost use Rattle.larch_calculus.specs.Formula.{falsity};
 ghost use Rattle.larch_calculus.specs.Identity.{IsIdentity};
-ghost use Rattle.larch_models.specs.Computed.{holds, all_hold};
+ghost use Rattle.larch_models_meaning.specs.Computed.{holds, all_hold};
+ghost use Rattle.larch_models_meaning.specs.FiniteModel.{FailsFirst, first_failing, interpretation_of};
+ghost use Rattle.larch_models_meaning.specs.declared.finite_model.FiniteModel.{FiniteModel};
 ghost use Rattle.larch_soundness.specs.Conditions.{Refutes};
-ghost use Rattle.larch_models.specs.Interpretation.{Interpretation, IsInterpretation};
-ghost use Rattle.larch_models.specs.Models.{Holds, IsModel};
-ghost use Rattle.larch_models.specs.Standard.{standard};
+ghost use Rattle.larch_models_meaning.specs.Interpretation.{Interpretation, IsInterpretation};
+ghost use Rattle.larch_models_meaning.specs.Models.{Holds, IsModel};
+ghost use Rattle.larch_models_meaning.specs.Standard.{standard};
 
 /// An identity holds in every interpretation.
 pub fn identities_hold()
@@ -55,4 +58,21 @@ pub fn standard_interpretations()
     ensures sound { (t : Theory) (s : Statement) (last : List ℕ → ℕ) (tables : PlainOperator → List ℕ → ℕ)
         → IsWellSortedTheory t → all_hold (standard last tables) t ≡ true → Derivable t s
         → holds (standard last tables) s ≡ true }
+{}
+
+/// Of some statements there is a first one that doesn't hold, or all hold.
+pub fn failing_statements()
+    ensures none { (m : Interpretation) (ss : List Statement)
+        → (first_failing m ss ≡ None ↔ list_all (holds m) ss ≡ true) }
+    ensures some { (m : Interpretation) (ss : List Statement) (k : ℕ) → first_failing m ss ≡ Some k
+        → FailsFirst m ss k }
+{}
+
+/// A finite model as data stands for an interpretation of every list of operators. What is derivable from a well sorted
+/// theory no statement of which fails there holds there.
+pub fn finite_models()
+    ensures interprets { (m : FiniteModel) (fs : List PlainOperator) → IsInterpretation fs (interpretation_of m) }
+    ensures sound { (t : Theory) (s : Statement) (m : FiniteModel) → IsWellSortedTheory t
+        → first_failing (interpretation_of m) t.statements ≡ None → Derivable t s
+        → holds (interpretation_of m) s ≡ true }
 {}

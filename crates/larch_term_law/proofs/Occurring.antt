@@ -119,11 +119,11 @@ with_only vs v w =
     with_by (λ us. Contains us w → Contains vs w ⊎ (v ≡ w)) vs v (list_any (same_variable v) vs) refl (λ _ c. inl c)
     (λ _ c. elim (contains_either vs (v ∷ []) w c) [ inl a ↦ inl a | inr b ↦ inr (contains_one v w b) ])
 
-all_keep : (vs ws : List Variable) (w : Variable) → Contains vs w → Contains (fold with_variable vs ws) w
+pub all_keep : (vs ws : List Variable) (w : Variable) → Contains vs w → Contains (fold with_variable vs ws) w
 all_keep vs [] w c = c
 all_keep vs (v ∷ ws) w c = all_keep (with_variable vs v) ws w (with_keeps vs v w c)
 
-all_have : (vs ws : List Variable) (w : Variable) → Contains ws w → Contains (fold with_variable vs ws) w
+pub all_have : (vs ws : List Variable) (w : Variable) → Contains ws w → Contains (fold with_variable vs ws) w
 all_have vs [] w c = absurd (contains_none w c)
 all_have vs (v ∷ ws) w c =
     elim (contains_cases v w ws c) [

@@ -131,7 +131,7 @@ module _ (fs : List PlainOperator) (vs : List RawVar) (scope : Variables)
       variables_were.1
 
   -- variables that are declared with words are words
-  scope_words : All (λ v. IsWord v.name.name) vs → All (λ v. IsWord v.0) scope
+  pub scope_words : All (λ v. IsWord v.name.name) vs → All (λ v. IsWord v.0) scope
   scope_words w = scope_so (λ v. IsWord v.name.name) (λ v. IsWord v.0) (λ v h. h) vs scope w variables_were.1
 
 picked : (f g : PlainOperator) (b : Bool) → (if b then Some f else None) ≡ Some g → Some f ≡ Some g

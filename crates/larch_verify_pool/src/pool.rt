@@ -234,7 +234,7 @@ impl Pool {
 
     /// Whether numbers are those of nodes. It takes no memory.
     pub fn are_within(&self, numbers: &[u32]) -> bool
-        ensures { IsTrue result → All (λ c. c < length self.now.trees) numbers.now }
+        ensures { IsTrue result ↔ All (λ c. c < length self.now.trees) numbers.now }
     {
         for number in numbers {
             if *number as usize >= self.len() {

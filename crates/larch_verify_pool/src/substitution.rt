@@ -21,7 +21,7 @@ pub struct PoolBinding {
 
 /// Whether numbers of variables are bound to numbers of nodes. It takes no memory.
 pub fn are_bindings(pool: &Pool, by: &[PoolBinding]) -> bool
-    ensures { IsTrue result → AreBindings pool.now.trees by.now }
+    ensures { IsTrue result ↔ AreBindings pool.now.trees by.now }
 {
     for binding in by {
         if !is_binding(pool, *binding) {
@@ -32,7 +32,7 @@ pub fn are_bindings(pool: &Pool, by: &[PoolBinding]) -> bool
 }
 
 fn is_binding(pool: &Pool, binding: PoolBinding) -> bool
-    ensures { IsTrue result → ((binding.variable < length pool.now.trees) × (binding.image < length pool.now.trees)
+    ensures { IsTrue result ↔ ((binding.variable < length pool.now.trees) × (binding.image < length pool.now.trees)
         × IsVar (tree_in pool.now.trees binding.variable)) }
 {
     (binding.variable as usize) < pool.len()
@@ -43,7 +43,7 @@ fn is_binding(pool: &Pool, binding: PoolBinding) -> bool
 /// Whether a number is that of a variable. It takes no memory.
 pub fn is_variable(pool: &Pool, number: u32) -> bool
     requires { number < length pool.now.trees }
-    ensures { IsTrue result → IsVar (tree_in pool.now.trees number) }
+    ensures { IsTrue result ↔ IsVar (tree_in pool.now.trees number) }
 {
     match pool.node(number) {
         PoolNode::Var(_, _) => true,

@@ -15,8 +15,7 @@ returns-in-Never-clause-tells c =
     (counts_in c.in-Some-2.counted) Never c.in-Some.ensures
     (subst (λ o. IfSome o (λ x. AreCounts c.in-Some.numbers.now c.args.scope.now c.args.raw.now (counts_in x)))
     c.in-Some-2.is c.in_ok-counted.ensures.counts)
-    (sym c.in-Never.is ∙ c.total.ensures ∙ ap (λ n. sum_to (count_at c.as_slice.result.now) (suc n)) c.len.ensures
-    ∙ ap (λ xs. sum_to (count_at xs) (suc (length c.in-Some.numbers.now.sorts.keys))) c.as_slice.ensures)
+    (sym c.in-Never.is ∙ c.total.ensures ∙ ap (λ n. sum_to (count_at (counts_in c.in-Some-2.counted)) (suc n)) c.len.ensures)
 
 pub returns-in-Often-clause-tells : goal.returns-in-Often-clause-tells
 returns-in-Often-clause-tells c =
@@ -24,8 +23,7 @@ returns-in-Often-clause-tells c =
     (counts_in c.in-Some-2.counted) Often c.in-Some.ensures
     (subst (λ o. IfSome o (λ x. AreCounts c.in-Some.numbers.now c.args.scope.now c.args.raw.now (counts_in x)))
     c.in-Some-2.is c.in_ok-counted.ensures.counts)
-    (sym c.in-Often.is ∙ c.total.ensures ∙ ap (λ n. sum_to (count_at c.as_slice.result.now) (suc n)) c.len.ensures
-    ∙ ap (λ xs. sum_to (count_at xs) (suc (length c.in-Some.numbers.now.sorts.keys))) c.as_slice.ensures)
+    (sym c.in-Often.is ∙ c.total.ensures ∙ ap (λ n. sum_to (count_at (counts_in c.in-Some-2.counted)) (suc n)) c.len.ensures)
 
 pub returns-clause-tells : goal.returns-clause-tells
 returns-clause-tells c =
@@ -34,7 +32,6 @@ returns-clause-tells c =
     (counts_in c.in-Some-2.counted) Once c.in-Some.ensures
     (subst (λ o. IfSome o (λ x. AreCounts c.in-Some.numbers.now c.args.scope.now c.args.raw.now (counts_in x)))
     c.in-Some-2.is c.in_ok-counted.ensures.counts)
-    (sym c.in-Once.is ∙ c.total.ensures ∙ ap (λ n. sum_to (count_at c.as_slice.result.now) (suc n)) c.len.ensures
-    ∙ ap (λ xs. sum_to (count_at xs) (suc (length c.in-Some.numbers.now.sorts.keys))) c.as_slice.ensures))
+    (sym c.in-Once.is ∙ c.total.ensures ∙ ap (λ n. sum_to (count_at (counts_in c.in-Some-2.counted)) (suc n)) c.len.ensures))
     (picked_reads c.args.signature.now c.args.scope.now c.args.raw.now c.in-Some-sort_met.sort.now
     c.in_ok-reading-in-Once.field-0 c.in-Some-3.reading c.in-Some-3.is c.in_ok-reading-in-Once.ensures)

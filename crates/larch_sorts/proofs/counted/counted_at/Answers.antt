@@ -17,7 +17,7 @@ returns-in-Never-clause-tells c =
     (counts_in c.in-Some-2.counted) c.args.sort.now Never c.in-Some.ensures
     (subst (λ o. IfSome o (λ x. AreCounts c.in-Some.numbers.now c.args.scope.now c.args.raw.now (counts_in x)))
     c.in-Some-2.is c.in_ok-counted.ensures.counts) under
-    (sym c.in-Never.is ∙ c.count_at.ensures ∙ ap (λ xs. count_at xs c.number-number.result) c.as_slice.ensures
+    (sym c.in-Never.is ∙ c.count_at.ensures
     ∙ ap (count_at (counts_in c.in-Some-2.counted)) c.number-number.ensures)
 
 pub returns-in-Often-clause-tells : goal.returns-in-Often-clause-tells
@@ -28,7 +28,7 @@ returns-in-Often-clause-tells c =
     (counts_in c.in-Some-2.counted) c.args.sort.now Often c.in-Some.ensures
     (subst (λ o. IfSome o (λ x. AreCounts c.in-Some.numbers.now c.args.scope.now c.args.raw.now (counts_in x)))
     c.in-Some-2.is c.in_ok-counted.ensures.counts) under
-    (sym c.in-Often.is ∙ c.count_at.ensures ∙ ap (λ xs. count_at xs c.number-number.result) c.as_slice.ensures
+    (sym c.in-Often.is ∙ c.count_at.ensures
     ∙ ap (count_at (counts_in c.in-Some-2.counted)) c.number-number.ensures)
 
 pub returns-clause-tells : goal.returns-clause-tells
@@ -40,7 +40,7 @@ returns-clause-tells c =
     (counts_in c.in-Some-2.counted) c.args.sort.now Once c.in-Some.ensures
     (subst (λ o. IfSome o (λ x. AreCounts c.in-Some.numbers.now c.args.scope.now c.args.raw.now (counts_in x)))
     c.in-Some-2.is c.in_ok-counted.ensures.counts) under
-    (sym c.in-Once.is ∙ c.count_at.ensures ∙ ap (λ xs. count_at xs c.number-number.result) c.as_slice.ensures
+    (sym c.in-Once.is ∙ c.count_at.ensures
     ∙ ap (count_at (counts_in c.in-Some-2.counted)) c.number-number.ensures))
     (subst (λ o. IfSome o (ReadsAt c.args.signature.now c.args.scope.now c.args.raw.now c.args.sort.now)) c.in-Some-3.is
     c.in_ok-reading-in-Once.ensures)

@@ -1,4 +1,4 @@
-use Rattle.std.proofs.Common.{◌∙◌, IfSome, Some, ap, subst}
+use Rattle.std.proofs.Common.{◌∙◌, IfSome, Some, ap, refl, subst}
 use Rattle.larch_sorts_counts.specs.Counted.{counts_in}
 use Rattle.larch_sorts_counts.specs.Counts.{AreCounts}
 use Rattle.larch_sorts.specs.Sides.{ReadBoth}
@@ -16,9 +16,10 @@ returns-in-Some-Never-clause-tells c =
     c.in-Some-2.is c.in_ok-both.ensures.counts in
     met_told c.in-Some.numbers.now c.args.signature.now c.args.scope.now c.args.left.now c.args.right.now
     (counts_in c.in-Some-2.both.left)
-    (counts_in c.in-Some-2.both.right) c.as_slice.result.now c.as_slice-2.result.now
+    (counts_in c.in-Some-2.both.right) (counts_in c.in-Some-2.both.left)
+    (counts_in c.in-Some-2.both.right)
     c.len.result c.meeting.result Never c.in-Some.ensures counts.0 counts.1
-    c.as_slice.ensures c.as_slice-2.ensures c.len.ensures
+    refl refl c.len.ensures
     (c.in-Some-Never.is ∙ ap Some c.in-Some-Never.field-0-is) c.meeting.ensures
 
 pub returns-in-Some-Often-clause-tells : goal.returns-in-Some-Often-clause-tells
@@ -30,9 +31,10 @@ returns-in-Some-Often-clause-tells c =
     c.in-Some-2.is c.in_ok-both.ensures.counts in
     met_told c.in-Some.numbers.now c.args.signature.now c.args.scope.now c.args.left.now c.args.right.now
     (counts_in c.in-Some-2.both.left)
-    (counts_in c.in-Some-2.both.right) c.as_slice.result.now c.as_slice-2.result.now
+    (counts_in c.in-Some-2.both.right) (counts_in c.in-Some-2.both.left)
+    (counts_in c.in-Some-2.both.right)
     c.len.result c.meeting.result Often c.in-Some.ensures counts.0 counts.1
-    c.as_slice.ensures c.as_slice-2.ensures c.len.ensures
+    refl refl c.len.ensures
     (c.in-Some-Often.is ∙ ap Some c.in-Some-Often.field-0-is) c.meeting.ensures
 
 pub returns-clause-tells : goal.returns-clause-tells
@@ -45,9 +47,10 @@ returns-clause-tells c =
     count_once (ReadBoth c.args.signature.now c.args.scope.now c.args.left.now c.args.right.now) c.in-Some-3.sides
     (met_told c.in-Some.numbers.now c.args.signature.now c.args.scope.now c.args.left.now c.args.right.now
     (counts_in c.in-Some-2.both.left)
-    (counts_in c.in-Some-2.both.right) c.as_slice.result.now c.as_slice-2.result.now
+    (counts_in c.in-Some-2.both.right) (counts_in c.in-Some-2.both.left)
+    (counts_in c.in-Some-2.both.right)
     c.len.result c.meeting.result Once c.in-Some.ensures counts.0 counts.1
-    c.as_slice.ensures c.as_slice-2.ensures c.len.ensures
+    refl refl c.len.ensures
     (c.in-Some-Once.is ∙ ap Some c.in-Some-Once.field-0-is) c.meeting.ensures)
     (subst (λ o. IfSome o (ReadBoth c.args.signature.now c.args.scope.now c.args.left.now c.args.right.now))
     c.in-Some-3.is c.in_ok-sides-in-Some-Once.ensures)

@@ -90,8 +90,7 @@ counts_of-returns-in-Never-clause-unread t c = λ fs are.
     subst (λ o. IfSome o (λ x. AreRead c.args.numbers.now c.args.scope.now (inner_parts c.args.raw.now))) c.in-Some.is
     c.in_ok-counted.ensures.read in
     let total : sum_to (count_at (counts_in c.in-Some.counted)) (suc (length c.args.numbers.now.sorts.keys)) ≡ Never =
-    sym (ap (λ n. sum_to (count_at c.as_slice.result.now) (suc n)) c.len.ensures
-    ∙ ap (λ xs. sum_to (count_at xs) (suc (length c.args.numbers.now.sorts.keys))) c.as_slice.ensures)
+    sym (ap (λ n. sum_to (count_at (counts_in c.in-Some.counted)) (suc n)) c.len.ensures)
     ∙ sym c.total.ensures ∙ c.in-Never.is in
     ap (fault_at NoReading) (counts_unread c.args.numbers.now c.args.scope.now c.args.raw.now
     (counts_in c.in-Some.counted) counts total read fs are)
@@ -109,8 +108,7 @@ counts_of-returns t c =
       counts = counts;
       read = counts_read c.args.numbers.now c.args.scope.now c.args.raw.now (counts_in c.in-Some.counted) counts
           (λ e. c.in_default-total.not-Never
-          (c.total.ensures ∙ ap (λ n. sum_to (count_at c.as_slice.result.now) (suc n)) c.len.ensures
-          ∙ ap (λ xs. sum_to (count_at xs) (suc (length c.args.numbers.now.sorts.keys))) c.as_slice.ensures ∙ e))
+          (c.total.ensures ∙ ap (λ n. sum_to (count_at (counts_in c.in-Some.counted)) (suc n)) c.len.ensures ∙ e))
           read;
       unread = tt;
     }
@@ -133,9 +131,7 @@ counts_of_all-loop-argument-preserved t c =
     subst (λ o. IfSome o (λ x. AreRead c.args.numbers.now c.args.scope.now (parts c.argument-item.result))) c.in-Some.is
     c.in_ok-counted.ensures.read in
     let never : count_at (counts_in c.in-Some.counted) (length c.args.numbers.now.sorts.keys) ≡ Never =
-    sym (ap (count_at c.as_slice.result.now) c.len.ensures
-    ∙ ap (λ xs. count_at xs (length c.args.numbers.now.sorts.keys)) c.as_slice.ensures) ∙ sym c.count_at.ensures
-    ∙ c.in-Never.is in (
+    sym (ap (count_at (counts_in c.in-Some.counted)) c.len.ensures) ∙ sym c.count_at.ensures ∙ c.in-Never.is in (
       all_counts_next counts_in c.args.numbers.now c.args.scope.now c.as_slice-argument-items.result.now
           c.loop-argument.argument-index c.loop-argument.all c.push.new.self c.argument-item.result c.in-Some.counted
           c.loop-argument-test.true c.argument-item.is c.in_ok-push.ensures.ok c.loop-argument.invariant.0 counts never,

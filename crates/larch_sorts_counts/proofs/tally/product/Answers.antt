@@ -14,5 +14,4 @@ loop-i-preserved c =
     (get_or c.args.numbers.now c.loop-i.i 0) c.loop-i.product c.count_at-count.result
     c.times-product.result c.if-arguments-numbers.false c.loop-i-test.true c.index-arguments-i.is refl
     (c.count_at-count.ensures
-    ∙ ap (λ xs. count_at xs (get_or c.args.numbers.now c.loop-i.i 0))
-    (c.as_slice.ensures ∙ ap counts_in (sym c.index-arguments-i.is))) c.times-product.ensures c.loop-i.invariant
+    ∙ ap (λ x. count_at (counts_in x) (get_or c.args.numbers.now c.loop-i.i 0)) (sym c.index-arguments-i.is)) c.times-product.ensures c.loop-i.invariant

@@ -14,7 +14,7 @@ use Rattle.larch_calculus.specs.Theories.{with_statements}
 use Rattle.larch_calculus.proofs.DerivedRules.{transitive, all_equal}
 use Rattle.larch_calculus.proofs.Sorted.{truth_over, falsity_over, only_fits}
 use Rattle.larch_soundness.specs.Counterexamples.{x_is_nought}
-use Rattle.larch_models.specs.Examples.{two_values, bits, sum_of_bits}
+use Rattle.larch_models_meaning.specs.Examples.{two_values, bits, sum_of_bits}
 use Rattle.larch_soundness.proofs.Counterexamples.{refutes, one, has_nought, numbers_well_sorted}
 use Rattle.larch_soundness.proofs.conditions.cases_need_closedness.Goals as goal
 

@@ -9,7 +9,7 @@ use Rattle.larch_calculus.specs.Formula.{constant}
 use Rattle.larch_calculus.specs.Freed.{free_constants}
 use Rattle.larch_calculus.specs.Theories.{extend}
 use Rattle.larch_soundness.specs.Counterexamples.{no_tables, constant_a, constant_b, variable_x, equal_constants}
-use Rattle.larch_models.specs.Examples.{two_values}
+use Rattle.larch_models_meaning.specs.Examples.{two_values}
 use Rattle.larch_soundness.proofs.Counterexamples.{refutes, one, constants_over}
 use Rattle.larch_soundness.proofs.conditions.fresh_needs_newness.Goals as goal
 

@@ -12,7 +12,7 @@ use Rattle.larch_calculus.specs.Theories.{extend}
 use Rattle.larch_calculus.proofs.Sorted.{truth_over}
 use Rattle.larch_soundness.specs.Counterexamples.{sort_n, constant_a, term_x, predicate, holding_everywhere}
 use Rattle.larch_soundness.specs.Counterexamples.{true_tables}
-use Rattle.larch_models.specs.Examples.{two_values}
+use Rattle.larch_models_meaning.specs.Examples.{two_values}
 use Rattle.larch_soundness.proofs.Counterexamples.{refutes, one}
 use Rattle.larch_soundness.proofs.conditions.generated_needs_newness.Goals as goal
 

@@ -11,7 +11,7 @@ use Rattle.larch_calculus.specs.Formula.{apply_one, apply_two}
 use Rattle.larch_calculus.specs.Observation.{Observation, observations_of, observer_term, other_variables, AreDifferent}
 use Rattle.larch_soundness.specs.Counterexamples.{sort_n, sort_m, term_z, named_z, operator_f, operator_g}
 use Rattle.larch_soundness.specs.Counterexamples.{observer_of_pairs, observed_with_own, own_tables}
-use Rattle.larch_models.specs.Examples.{two_values}
+use Rattle.larch_models_meaning.specs.Examples.{two_values}
 use Rattle.larch_soundness.proofs.Counterexamples.{refutes, one, both, got_one, no_pairs}
 use Rattle.larch_soundness.proofs.conditions.observe_needs_apartness.Goals as goal
 

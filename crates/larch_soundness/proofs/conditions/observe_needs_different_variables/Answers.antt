@@ -15,7 +15,7 @@ use Rattle.larch_calculus.specs.Observation.{Observation, observations_of, obser
 use Rattle.larch_soundness.specs.Conditions.{OccursNot}
 use Rattle.larch_soundness.specs.Counterexamples.{sort_n, sort_m, constant_a, constant_b, named_z, observer_of_triples}
 use Rattle.larch_soundness.specs.Counterexamples.{observed_twice, observed_with_one, one_tables}
-use Rattle.larch_models.specs.Examples.{two_values}
+use Rattle.larch_models_meaning.specs.Examples.{two_values}
 use Rattle.larch_soundness.proofs.Counterexamples.{refutes, one, both, got_one, constants_over}
 use Rattle.larch_soundness.proofs.conditions.observe_needs_different_variables.Goals as goal
 

@@ -5,7 +5,7 @@ use Rattle.larch_calculus.specs.Derivable.{reflexive}
 use Rattle.larch_calculus.specs.Theories.{IsNewName}
 use Rattle.larch_calculus.proofs.Names.{box_is_new}
 use Rattle.larch_soundness.specs.Counterexamples.{sort_n, predicate, no_tables, alike, box_constant}
-use Rattle.larch_models.specs.Examples.{two_values}
+use Rattle.larch_models_meaning.specs.Examples.{two_values}
 use Rattle.larch_soundness.proofs.Counterexamples.{refutes, both, alike_well_sorted, predicate_over}
 use Rattle.larch_soundness.proofs.conditions.partitioned_needs_different_constants.Goals as goal
 

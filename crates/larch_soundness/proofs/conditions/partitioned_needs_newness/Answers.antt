@@ -7,7 +7,7 @@ use Rattle.larch_calculus.specs.Generation.{place_name}
 use Rattle.larch_calculus.specs.Observation.{observations}
 use Rattle.larch_calculus.specs.Theories.{extend}
 use Rattle.larch_soundness.specs.Counterexamples.{sort_n, constant_a, constant_b, predicate, no_tables, alike}
-use Rattle.larch_models.specs.Examples.{two_values}
+use Rattle.larch_models_meaning.specs.Examples.{two_values}
 use Rattle.larch_soundness.proofs.Counterexamples.{refutes, both, constants_over, names_differ, alike_well_sorted}
 use Rattle.larch_soundness.proofs.Counterexamples.{predicate_over}
 use Rattle.larch_soundness.proofs.conditions.partitioned_needs_newness.Goals as goal

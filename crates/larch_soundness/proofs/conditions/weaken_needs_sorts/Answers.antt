@@ -5,7 +5,7 @@ use Rattle.larch_term.specs.Statement.{IsStatementOver}
 use Rattle.larch_term.specs.declared.statement.Statement.TheVariants.{Equation}
 use Rattle.larch_calculus.specs.Formula.{constant}
 use Rattle.larch_soundness.specs.Counterexamples.{term_x, term_y, no_tables, box_constant, sorted_again}
-use Rattle.larch_models.specs.Examples.{two_values}
+use Rattle.larch_models_meaning.specs.Examples.{two_values}
 use Rattle.larch_soundness.proofs.Counterexamples.{refutes, one, constants_over}
 use Rattle.larch_soundness.proofs.IllSorted.{ill_sorted_derives}
 use Rattle.larch_soundness.proofs.conditions.weaken_needs_sorts.Goals as goal

@@ -1,5 +1,5 @@
 use Rattle.larch_calculus.proofs.WellSorted.{well_sorted}
-use Rattle.larch_models.specs.Standard.{standard}
+use Rattle.larch_models_meaning.specs.Standard.{standard}
 use Rattle.larch_soundness.proofs.Computing.{holds_if, model_so}
 use Rattle.larch_soundness.proofs.Sound.{sound}
 use Rattle.larch_soundness.proofs.Standards.{standard_interprets, standard_keeps}

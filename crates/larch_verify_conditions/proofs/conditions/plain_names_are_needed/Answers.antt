@@ -5,7 +5,7 @@ use Rattle.larch_term.specs.Statement.{IsStatementOver, IsWellSortedTheory}
 use Rattle.larch_term.specs.declared.statement.Statement.TheVariants.{Equation}
 use Rattle.larch_calculus.proofs.WellSorted.{well_sorted}
 use Rattle.larch_calculus.specs.Formula.{constant}
-use Rattle.larch_models.specs.Examples.{two_values}
+use Rattle.larch_models_meaning.specs.Examples.{two_values}
 use Rattle.larch_soundness.proofs.Computing.{holds_if}
 use Rattle.larch_soundness.proofs.Counterexamples.{refutes, one, constants_over}
 use Rattle.larch_soundness.proofs.Sound.{sound}

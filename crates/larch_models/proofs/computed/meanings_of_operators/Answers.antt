@@ -1,7 +1,0 @@
-use Rattle.std.proofs.Common.{refl}
-use Rattle.larch_term.specs.OperatorKey.{same_operator}
-use Rattle.larch_models.proofs.computed.meanings_of_operators.Goals as goal
-
-pub returns : goal.returns
-unfolding same_operator
-returns c = record { implication = λ last tables. refl; choice = λ last tables. refl }

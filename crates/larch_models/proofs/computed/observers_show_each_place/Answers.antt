@@ -1,7 +1,0 @@
-use Rattle.std.proofs.Common.{refl}
-use Rattle.larch_term.specs.OperatorKey.{same_operator}
-use Rattle.larch_models.proofs.computed.observers_show_each_place.Goals as goal
-
-pub returns : goal.returns
-unfolding same_operator
-returns c = refl

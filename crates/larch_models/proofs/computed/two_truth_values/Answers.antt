@@ -1,7 +1,0 @@
-use Rattle.std.proofs.Common.{refl}
-use Rattle.larch_term.specs.OperatorKey.{same_operator}
-use Rattle.larch_models.proofs.computed.two_truth_values.Goals as goal
-
-pub returns : goal.returns
-unfolding same_operator
-returns c = record { both = λ last tables. refl; true_alone = λ last tables. refl; false_alone = λ last tables. refl }

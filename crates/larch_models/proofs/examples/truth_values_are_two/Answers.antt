@@ -1,5 +1,0 @@
-use Rattle.std.proofs.Common.{◌≡◌, zero, suc}
-use Rattle.larch_models.proofs.examples.truth_values_are_two.Goals as goal
-
-pub returns : goal.returns
-returns c i = let one : zero ≡ suc zero = i.two_truth_values in cc

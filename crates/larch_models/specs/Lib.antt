@@ -1,5 +1,0 @@
-pub mod Computed
-pub mod Examples
-pub mod Interpretation
-pub mod Models
-pub mod Standard

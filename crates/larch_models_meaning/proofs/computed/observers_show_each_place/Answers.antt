@@ -1,0 +1,7 @@
+use Rattle.std.proofs.Common.{refl}
+use Rattle.larch_term.specs.OperatorKey.{same_operator}
+use Rattle.larch_models_meaning.proofs.computed.observers_show_each_place.Goals as goal
+
+pub returns : goal.returns
+unfolding same_operator
+returns c = refl
