@@ -151,7 +151,7 @@ either_name : (x : Bool) (b k : ℕ) (s : List ℕ)
 either_name true b k s = refl
 either_name false b k s = refl
 
-part_name : (b k : ℕ) (p : BoxPart) → (part_operator b k p).name ≡ boxed b k
+pub part_name : (b k : ℕ) (p : BoxPart) → (part_operator b k p).name ≡ boxed b k
 part_name b k p = either_name p.predicate b k p.sort
 
 parts_older : (b k : ℕ) (ps : List BoxPart) → All (λ f. IsOlderName b f.name) (operators_from b k ps)

@@ -6,6 +6,7 @@ pub mod Context
 pub mod Decoding
 pub mod Events
 pub mod Examples
+pub mod LastLine
 pub mod Matching
 pub mod Rules
 pub mod Run
