@@ -5,7 +5,7 @@ use Rattle.std.specs.Prelude.{IfErr, IfSome, OnOk, Option, Some, None}
 use Rattle.larch_traits.specs.Files.{Table}
 use Rattle.larch_words.specs.declared.call.Question.{Question}
 use Rattle.larch_main.specs.Answer.{AnswersBy, IsAnswer, answer_to, no_file, size_passed}
-use Rattle.larch_main.specs.Gather.{Gathered, Whole, Absent, TooLarge, evidence_in, gather_names}
+use Rattle.larch_main.specs.Gather.{Gathered, Absent, TooLarge, evidence_in, gather_names}
 use Rattle.larch_main.specs.Look.{ComesTo, EvidenceFor, found_of}
 use Rattle.larch_main.specs.Questions.{Answered, MayAnswer}
 use Rattle.larch_main.specs.declared.answer.Answer.{Answer}

@@ -1,6 +1,6 @@
 -- What is there is gathered, and where all is gathered a call is done.
 use Rattle.std.proofs.Common.{◌≡◌, refl, sym, subst, ap, ◌∙◌, ℕ, ◌+◌, ◌<◌, ◌≤◌, Bool, true, false, cond, nat_lt}
-use Rattle.std.proofs.Common.{◌||◌, not, nat_le, List, [], ◌∷◌, length, Option, Some, None, Result, Ok, Err, arith}
+use Rattle.std.proofs.Common.{◌||◌, not, nat_le, List, [], ◌∷◌, length, Option, Some, None, Ok, arith}
 use Rattle.std.specs.List.{All}
 use Rattle.std.specs.Prelude.{IsSomeAnd}
 use Rattle.std.specs.Cmp.Lexicographic.{slice_cmp}
@@ -12,7 +12,7 @@ use Rattle.std.proofs.lemmas.List.Elements.{All-head, All-tail}
 use Rattle.larch_base.proofs.Bools.{and_not_right}
 use Rattle.larch_base.specs.declared.limits.TheConstants.{MAX_FILES, MAX_FILE_BYTES}
 use Rattle.larch_certificate.specs.declared.line.Line.{Line}
-use Rattle.larch_certificate_text.specs.CertificateText.{IsTextOf, read_certificate}
+use Rattle.larch_certificate_text.specs.CertificateText.{IsTextOf}
 use Rattle.larch_duties_meaning.specs.Duties.{Duty}
 use Rattle.larch_io.specs.Folder.{FileMap, file_of}
 use Rattle.larch_report.specs.Counts.{counts_of, is_good}
@@ -22,7 +22,7 @@ use Rattle.larch_words.specs.declared.call.Question.{Question}
 use Rattle.larch_words.specs.declared.call.Question.TheVariants.{Check, Obligations, Verify}
 use Rattle.larch_main.specs.Answer.{AnswersBy, IsAnswer, good_or_remains}
 use Rattle.larch_main.specs.Check.{check_answer}
-use Rattle.larch_main.specs.Complete.{HasAll, HasCertificate, HasFiles, HasShort, IsDone, IsThere}
+use Rattle.larch_main.specs.Complete.{HasAll, HasFiles, HasShort, IsDone, IsThere}
 use Rattle.larch_main.specs.Gather.{Gathered, Whole, TooLarge, and_then, evidence_in, fetching, gather_names, putting}
 use Rattle.larch_main.specs.Obligations.{obligations_answer}
 use Rattle.larch_main.specs.Questions.{MayAnswer}
@@ -30,7 +30,6 @@ use Rattle.larch_main.specs.Report.{check_of}
 use Rattle.larch_main.specs.Session.{put_is_refused}
 use Rattle.larch_main.specs.Verify.{duty_in, judged_by, verdict_told, verification_answer}
 use Rattle.larch_main.specs.declared.answer.Answer.{Answer}
-use Rattle.larch_main.specs.declared.gather.Evidence.{Evidence}
 use Rattle.larch_main.specs.declared.status.Status.{Status}
 use Rattle.larch_main.proofs.Verdicts.{text_read}
 

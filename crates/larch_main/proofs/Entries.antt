@@ -1,23 +1,21 @@
 -- A session whose input is a list of commands comes to its end.
 use Rattle.std.proofs.Common.{◌≡◌, ℕ, ◌+◌, ◌-◌, ◌<◌, ◌≤◌, Bool, true, false, cond, nat_lt, List, [], ◌∷◌, ◌++◌, length}
-use Rattle.std.proofs.Common.{Option, Some, refl, sym, subst, ap, ◌∙◌, arith, codes, length-append, inl, inr, ◌⊎◌}
+use Rattle.std.proofs.Common.{Some, refl, sym, subst, ap, ◌∙◌, arith, codes, length-append, inl, inr, ◌⊎◌}
 use Rattle.std.proofs.lemmas.Bool.Decides.{nat_tests}
 use Rattle.larch_base.specs.declared.limits.TheConstants.{MAX_FILE_BYTES, MAX_SOURCE_BYTES}
-use Rattle.larch_io.specs.Take.{IsLine}
 use Rattle.larch_report.specs.Counts.{counts_of, is_good}
 use Rattle.larch_report.specs.Text.{report_text}
 use Rattle.larch_traits.specs.Files.{Table, drop_file, put_file}
-use Rattle.larch_main.specs.declared.command.Command.{Command}
-use Rattle.larch_main.specs.declared.command.Command.TheVariants.{Drop, Put}
+use Rattle.larch_main.specs.declared.command.Command.TheVariants.{Put}
 use Rattle.larch_main.specs.declared.status.Status.{Status}
 use Rattle.larch_main.specs.declared.status.Status.TheVariants.{Good, Remains, Size}
 use Rattle.larch_main.specs.Command.{command_of, number_of_digits}
 use Rattle.larch_main.specs.Complete.{IsDone}
-use Rattle.larch_main.specs.Input.{Entry, skips, puts, drops, reports, quits}
+use Rattle.larch_main.specs.Input.{Entry}
 use Rattle.larch_main.specs.Input.{IsSpelled, empty_line, put_line, drop_line, report_line, quit_line}
 use Rattle.larch_main.specs.Input.{IsInputOf, no_more, one_more, last_one, quit_before}
 use Rattle.larch_main.specs.Input.{HasRoom, bytes_behind, files_behind}
-use Rattle.larch_main.specs.Lines.{BytesFound, bytes, line, line_at, bytes_at}
+use Rattle.larch_main.specs.Lines.{bytes, line, line_at, bytes_at}
 use Rattle.larch_main.specs.Report.{report_of}
 use Rattle.larch_main.specs.Session.{State, took, start, Step, goes, stops, waits, step, on_line, on_command, on_bytes}
 use Rattle.larch_main.specs.Session.{put_is_refused, room_left, status_of, Reply, nothing, said, reported, too_large}

@@ -1,5 +1,5 @@
 -- The lines of commands: they are lines, and spell their commands.
-use Rattle.std.proofs.Common.{◌≡◌, ◌≢◌, ℕ, ◌+◌, ◌-◌, ◌<◌, ◌≤◌, ◌==◌, ◌&&◌, ◌||◌, not, Bool, true, false, nat_le, List}
+use Rattle.std.proofs.Common.{◌≡◌, ◌≢◌, ℕ, ◌+◌, ◌<◌, ◌≤◌, ◌&&◌, ◌||◌, Bool, true, false, nat_le, List}
 use Rattle.std.proofs.Common.{[], ◌∷◌, ◌++◌, length, take, drop, get_or}
 use Rattle.std.proofs.Common.{Option, Some, None, refl, sym, subst, ap, ap₂, ◌∙◌}
 use Rattle.std.proofs.Common.{if◌then◌else◌, arith, codes, length-append, length-drop}
@@ -17,9 +17,9 @@ use Rattle.larch_base.specs.FileName.{ending_of, is_dot, is_file_name, is_script
 use Rattle.larch_base.specs.FileName.{is_trait_file, stem_of}
 use Rattle.larch_io.specs.Take.{HasNoNewline, IsLine}
 use Rattle.larch_main.specs.declared.command.Command.{Command}
-use Rattle.larch_main.specs.declared.command.Command.TheVariants.{Drop, Put, Quit, Report, Skip}
+use Rattle.larch_main.specs.declared.command.Command.TheVariants.{Drop, Put}
 use Rattle.larch_main.specs.Command.{are_digits, command_of, drop_of, is_blank, is_length, number_of_digits, put_of}
-use Rattle.larch_main.specs.Input.{Entry, skips, puts, drops, reports, quits}
+use Rattle.larch_main.specs.Input.{Entry}
 use Rattle.larch_main.specs.Input.{IsSpelled, empty_line, put_line, drop_line, report_line, quit_line}
 
 -- a byte that stands in a word: no blank and no newline
