@@ -26,20 +26,21 @@ use Rattle.larch_duties_meaning.proofs.Sound.{duties_sound}
 use Rattle.larch_duties.specs.TraitDuties.{claims_of, trait_duties}
 use Rattle.larch_io.specs.Folder.{FileMap, file_of}
 use Rattle.larch_words.specs.declared.call.Verification.{Verification}
-use Rattle.larch_main.specs.Answer.{IsAnswer, answer_by}
+use Rattle.larch_main.specs.Answer.{AnswersBy, IsAnswer}
 use Rattle.larch_main.specs.Gather.{Gathered, Whole, Absent, TooLarge, and_then, evidence_in, fetching, gather_names}
 use Rattle.larch_main.specs.Verify.{IsShown, duty_among, duty_in, duty_with, judged_by, verdict_told}
 use Rattle.larch_main.specs.Verify.{verification_answer}
 use Rattle.larch_main.specs.declared.answer.Answer.{Answer}
 use Rattle.larch_main.specs.declared.gather.Evidence.{Evidence}
-use Rattle.larch_main.specs.declared.status.Status.TheVariants.{Good}
+use Rattle.larch_main.specs.declared.status.Status.TheVariants.{Good, NoFile, Size}
 
 -- a good answer is that to something whole
-answer_good : {A : Type 0} (told : A → Answer) (found : Gathered A) → (answer_by told found).status ≡ Good
+answer_good : {A : Type 0} (told : A → Answer) (found : Gathered A) (output : List ℕ)
+    → AnswersBy (λ a. IsAnswer (told a)) found output Good
     → (whole : A) × (found ≡ Whole whole) × ((told whole).status ≡ Good)
-answer_good told (Whole whole) e = (whole, refl, e)
-answer_good told (Absent name) e = cc
-answer_good told TooLarge e = cc
+answer_good told (Whole whole) output is = (whole, refl, sym is.1)
+answer_good told (Absent name) output is = let other : Good ≡ NoFile = is.1 in cc
+answer_good told TooLarge output is = let other : Good ≡ Size = is.1 in cc
 
 then_whole : {A B : Type 0} (found : Gathered A) (next : A → Gathered B) (b : B) → and_then found next ≡ Whole b
     → (a : A) × (found ≡ Whole a) × (next a ≡ Whole b)
@@ -97,17 +98,17 @@ module _ (law : (t : Theory) (s : Statement) (lines : List Line) → IsWellSorte
       (duties_plain (files_in sources) (length sources) stem b.0 a.0 b.1 b.2) c.0 in
       law d.theory d.statement lines sound.0.0.well_sorted plain accepted
 
-  pub shown : (asked : Verification) (folder : FileMap) (output : List ℕ)
-      → IsAnswer (answer_by (verification_answer asked.stem asked.label)
-      (evidence_in folder asked.certificate asked.files)) output Good → IsShown folder asked
-  shown asked folder output is =
+  pub shown : (asked : Verification) (names : List (List ℕ)) (folder : FileMap) (output : List ℕ)
+      → AnswersBy (λ evidence. IsAnswer (verification_answer asked.stem asked.label evidence))
+      (evidence_in folder asked.certificate names) output Good → IsShown folder asked names
+  shown asked names folder output is =
       let a = answer_good (verification_answer asked.stem asked.label)
-      (evidence_in folder asked.certificate asked.files) (sym is.1) in
+      (evidence_in folder asked.certificate names) output is in
       let e : Evidence = a.0 in
       let j = judged_good (duty_in e.files asked.stem asked.label) (read_certificate false e.certificate) a.2 in
       record {
         files = e.files;
-        are_files = evidence_files folder asked.certificate asked.files e a.1;
+        are_files = evidence_files folder asked.certificate names e a.1;
         duty = j.0;
         is_duty = j.1;
         derivable = duty_derivable e.files asked.stem asked.label j.0 j.2 j.1 j.3;

@@ -1,7 +1,9 @@
 pub mod Accepted
 pub mod Answering
+pub mod Complete
 pub mod Digits
 pub mod Endings
+pub mod Entries
 pub mod Evidence
 pub mod Found
 pub mod Gathers
@@ -11,6 +13,7 @@ pub mod Once
 pub mod OneLine
 pub mod ReportLines
 pub mod Shapes
+pub mod Spelled
 pub mod Steps
 pub mod Tables
 pub mod Verdicts

@@ -9,12 +9,12 @@ use Rattle.larch_flat_sources.specs.Sources.{Table as Sources, files_in, names_i
 use Rattle.larch_flat_sources.proofs.Tables.{among, names_length}
 use Rattle.larch_duties_meaning.proofs.Told.{duties_told}
 use Rattle.larch_duties.specs.TraitDuties.{claims_of, trait_duties}
-use Rattle.larch_main.specs.Laws.{stem_in}
+use Rattle.larch_main.specs.Laws.{stems_in}
 use Rattle.larch_main.specs.Report.{trait_lines}
-use Rattle.larch_main.specs.declared.report.ReportLine.{ReportLine}
+use Rattle.larch_report.specs.declared.line.ReportLine.{ReportLine}
 
 one_line : {A : Type 0} (stem : List ℕ) (told_of : Result A Stop) (rest : List ReportLine) → IsTold told_of
-    → map stem_in (trait_lines stem told_of ++ rest) ≡ stem ∷ map stem_in rest
+    → flat_map stems_in (trait_lines stem told_of ++ rest) ≡ stem ∷ flat_map stems_in rest
 one_line stem (Ok t) rest told = refl
 one_line stem (Err (Refused fault)) rest told = refl
 one_line stem (Err TooDeep) rest told = absurd told
@@ -31,7 +31,7 @@ duties_by sources (Err TooDeep) told = absurd told
 
 -- each of these files has one, where the flat trait of each is told
 pub one_of_each : (sources : Sources) → ((stem : List ℕ) → IsTold (flat_trait sources stem)) → (files : Sources)
-    → map stem_in (flat_map (λ source. trait_lines source.0 (trait_duties sources source.0)) files)
+    → flat_map stems_in (flat_map (λ source. trait_lines source.0 (trait_duties sources source.0)) files)
     ≡ map (λ source. source.0) files
 one_of_each sources told [] = refl
 one_of_each sources told (file ∷ files) =

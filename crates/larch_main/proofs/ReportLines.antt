@@ -15,9 +15,10 @@ use Rattle.larch_duties_meaning.specs.Duties.{Duties}
 use Rattle.larch_duties_meaning.specs.Listing.{trait_listing}
 use Rattle.larch_duties.specs.TraitDuties.{claims_of, trait_duties, trait_listed}
 use Rattle.larch_main.specs.Obligations.{listed_at, listing_of}
-use Rattle.larch_main.specs.Report.{IsLineOf, line_text, trait_lines}
-use Rattle.larch_main.specs.declared.report.ReportLine.{ReportLine}
-use Rattle.larch_main.specs.declared.report.ReportLine.TheVariants.{Right, Wrong}
+use Rattle.larch_main.specs.Report.{IsLineOf, trait_lines}
+use Rattle.larch_report.specs.Text.{line_text}
+use Rattle.larch_report.specs.declared.line.ReportLine.{ReportLine}
+use Rattle.larch_report.specs.declared.line.ReportLine.TheVariants.{Right, Wrong}
 
 entry_at : {A : Type 0} (xs : List A) (i : ℕ) → i < length xs
     → (x : A) × (drop i xs ≡ x ∷ drop (i + 1) xs) × (slice_get xs i ≡ Some x)

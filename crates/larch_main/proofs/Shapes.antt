@@ -10,7 +10,7 @@ use Rattle.larch_main.specs.declared.command.Command.TheVariants.{Skip, Put, Dro
 use Rattle.larch_base.specs.declared.limits.TheConstants.{MAX_FILE_BYTES, MAX_LINE_BYTES}
 use Rattle.larch_main.specs.Command.{command_of}
 use Rattle.larch_main.specs.Laws.{IsEnd, Ends}
-use Rattle.larch_main.specs.Report.{report_text}
+use Rattle.larch_report.specs.Text.{report_text}
 use Rattle.larch_main.specs.Lines.{is_newline, passes_room, LineFound, line, no_line, long_line, full, unfinished}
 use Rattle.larch_main.specs.Lines.{line_at, line_of_size, BytesFound, bytes, cut, too_many, wanting, bytes_at}
 use Rattle.larch_main.specs.Session.{State, took, Step, goes, stops, waits, step, on_line, on_command, on_bytes}

@@ -23,7 +23,9 @@ use Rattle.larch_main.specs.declared.status.Status.{Status}
 use Rattle.larch_main.specs.declared.status.Status.TheVariants.{Malformed, Size}
 use Rattle.larch_main.specs.Command.{command_of}
 use Rattle.larch_main.specs.Lines.{line, line_at}
-use Rattle.larch_main.specs.Report.{report_of, report_text, is_good}
+use Rattle.larch_main.specs.Report.{report_of}
+use Rattle.larch_report.specs.Counts.{counts_of, is_good}
+use Rattle.larch_report.specs.Text.{report_text}
 use Rattle.larch_main.specs.Session.{State, took, Reply, nothing, reported, Step, goes, stops, step, on_line}
 use Rattle.larch_main.specs.Session.{on_command, on_bytes, on_file}
 use Rattle.larch_main.specs.Session.{status_of, room_left, malformed_reply, too_large}
@@ -384,7 +386,8 @@ quit_moves p x before command move quits is =
 -- `report` was answered
 pub report_moves : (p q : Progress) (x : Option (List ℕ)) (before : ℕ) (result : Result Move Halt)
     → IfOk result (λ move. move ≡ Goes (report_text (report_of p.files)))
-    → OnOk result (q ≡ record p { good = is_good (report_of p.files) }) → IfErr result (λ halt. halt ≡ Memory)
+    → OnOk result (q ≡ record p { good = is_good (counts_of (report_of p.files)) })
+    → IfErr result (λ halt. halt ≡ Memory)
     → Moves (at_command before (state_of p) (Some Report)) p q x x result
 report_moves p q x before (Ok (Goes written)) said good memory =
     let same : written ≡ report_text (report_of p.files) = cc in (

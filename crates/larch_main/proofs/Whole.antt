@@ -1,6 +1,6 @@
 -- Calls that write one text at their end, and what no fault leaves.
 use Rattle.std.proofs.Common.{◌≡◌, ◌≢◌, ℕ, inl, inr, Bool, true, false, List, [], Option, Some, None, Result, Ok, Err}
-use Rattle.std.proofs.Common.{refl, sym, subst}
+use Rattle.std.proofs.Common.{refl, sym, subst, ap, ◌∙◌}
 use Rattle.std.proofs.KnownBytes.{Consumes-nil, Appends-nil}
 use Rattle.std.specs.Prelude.{IfErr, IfOk, MatchBool, OnOk}
 use Rattle.std.specs.Io.KnownBytes.{Appends}
@@ -11,9 +11,13 @@ use Rattle.larch_certificate.specs.declared.line.Line.{Line}
 use Rattle.larch_certificate_text.specs.CertificateText.{read_certificate}
 use Rattle.larch_verify_meaning.specs.Acceptance.{verdict}
 use Rattle.larch_duties_meaning.specs.Duties.{Duty}
+use Rattle.larch_words.specs.Call.{call_of, is_certificate}
 use Rattle.larch_words.specs.declared.call.Call.{Call}
+use Rattle.larch_words.specs.declared.call.Verification.{Verification}
 use Rattle.larch_words.specs.declared.call.Call.TheVariants as call_
-use Rattle.larch_main.specs.Answer.{TellsAnswer, answer_by, good_or_remains, said}
+use Rattle.larch_words.specs.declared.call.Question.{Question}
+use Rattle.larch_words.specs.declared.call.Question.TheVariants.{Check, Obligations, Verify}
+use Rattle.larch_main.specs.Answer.{AnswersBy, IsAnswer, TellsAnswer, good_or_remains, no_file, said, size_passed}
 use Rattle.larch_main.specs.declared.answer.Answer.{Answer}
 use Rattle.larch_main.specs.declared.progress.Halt.{Halt}
 use Rattle.larch_main.specs.declared.progress.Halt.TheVariants as halt_
@@ -23,13 +27,15 @@ use Rattle.larch_main.specs.declared.status.Status.TheVariants.{Malformed, Size,
 use Rattle.larch_main.specs.Check.{check_answer}
 use Rattle.larch_main.specs.Gather.{Gathered, Whole, Absent, TooLarge, IsFolder, evidence_in, gather_names}
 use Rattle.larch_main.specs.Obligations.{obligations_answer}
-use Rattle.larch_main.specs.Running.{usage_text, Answered, Output, Answers, WritesBefore, WritesFront, Writes}
+use Rattle.larch_main.specs.Questions.{Answered, IsCertified, MayAnswer}
+use Rattle.larch_main.specs.Running.{usage_text, Output, Answers, WritesBefore, WritesFront, Writes}
 use Rattle.larch_main.specs.Running.{CallTakes, Counts, KeepsFolder, KeepsSource, folder_failed, source_failed}
-use Rattle.larch_main.specs.Running.{sink_failed, reads_folder, reads_source}
+use Rattle.larch_main.specs.Running.{Shows, sink_failed, reads_folder, reads_source}
 use Rattle.larch_main.specs.Progress.{HaltFaults}
-use Rattle.larch_main.specs.Report.{is_good, report_of}
+use Rattle.larch_main.specs.Report.{check_of}
+use Rattle.larch_report.specs.Counts.{counts_of, is_good}
 use Rattle.larch_main.specs.Say.{Says}
-use Rattle.larch_main.specs.Verify.{duty_in, judged_by, verdict_told, verification_answer}
+use Rattle.larch_main.specs.Verify.{IsShown, duty_in, judged_by, verdict_told, verification_answer}
 use Rattle.larch_main.proofs.Endings.{known_rest, input_is, known_files, folder_is, nothing_yet}
 
 -- a status that stands beside a text
@@ -43,11 +49,12 @@ either_said : (b : Bool) → IsSaid (good_or_remains b)
 either_said true = tt
 either_said false = tt
 
-answer_said : {A : Type 0} (told : A → Answer) → ((found : A) → IsSaid (told found).status) → (found : Gathered A)
-    → IsSaid (answer_by told found).status
-answer_said told each (Whole found) = each found
-answer_said told each (Absent name) = tt
-answer_said told each TooLarge = tt
+by_said : {A : Type 0} (Told : A → List ℕ → Status → Type 0)
+    → ((found : A) (text : List ℕ) (status : Status) → Told found text status → IsSaid status)
+    → (found : Gathered A) (text : List ℕ) (status : Status) → AnswersBy Told found text status → IsSaid status
+by_said Told each (Whole found) text status is = each found text status is
+by_said Told each (Absent name) text status is = subst IsSaid (sym is.1) tt
+by_said Told each TooLarge text status is = subst IsSaid (sym is.1) tt
 
 verdict_said : (o : Option ℕ) → IsSaid (verdict_told o).status
 verdict_said None = tt
@@ -58,22 +65,43 @@ judged_said None (Ok read) = tt
 judged_said (Some duty) (Ok read) = verdict_said (verdict duty.theory duty.statement read.1)
 judged_said duty (Err number) = tt
 
--- the answer to a call that names files stands beside such a status
-pub output_said : (call : Call) → reads_folder call ≡ true → (folder : FileMap) (input text : List ℕ) (status : Status)
-    → Output call folder input text status → IsSaid status
-output_said call_.Session reads folder input text status is = cc
-output_said (call_.Check names) reads folder input text status is =
-    subst IsSaid (sym is.1) (answer_said check_answer (λ files. either_said (is_good (report_of files)))
-    (gather_names folder [] names))
-output_said (call_.Obligations names) reads folder input text status is =
-    subst IsSaid (sym is.1) (answer_said obligations_answer (λ files. either_said (is_good (report_of files)))
-    (gather_names folder [] names))
-output_said (call_.Verify asked) reads folder input text status is =
-    subst IsSaid (sym is.1)
-    (answer_said (verification_answer asked.stem asked.label)
-    (λ e. judged_said (duty_in e.files asked.stem asked.label) (read_certificate false e.certificate))
-    (evidence_in folder asked.certificate asked.files))
-output_said call_.Nothing reads folder input text status is = cc
+-- what may be answered to a question about files stands beside such a status
+pub may_said : (question : Question) (names : List (List ℕ)) (folder : FileMap) (text : List ℕ) (status : Status)
+    → MayAnswer question names folder text status → IsSaid status
+may_said Check names folder text status is =
+    by_said (λ files. IsAnswer (check_answer files))
+    (λ files text status is. subst IsSaid (sym is.1) (either_said (is_good (counts_of (check_of files)))))
+    (gather_names folder [] names) text status is
+may_said Obligations names folder text status is =
+    by_said (λ files. IsAnswer (obligations_answer files))
+    (λ files text status is. subst IsSaid (sym is.1) (either_said (is_good (counts_of (check_of files)))))
+    (gather_names folder [] names) text status is
+may_said (Verify asked) names folder text status is =
+    by_said (λ e. IsAnswer (verification_answer asked.stem asked.label e))
+    (λ e text status is. subst IsSaid (sym is.1)
+    (judged_said (duty_in e.files asked.stem asked.label) (read_certificate false e.certificate)))
+    (evidence_in folder asked.certificate names) text status is
+
+-- whatever was found, something may be answered
+by_some : {A : Type 0} (Told : A → List ℕ → Status → Type 0)
+    → ((found : A) → (answer : Answer) × Told found answer.text answer.status)
+    → (found : Gathered A) → (answer : Answer) × AnswersBy Told found answer.text answer.status
+by_some Told each (Whole found) = each found
+by_some Told each (Absent name) = (no_file name, (refl, refl))
+by_some Told each TooLarge = (size_passed, (refl, refl))
+
+some_answer : (question : Question) (names : List (List ℕ)) (folder : FileMap)
+    → (answer : Answer) × MayAnswer question names folder answer.text answer.status
+some_answer Check names folder =
+    by_some (λ files. IsAnswer (check_answer files)) (λ files. (check_answer files, (refl, refl)))
+    (gather_names folder [] names)
+some_answer Obligations names folder =
+    by_some (λ files. IsAnswer (obligations_answer files)) (λ files. (obligations_answer files, (refl, refl)))
+    (gather_names folder [] names)
+some_answer (Verify asked) names folder =
+    by_some (λ e. IsAnswer (verification_answer asked.stem asked.label e))
+    (λ e. (verification_answer asked.stem asked.label e, (refl, refl)))
+    (evidence_in folder asked.certificate names)
 
 writes_said : (call : Call) (told : Option FileMap) (left leaves held holds : Option (List ℕ)) (status : Status)
     → IsSaid status
@@ -108,16 +136,9 @@ nothing_of call told left held answer is = record {
 pub nothing_written : (call : Call) (told : Option FileMap) (left held : Option (List ℕ))
     → WritesFront call told left left held held
 nothing_written call_.Session told left held = nothing_yet left held told
-nothing_written (call_.Check names) told left held =
-    nothing_of (call_.Check names) told left held (answer_by check_answer (gather_names (known_files told) [] names))
-    (refl, refl)
-nothing_written (call_.Obligations names) told left held =
-    nothing_of (call_.Obligations names) told left held
-    (answer_by obligations_answer (gather_names (known_files told) [] names)) (refl, refl)
-nothing_written (call_.Verify asked) told left held =
-    nothing_of (call_.Verify asked) told left held
-    (answer_by (verification_answer asked.stem asked.label)
-    (evidence_in (known_files told) asked.certificate asked.files)) (refl, refl)
+nothing_written (call_.OnFiles question names) told left held =
+    let some = some_answer question names (known_files told) in
+    nothing_of (call_.OnFiles question names) told left held some.0 some.1
 nothing_written call_.Nothing told left held =
     nothing_of call_.Nothing told left held (said usage_text Words) (refl, refl)
 
@@ -213,35 +234,28 @@ module _ (status : Status) (says : IsSaid status) where
     ]
   ]
 
--- before a fault of the folder nothing was written
-before_fault : (call : Call) → reads_folder call ≡ true → (left held : Option (List ℕ))
-    → WritesBefore call left left held held
-before_fault call_.Session reads left held = cc
-before_fault (call_.Check names) reads left held = Appends-nil held
-before_fault (call_.Obligations names) reads left held = Appends-nil held
-before_fault (call_.Verify asked) reads left held = Appends-nil held
-before_fault call_.Nothing reads left held = cc
+module _ (question : Question) (names : List (List ℕ)) (told : Option FileMap) where
+  abbrev asks : Call
+  asks = call_.OnFiles question names
 
-module _ (call : Call) (reads : reads_folder call ≡ true) (told : Option FileMap) where
-  answer_is_said : (answer : Answer) → Answered call told answer → IsSaid answer.status
-  answer_is_said answer by = output_said call reads by.folder [] answer.text answer.status (by.defined [])
+  answer_is_said : (answer : Answer) → Answered question names told answer → IsSaid answer.status
+  answer_is_said answer by = may_said question names by.folder answer.text answer.status by.answers
 
-  -- what is answered to a call that names files was to be written
-  pub look_writes : (answered : Result Answer Halt) → IfOk answered (λ answer. Answered call told answer)
+  -- what is answered to a question about files was to be written
+  pub look_writes : (answered : Result Answer Halt) → IfOk answered (λ answer. Answered question names told answer)
       → (left held kept : Option (List ℕ)) (before now : ℕ) (result : Status)
-      → TellsAnswer held kept before now answered result → Writes call told left left held kept result
+      → TellsAnswer held kept before now answered result → Writes asks told left left held kept result
   look_writes (Ok answer) by left held kept before now result tells =
-      said_writes call told left held kept by.folder answer.text answer.status by.is_folder
-      (by.defined (known_rest left)) (answer_is_said answer by)
-      before now result tells
+      said_writes asks told left held kept by.folder answer.text answer.status by.is_folder
+      by.answers (answer_is_said answer by) before now result tells
   look_writes (Err halt_.ReadFault) by left held kept before now result tells =
-      subst (Writes call told left left held kept) (sym tells.0)
-      (subst (λ k. WritesBefore call left left held k) (sym tells.1) (before_fault call reads left held))
+      subst (Writes asks told left left held kept) (sym tells.0)
+      (subst (λ k. WritesBefore asks left left held k) (sym tells.1) (Appends-nil held))
   look_writes (Err halt_.Memory) by left held kept before now result tells =
-      subst (Writes call told left left held kept) (sym tells.0)
-      (subst (λ k. WritesFront call told left left held k) (sym tells.1) (nothing_written call told left held))
+      subst (Writes asks told left left held kept) (sym tells.0)
+      (subst (λ k. WritesFront asks told left left held k) (sym tells.1) (nothing_written asks told left held))
 
-  pub look_sink : (answered : Result Answer Halt) → IfOk answered (λ answer. Answered call told answer)
+  pub look_sink : (answered : Result Answer Halt) → IfOk answered (λ answer. Answered question names told answer)
       → (held kept : Option (List ℕ)) (before now : ℕ) (result : Status)
       → TellsAnswer held kept before now answered result → Counts (sink_failed result) before now
   look_sink (Ok answer) by held kept before now result tells =
@@ -251,18 +265,17 @@ module _ (call : Call) (reads : reads_folder call ≡ true) (told : Option FileM
   look_sink (Err halt_.Memory) by held kept before now result tells =
       subst (λ r. Counts (sink_failed r) before now) (sym tells.0) tells.2
 
-  pub look_folder : (answered : Result Answer Halt) → IfOk answered (λ answer. Answered call told answer)
+  pub look_folder : (answered : Result Answer Halt) → IfOk answered (λ answer. Answered question names told answer)
       → (held kept : Option (List ℕ)) (before now : ℕ) (result : Status)
       (first last : ℕ) → OnOk answered (last ≡ first) → IfErr answered (λ halt. HaltFaults halt first last)
-      → TellsAnswer held kept before now answered result → Counts (folder_failed call result) first last
+      → TellsAnswer held kept before now answered result → Counts (folder_failed asks result) first last
   look_folder (Ok answer) by held kept before now result first last fine failed tells =
-      said_folder answer.status (answer_is_said answer by) call held kept before now answer.text result first
+      said_folder answer.status (answer_is_said answer by) asks held kept before now answer.text result first
       last fine tells
   look_folder (Err halt_.ReadFault) by held kept before now result first last fine failed tells =
-      subst (λ r. Counts (folder_failed call r) first last) (sym tells.0)
-      (subst (λ b. Counts b first last) (sym reads) failed)
+      subst (λ r. Counts (folder_failed asks r) first last) (sym tells.0) failed
   look_folder (Err halt_.Memory) by held kept before now result first last fine failed tells =
-      subst (λ r. Counts (folder_failed call r) first last) (sym tells.0) failed
+      subst (λ r. Counts (folder_failed asks r) first last) (sym tells.0) failed
 
 -- the usage line was to be written
 pub usage_writes : (told : Option FileMap) (left held kept : Option (List ℕ)) (before now : ℕ) (result : Status)
@@ -287,12 +300,8 @@ complete call told left leaves held holds Remains a b c d e f w source folder si
 complete call told left leaves held holds Words a b c d e f w source folder sink read look write memory = w
 complete call_.Session told left leaves held holds ReadFault a b c d e f w source folder sink read look write memory =
     absurd (read source)
-complete (call_.Check names) told left leaves held holds ReadFault a b c d e f w source folder sink read look write
-    memory = absurd (look folder)
-complete (call_.Obligations names) told left leaves held holds ReadFault a b c d e f w source folder sink read look
+complete (call_.OnFiles question names) told left leaves held holds ReadFault a b c d e f w source folder sink read look
     write memory = absurd (look folder)
-complete (call_.Verify asked) told left leaves held holds ReadFault a b c d e f w source folder sink read look write
-    memory = absurd (look folder)
 complete call_.Nothing told left leaves held holds ReadFault a b c d e f w source folder sink read look write memory =
     absurd w
 complete call told left leaves held holds WriteFault a b c d e f w source folder sink read look write memory =
@@ -307,30 +316,37 @@ complete call told left leaves held holds NoFile a b c d e f w source folder sin
 pub memory_input : (call : Call) (left leaves held holds : Option (List ℕ))
     → CallTakes call left leaves held holds Memory
 memory_input call_.Session left leaves held holds = tt
-memory_input (call_.Check names) left leaves held holds = tt
-memory_input (call_.Obligations names) left leaves held holds = tt
-memory_input (call_.Verify asked) left leaves held holds = tt
+memory_input (call_.OnFiles question names) left leaves held holds = tt
 memory_input call_.Nothing left leaves held holds = tt
 
--- a call that names files doesn't read the source
-pub look_unread : (call : Call) → reads_folder call ≡ true → reads_source call ≡ false
-look_unread call_.Session reads = cc
-look_unread (call_.Check names) reads = refl
-look_unread (call_.Obligations names) reads = refl
-look_unread (call_.Verify asked) reads = refl
-look_unread call_.Nothing reads = refl
+-- what the words ask about files, by what they are read as
+module _ (call : Call) (words : List (List ℕ)) (question : Question) (names : List (List ℕ))
+    (read : call ≡ call_of words) (is : call ≡ call_.OnFiles question names) where
+  pub asked_certificate : ((others these : List (List ℕ)) (asked : Verification)
+      → call_of others ≡ call_.OnFiles (Verify asked) these → is_certificate asked.certificate ≡ true)
+      → IsCertified question
+  asked_certificate certified asked e =
+      certified words names asked (sym read ∙ is ∙ ap (λ q. call_.OnFiles q names) e)
 
-pub look_source : (call : Call) → reads_folder call ≡ true → (status : Status) (n : ℕ)
-    → Counts (source_failed call status) n n
-look_source call reads Good n = refl
-look_source call reads Remains n = refl
-look_source call reads Words n = refl
-look_source call reads ReadFault n = subst (λ b. Counts b n n) (sym (look_unread call reads)) refl
-look_source call reads WriteFault n = refl
-look_source call reads Memory n = refl
-look_source call reads Malformed n = refl
-look_source call reads Size n = refl
-look_source call reads NoFile n = refl
+-- what a call shows, by what was written
+module _ (law : (asked : Verification) (names : List (List ℕ)) (folder : FileMap) (input output : List ℕ)
+    → Output (call_.OnFiles (Verify asked) names) folder input output Good → IsShown folder asked names) where
+  pub shows : (call : Call) (told : Option FileMap) (left leaves held holds : Option (List ℕ)) (status : Status)
+      → Writes call told left leaves held holds status → Shows call told status
+  shows call_.Session told left leaves held holds status w = tt
+  shows call_.Nothing told left leaves held holds status w = tt
+  shows (call_.OnFiles Check names) told left leaves held holds status w = tt
+  shows (call_.OnFiles Obligations names) told left leaves held holds status w = tt
+  shows (call_.OnFiles (Verify asked) names) told left leaves held holds Good w =
+      (w.folder, w.is_folder, law asked names w.folder w.input w.output w.defined)
+  shows (call_.OnFiles (Verify asked) names) told left leaves held holds Remains w = tt
+  shows (call_.OnFiles (Verify asked) names) told left leaves held holds Words w = tt
+  shows (call_.OnFiles (Verify asked) names) told left leaves held holds ReadFault w = tt
+  shows (call_.OnFiles (Verify asked) names) told left leaves held holds WriteFault w = tt
+  shows (call_.OnFiles (Verify asked) names) told left leaves held holds Memory w = tt
+  shows (call_.OnFiles (Verify asked) names) told left leaves held holds Malformed w = tt
+  shows (call_.OnFiles (Verify asked) names) told left leaves held holds Size w = tt
+  shows (call_.OnFiles (Verify asked) names) told left leaves held holds NoFile w = tt
 
 kept_by : {A : Type 0} (b : Bool) (x : A) → MatchBool b (Unit {0}) (x ≡ x)
 kept_by true x = tt

@@ -26,12 +26,6 @@ no_file name = said (codes "no file " ++ (name ++ codes "\n")) status_.NoFile
 abbrev pub size_passed : Answer
 size_passed = said (codes "too large\n") status_.Size
 
--- by what was found: the answer to that, or why it wasn't
-abbrev pub answer_by : {A : Type 0} → (A → Answer) → Gathered A → Answer
-answer_by told (Whole found) = told found
-answer_by told (Absent name) = no_file name
-answer_by told TooLarge = size_passed
-
 -- what is answered where something isn't gathered; to a fault of the folder or of memory nothing is
 abbrev pub answer_to : GatherRefusal → Option Answer
 answer_to (refusal_.Absent name) = Some (no_file name)
@@ -47,6 +41,12 @@ answer_of (Err refusal) = answer_to refusal
 -- this text and this status are an answer's
 abbrev pub IsAnswer : Answer → List ℕ → Status → Type 0
 IsAnswer answer text status = (text ≡ answer.text) × (status ≡ answer.status)
+
+-- by what was found, this text and this status may be answered: to that, or to why it wasn't
+abbrev pub AnswersBy : {A : Type 0} → (A → List ℕ → Status → Type 0) → Gathered A → List ℕ → Status → Type 0
+AnswersBy Told (Whole found) text status = Told found text status
+AnswersBy Told (Absent name) text status = IsAnswer (no_file name) text status
+AnswersBy Told TooLarge text status = IsAnswer size_passed text status
 
 -- what becomes of what is answered: it is written as the last text; or nothing is, where there was no answer
 abbrev pub TellsAnswer : Option (List ℕ) → Option (List ℕ) → ℕ → ℕ → Result Answer Halt → Status → Type 0

@@ -1,9 +1,9 @@
 -- What the laws about sessions and reports speak of.
-use Rattle.std.specs.Prelude.{ℕ, true, List}
+use Rattle.std.specs.Prelude.{ℕ, true, List, [], ◌∷◌}
 use Rattle.larch_main.specs.declared.status.Status.{Status}
 use Rattle.larch_main.specs.declared.status.Status.TheVariants.{Good, Remains, Malformed, Size}
-use Rattle.larch_main.specs.declared.report.ReportLine.{ReportLine}
-use Rattle.larch_main.specs.declared.report.ReportLine.TheVariants.{Right, Wrong}
+use Rattle.larch_report.specs.declared.line.ReportLine.{ReportLine}
+use Rattle.larch_report.specs.declared.line.ReportLine.TheVariants.{Duty, Right, Script, Stray, Wrong}
 use Rattle.larch_main.specs.Session.{State, Session, with_status}
 
 -- a session ends by itself with one of these
@@ -20,7 +20,10 @@ Ends state input =
     (output : List ℕ) × (status : Status) × (last : State) × IsEnd status
     × Session true state input output (with_status status) last
 
--- the trait that a line of a report is of
-abbrev pub stem_in : ReportLine → List ℕ
-stem_in (Right stem) = stem
-stem_in (Wrong stem fault) = stem
+-- the trait that a line is of; there is none for a line of a duty, of a block, of a script
+abbrev pub stems_in : ReportLine → List (List ℕ)
+stems_in (Right stem) = stem ∷ []
+stems_in (Wrong stem fault) = stem ∷ []
+stems_in (Duty label outcome) = []
+stems_in (Script line code) = []
+stems_in (Stray stem) = []

@@ -1,12 +1,15 @@
 pub mod Answer
 pub mod Check
 pub mod Command
+pub mod Complete
 pub mod Gather
+pub mod Input
 pub mod Laws
 pub mod Lines
 pub mod Look
 pub mod Obligations
 pub mod Progress
+pub mod Questions
 pub mod Report
 pub mod Running
 pub mod Say

@@ -3,12 +3,14 @@ use Rattle.std.specs.Prelude.{ℕ, List, [], ◌++◌, flat_map, codes, Result, 
 use Rattle.larch_flat_meaning.specs.Stops.{Stop, Refused, TooDeep}
 use Rattle.larch_flat_sources.specs.Sources.{Table as Sources}
 use Rattle.larch_duties.specs.TraitDuties.{trait_listed}
+use Rattle.larch_report.specs.Counts.{counts_of, is_good}
+use Rattle.larch_report.specs.Text.{line_text}
+use Rattle.larch_report.specs.declared.line.ReportLine.TheVariants.{Right, Wrong}
 use Rattle.larch_traits.specs.Files.{Table}
 use Rattle.larch_traits.specs.Reading.{read_files}
 use Rattle.larch_main.specs.Answer.{good_or_remains, said}
-use Rattle.larch_main.specs.Report.{is_good, line_text, report_of}
+use Rattle.larch_main.specs.Report.{check_of}
 use Rattle.larch_main.specs.declared.answer.Answer.{Answer}
-use Rattle.larch_main.specs.declared.report.ReportLine.TheVariants.{Right, Wrong}
 
 -- the line of a trait, and behind it the lines of its flat trait and duties; or its line alone, where something is
 -- wrong
@@ -28,4 +30,4 @@ listings_of sources = flat_map (λ source. listed_at sources source.0) sources
 -- the listings of all trait files and a last line; it is good where nothing is wrong with a trait
 abbrev pub obligations_answer : Table → Answer
 obligations_answer files =
-    said (listings_of (read_files files) ++ codes "end\n") (good_or_remains (is_good (report_of files)))
+    said (listings_of (read_files files) ++ codes "end\n") (good_or_remains (is_good (counts_of (check_of files))))

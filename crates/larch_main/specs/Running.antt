@@ -5,15 +5,14 @@ use Rattle.larch_io.specs.Faults.{Rose}
 use Rattle.larch_io.specs.Folder.{FileMap}
 use Rattle.larch_words.specs.declared.call.Call.{Call}
 use Rattle.larch_words.specs.declared.call.Call.TheVariants as call_
-use Rattle.larch_main.specs.declared.answer.Answer.{Answer}
+use Rattle.larch_words.specs.declared.call.Question.TheVariants.{Verify}
 use Rattle.larch_main.specs.declared.status.Status.{Status}
 use Rattle.larch_main.specs.declared.status.Status.TheVariants.{Good, Remains, Words, ReadFault, WriteFault, Memory}
 use Rattle.larch_main.specs.declared.status.Status.TheVariants.{Malformed, Size, NoFile}
-use Rattle.larch_main.specs.Answer.{IsAnswer, answer_by, said}
-use Rattle.larch_main.specs.Check.{check_answer}
-use Rattle.larch_main.specs.Gather.{IsFolder, evidence_in, gather_names}
-use Rattle.larch_main.specs.Obligations.{obligations_answer}
-use Rattle.larch_main.specs.Verify.{verification_answer}
+use Rattle.larch_main.specs.Answer.{IsAnswer, said}
+use Rattle.larch_main.specs.Gather.{IsFolder}
+use Rattle.larch_main.specs.Questions.{MayAnswer}
+use Rattle.larch_main.specs.Verify.{IsShown}
 use Rattle.larch_main.specs.Session.{State, start, with_status, waiting, Session}
 
 abbrev pub usage_text : List ℕ
@@ -23,35 +22,19 @@ usage_text = codes "usage: larch COMMAND [WORD..] [--limit N] [--seed N] [--size
 abbrev pub Output : Call → FileMap → List ℕ → List ℕ → Status → Type 0
 Output call_.Session folder input output status =
     (last : State) × Session true start input output (with_status status) last
-Output (call_.Check names) folder input output status =
-    IsAnswer (answer_by check_answer (gather_names folder [] names)) output status
-Output (call_.Obligations names) folder input output status =
-    IsAnswer (answer_by obligations_answer (gather_names folder [] names)) output status
-Output (call_.Verify asked) folder input output status =
-    IsAnswer (answer_by (verification_answer asked.stem asked.label) (evidence_in folder asked.certificate asked.files))
-    output status
+Output (call_.OnFiles question names) folder input output status = MayAnswer question names folder output status
 Output call_.Nothing folder input output status = IsAnswer (said usage_text Words) output status
-
--- this is the answer to a call: on some folder, the told one where it is told, and whatever the input is
-pub record Answered (call : Call) (told : Option FileMap) (answer : Answer) : Type 0 where
-  pub folder : FileMap
-  pub is_folder : IsFolder told folder
-  pub defined : (input : List ℕ) → Output call folder input answer.text answer.status
 
 -- a call reads the source: only a session does
 abbrev pub reads_source : Call → Bool
 reads_source call_.Session = true
-reads_source (call_.Check names) = false
-reads_source (call_.Obligations names) = false
-reads_source (call_.Verify asked) = false
+reads_source (call_.OnFiles question names) = false
 reads_source call_.Nothing = false
 
 -- a call looks at the folder: each one that names files does
 abbrev pub reads_folder : Call → Bool
 reads_folder call_.Session = false
-reads_folder (call_.Check names) = true
-reads_folder (call_.Obligations names) = true
-reads_folder (call_.Verify asked) = true
+reads_folder (call_.OnFiles question names) = true
 reads_folder call_.Nothing = false
 
 -- all that a source has left, where it tells
@@ -95,9 +78,7 @@ pub record BreaksOff (left leaves held holds : Option (List ℕ)) : Type 0 where
 -- what was written before a fault of what is read: a session's replies; nothing by another call
 abbrev pub WritesBefore : Call → Option (List ℕ) → Option (List ℕ) → Option (List ℕ) → Option (List ℕ) → Type 0
 WritesBefore call_.Session left leaves held holds = BreaksOff left leaves held holds
-WritesBefore (call_.Check names) left leaves held holds = Appends held holds []
-WritesBefore (call_.Obligations names) left leaves held holds = Appends held holds []
-WritesBefore (call_.Verify asked) left leaves held holds = Appends held holds []
+WritesBefore (call_.OnFiles question names) left leaves held holds = Appends held holds []
 WritesBefore call_.Nothing left leaves held holds = ⊥
 
 -- what was written, by the status
@@ -124,6 +105,13 @@ pub record TakesWhole (left leaves held holds : Option (List ℕ)) (status : Sta
       ⊎ Session false start given output (with_status status) last
   pub written : Appends held holds output
 
+-- What a call shows by its status, on some folder, the told one where it is told: `verify` that ends well shows that
+-- what was to be verified is so.
+abbrev pub Shows : Call → Option FileMap → Status → Type 0
+Shows (call_.OnFiles (Verify asked) names) told Good =
+    (folder : FileMap) × IsFolder told folder × IsShown folder asked names
+Shows _ told status = Unit {0}
+
 -- which statuses of a session say that the input was taken to its end or through `quit`
 abbrev pub TakesInput : Option (List ℕ) → Option (List ℕ) → Option (List ℕ) → Option (List ℕ) → Status → Type 0
 TakesInput left leaves held holds Good = TakesWhole left leaves held holds Good
@@ -133,7 +121,8 @@ TakesInput left leaves held holds _ = Unit {0}
 -- what a call says of its input: only a session has one
 abbrev pub CallTakes : Call → Option (List ℕ) → Option (List ℕ) → Option (List ℕ) → Option (List ℕ) → Status → Type 0
 CallTakes call_.Session left leaves held holds status = TakesInput left leaves held holds status
-CallTakes _ left leaves held holds status = Unit {0}
+CallTakes (call_.OnFiles question names) left leaves held holds status = Unit {0}
+CallTakes call_.Nothing left leaves held holds status = Unit {0}
 
 -- a status says that the source failed
 abbrev pub source_failed : Call → Status → Bool

@@ -2,16 +2,18 @@
 use Rattle.std.specs.Prelude.{◌≡◌, ℕ, ◌+◌, ◌-◌, ◌&&◌, not, nat_lt, nat_le, if◌then◌else◌, Bool, true}
 use Rattle.std.specs.Prelude.{List, [], ◌++◌, length, decimal, codes, Option, Some, None}
 use Rattle.larch_base.specs.declared.limits.TheConstants.{MAX_FILES, MAX_FILE_BYTES, MAX_SOURCE_BYTES}
+use Rattle.larch_report.specs.Counts.{counts_of, is_good}
+use Rattle.larch_report.specs.Text.{report_text}
+use Rattle.larch_report.specs.declared.line.ReportLine.{ReportLine}
 use Rattle.larch_traits.specs.Files.{Table, drop_file, has_file, put_file}
 use Rattle.larch_main.specs.declared.status.Status.{Status}
 use Rattle.larch_main.specs.declared.status.Status.TheVariants.{Good, Remains, Malformed, Size}
 use Rattle.larch_main.specs.declared.command.Command.{Command}
 use Rattle.larch_main.specs.declared.command.Command.TheVariants.{Skip, Put, Drop, Report, Quit}
-use Rattle.larch_main.specs.declared.report.ReportLine.{ReportLine}
 use Rattle.larch_main.specs.Command.{command_of}
 use Rattle.larch_main.specs.Lines.{LineFound, line, no_line, long_line, full, unfinished, line_at}
 use Rattle.larch_main.specs.Lines.{BytesFound, bytes, cut, too_many, wanting, bytes_at}
-use Rattle.larch_main.specs.Report.{report_of, report_text, is_good}
+use Rattle.larch_main.specs.Report.{report_of}
 
 -- a session between two commands
 pub record State : Type 0 where
@@ -91,7 +93,7 @@ abbrev pub on_command : Bool → ℕ → State → List ℕ → Option Command �
 on_command ended before state rest None = stops state (malformed_reply before) Malformed
 on_command ended before state rest (Some Skip) = goes state nothing rest
 on_command ended before state rest (Some Report) =
-    goes (record state { good = is_good (report_of state.files) }) (reported (report_of state.files)) rest
+    goes (record state { good = is_good (counts_of (report_of state.files)) }) (reported (report_of state.files)) rest
 on_command ended before state rest (Some Quit) = stops state nothing (status_of state)
 on_command ended before state rest (Some (Drop name)) =
     goes (record state { files = drop_file state.files name }) nothing rest

@@ -58,9 +58,9 @@ verification_answer stem label e = judged_by (duty_in e.files stem label) (read_
 
 -- what was to be verified is so: among these files of the folder the trait has a duty with the label, and its statement
 -- is derivable from its theory
-pub record IsShown (folder : FileMap) (asked : Verification) : Type 0 where
+pub record IsShown (folder : FileMap) (asked : Verification) (names : List (List ℕ)) : Type 0 where
   pub files : Table
-  pub are_files : gather_names folder [] asked.files ≡ Whole files
+  pub are_files : gather_names folder [] names ≡ Whole files
   pub duty : Duty
   pub is_duty : duty_in files asked.stem asked.label ≡ Some duty
   pub derivable : Derivable duty.theory duty.statement

@@ -1,17 +1,18 @@
 ghost use Rattle.std.specs.Prelude.{◌≡◌, IfErr, IfOk, IfSome, OnOk, true};
 ghost use Rattle.std.specs.List.{list_all};
 ghost use Rattle.larch_base.specs.FileName.{is_file_name};
-ghost use Rattle.larch_words.specs.declared.call.Call.TheVariants.{Check as call_check};
+ghost use Rattle.larch_words.specs.declared.call.Question.TheVariants.{Check as question_check};
 ghost use Rattle.larch_main.specs.Answer.{answer_of};
 ghost use Rattle.larch_main.specs.Check.{check_answer};
-ghost use Rattle.larch_main.specs.Running.{Answered};
+ghost use Rattle.larch_main.specs.Questions.{Answered};
 ghost use Rattle.larch_main.specs.Look.{GatherFaults};
 
 use crate::answer::{Answer, good_or_remains};
 use crate::gather::{GatherRefusal, gather};
-use crate::report::{is_good, report_on, report_text};
+use crate::report::check_on;
 use larch_base::{FileName, Memory};
 use larch_io::Folder;
+use larch_report::{counts_of, is_good, report_text};
 use larch_traits::Files;
 use std::alloc::Global;
 
@@ -22,7 +23,8 @@ pub fn check<F: Folder>(
     folder: &mut F,
 ) -> Result<Answer, GatherRefusal>
     requires { list_all is_file_name names.now ≡ true }
-    ensures answer { IfSome (answer_of result) (λ answer. Answered (call_check names.now) (F.files folder.old) answer) }
+    ensures answer { IfSome (answer_of result) (λ answer.
+        Answered question_check names.now (F.files folder.old) answer) }
     ensures same { F.files folder.new ≡ F.files folder.old }
     ensures fine { OnOk result (F.faults folder.new ≡ F.faults folder.old) }
     ensures faults { IfErr result (λ refusal. GatherFaults refusal (F.faults folder.old) (F.faults folder.new)) }
@@ -36,10 +38,10 @@ pub fn check<F: Folder>(
 fn report(alloc: Global, files: &Files) -> Result<Answer, Memory>
     ensures { IfOk result (λ answer. answer ≡ check_answer files.now) }
 {
-    let lines = report_on(alloc, files)?;
-    let text = report_text(alloc, lines.as_slice())?;
-    Ok(Answer {
-        text,
-        status: good_or_remains(is_good(lines.as_slice())),
-    })
+    let lines = check_on(alloc, files)?;
+    let status = good_or_remains(is_good(counts_of(lines.as_slice())));
+    match report_text(alloc, lines.as_slice()) {
+        Ok(text) => Ok(Answer { text, status }),
+        Err(memory) => Err(memory),
+    }
 }

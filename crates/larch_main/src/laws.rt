@@ -1,15 +1,22 @@
 //! Laws about sessions and reports.
-ghost use Rattle.std.specs.Prelude.{◌≡◌, ℕ, Bool, List, map};
+ghost use Rattle.std.specs.Prelude.{◌≡◌, ◌≤◌, ℕ, Bool, true, List, [], flat_map, length, map};
+ghost use Rattle.larch_base.specs.declared.limits.TheConstants.{MAX_SOURCE_BYTES};
 ghost use Rattle.larch_traits.specs.Files.{Table};
 ghost use Rattle.larch_traits.specs.Reading.{read_files};
 ghost use Rattle.larch_io.specs.Folder.{FileMap};
-ghost use Rattle.larch_words.specs.declared.call.Call.TheVariants.{Verify};
+ghost use Rattle.larch_words.specs.declared.call.Call.TheVariants.{OnFiles};
+ghost use Rattle.larch_words.specs.declared.call.Question.{Question};
+ghost use Rattle.larch_words.specs.declared.call.Question.TheVariants.{Verify};
 ghost use Rattle.larch_words.specs.declared.call.Verification.{Verification};
-ghost use Rattle.larch_main.specs.Laws.{Ends, stem_in};
+ghost use Rattle.larch_main.specs.Complete.{HasAll, IsDone, IsThere};
+ghost use Rattle.larch_main.specs.Input.{Entry, IsInputOf};
+ghost use Rattle.larch_main.specs.Laws.{Ends, stems_in};
+ghost use Rattle.larch_main.specs.Questions.{MayAnswer};
 ghost use Rattle.larch_main.specs.Running.{Output};
-ghost use Rattle.larch_main.specs.Report.{report_of};
-ghost use Rattle.larch_main.specs.Session.{State, Ending, Session};
+ghost use Rattle.larch_main.specs.Report.{check_of};
+ghost use Rattle.larch_main.specs.Session.{State, Ending, Session, start, with_status};
 ghost use Rattle.larch_main.specs.Verify.{IsShown};
+ghost use Rattle.larch_main.specs.declared.status.Status.{Status};
 ghost use Rattle.larch_main.specs.declared.status.Status.TheVariants.{Good};
 
 use larch_traits::laws::each_flat_trait_is_told;
@@ -34,17 +41,37 @@ pub fn one_output()
         → first ≡ second }
 {}
 
-/// A report has exactly one line of each trait file that was read, in their order.
+/// A check has exactly one line of each trait file that was read, in their order.
 pub fn each_trait_has_one_line()
-    ensures { (files : Table) → map stem_in (report_of files) ≡ map (λ source. source.0) (read_files files) }
+    ensures { (files : Table) → flat_map stems_in (check_of files) ≡ map (λ source. source.0) (read_files files) }
 {
     each_flat_trait_is_told()
 }
 
+/// Where a folder has all that is asked about, within the limits, and a certificate in its grammar, all of it is
+/// gathered.
+pub fn what_is_there_is_gathered()
+    ensures { (question : Question) (names : List (List ℕ)) (folder : FileMap) → HasAll question names folder
+        → IsThere question names folder }
+{}
+
+/// And then what is answered ends with status 0 or 1.
+pub fn what_is_gathered_is_done()
+    ensures { (question : Question) (names : List (List ℕ)) (folder : FileMap) (output : List ℕ) (status : Status)
+        → IsThere question names folder → MayAnswer question names folder output status → IsDone status }
+{}
+
+/// A session whose input is a list of commands, within the limits, ends with status 0 or 1.
+pub fn what_is_in_the_grammar_is_done()
+    ensures { (entries : List Entry) (input output : List ℕ) (status : Status) (last : State)
+        → IsInputOf [] entries input → length input ≤ MAX_SOURCE_BYTES
+        → Session true start input output (with_status status) last → IsDone status }
+{}
+
 /// Where `verify` ends well, the trait has the duty that was named, and its statement is derivable from its theory.
 pub fn what_is_verified_is_derivable()
-    ensures { (asked : Verification) (folder : FileMap) (input output : List ℕ)
-        → Output (Verify asked) folder input output Good → IsShown folder asked }
+    ensures { (asked : Verification) (names : List (List ℕ)) (folder : FileMap) (input output : List ℕ)
+        → Output (OnFiles (Verify asked) names) folder input output Good → IsShown folder asked names }
 {
     accepted_is_derivable()
 }

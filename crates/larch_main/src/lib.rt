@@ -16,9 +16,8 @@ mod status;
 mod verify;
 
 pub use laws::{
-    each_trait_has_one_line, every_session_ends, one_ending, one_output,
-    what_is_verified_is_derivable,
+    each_trait_has_one_line, every_session_ends, one_ending, one_output, what_is_gathered_is_done,
+    what_is_in_the_grammar_is_done, what_is_there_is_gathered, what_is_verified_is_derivable,
 };
-pub use report::ReportLine;
 pub use running::run;
 pub use status::Status;

@@ -1,23 +1,23 @@
 ghost use Rattle.std.specs.Prelude.{◌≡◌, ◌<◌, ◌++◌, length, IfErr, IfOk, IfSome, OnOk, true};
 ghost use Rattle.std.specs.List.{list_all};
 ghost use Rattle.larch_base.specs.FileName.{is_file_name};
-ghost use Rattle.larch_words.specs.declared.call.Call.TheVariants.{Obligations as call_obligations};
+ghost use Rattle.larch_words.specs.declared.call.Question.TheVariants.{Obligations as question_obligations};
 ghost use Rattle.larch_main.specs.Answer.{answer_of};
 ghost use Rattle.larch_flat_sources.specs.Sources.{name_at};
 ghost use Rattle.larch_flat.specs.Known.{AreAllKnown, Knows};
 ghost use Rattle.larch_main.specs.Obligations.{listed_at, listings_of, obligations_answer};
-ghost use Rattle.larch_main.specs.Running.{Answered};
+ghost use Rattle.larch_main.specs.Questions.{Answered};
 ghost use Rattle.larch_main.specs.Look.{GatherFaults};
 ghost use Rattle.larch_main.specs.Report.{IsLineOf, source_lines};
 
 use crate::answer::{Answer, good_or_remains};
 use crate::gather::{GatherRefusal, gather};
-use crate::report::{ReportLine, append_line, is_good};
 use larch_base::{Bytes, Fault, FileName, Memory, Sequence};
 use larch_duties::list_trait;
 use larch_flat::{FlatTraits, flatten};
 use larch_flat_sources::Sources;
 use larch_io::Folder;
+use larch_report::{ReportLine, append_line, counts_of, is_good};
 use larch_traits::{Files, read_files};
 use larch_traits_items::TraitRefusal;
 use std::alloc::Global;
@@ -30,7 +30,7 @@ pub fn obligations<F: Folder>(
 ) -> Result<Answer, GatherRefusal>
     requires { list_all is_file_name names.now ≡ true }
     ensures answer { IfSome (answer_of result) (λ answer.
-        Answered (call_obligations names.now) (F.files folder.old) answer) }
+        Answered question_obligations names.now (F.files folder.old) answer) }
     ensures same { F.files folder.new ≡ F.files folder.old }
     ensures fine { OnOk result (F.faults folder.new ≡ F.faults folder.old) }
     ensures faults { IfErr result (λ refusal. GatherFaults refusal (F.faults folder.old) (F.faults folder.new)) }
@@ -51,7 +51,7 @@ fn listings(alloc: Global, files: &Files) -> Result<Answer, Memory>
     text.append(b"end\n")?;
     Ok(Answer {
         text,
-        status: good_or_remains(is_good(lines.as_slice())),
+        status: good_or_remains(is_good(counts_of(lines.as_slice()))),
     })
 }
 

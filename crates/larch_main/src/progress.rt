@@ -1,17 +1,20 @@
-ghost use Rattle.std.specs.Prelude.{◌≡◌, ◌≢◌, ◌≤◌, [], length, true, false, IfOk, IfErr, OnOk};
+ghost use Rattle.std.specs.Prelude.{◌≡◌, ◌≢◌, ◌≤◌, [], length, true, false, IfOk, IfErr, OnOk, OnErr};
 ghost use Rattle.larch_base.specs.declared.limits.TheConstants.{MAX_FILE_BYTES, MAX_SOURCE_BYTES};
 ghost use Rattle.larch_main.specs.Command.{command_of};
 ghost use Rattle.larch_main.specs.Progress.{state_of, at_line, at_command, at_bytes, Moves, HaltFaults, Advances};
 ghost use Rattle.larch_main.specs.Progress.{Follows, IsStop, Never, PutsIn, Refuses};
-ghost use Rattle.larch_main.specs.Report.{report_of, report_text, is_good};
+ghost use Rattle.larch_main.specs.Report.{report_of};
+ghost use Rattle.larch_report.specs.Counts.{counts_of, is_good};
+ghost use Rattle.larch_report.specs.Text.{report_text};
 ghost use Rattle.larch_main.specs.Session.{start, status_of, nothing, malformed_reply, too_large};
 
 use crate::command::{Command, command_of};
-use crate::report::{is_good, report_on, report_text};
+use crate::report::report_on;
 use crate::status::Status;
 use larch_base::limits::{MAX_FILE_BYTES, MAX_FILES};
 use larch_base::{Bytes, FileName, Memory};
 use larch_io::{Reader, Source, TakeRefusal, take_exact, take_line};
+use larch_report::{counts_of, is_good, report_text};
 use larch_traits::Files;
 use std::alloc::{AllocError, Global};
 
@@ -184,13 +187,16 @@ fn carry_out<S: Source>(
 // Answers `report`.
 fn answer_report(alloc: Global, progress: &mut Progress) -> Result<Move, Halt>
     ensures reply { IfOk result (λ move. move ≡ Move.Goes (report_text (report_of progress.old.files))) }
-    ensures good { OnOk result (progress.new ≡ record progress.old { good = is_good (report_of progress.old.files) }) }
+    ensures good { OnOk result (progress.new
+        ≡ record progress.old { good = is_good (counts_of (report_of progress.old.files)) }) }
     ensures memory { IfErr result (λ halt. halt ≡ Halt.Memory) }
     ensures reader { progress.new.reader ≡ progress.old.reader }
+    // Where memory ran out nothing has changed.
+    ensures same { OnErr result (progress.new ≡ progress.old) }
 {
     let lines = report_on(alloc, &progress.files)?;
     let text = report_text(alloc, lines.as_slice())?;
-    progress.good = is_good(lines.as_slice());
+    progress.good = is_good(counts_of(lines.as_slice()));
     Ok(Move::Goes(text))
 }
 

@@ -2,11 +2,11 @@ ghost use Rattle.std.specs.Prelude.{◌≡◌, ◌≢◌, ℕ, List, Option, IfE
 ghost use Rattle.std.specs.List.{list_all};
 ghost use Rattle.larch_base.specs.FileName.{is_file_name};
 ghost use Rattle.larch_io.specs.Faults.{Rose};
-ghost use Rattle.larch_words.specs.Call.{call_of, files_named, is_certificate};
-ghost use Rattle.larch_words.specs.declared.call.Call.TheVariants.{Verify as call_verify};
-ghost use Rattle.larch_words.specs.declared.call.Verification.{Verification};
-ghost use Rattle.larch_main.specs.Running.{Answered, Answers, Writes, CallTakes, KeepsFolder, KeepsSource};
-ghost use Rattle.larch_main.specs.Running.{Counts, folder_failed, reads_folder, sink_failed, source_failed};
+ghost use Rattle.larch_words.specs.Call.{call_of};
+ghost use Rattle.larch_words.specs.declared.call.Call.TheVariants.{OnFiles as call_on_files};
+ghost use Rattle.larch_main.specs.Questions.{Answered, IsCertified};
+ghost use Rattle.larch_main.specs.Running.{Answers, Writes, CallTakes, KeepsFolder, KeepsSource};
+ghost use Rattle.larch_main.specs.Running.{Counts, Shows, folder_failed, sink_failed, source_failed};
 ghost use Rattle.larch_main.specs.Answer.{answer_of};
 ghost use Rattle.larch_main.specs.Look.{GatherFaults};
 ghost use Rattle.larch_main.specs.Progress.{HaltFaults};
@@ -14,15 +14,16 @@ ghost use Rattle.larch_main.specs.Progress.{HaltFaults};
 use crate::answer::{Answer, answer_to, tell};
 use crate::check::check;
 use crate::gather::GatherRefusal;
+use crate::laws::what_is_verified_is_derivable;
 use crate::obligations::obligations;
 use crate::progress::Halt;
 use crate::say::say;
 use crate::session::session;
 use crate::status::Status;
 use crate::verify::verify;
-use larch_base::Steps;
+use larch_base::{FileName, Steps};
 use larch_io::{Folder, Sink, Source};
-use larch_words::{Call, calls_name_files, certificates_are_named, read_words};
+use larch_words::{Call, Question, calls_name_files, certificates_are_named, read_words};
 use std::alloc::Global;
 use std::sync::ledger::Ledger;
 
@@ -44,6 +45,8 @@ pub fn run<F: Folder, S: Source, K: Sink, L: Ledger>(
     // A session that ends by itself has taken its input to the end or through `quit`.
     ensures input { CallTakes (call_of (map string_bytes words.now))
         (S.left source.old) (S.left source.new) (K.held sink.old) (K.held sink.new) result }
+    // Where `verify` ends well, the duty that it was asked for is derivable from its theory.
+    ensures shown { Shows (call_of (map string_bytes words.now)) (F.files folder.old) result }
     ensures steps { steps.new ≡ steps.old }
 
     // A fault is answered exactly where its count rose.
@@ -68,6 +71,7 @@ pub fn run<F: Folder, S: Source, K: Sink, L: Ledger>(
 {
     calls_name_files();
     certificates_are_named();
+    what_is_verified_is_derivable();
     let call = match read_words(alloc, words) {
         Ok(call) => call,
         Err(_) => return Status::Memory,
@@ -75,67 +79,74 @@ pub fn run<F: Folder, S: Source, K: Sink, L: Ledger>(
     match &call {
         Call::Session => session(alloc, source, sink),
         Call::Nothing => say(sink, USAGE, Status::Words),
-        Call::Check(_) | Call::Obligations(_) | Call::Verify(_) => {
-            run_on_files(alloc, &call, folder, sink)
+        Call::OnFiles(question, names) => {
+            run_on_files(alloc, question, names.as_slice(), folder, sink)
         }
     }
 }
 
-// Carries out a call that names files.
+// Answers a question about the files of these names.
 fn run_on_files<F: Folder, K: Sink>(
     alloc: Global,
-    call: &Call,
+    question: &Question,
+    names: &[FileName],
     folder: &mut F,
     sink: &mut K,
 ) -> Status
-    requires reads { reads_folder call.now ≡ true }
-    requires names { list_all is_file_name (files_named call.now) ≡ true }
-    requires certificate { (asked : Verification) → call.now ≡ call_verify asked
-        → is_certificate asked.certificate ≡ true }
+    requires names { list_all is_file_name names.now ≡ true }
+    requires certificate { IsCertified question.now }
     // The source, of which nothing is taken, may have left anything.
-    ensures output { (left : Option (List ℕ)) → Writes call.now (F.files folder.old)
+    ensures output { (left : Option (List ℕ)) → Writes (call_on_files question.now names.now) (F.files folder.old)
         left left (K.held sink.old) (K.held sink.new) result }
     ensures same { F.files folder.new ≡ F.files folder.old }
-    ensures source_faults { (count : ℕ) → Counts (source_failed call.now result) count count }
-    ensures folder_faults { Counts (folder_failed call.now result) (F.faults folder.old) (F.faults folder.new) }
+    ensures source_faults { (count : ℕ) → Counts (source_failed (call_on_files question.now names.now) result)
+        count count }
+    ensures folder_faults { Counts (folder_failed (call_on_files question.now names.now) result)
+        (F.faults folder.old) (F.faults folder.new) }
     ensures sink_faults { Counts (sink_failed result) (K.faults sink.old) (K.faults sink.new) }
 {
-    let answered = answer(alloc, call, folder);
+    let answered = answer(alloc, question, names, folder);
     tell(sink, answered)
 }
 
-// What is answered to a call that names files.
-fn answer<F: Folder>(alloc: Global, call: &Call, folder: &mut F) -> Result<Answer, Halt>
-    requires reads { reads_folder call.now ≡ true }
-    requires names { list_all is_file_name (files_named call.now) ≡ true }
-    requires certificate { (asked : Verification) → call.now ≡ call_verify asked
-        → is_certificate asked.certificate ≡ true }
-    ensures answer { IfOk result (λ answer. Answered call.now (F.files folder.old) answer) }
+// What is answered to a question about the files of these names.
+fn answer<F: Folder>(
+    alloc: Global,
+    question: &Question,
+    names: &[FileName],
+    folder: &mut F,
+) -> Result<Answer, Halt>
+    requires names { list_all is_file_name names.now ≡ true }
+    requires certificate { IsCertified question.now }
+    ensures answer { IfOk result (λ answer. Answered question.now names.now (F.files folder.old) answer) }
     ensures same { F.files folder.new ≡ F.files folder.old }
     ensures fine { OnOk result (F.faults folder.new ≡ F.faults folder.old) }
     ensures faults { IfErr result (λ halt. HaltFaults halt (F.faults folder.old) (F.faults folder.new)) }
 {
-    match answer_of(alloc, call, folder) {
+    match answer_of(alloc, question, names, folder) {
         Ok(answer) => Ok(answer),
         Err(refusal) => answer_to(alloc, refusal),
     }
 }
 
-// What comes of a call that names files.
-fn answer_of<F: Folder>(alloc: Global, call: &Call, folder: &mut F) -> Result<Answer, GatherRefusal>
-    requires reads { reads_folder call.now ≡ true }
-    requires names { list_all is_file_name (files_named call.now) ≡ true }
-    requires certificate { (asked : Verification) → call.now ≡ call_verify asked
-        → is_certificate asked.certificate ≡ true }
-    ensures answer { IfSome (answer_of result) (λ answer. Answered call.now (F.files folder.old) answer) }
+// What comes of a question about the files of these names.
+fn answer_of<F: Folder>(
+    alloc: Global,
+    question: &Question,
+    names: &[FileName],
+    folder: &mut F,
+) -> Result<Answer, GatherRefusal>
+    requires names { list_all is_file_name names.now ≡ true }
+    requires certificate { IsCertified question.now }
+    ensures answer { IfSome (answer_of result) (λ answer.
+        Answered question.now names.now (F.files folder.old) answer) }
     ensures same { F.files folder.new ≡ F.files folder.old }
     ensures fine { OnOk result (F.faults folder.new ≡ F.faults folder.old) }
     ensures faults { IfErr result (λ refusal. GatherFaults refusal (F.faults folder.old) (F.faults folder.new)) }
 {
-    match call {
-        Call::Session | Call::Nothing => unreachable!(),
-        Call::Check(names) => check(alloc, names.as_slice(), folder),
-        Call::Obligations(names) => obligations(alloc, names.as_slice(), folder),
-        Call::Verify(asked) => verify(alloc, asked, folder),
+    match question {
+        Question::Check => check(alloc, names, folder),
+        Question::Obligations => obligations(alloc, names, folder),
+        Question::Verify(asked) => verify(alloc, asked, names, folder),
     }
 }

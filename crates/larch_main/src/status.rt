@@ -3,19 +3,19 @@ ghost use Rattle.std.specs.Prelude.{◌≡◌};
 /// How a call of the program ended.
 #[derive(Clone, Copy, Debug, PartialEq, Eq)]
 pub enum Status {
-    /// Nothing is wrong in the last report.
+    /// Nothing is wrong in the last report, or the listing; or a certificate was accepted.
     Good,
-    /// The last report counts an error.
+    /// Something is wrong in the last report, or the listing; or a certificate was refused, or there is no such duty.
     Remains,
     /// The words of the command line mean no command.
     Words,
-    /// The source failed.
+    /// The source failed, or the folder.
     ReadFault,
     /// The sink failed.
     WriteFault,
     /// Out of memory.
     Memory,
-    /// The input isn't in the session's grammar.
+    /// The input isn't in the session's grammar, or a certificate isn't in that of certificates.
     Malformed,
     /// Something passes a limit.
     Size,

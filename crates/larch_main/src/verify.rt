@@ -5,9 +5,9 @@ ghost use Rattle.larch_base.specs.Label.{label_text};
 ghost use Rattle.larch_certificate.specs.declared.line.Line.{Line};
 ghost use Rattle.larch_duties_meaning.specs.Duties.{all_duties};
 ghost use Rattle.larch_words.specs.Call.{is_certificate};
-ghost use Rattle.larch_words.specs.declared.call.Call.TheVariants.{Verify as call_verify};
+ghost use Rattle.larch_words.specs.declared.call.Question.TheVariants.{Verify as question_verify};
 ghost use Rattle.larch_main.specs.Answer.{answer_of, said};
-ghost use Rattle.larch_main.specs.Running.{Answered};
+ghost use Rattle.larch_main.specs.Questions.{Answered};
 ghost use Rattle.larch_main.specs.Look.{GatherFaults};
 ghost use Rattle.larch_main.specs.Verify.{duty_in, duty_with, verdict_of, malformed_answer, verdict_told, verification_answer};
 ghost use Rattle.larch_verify.specs.Verdict.{refusal};
@@ -15,7 +15,7 @@ ghost use Rattle.larch_verify.specs.Verdict.{refusal};
 use crate::answer::{Answer, said};
 use crate::gather::{Evidence, GatherRefusal, gather_evidence};
 use crate::status::Status;
-use larch_base::{Label, Memory, Name};
+use larch_base::{FileName, Label, Memory, Name};
 use larch_certificate::Line;
 use larch_certificate_reader::{FormRefusal, read_certificate};
 use larch_duties::{Duties, duties_of, find_duty};
@@ -28,21 +28,22 @@ use larch_verify::{Verdict, verify as check_certificate};
 use larch_words::Verification;
 use std::alloc::Global;
 
-/// What is answered where this is to be verified.
+/// What is answered where this is to be verified of the files of these names.
 pub fn verify<F: Folder>(
     alloc: Global,
     asked: &Verification,
+    names: &[FileName],
     folder: &mut F,
 ) -> Result<Answer, GatherRefusal>
-    requires names { list_all is_file_name asked.now.files ≡ true }
+    requires names { list_all is_file_name names.now ≡ true }
     requires other { is_certificate asked.now.certificate ≡ true }
     ensures answer { IfSome (answer_of result) (λ answer.
-        Answered (call_verify asked.now) (F.files folder.old) answer) }
+        Answered (question_verify asked.now) names.now (F.files folder.old) answer) }
     ensures same { F.files folder.new ≡ F.files folder.old }
     ensures fine { OnOk result (F.faults folder.new ≡ F.faults folder.old) }
     ensures faults { IfErr result (λ refusal. GatherFaults refusal (F.faults folder.old) (F.faults folder.new)) }
 {
-    let evidence = gather_evidence(alloc, &asked.certificate, asked.files.as_slice(), folder)?;
+    let evidence = gather_evidence(alloc, &asked.certificate, names, folder)?;
     let answer = verification_answer(alloc, &asked.stem, asked.label, &evidence)?;
     Ok(answer)
 }

@@ -10,7 +10,9 @@ use Rattle.larch_base.specs.declared.label.Label.{Label}
 use Rattle.larch_words.specs.CommandLine.{Request, request_of}
 use Rattle.larch_words.specs.Label.{label_of}
 use Rattle.larch_words.specs.declared.call.Call.{Call}
-use Rattle.larch_words.specs.declared.call.Call.TheVariants.{Session, Check, Obligations, Verify, Nothing}
+use Rattle.larch_words.specs.declared.call.Call.TheVariants.{Session, OnFiles, Nothing}
+use Rattle.larch_words.specs.declared.call.Question.{Question}
+use Rattle.larch_words.specs.declared.call.Question.TheVariants.{Check, Obligations, Verify}
 
 -- whether an option was given
 abbrev pub has_option : Request → Bool
@@ -20,9 +22,9 @@ has_option request = is_some request.limit || (is_some request.seed || is_some r
 abbrev pub are_files : List (List ℕ) → Bool
 are_files words = not (is_empty words) && list_all is_file_name words
 
--- what is asked of files, where words are names of some
-abbrev pub of_files : (List (List ℕ) → Call) → List (List ℕ) → Call
-of_files ask words = if are_files words then ask words else Nothing
+-- what is asked about files, where words are names of some
+abbrev pub on_files : Question → List (List ℕ) → Call
+on_files question words = if are_files words then OnFiles question words else Nothing
 
 -- whether a word ends in `.cert`
 abbrev pub is_certificate : List ℕ → Bool
@@ -33,31 +35,19 @@ abbrev pub verified_by : List ℕ → Option Label → List ℕ → List (List �
 verified_by stem None certificate files = Nothing
 verified_by stem (Some label) certificate files =
     if is_stem stem && is_certificate certificate
-    then of_files (λ names. Verify (record { stem = stem; label = label; certificate = certificate; files = names }))
-    files
-    else Nothing
-
--- behind a trait and a label: a certificate and files
-abbrev pub verified_duty : List ℕ → Option Label → List (List ℕ) → Call
-verified_duty stem label [] = Nothing
-verified_duty stem label (certificate ∷ files) = verified_by stem label certificate files
-
--- behind a trait: a label, a certificate and files
-abbrev pub verified_trait : List ℕ → List (List ℕ) → Call
-verified_trait stem [] = Nothing
-verified_trait stem (label ∷ words) = verified_duty stem (label_of label) words
+    then on_files (Verify (record { stem = stem; label = label; certificate = certificate })) files else Nothing
 
 -- a trait, a label, a certificate and files
 abbrev pub verification_call : List (List ℕ) → Call
-verification_call [] = Nothing
-verification_call (stem ∷ words) = verified_trait stem words
+verification_call (stem ∷ label ∷ certificate ∷ files) = verified_by stem (label_of label) certificate files
+verification_call _ = Nothing
 
 -- a session takes no words, the other commands take files
 abbrev pub call_from : List ℕ → List (List ℕ) → Call
 call_from command words =
     if bytes_eq command (codes "session") then (if is_empty words then Session else Nothing)
-    else if bytes_eq command (codes "check") then of_files Check words
-    else if bytes_eq command (codes "obligations") then of_files Obligations words
+    else if bytes_eq command (codes "check") then on_files Check words
+    else if bytes_eq command (codes "obligations") then on_files Obligations words
     else if bytes_eq command (codes "verify") then verification_call words
     else Nothing
 
@@ -72,7 +62,5 @@ call_of words = option_map_or asked (request_of words) Nothing
 -- the files that a call names
 abbrev pub files_named : Call → List (List ℕ)
 files_named Session = []
-files_named (Check names) = names
-files_named (Obligations names) = names
-files_named (Verify asked) = asked.files
+files_named (OnFiles question names) = names
 files_named Nothing = []

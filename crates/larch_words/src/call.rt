@@ -2,10 +2,9 @@ ghost use Rattle.std.specs.Prelude.{◌≡◌, if◌then◌else◌, IfOk, IsErrO
 ghost use Rattle.std.specs.List.{list_all};
 ghost use Rattle.clap.specs.Words.{first_of, found_of, rows_of};
 ghost use Rattle.larch_base.specs.FileName.{is_file_name, is_stem, is_stem_byte};
-ghost use Rattle.larch_words.specs.Call.{are_files, asked, call_of, call_from, has_option, is_certificate, of_files};
-ghost use Rattle.larch_words.specs.Call.{verification_call, verified_by, verified_duty, verified_trait};
+ghost use Rattle.larch_words.specs.Call.{are_files, asked, call_of, call_from, has_option, is_certificate, on_files};
+ghost use Rattle.larch_words.specs.Call.{verification_call, verified_by};
 ghost use Rattle.larch_words.specs.CommandLine.{request_in};
-ghost use Rattle.larch_words.specs.declared.call.Call.TheVariants.{Check as call_check, Obligations as call_obligations};
 
 use crate::certificate_name::CertificateName;
 use crate::command_line::command_line;
@@ -28,8 +27,17 @@ pub struct Verification {
     pub label: Label,
     /// The file of the certificate.
     pub certificate: CertificateName,
-    /// The files among which the trait is.
-    pub files: FileNames,
+}
+
+/// What is asked about files.
+#[derive(Drop)]
+pub enum Question {
+    /// What is wrong with them.
+    Check,
+    /// What their traits claim.
+    Obligations,
+    /// Whether a certificate shows what a trait among them claims.
+    Verify(Verification),
 }
 
 /// What the words of the command line ask for.
@@ -37,12 +45,8 @@ pub struct Verification {
 pub enum Call {
     /// A session over the source and the sink.
     Session,
-    /// What is wrong with these files.
-    Check(FileNames),
-    /// What the traits of these files claim.
-    Obligations(FileNames),
-    /// Whether a certificate shows what a trait claims.
-    Verify(Verification),
+    /// Something about these files of the folder.
+    OnFiles(Question, FileNames),
     /// Nothing: the words mean no command.
     Nothing,
 }
@@ -128,30 +132,21 @@ fn call_with_words(alloc: Global, command: &str, words: &[&str]) -> Result<Call,
                 Ok(Call::Nothing)
             }
         }
-        "check" => check_call(alloc, words),
-        "obligations" => obligations_call(alloc, words),
+        "check" => on_files(alloc, Question::Check, words),
+        "obligations" => on_files(alloc, Question::Obligations, words),
         "verify" => verify_call(alloc, words),
         _ => Ok(Call::Nothing),
     }
 }
 
-// What a check of these words asks for.
-fn check_call(alloc: Global, words: &[&str]) -> Result<Call, Memory>
-    ensures { IfOk result (λ call. call ≡ of_files call_check (map (λ word. word.now) words.now)) }
+// What is asked about the files that words name, where they are names of files.
+fn on_files(alloc: Global, question: Question, words: &[&str]) -> Result<Call, Memory>
+    ensures { IfOk result (λ call. call ≡ on_files question (map (λ word. word.now) words.now)) }
 {
-    match files(alloc, words)? {
-        Some(names) => Ok(Call::Check(names)),
-        None => Ok(Call::Nothing),
-    }
-}
-
-// What is asked for where the obligations of the files that these words name are.
-fn obligations_call(alloc: Global, words: &[&str]) -> Result<Call, Memory>
-    ensures { IfOk result (λ call. call ≡ of_files call_obligations (map (λ word. word.now) words.now)) }
-{
-    match files(alloc, words)? {
-        Some(names) => Ok(Call::Obligations(names)),
-        None => Ok(Call::Nothing),
+    match files(alloc, words) {
+        Ok(Some(names)) => Ok(Call::OnFiles(question, names)),
+        Ok(None) => Ok(Call::Nothing),
+        Err(memory) => Err(memory),
     }
 }
 
@@ -160,33 +155,10 @@ fn verify_call(alloc: Global, words: &[&str]) -> Result<Call, Memory>
     ensures { IfOk result (λ call. call ≡ verification_call (map (λ word. word.now) words.now)) }
 {
     match words {
-        [] => Ok(Call::Nothing),
-        [stem, words @ ..] => trait_call(alloc, stem, words),
-    }
-}
-
-// What words after the trait ask for.
-fn trait_call(alloc: Global, stem: &str, words: &[&str]) -> Result<Call, Memory>
-    ensures { IfOk result (λ call. call ≡ verified_trait stem.now (map (λ word. word.now) words.now)) }
-{
-    match words {
-        [] => Ok(Call::Nothing),
-        [label, words @ ..] => duty_call(alloc, stem, label_of(label.as_bytes()), words),
-    }
-}
-
-// What words after the trait and the label ask for.
-fn duty_call(
-    alloc: Global,
-    stem: &str,
-    label: Option<Label>,
-    words: &[&str],
-) -> Result<Call, Memory>
-    ensures { IfOk result (λ call. call ≡ verified_duty stem.now label (map (λ word. word.now) words.now)) }
-{
-    match words {
-        [] => Ok(Call::Nothing),
-        [certificate, files @ ..] => certificate_call(alloc, stem, label, certificate, files),
+        [stem, label, certificate, files @ ..] => {
+            certificate_call(alloc, stem, label_of(label.as_bytes()), certificate, files)
+        }
+        _ => Ok(Call::Nothing),
     }
 }
 
@@ -207,13 +179,8 @@ fn certificate_call(
     if !is_stem(stem.as_bytes()) || !is_certificate(certificate.as_bytes()) {
         return Ok(Call::Nothing);
     }
-    match files(alloc, words)? {
-        Some(files) => {
-            let asked = verification_of(alloc, stem, label, certificate, files)?;
-            Ok(Call::Verify(asked))
-        }
-        None => Ok(Call::Nothing),
-    }
+    let asked = verification_of(alloc, stem, label, certificate)?;
+    on_files(alloc, Question::Verify(asked), words)
 }
 
 // What is to be verified.
@@ -222,18 +189,16 @@ fn verification_of(
     stem: &str,
     label: Label,
     certificate: &str,
-    files: FileNames,
 ) -> Result<Verification, Memory>
     ensures { IfOk result (λ asked. asked
-        ≡ record { stem = stem.now; label = label; certificate = certificate.now; files = files }) }
+        ≡ record { stem = stem.now; label = label; certificate = certificate.now }) }
 {
-    let stem = Name::new(alloc, stem.as_bytes())?;
     let certificate = CertificateName::new(alloc, certificate)?;
+    let stem = Name::new(alloc, stem.as_bytes())?;
     Ok(Verification {
         stem,
         label,
         certificate,
-        files,
     })
 }
 

@@ -3,7 +3,8 @@ ghost use Rattle.std.specs.Prelude.{◌≡◌, ℕ, true, List};
 ghost use Rattle.std.specs.List.{list_all};
 ghost use Rattle.larch_base.specs.FileName.{is_file_name};
 ghost use Rattle.larch_words.specs.Call.{call_of, files_named, is_certificate};
-ghost use Rattle.larch_words.specs.declared.call.Call.TheVariants.{Verify};
+ghost use Rattle.larch_words.specs.declared.call.Call.TheVariants.{OnFiles};
+ghost use Rattle.larch_words.specs.declared.call.Question.TheVariants.{Verify};
 ghost use Rattle.larch_words.specs.declared.call.Verification.{Verification};
 
 /// The files that a call names have names of files.
@@ -13,6 +14,6 @@ pub fn calls_name_files()
 
 /// The certificate that a call names has the name of one.
 pub fn certificates_are_named()
-    ensures { (words : List (List ℕ)) (asked : Verification) → call_of words ≡ Verify asked
+    ensures { (words names : List (List ℕ)) (asked : Verification) → call_of words ≡ OnFiles (Verify asked) names
         → is_certificate asked.certificate ≡ true }
 {}

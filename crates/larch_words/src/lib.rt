@@ -7,6 +7,6 @@ mod command_line;
 mod label;
 mod laws;
 
-pub use call::{Call, FileNames, Verification, read_words};
+pub use call::{Call, FileNames, Question, Verification, read_words};
 pub use certificate_name::CertificateName;
 pub use laws::{calls_name_files, certificates_are_named};

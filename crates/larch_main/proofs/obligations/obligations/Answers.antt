@@ -1,16 +1,22 @@
 use Rattle.std.proofs.lemmas.Result.{err_from_is_err_and}
+use Rattle.larch_words.specs.declared.call.Question.TheVariants.{Obligations}
+use Rattle.larch_main.specs.Answer.{IsAnswer}
+use Rattle.larch_main.specs.Obligations.{obligations_answer}
 use Rattle.larch_main.specs.Gather.{Whole}
-use Rattle.larch_main.proofs.Answering.{obligations_answered, obligations_refused}
+use Rattle.larch_main.proofs.Answering.{files_answered, files_refused, is_answer}
 use Rattle.larch_main.proofs.obligations.obligations.Goals as goal
 
 pub returns-in_err-files-clause-answer : goal.returns-in_err-files-clause-answer
 returns-in_err-files-clause-answer g c =
     let p = err_from_is_err_and c.from_residual.result c.from_residual.ensures.1 in
     rw (p.1, p.2)
-    (obligations_refused (g.F.Folder.files c.args.folder.now) c.args.names.now c.in_err-files.field-0.0
-    c.in_err-files.ensures.found)
+    (files_refused Obligations c.args.names.now (g.F.Folder.files c.args.folder.now)
+    (λ files. IsAnswer (obligations_answer files))
+    (λ folder text status by. by) c.in_err-files.field-0.0 c.in_err-files.ensures.found)
 
 pub returns-clause-answer : goal.returns-clause-answer
 returns-clause-answer g c =
-    obligations_answered _ _ (Whole c.in_ok-files.files) c.in_ok-answer.answer c.in_ok-files.ensures.found
-    c.in_ok-answer.ensures
+    files_answered Obligations c.args.names.now (g.F.Folder.files c.args.folder.now)
+    (λ files. IsAnswer (obligations_answer files))
+    (λ folder text status by. by) (Whole c.in_ok-files.files) c.in_ok-answer.answer c.in_ok-files.ensures.found
+    (is_answer _ _ c.in_ok-answer.ensures)

@@ -1,14 +1,21 @@
 -- What the words ask for, and what that call does.
-use Rattle.std.proofs.Common.{◌∙◌, refl, sym}
+use Rattle.std.proofs.Common.{◌∙◌, ap, map, refl, string_bytes, sym}
 use Rattle.larch_words.specs.declared.call.Call.TheVariants as call_
-use Rattle.larch_main.proofs.Whole.{completes_as, folder_kept, memory_input, nothing_written, source_kept, unlooked}
-use Rattle.larch_main.proofs.Whole.{unread, usage_sink, usage_writes, writes_as}
+use Rattle.larch_main.proofs.Whole.{asked_certificate, completes_as, folder_kept, memory_input}
+use Rattle.larch_main.proofs.Whole.{nothing_written, shows, source_kept, unlooked, unread, usage_sink, usage_writes}
+use Rattle.larch_main.proofs.Whole.{writes_as}
 use Rattle.larch_main.proofs.running.run.Goals as goal
 
 pub returns-in-Session-clause-output : goal.returns-in-Session-clause-output
 returns-in-Session-clause-output g c =
     writes_as call_.Session _ _ _ _ _ _ c.session.result (sym c.in-Session.is ∙ c.in-Ok.ensures)
     (c.session.ensures.output _)
+
+pub returns-in-Session-clause-shown : goal.returns-in-Session-clause-shown
+returns-in-Session-clause-shown g c =
+    shows c.what_is_verified_is_derivable.ensures _ _ _ _ _ _ c.session.result
+    (writes_as call_.Session _ _ _ _ _ _ c.session.result (sym c.in-Session.is ∙ c.in-Ok.ensures)
+    (c.session.ensures.output (g.F.Folder.files c.args.folder.now)))
 
 pub returns-in-Session-clause-complete : goal.returns-in-Session-clause-complete
 returns-in-Session-clause-complete g c =
@@ -21,6 +28,13 @@ returns-in-Nothing-clause-output g c =
     writes_as call_.Nothing _ _ _ _ _ _ c.say.result (sym c.in-Nothing.is ∙ c.in-Ok.ensures)
     (usage_writes _ _ _ _ _ _ c.say.result c.say.ensures)
 
+pub returns-in-Nothing-clause-shown : goal.returns-in-Nothing-clause-shown
+returns-in-Nothing-clause-shown g c =
+    shows c.what_is_verified_is_derivable.ensures _ _ _ _ _ _ c.say.result
+    (writes_as call_.Nothing _ _ _ _ _ _ c.say.result (sym c.in-Nothing.is ∙ c.in-Ok.ensures)
+    (usage_writes (g.F.Folder.files c.args.folder.now) (g.S.Source.left c.args.source.now) _ _ _ _ c.say.result
+    c.say.ensures))
+
 pub returns-in-Nothing-clause-complete : goal.returns-in-Nothing-clause-complete
 returns-in-Nothing-clause-complete g c =
     completes_as call_.Nothing _ _ _ _ _ _ c.say.result _ _ _ _ _ _ (sym c.in-Nothing.is ∙ c.in-Ok.ensures)
@@ -30,20 +44,43 @@ returns-in-Nothing-clause-complete g c =
     (unlooked call_.Nothing refl c.say.result (g.F.Folder.faults c.args.folder.now))
     (usage_sink _ _ _ _ c.say.result c.say.ensures)
 
+pub run_on_files-requires-clause-certificate : goal.run_on_files-requires-clause-certificate
+run_on_files-requires-clause-certificate g c =
+    asked_certificate _ (map string_bytes c.args.words.now) _ _ c.in-Ok.ensures c.in-OnFiles.is
+    c.certificates_are_named.ensures
+
 pub returns-clause-output : goal.returns-clause-output
 returns-clause-output g c =
-    writes_as _ _ _ _ _ _ _ c.run_on_files.result c.in-Ok.ensures
+    writes_as _ _ _ _ _ _ _ c.run_on_files.result
+    (ap (λ names. call_.OnFiles c.in-OnFiles.question names) c.as_slice.ensures
+    ∙ (sym c.in-OnFiles.is ∙ c.in-Ok.ensures))
     (c.run_on_files.ensures.output (g.S.Source.left c.args.source.now))
+
+pub returns-clause-shown : goal.returns-clause-shown
+returns-clause-shown g c =
+    shows c.what_is_verified_is_derivable.ensures _ _ _ _ _ _ c.run_on_files.result
+    (writes_as _ _ _ _ _ _ _ c.run_on_files.result
+    (ap (λ names. call_.OnFiles c.in-OnFiles.question names) c.as_slice.ensures
+    ∙ (sym c.in-OnFiles.is ∙ c.in-Ok.ensures))
+    (c.run_on_files.ensures.output (g.S.Source.left c.args.source.now)))
 
 pub returns-clause-complete : goal.returns-clause-complete
 returns-clause-complete g c =
-    completes_as _ _ _ _ _ _ _ c.run_on_files.result _ _ _ _ _ _ c.in-Ok.ensures
+    completes_as _ _ _ _ _ _ _ c.run_on_files.result _ _ _ _ _ _
+    (ap (λ names. call_.OnFiles c.in-OnFiles.question names) c.as_slice.ensures
+    ∙ (sym c.in-OnFiles.is ∙ c.in-Ok.ensures))
     (c.run_on_files.ensures.output (g.S.Source.left c.args.source.now))
     (c.run_on_files.ensures.source_faults (g.S.Source.faults c.args.source.now))
     c.run_on_files.ensures.folder_faults c.run_on_files.ensures.sink_faults
 
 pub returns-in-Err-clause-output : goal.returns-in-Err-clause-output
 returns-in-Err-clause-output g c = nothing_written _ _ _ _
+
+pub returns-in-Err-clause-shown : goal.returns-in-Err-clause-shown
+returns-in-Err-clause-shown g c =
+    shows c.what_is_verified_is_derivable.ensures _ _ _ _ _ _ _
+    (nothing_written _ (g.F.Folder.files c.args.folder.now) (g.S.Source.left c.args.source.now)
+    (g.K.Sink.held c.args.sink.now))
 
 pub returns-in-Err-clause-input : goal.returns-in-Err-clause-input
 returns-in-Err-clause-input g c = memory_input _ _ _ _ _

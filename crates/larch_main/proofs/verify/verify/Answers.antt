@@ -1,16 +1,24 @@
 use Rattle.std.proofs.lemmas.Result.{err_from_is_err_and}
+use Rattle.larch_words.specs.declared.call.Question.TheVariants.{Verify}
+use Rattle.larch_main.specs.Answer.{IsAnswer}
 use Rattle.larch_main.specs.Gather.{Whole}
-use Rattle.larch_main.proofs.Answering.{verify_answered, verify_refused}
+use Rattle.larch_main.specs.Verify.{verification_answer}
+use Rattle.larch_main.proofs.Answering.{evidence_answered, evidence_refused, is_answer}
 use Rattle.larch_main.proofs.verify.verify.Goals as goal
 
 pub returns-in_err-evidence-clause-answer : goal.returns-in_err-evidence-clause-answer
 returns-in_err-evidence-clause-answer g c =
     let p = err_from_is_err_and c.from_residual.result c.from_residual.ensures.1 in
     rw (p.1, p.2)
-    (verify_refused (g.F.Folder.files c.args.folder.now) c.args.asked.now c.in_err-evidence.field-0.0
-    (rw c.as_slice.ensures at c.in_err-evidence.ensures.found))
+    (evidence_refused (Verify c.args.asked.now) c.args.names.now (g.F.Folder.files c.args.folder.now)
+    c.args.asked.now.certificate
+    (λ evidence. IsAnswer (verification_answer c.args.asked.now.stem c.args.asked.now.label evidence))
+    (λ folder text status by. by) c.in_err-evidence.field-0.0 c.in_err-evidence.ensures.found)
 
 pub returns-clause-answer : goal.returns-clause-answer
 returns-clause-answer g c =
-    verify_answered (g.F.Folder.files c.args.folder.now) c.args.asked.now (Whole c.in_ok-evidence.evidence)
-    c.in_ok-answer.answer (rw c.as_slice.ensures at c.in_ok-evidence.ensures.found) c.in_ok-answer.ensures
+    evidence_answered (Verify c.args.asked.now) c.args.names.now (g.F.Folder.files c.args.folder.now)
+    c.args.asked.now.certificate
+    (λ evidence. IsAnswer (verification_answer c.args.asked.now.stem c.args.asked.now.label evidence))
+    (λ folder text status by. by) (Whole c.in_ok-evidence.evidence) c.in_ok-answer.answer
+    c.in_ok-evidence.ensures.found (is_answer _ _ c.in_ok-answer.ensures)

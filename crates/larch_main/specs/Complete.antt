@@ -1,0 +1,47 @@
+-- When all that a call needs is there, and what it then comes to.
+use Rattle.std.specs.Prelude.{◌≡◌, ◌≤◌, ℕ, false, List, [], length, All, IsSomeAnd}
+use Rattle.larch_base.specs.declared.limits.TheConstants.{MAX_FILES, MAX_FILE_BYTES}
+use Rattle.larch_certificate.specs.declared.line.Line.{Line}
+use Rattle.larch_certificate_text.specs.CertificateText.{IsTextOf}
+use Rattle.larch_io.specs.Folder.{FileMap, file_of}
+use Rattle.larch_traits.specs.Files.{Table}
+use Rattle.larch_words.specs.declared.call.Question.{Question}
+use Rattle.larch_words.specs.declared.call.Question.TheVariants.{Check, Obligations, Verify}
+use Rattle.larch_main.specs.Gather.{Whole, evidence_in, gather_names}
+use Rattle.larch_main.specs.declared.gather.Evidence.{Evidence}
+use Rattle.larch_main.specs.declared.status.Status.{Status}
+use Rattle.larch_main.specs.declared.status.Status.TheVariants.{Good, Remains}
+
+-- all was done, and the status says whether something is left
+abbrev pub IsDone : Status → Type 0
+IsDone Good = Unit {0}
+IsDone Remains = Unit {0}
+IsDone _ = ⊥
+
+-- a folder has a file of this name, and it isn't too long
+abbrev pub HasShort : FileMap → List ℕ → Type 0
+HasShort folder name = IsSomeAnd (file_of folder name) (λ bytes. length bytes ≤ MAX_FILE_BYTES)
+
+-- a folder has the files of these names, none of them too long, and there aren't too many
+abbrev pub HasFiles : FileMap → List (List ℕ) → Type 0
+HasFiles folder names = All (HasShort folder) names × (length names ≤ MAX_FILES)
+
+-- a folder has a certificate of this name, and it isn't too long
+abbrev pub HasCertificate : FileMap → List ℕ → Type 0
+HasCertificate folder name =
+    IsSomeAnd (file_of folder name)
+    (λ text. (length text ≤ MAX_FILE_BYTES) × (lines : List Line) × IsTextOf text false lines)
+
+-- what a question is about is all there, within the limits and in its grammar
+abbrev pub IsThere : Question → List (List ℕ) → FileMap → Type 0
+IsThere Check names folder = (files : Table) × (gather_names folder [] names ≡ Whole files)
+IsThere Obligations names folder = (files : Table) × (gather_names folder [] names ≡ Whole files)
+IsThere (Verify asked) names folder =
+    (evidence : Evidence) × (lines : List Line) × (evidence_in folder asked.certificate names ≡ Whole evidence)
+    × IsTextOf evidence.certificate false lines
+
+-- a folder has what a question is about
+abbrev pub HasAll : Question → List (List ℕ) → FileMap → Type 0
+HasAll Check names folder = HasFiles folder names
+HasAll Obligations names folder = HasFiles folder names
+HasAll (Verify asked) names folder = HasCertificate folder asked.certificate × HasFiles folder names

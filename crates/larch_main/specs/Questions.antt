@@ -1,0 +1,35 @@
+-- What may be answered to a question about files.
+use Rattle.std.specs.Prelude.{◌≡◌, ℕ, true, List, [], Option}
+use Rattle.larch_io.specs.Folder.{FileMap}
+use Rattle.larch_words.specs.Call.{is_certificate}
+use Rattle.larch_words.specs.declared.call.Question.{Question}
+use Rattle.larch_words.specs.declared.call.Question.TheVariants.{Check, Obligations, Verify}
+use Rattle.larch_words.specs.declared.call.Verification.{Verification}
+use Rattle.larch_main.specs.Answer.{AnswersBy, IsAnswer}
+use Rattle.larch_main.specs.Check.{check_answer}
+use Rattle.larch_main.specs.Gather.{IsFolder, evidence_in, gather_names}
+use Rattle.larch_main.specs.Obligations.{obligations_answer}
+use Rattle.larch_main.specs.Verify.{verification_answer}
+use Rattle.larch_main.specs.declared.answer.Answer.{Answer}
+use Rattle.larch_main.specs.declared.status.Status.{Status}
+
+-- to this question about the files of these names in a folder, this text and this status may be answered
+abbrev pub MayAnswer : Question → List (List ℕ) → FileMap → List ℕ → Status → Type 0
+MayAnswer Check names folder = AnswersBy (λ files. IsAnswer (check_answer files)) (gather_names folder [] names)
+MayAnswer Obligations names folder =
+    AnswersBy (λ files. IsAnswer (obligations_answer files)) (gather_names folder [] names)
+MayAnswer (Verify asked) names folder =
+    AnswersBy (λ evidence. IsAnswer (verification_answer asked.stem asked.label evidence))
+    (evidence_in folder asked.certificate names)
+
+-- the certificate that a question names has the name of one
+abbrev pub IsCertified : Question → Type 0
+IsCertified question =
+    (asked : Verification) → question ≡ Verify asked → is_certificate asked.certificate ≡ true
+
+-- this was answered to a question: on some folder, the told one where it is told
+pub record Answered (question : Question) (names : List (List ℕ)) (told : Option FileMap) (answer : Answer) : Type 0
+  where
+    pub folder : FileMap
+    pub is_folder : IsFolder told folder
+    pub answers : MayAnswer question names folder answer.text answer.status
