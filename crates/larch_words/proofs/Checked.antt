@@ -13,7 +13,7 @@ use Rattle.larch_base.proofs.Bools.{and_right}
 use Rattle.larch_words.specs.Call.{are_files, asked, call_of, call_from, files_named, has_option, is_certificate}
 use Rattle.larch_words.specs.Call.{on_files, verification_call, verified_by}
 use Rattle.larch_words.specs.CommandLine.{Request, request_of}
-use Rattle.larch_words.specs.Label.{label_of}
+use Rattle.larch_base.specs.Label.{read_label}
 use Rattle.larch_words.specs.declared.call.Call.{Call}
 use Rattle.larch_words.specs.declared.call.Call.TheVariants.{Session, OnFiles, Nothing}
 use Rattle.larch_words.specs.declared.call.Question.{Question}
@@ -47,7 +47,7 @@ verified_named : (words : List (List ℕ)) → AreNamed (verification_call words
 verified_named [] = refl
 verified_named (stem ∷ []) = refl
 verified_named (stem ∷ label ∷ []) = refl
-verified_named (stem ∷ label ∷ certificate ∷ files) = verified_by_named stem (label_of label) certificate files
+verified_named (stem ∷ label ∷ certificate ∷ files) = verified_by_named stem (read_label label) certificate files
 
 called_named : (command : List ℕ) (words : List (List ℕ)) → AreNamed (call_from command words)
 called_named command words =
@@ -114,7 +114,8 @@ verified_certified : (words : List (List ℕ)) → IsCertified (verification_cal
 verified_certified [] = nothing_certified
 verified_certified (stem ∷ []) = nothing_certified
 verified_certified (stem ∷ label ∷ []) = nothing_certified
-verified_certified (stem ∷ label ∷ certificate ∷ files) = verified_by_certified stem (label_of label) certificate files
+verified_certified (stem ∷ label ∷ certificate ∷ files) =
+    verified_by_certified stem (read_label label) certificate files
 
 called_certified : (command : List ℕ) (words : List (List ℕ)) → IsCertified (call_from command words)
 called_certified command words =

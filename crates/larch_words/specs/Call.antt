@@ -8,7 +8,7 @@ use Rattle.clap.specs.Walk.{is_empty}
 use Rattle.larch_base.specs.FileName.{is_file_name, is_stem}
 use Rattle.larch_base.specs.declared.label.Label.{Label}
 use Rattle.larch_words.specs.CommandLine.{Request, request_of}
-use Rattle.larch_words.specs.Label.{label_of}
+use Rattle.larch_base.specs.Label.{read_label}
 use Rattle.larch_words.specs.declared.call.Call.{Call}
 use Rattle.larch_words.specs.declared.call.Call.TheVariants.{Session, OnFiles, Nothing}
 use Rattle.larch_words.specs.declared.call.Question.{Question}
@@ -39,7 +39,7 @@ verified_by stem (Some label) certificate files =
 
 -- a trait, a label, a certificate and files
 abbrev pub verification_call : List (List ℕ) → Call
-verification_call (stem ∷ label ∷ certificate ∷ files) = verified_by stem (label_of label) certificate files
+verification_call (stem ∷ label ∷ certificate ∷ files) = verified_by stem (read_label label) certificate files
 verification_call _ = Nothing
 
 -- a session takes no words, the other commands take files

@@ -1,18 +1,16 @@
 ghost use Rattle.std.specs.Prelude.{◌≡◌, if◌then◌else◌, IfOk, IsErrOf, [], false, is_some, map, string_bytes, true, Some, None};
 ghost use Rattle.std.specs.List.{list_all};
 ghost use Rattle.clap.specs.Words.{first_of, found_of, rows_of};
-ghost use Rattle.larch_base.specs.FileName.{is_file_name, is_stem, is_stem_byte};
+ghost use Rattle.larch_base.specs.FileName.{is_file_name};
 ghost use Rattle.larch_words.specs.Call.{are_files, asked, call_of, call_from, has_option, is_certificate, on_files};
 ghost use Rattle.larch_words.specs.Call.{verification_call, verified_by};
 ghost use Rattle.larch_words.specs.CommandLine.{request_in};
 
 use crate::certificate_name::CertificateName;
 use crate::command_line::command_line;
-use crate::label::label_of;
 use clap::ArgMatches;
 use clap::error::ErrorKind;
-use larch_base::limits::MAX_STEM_BYTES;
-use larch_base::{FileName, Label, Memory, Name, NameRefusal, Sequence};
+use larch_base::{FileName, Label, Memory, Name, NameRefusal, Sequence, is_stem, read_label};
 use std::alloc::Global;
 
 /// Several names of files, in order.
@@ -156,7 +154,13 @@ fn verify_call(alloc: Global, words: &[&str]) -> Result<Call, Memory>
 {
     match words {
         [stem, label, certificate, files @ ..] => {
-            certificate_call(alloc, stem, label_of(label.as_bytes()), certificate, files)
+            certificate_call(
+                alloc,
+                stem,
+                read_label(label.as_bytes()),
+                certificate,
+                files,
+            )
         }
         _ => Ok(Call::Nothing),
     }
@@ -200,20 +204,6 @@ fn verification_of(
         label,
         certificate,
     })
-}
-
-// Whether the word is the name of a trait's file without its ending.
-fn is_stem(word: &[u8]) -> bool
-    ensures { result ≡ is_stem word.now }
-{
-    0 < word.len() && word.len() <= MAX_STEM_BYTES as usize && are_stem_bytes(word)
-}
-
-fn are_stem_bytes(word: &[u8]) -> bool
-    ensures { result ≡ list_all is_stem_byte word.now }
-{
-    word.iter()
-        .all(|byte| byte.is_ascii_alphanumeric() || *byte == b'_')
 }
 
 // Whether the word ends in `.cert`.

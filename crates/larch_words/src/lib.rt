@@ -4,7 +4,6 @@
 mod call;
 mod certificate_name;
 mod command_line;
-mod label;
 mod laws;
 
 pub use call::{Call, FileNames, Question, Verification, read_words};
