@@ -14,6 +14,9 @@ too.
 - `pending`: f(s(x)) -> s^50(f(x)), on 100 and 1,000 s: up to 50,000 terms wait, and the form is too large in the end.
 - `many`: 1,000 rules g_i(X) -> X behind those for products, which no root has at its head, with small products.
 - `kept`: a small term that costs much, once and 100,000 times, for different costs: what each further time takes.
+- `copies`: 5,000 rules of one head and 100,000 terms in the store, and behind them a rule of that head and ten terms,
+  again and again, without copies and with copies of rules, store and builder before each time, which stay to the end:
+  what a copy takes, in time and in memory, for different numbers of them.
 
 With `--others` Maude and CafeOBJ have the same products and lists, where they are on the path; they keep nothing and
 write no lines. What their start takes is taken away.
@@ -64,10 +67,12 @@ class Rules:
                        for word in words)
 
     def problem(self, terms, budget, lines):
+        tasks = [f"box - | {self.coded(left)}=={self.coded(right)}" for left, right in self.rules]
+        return self.text(tasks + [f"refl {self.coded(term)}" for term in terms], budget, lines)
+
+    def text(self, tasks, budget, lines):
         rows = [[name, *domain.split(), range_] for name, domain, range_ in self.operators]
         operators = "".join("\t".join(row) + "\n" for row in rows)
-        tasks = [f"box - | {self.coded(left)}=={self.coded(right)}" for left, right in self.rules]
-        tasks += [f"refl {self.coded(term)}" for term in terms]
         text = "certificate 1\n" + "".join(f"{place} {task}\n" for place, task in enumerate(tasks, 1))
         return "\1".join([operators, text, f"{budget}" + (" lines" if lines else "")]).encode()
 
@@ -209,6 +214,36 @@ def again(program, rules, levels):
         print(f"  each further time of {count:,} applications: {(often - once) / 99_999 * 1e6:.1f} us", flush=True)
 
 
+def digits(letter, given):
+    """A term with an operator for each digit."""
+    return "".join(f"{letter}{digit}(" for digit in given) + "0" + ")" * len(given)
+
+
+def copies(program, rules, counts):
+    """What copies take that have a rule and ten terms behind them."""
+    def put(letter, given):
+        return "box - | " + rules.coded("g(" + digits(letter, given) + ")") + "==#1"
+
+    def bring(letter, given):
+        return "refl " + rules.coded(digits(letter, given))
+
+    pick = random.Random(1)
+    start = [put("d", f"{place:04}") for place in range(5_000)]
+    start += [bring("d", pick.choices("0123456789", k=4_000)) for _ in range(25)]
+    behind = [[put("e", f"{place:05}"), *(bring("e", f"{place:04}{digit}") for digit in range(10))]
+              for place in range(max(counts))]
+    for count in counts:
+        alone, copied = list(start), list(start)
+        for tasks in behind[:count]:
+            alone += tasks
+            copied += ["done", *tasks]
+        _, least, low = run([program], rules.text(alone, BUDGET, False))
+        said, took, peak = run([program], rules.text(copied, BUDGET, False))
+        print(f"copies, {said.count(b'copied'):,}: {took:.2f} s, without them {least:.2f} s; peak {peak} MB, without "
+              f"them {low} MB; a copy {(took - least) / count * 1e6:.1f} us, {(peak - low) / count * 1024:.1f} kB",
+              flush=True)
+
+
 def with_others(operators, rules, count):
     """The rules, and behind them others for operators that no term has."""
     more = [f"g_{place}" for place in range(count)]
@@ -227,6 +262,9 @@ def rows(program, said):
     walk, pending = Rules(WALK, "f(s(X)) = f(X); f(0) = 0"), Rules(WALK, f"f(s(X)) = {'s(' * 50}f(X){')' * 50}")
     yield "walk", lambda: deep(program, "walk", walk, (1_000, 2_000, 4_998), 1)
     yield "pending", lambda: deep(program, "pending", pending, (100, 1_000), 50)
+    decimals = Rules([("0", "", "N"), ("g", "N", "N"), *((f"{letter}{digit}", "N", "N")
+                     for letter in "de" for digit in range(10))], "g(0) = 0")
+    yield "copies", lambda: copies(program, decimals, (2_500, 5_000, 10_000))
     doubled = Rules(WALK + [("pair", "N N", "N")], "f(s(X)) = pair(f(X), f(X)); f(0) = 0; pair(0, 0) = 0")
     yield "kept", lambda: again(program, doubled, (2, 5, 10, 14))
 

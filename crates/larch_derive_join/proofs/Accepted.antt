@@ -1,7 +1,7 @@
 -- Parts joined one behind the other are accepted.
-use Rattle.std.proofs.Common.{◌≡◌, ℕ, zero, suc, ◌==◌, ◌+◌, ◌-◌, ◌<◌, ◌≤◌, ◌^◌, Bool, true, false, cond, inl, inr, ◌⊎◌}
+use Rattle.std.proofs.Common.{◌≡◌, ℕ, zero, suc, ◌+◌, ◌-◌, ◌<◌, ◌≤◌, ◌^◌, Bool, true, false, cond, inl, inr, ◌⊎◌}
 use Rattle.std.proofs.Common.{List, [], ◌∷◌, ◌++◌, map, length, Option, Some, None, option_map, option_and_then, refl}
-use Rattle.std.proofs.Common.{sym, ◌∙◌, ap, subst, append_assoc, append-nil, arith}
+use Rattle.std.proofs.Common.{sym, ◌∙◌, ap, subst, append_assoc, arith}
 use Rattle.std.specs.List.{slice_get}
 use Rattle.std.specs.Option.{option_map_or}
 use Rattle.std.proofs.lemmas.Bool.{ne_eqb, eq-eqb}
@@ -9,18 +9,15 @@ use Rattle.std.proofs.lemmas.List.{map-append, length-append, length-map}
 use Rattle.std.proofs.lemmas.Option.{option_and_then_some, slice_get_within}
 use Rattle.larch_base.proofs.Options.{some_inj}
 use Rattle.larch_base.specs.ByNumber.{numbered}
-use Rattle.larch_term.specs.Operator.{PlainOperator}
 use Rattle.larch_term.specs.Statement.{IsStatementOver, IsWellSortedTheory}
-use Rattle.larch_term.specs.Tree.{Tree}
 use Rattle.larch_term.specs.Truth.{truth}
 use Rattle.larch_term.specs.declared.statement.Statement.{Statement}
 use Rattle.larch_term.specs.declared.statement.Statement.TheVariants as statement
 use Rattle.larch_term.specs.declared.statement.Theory.{Theory}
 use Rattle.larch_term_law.proofs.Substitutions.{substituted_nil}
-use Rattle.larch_renaming.specs.Renaming.{by_name, renamed_statement}
+use Rattle.larch_renaming.specs.Renaming.{renamed_statement}
 use Rattle.larch_calculus.proofs.RenamedTheories.{names_faithful, boxes_keep}
 use Rattle.larch_calculus.proofs.WellSorted.{well_sorted}
-use Rattle.larch_calculus.specs.Derivable.{Derivable}
 use Rattle.larch_calculus.specs.Renaming.{HasPlainNames}
 use Rattle.larch_calculus.specs.Theories.{IsPrefix, with_statements}
 use Rattle.larch_tables.proofs.Identities.{at_place}
@@ -31,7 +28,7 @@ use Rattle.larch_certificate.specs.declared.line.Line.TheVariants.{Generated, Pa
 use Rattle.larch_verify_meaning.specs.Acceptance.{Accepts, last_statement}
 use Rattle.larch_verify_meaning.specs.Context.{find_line, find_symbol, innermost}
 use Rattle.larch_verify_meaning.specs.Decoding.{each, decode_equation}
-use Rattle.larch_verify_meaning.specs.Events.{PlainBox, Event, Said, Opened, Closed, State, start}
+use Rattle.larch_verify_meaning.specs.Events.{PlainBox, Event, Said, Opened, State, start}
 use Rattle.larch_verify_meaning.specs.LastLine.{is_clause, states_clause, ends_with_stated_clause}
 use Rattle.larch_verify_meaning.specs.LastLine.{EndsWithoutStatedClause}
 use Rattle.larch_verify_meaning.specs.Rules.{axiom_says, row_says, instance_by}
@@ -43,19 +40,19 @@ use Rattle.larch_verify_law.proofs.Prefixes.{got_in_front, got_goes, numbered_go
 use Rattle.larch_verify_law.proofs.Rules.{axiom_derivable, row_derivable}
 use Rattle.larch_verify_law.proofs.Runs.{run_append, run_parts, run_count}
 use Rattle.larch_verify_law.proofs.Told.{option_map_some, numbered_contains}
-use Rattle.larch_verify_law.specs.Carrying.{IsEquation, IsMove, KeepsCited, NamesAlike, IsEarly, Matches, outermost}
-use Rattle.larch_verify_law.specs.Carrying.{inside, EndsAlike, EndsMoved, Follows, EachLine}
+use Rattle.larch_verify_law.specs.Carrying.{IsEquation, IsMove, KeepsCited, Matches, outermost}
+use Rattle.larch_verify_law.specs.Carrying.{inside, EndsAlike, EndsMoved, EachLine}
 use Rattle.larch_verify_law.specs.Moves.{Move, moved_line, carry_lines}
 use Rattle.larch_derive_join.proofs.Behind.{Grows, no_growth, still_found, step_grows}
 use Rattle.larch_derive_join.proofs.Ending.{says_equation, says_clause, ends_at}
 use Rattle.larch_derive_join.proofs.Lengths.{from_nought, grows_longer}
-use Rattle.larch_derive_join.proofs.Numbers.{moved_fits, moved_apart, box_of}
+use Rattle.larch_derive_join.proofs.Numbers.{moved_fits, box_of}
 use Rattle.larch_derive_join.proofs.Plain.{boxes_alone, known_plain, same_operator_on, same_statement_on}
 use Rattle.larch_derive_join.proofs.Plain.{back_statement}
-use Rattle.larch_derive_join.specs.Joined.{moved_on, name_on, shows_clause, cited_lemma, if_clause, line_on, move_on}
+use Rattle.larch_derive_join.specs.Joined.{moved_on, name_on, shows_clause, cited_lemma, if_clause, move_on}
 use Rattle.larch_derive_join.specs.Joined.{coded_true}
 use Rattle.larch_derive_join.specs.Joined.{cites, joined_line, joined_lines, lemma_of, joined_from, join_parts}
-use Rattle.larch_derive_join.specs.Promise.{IsProved, AreProved, IsFinished}
+use Rattle.larch_derive_join.specs.Promise.{IsProved, AreProved, Prove}
 use Rattle.larch_derive_join.specs.declared.lemma.Lemma.{Lemma}
 use Rattle.larch_derive_join.specs.declared.part.Part.{Part}
 
@@ -723,11 +720,16 @@ not_empty : (t : Theory) (s : Statement) (lines : List Line) → Accepts t s lin
 not_empty t s lines a e =
     no_statement s (ap (λ u. last_statement u.history) (some_inj (ap (run t start) (sym e) ∙ a.none_bad)) ∙ a.last)
 
+-- the lines are accepted for the statement, and the last is no axiom line of a clause
+record Shows (b : Theory) (lines : List Line) (s : Statement) : Type 0 where
+  accepted : Accepts b s lines
+  ends : EndsWithoutStatedClause b lines
+
 -- one part more, behind a number of lines
 record Further (b : Theory) (lines : List Line) (lemmas : List Lemma) (earlier : List Statement) (p : Part)
     (s : Statement) (n : ℕ) : Type 0 where
   reached : Reached b (lines ++ joined_lines n lemmas p) (lemmas ++ lemma_of n p ∷ []) (earlier ++ s ∷ [])
-  finished : IsFinished b (lines ++ joined_lines n lemmas p) s
+  shows : Shows b (lines ++ joined_lines n lemmas p) s
 
 nothing_yet : (b : Theory) → Reached b [] [] []
 nothing_yet b = record { state = start; ran = refl; shut = refl; holds = tt }
@@ -763,7 +765,7 @@ further b wf plain lines lemmas earlier p s g d lt =
               holds = one_more b j.state lemmas earlier (lemma_of base.count p) s
                   (still_lemmas b base j.state j.grown j.more lemmas earlier g.holds) j.lemma;
             };
-            finished = record { accepted = j.accepted; ends = j.ends };
+            shows = record { accepted = j.accepted; ends = j.ends };
           })
     ]
 
@@ -782,9 +784,9 @@ all_join : (b : Theory) → IsWellSortedTheory b → HasPlainNames b → (lines 
     (earlier : List Statement) (p : Part) (ps : List Part) (s : Statement) (ss : List Statement)
     → Reached b lines lemmas earlier → IsProved b earlier p s → AreProved b (earlier ++ s ∷ []) ps ss
     → length (joined_from lines lemmas (p ∷ ps)) < 2 ^ 64
-    → IsFinished b (joined_from lines lemmas (p ∷ ps)) (last_of s ss)
+    → Shows b (joined_from lines lemmas (p ∷ ps)) (last_of s ss)
 all_join b wf plain lines lemmas earlier p [] s [] g d rest lt =
-    (further b wf plain lines lemmas earlier p s g d (part_fits lines lemmas p [] lt)).finished
+    (further b wf plain lines lemmas earlier p s g d (part_fits lines lemmas p [] lt)).shows
 all_join b wf plain lines lemmas earlier p [] s (x ∷ xs) g d rest lt = absurd rest
 all_join b wf plain lines lemmas earlier p (q ∷ qs) s [] g d rest lt = absurd rest
 all_join b wf plain lines lemmas earlier p (q ∷ qs) s (x ∷ xs) g d rest lt =
@@ -797,14 +799,21 @@ last_behind : (s : Statement) (front : List Statement) (l : Statement) → last_
 last_behind s [] l = refl
 last_behind s (r ∷ rs) l = last_behind r rs l
 
--- the promise of joining
-pub joined_finished : (b : Theory) → IsWellSortedTheory b → HasPlainNames b → (parts : List Part)
-    (front : List Statement) (last : Statement) → AreProved b [] parts (front ++ last ∷ [])
-    → length (join_parts parts) < 2 ^ 64 → IsFinished b (join_parts parts) last
-joined_finished b wf plain [] [] last d lt = absurd d
-joined_finished b wf plain [] (r ∷ rs) last d lt = absurd d
-joined_finished b wf plain (p ∷ ps) [] last d lt =
-    all_join b wf plain [] [] [] p ps last [] (nothing_yet b) d.0 d.1 lt
-joined_finished b wf plain (p ∷ ps) (r ∷ rs) last d lt =
-    subst (IsFinished b (join_parts (p ∷ ps))) (last_behind r rs last)
+all_shown : (b : Theory) (parts : List Part) (front : List Statement) (last : Statement) → IsWellSortedTheory b
+    → HasPlainNames b → AreProved b [] parts (front ++ last ∷ []) → length (join_parts parts) < 2 ^ 64
+    → Shows b (join_parts parts) last
+all_shown b [] [] last wf plain d lt = absurd d
+all_shown b [] (r ∷ rs) last wf plain d lt = absurd d
+all_shown b (p ∷ ps) [] last wf plain d lt = all_join b wf plain [] [] [] p ps last [] (nothing_yet b) d.0 d.1 lt
+all_shown b (p ∷ ps) (r ∷ rs) last wf plain d lt =
+    subst (Shows b (join_parts (p ∷ ps))) (last_behind r rs last)
     (all_join b wf plain [] [] [] p ps r (rs ++ last ∷ []) (nothing_yet b) d.0 d.1 lt)
+
+-- the promise of joining
+pub joined_accepted : (b : Theory) (parts : List Part) (last : Statement) → Prove b parts last
+    → length (join_parts parts) < 2 ^ 64 → Accepts b last (join_parts parts)
+joined_accepted b parts last d lt = (all_shown b parts d.earlier last d.sorted d.plain d.proved lt).accepted
+
+pub joined_ends : (b : Theory) (parts : List Part) (last : Statement) → Prove b parts last
+    → length (join_parts parts) < 2 ^ 64 → EndsWithoutStatedClause b (join_parts parts)
+joined_ends b parts last d lt = (all_shown b parts d.earlier last d.sorted d.plain d.proved lt).ends

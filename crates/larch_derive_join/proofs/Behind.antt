@@ -1,5 +1,5 @@
 -- Lines behind others: what was said before in no box is found there, whatever boxes are open.
-use Rattle.std.proofs.Common.{◌≡◌, ◌≢◌, ℕ, suc, ◌==◌, ◌<◌, ◌≤◌, Bool, true, false, cond, List, [], ◌∷◌, ◌++◌, Option}
+use Rattle.std.proofs.Common.{◌≡◌, ℕ, suc, ◌<◌, ◌≤◌, cond, List, [], ◌∷◌, ◌++◌}
 use Rattle.std.proofs.Common.{Some, None, refl, sym, ◌∙◌, ap, subst, arith}
 use Rattle.std.proofs.lemmas.Bool.{ne_eqb}
 use Rattle.larch_base.proofs.Options.{some_inj}
@@ -11,7 +11,7 @@ use Rattle.larch_verify_meaning.specs.Decoding.{each, decode_equation}
 use Rattle.larch_verify_meaning.specs.Context.{find_symbol}
 use Rattle.larch_verify_meaning.specs.Events.{PlainBox, Event, Said, Opened, Closed, State}
 use Rattle.larch_verify_meaning.specs.Run.{judge, happens, step}
-use Rattle.larch_verify_law.proofs.Carried.{Kind, opens, closes, says, kind, Closing, closing_told}
+use Rattle.larch_verify_law.proofs.Carried.{Kind, opens, closes, says, kind, closing_told}
 use Rattle.larch_verify_law.proofs.Told.{option_map_some}
 
 -- only lines behind the one with a number said something

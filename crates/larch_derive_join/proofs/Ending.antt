@@ -1,6 +1,6 @@
 -- What last lines say: where the rule of one shows no clause, and it is no axiom line of one, it says an equation.
-use Rattle.std.proofs.Common.{◌≡◌, ℕ, true, false, Bool, cond, ◌&&◌, List, [], ◌∷◌, ◌++◌, map, bytes_eq, Option, Some}
-use Rattle.std.proofs.Common.{None, option_map, option_and_then, refl, sym, ◌∙◌, ap, subst}
+use Rattle.std.proofs.Common.{◌≡◌, ℕ, true, false, cond, ◌&&◌, List, [], ◌∷◌, ◌++◌, map, bytes_eq, Option, Some}
+use Rattle.std.proofs.Common.{None, option_and_then, refl, sym, ◌∙◌, ap, subst}
 use Rattle.std.specs.List.{list_all, list_any}
 use Rattle.std.specs.Option.{option_map_or}
 use Rattle.std.proofs.lemmas.Option.{option_and_then_some, cond_some}
@@ -20,7 +20,6 @@ use Rattle.larch_term.specs.declared.variable.Variable.{Variable}
 use Rattle.larch_calculus.specs.Formula.{equality}
 use Rattle.larch_calculus.specs.Observation.{observations_of}
 use Rattle.larch_tables.proofs.Identities.{row_identity}
-use Rattle.larch_tables.specs.Row.{PlainRow}
 use Rattle.larch_tables.specs.Statement.{IsIdentityStatement}
 use Rattle.larch_tables.specs.Tables.{built_in_rows}
 use Rattle.larch_certificate.specs.declared.line.CodedEquation.{CodedEquation}
@@ -30,7 +29,7 @@ use Rattle.larch_certificate.specs.declared.line.Line.TheVariants.{Axiom, Hyp, R
 use Rattle.larch_certificate.specs.declared.line.Line.TheVariants.{BoxLine, Done, Fresh, Cases, Induct, Observe}
 use Rattle.larch_certificate.specs.declared.line.Line.TheVariants.{Generated, Partitioned}
 use Rattle.larch_certificate.specs.declared.symbol.Symbol.{Symbol}
-use Rattle.larch_verify_meaning.specs.BoxRules.{freed_equation, freed_result, equation_alone, supposes, common_result}
+use Rattle.larch_verify_meaning.specs.BoxRules.{freed_equation, freed_result, equation_alone, common_result}
 use Rattle.larch_verify_meaning.specs.BoxRules.{cases_of, only_left_side, shows_cases, induct_over}
 use Rattle.larch_verify_meaning.specs.ClauseRules.{show_same, observed_equal, own_operators, shows_generated}
 use Rattle.larch_verify_meaning.specs.ClauseRules.{generated_by, shows_partitioned, partitioned_by}
@@ -39,7 +38,7 @@ use Rattle.larch_verify_meaning.specs.Decoding.{each, decode, equation_between, 
 use Rattle.larch_verify_meaning.specs.Events.{PlainBox, operators_of, Event, Said, Opened, Closed}
 use Rattle.larch_verify_meaning.specs.LastLine.{is_clause, states_clause, ends_with_stated_clause}
 use Rattle.larch_verify_meaning.specs.Matching.{is_empty, all_different, variable_of, has_constants}
-use Rattle.larch_verify_meaning.specs.Rules.{axiom_says, row_says, exchange_sides, instance_by, replaced_variable}
+use Rattle.larch_verify_meaning.specs.Rules.{row_says, exchange_sides, instance_by, replaced_variable}
 use Rattle.larch_verify_meaning.specs.Rules.{stands_at, replace_right, equality_sides, stated_equal}
 use Rattle.larch_verify_meaning.specs.Run.{judge}
 use Rattle.larch_verify_law.proofs.Told.{option_map_some, cond_then, cond_either}

@@ -1,5 +1,5 @@
 -- Numbers that are moved on.
-use Rattle.std.proofs.Common.{◌≡◌, ℕ, ◌+◌, ◌-◌, ◌<◌, ◌≤◌, ◌^◌, Bool, true, false, cond, refl, sym, ◌∙◌, ap, arith}
+use Rattle.std.proofs.Common.{◌≡◌, ℕ, ◌+◌, ◌-◌, ◌<◌, ◌≤◌, ◌^◌, Bool, true, false, cond, refl, ap, arith}
 use Rattle.std.specs.Prelude.{nat_lt}
 use Rattle.std.proofs.lemmas.Bool.{ltb-true, ltb-false, lt-ltb}
 use Rattle.larch_term.specs.Operator.{OperatorName, plain, boxed}
@@ -12,7 +12,7 @@ moved_fits o n lt =
     (n + o - 2 ^ 64)) n)
 
 -- which of three it is
-by_end : (o n : ℕ) (P : Type 0) → (n + o < 2 ^ 64 → moved_on o n ≡ n + o → P)
+pub by_end : (o n : ℕ) (P : Type 0) → (n + o < 2 ^ 64 → moved_on o n ≡ n + o → P)
     → (n < 2 ^ 64 → 2 ^ 64 ≤ n + o → moved_on o n + 2 ^ 64 ≡ n + o → P)
     → (2 ^ 64 ≤ n → moved_on o n ≡ n → P) → P
 by_end o n P fits round beyond = first (nat_lt n (2 ^ 64)) refl (nat_lt (n + o) (2 ^ 64)) refl

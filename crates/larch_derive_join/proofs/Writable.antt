@@ -1,7 +1,7 @@
 -- Parts that can be written are so joined.
 use Rattle.std.proofs.Common.{◌≡◌, ℕ, suc, ◌+◌, ◌<◌, ◌≤◌, ◌^◌, zero, ◌-◌, Bool, true, false, cond, List, [], ◌∷◌, ◌++◌}
 use Rattle.std.proofs.Common.{map, length}
-use Rattle.std.proofs.Common.{Option, Some, None, option_and_then, refl, sym, subst, arith}
+use Rattle.std.proofs.Common.{Option, Some, None, option_and_then, refl, subst, arith}
 use Rattle.std.specs.List.{slice_get}
 use Rattle.std.specs.Option.{option_map_or}
 use Rattle.std.proofs.lemmas.List.{length-append, length-map}
@@ -25,7 +25,7 @@ use Rattle.larch_verify_law.specs.Moves.{Move, moved_symbol, moved_term, moved_t
 use Rattle.larch_verify_law.specs.Moves.{moved_part, moved_variable, moved_line}
 use Rattle.larch_derive_join.proofs.Lengths.{grows_longer}
 use Rattle.larch_derive_join.proofs.Numbers.{moved_small}
-use Rattle.larch_derive_join.specs.Joined.{moved_on, cited_lemma, if_clause, line_on, move_on, coded_true, cites}
+use Rattle.larch_derive_join.specs.Joined.{moved_on, cited_lemma, if_clause, move_on, coded_true, cites}
 use Rattle.larch_derive_join.specs.Joined.{joined_line}
 use Rattle.larch_derive_join.specs.Joined.{joined_lines, lemma_of, joined_from, join_parts}
 use Rattle.larch_derive_join.specs.Promise.{AreWritable}

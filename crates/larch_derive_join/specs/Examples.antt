@@ -1,7 +1,7 @@
 -- Two parts to be joined: 0 + x == x by induction, and a certificate that cites it.
-use Rattle.std.specs.Prelude.{List, [], ◌∷◌, ◌++◌, codes}
+use Rattle.std.specs.Prelude.{List, [], ◌∷◌, codes}
 use Rattle.larch_calculus.specs.Example.{number_sort}
-use Rattle.larch_certificate.specs.Coded.{CodedTree, coded_var}
+use Rattle.larch_certificate.specs.Coded.{coded_var}
 use Rattle.larch_certificate.specs.declared.line.Line.{Line}
 use Rattle.larch_certificate.specs.declared.line.Line.TheVariants.{Axiom, Refl, Inst, BoxLine, Done, Fresh, Induct}
 use Rattle.larch_certificate.specs.declared.line.Line.TheVariants.{Generated}

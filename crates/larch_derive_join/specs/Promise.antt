@@ -2,8 +2,9 @@
 use Rattle.std.specs.Prelude.{◌≡◌, List, [], ◌∷◌, ◌++◌, length}
 use Rattle.larch_term.specs.declared.statement.Statement.{Statement}
 use Rattle.larch_term.specs.declared.statement.Theory.{Theory}
+use Rattle.larch_term.specs.Statement.{IsWellSortedTheory}
+use Rattle.larch_calculus.specs.Renaming.{HasPlainNames}
 use Rattle.larch_calculus.specs.Theories.{IsPrefix, with_statements}
-use Rattle.larch_certificate.specs.declared.line.Line.{Line}
 use Rattle.larch_certificate_text.specs.CertificateText.{Writable}
 use Rattle.larch_verify_meaning.specs.Acceptance.{Accepts}
 use Rattle.larch_verify_meaning.specs.LastLine.{EndsWithoutStatedClause}
@@ -26,12 +27,15 @@ AreProved whole earlier [] (s ∷ ss) = ⊥
 AreProved whole earlier (p ∷ ps) [] = ⊥
 AreProved whole earlier (p ∷ ps) (s ∷ ss) = IsProved whole earlier p s × AreProved whole (earlier ++ s ∷ []) ps ss
 
+-- the parts prove the statement over the whole theory, whose statements are well sorted and whose operators have plain
+-- names: each part is proved, the last one for this statement
+pub record Prove (whole : Theory) (parts : List Part) (last : Statement) : Type 0 where
+  pub sorted : IsWellSortedTheory whole
+  pub plain : HasPlainNames whole
+  pub earlier : List Statement
+  pub proved : AreProved whole [] parts (earlier ++ last ∷ [])
+
 -- each certificate can be written
 abbrev pub AreWritable : List Part → Type 0
 AreWritable [] = Unit {0}
 AreWritable (p ∷ ps) = Writable p.certificate × AreWritable ps
-
--- the lines are accepted for the statement, and the last is no axiom line of a clause
-pub record IsFinished (whole : Theory) (lines : List Line) (s : Statement) : Type 0 where
-  pub accepted : Accepts whole s lines
-  pub ends : EndsWithoutStatedClause whole lines

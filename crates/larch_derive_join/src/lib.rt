@@ -1,11 +1,15 @@
 //! Certificates of lemmas and of what is proved with them, joined into one: what that is, and that it is accepted.
-//! Definitions and laws; no function here does anything.
 #![tactic(auto)]
 
 pub mod examples;
+mod item;
+mod join;
 pub mod laws;
 mod lemma;
+mod line;
 mod part;
+mod shift;
+mod term;
 
-pub use lemma::Lemma;
+pub use join::inline;
 pub use part::{Part, Parts};

@@ -2,7 +2,7 @@ use crate::numbers::empty;
 use larch_base::Memory;
 use larch_derive::Builder;
 use larch_prove_plans::truth;
-use larch_rewrite_match::{RowTables, RuleTable, first_redex};
+use larch_rewrite_match::{RowTables, first_match};
 use larch_rewrite_step::{ApplyRefusal, Encodings, apply_match};
 use larch_store::Store;
 use larch_term::{BuiltIn, Term, Terms, bool_sort};
@@ -26,8 +26,7 @@ fn line_for(alloc: Global, builder: &mut Builder, term: &Term) -> Result<u64, Ap
     let mut tables = RowTables::new(alloc);
     tables.prepare(&term)?;
     let rows = tables.rows_for(&term)?;
-    let rules = RuleTable::new(alloc);
-    let Some(found) = first_redex(alloc, &store, rows, &rules, &term)? else {
+    let Some(found) = first_match(alloc, &store, rows, &term)? else {
         return Ok(0);
     };
     let mut encodings = Encodings::new(alloc);

@@ -7,7 +7,7 @@ use Rattle.larch_renaming.specs.Renaming.{renamed_statement}
 use Rattle.larch_term.proofs.Decided.{statement_Decides}
 use Rattle.larch_term.specs.Equality.{same_statement}
 use Rattle.larch_term.specs.declared.statement.Statement.{Statement}
-use Rattle.larch_flat_meaning.specs.Flat.{renamed_mark, renamed_marked, with_mark}
+use Rattle.larch_flat_meaning.specs.Flat.{renamed_mark, with_mark}
 use Rattle.larch_flat_meaning.specs.Gathered.{Marked, new_among, stands_in, statements_in, with_new, with_statement}
 use Rattle.larch_flat_meaning.specs.Replacements.{Replacements, renaming}
 use Rattle.larch_flat_statements.specs.HashInput.{statement_equivalence}

@@ -1,12 +1,15 @@
 -- Lemmas.
-pub mod Claims
+pub mod ByParts
 pub mod Copying
 pub mod Counts
 pub mod Distinct
+pub mod Elsewhere
 pub mod Found
 pub mod Free
+pub mod Labels
 pub mod Lines
 pub mod Listed
 pub mod Once
 pub mod Places
 pub mod References
+pub mod Worded

@@ -92,9 +92,9 @@ all_listed raw g h is cs =
     (ap₂ (λ a b. a ++ b) (sym (own_listed (theory_in h) h.discharge is))
     (sym (clauses_listed (length g.marked) (theory_in h) 1 cs)))
 
--- what is left to write is written in part
-went_on : (text new part left whole all : List ℕ) → new ≡ text ++ part → whole ≡ part ++ left → text ++ whole ≡ all
-    → new ++ left ≡ all
+-- what is left to write or to put is written in part
+pub went_on : {A : Type 0} (text new part left whole all : List A) → new ≡ text ++ part → whole ≡ part ++ left
+    → text ++ whole ≡ all → new ++ left ≡ all
 went_on text new part left whole all a b h =
     ap (λ r. r ++ left) a ∙ append_assoc text part left ∙ ap (λ r. text ++ r) (sym b) ∙ h
 

@@ -1,7 +1,7 @@
 -- What a trait implies by a reference.
 use Rattle.std.proofs.Common.{◌≡◌, refl, sym, ap, ◌∙◌, subst, ℕ, Bool, true, false, length, List, [], ◌∷◌, ◌++◌, Option}
 use Rattle.std.proofs.Common.{Some, None, Result, Ok, Err}
-use Rattle.std.specs.Prelude.{◌&&◌, filter, map, not, is_none, is_some, get_or}
+use Rattle.std.specs.Prelude.{◌&&◌, map, not, is_none, is_some, get_or}
 use Rattle.std.specs.List.{list_all}
 use Rattle.larch_base.specs.declared.code.Code.{Code}
 use Rattle.larch_base.specs.declared.code.Code.TheVariants.{BadReference, ImpliedOperator, UnknownTrait}
@@ -19,7 +19,7 @@ use Rattle.larch_flat_meaning.specs.Gathered.{Gathered}
 use Rattle.larch_flat_meaning.specs.Laws.{gathered_in}
 use Rattle.larch_flat_meaning.specs.Replacements.{Replacements, new_operator, replacements_of}
 use Rattle.larch_flat_meaning.specs.Stops.{Stop, Refused, refused_if, stopped_if, surely}
-use Rattle.larch_duties_meaning.specs.Implied.{are_among, implied_by, is_among, take_implied, take_reference}
+use Rattle.larch_duties_meaning.specs.Implied.{implied_by, is_among, take_implied, take_reference}
 use Rattle.larch_flat_sources.specs.Sources.{Table, files_in, name_at}
 use Rattle.larch_flat.specs.Known.{Knows}
 use Rattle.larch_flat.specs.Parts.{flat_trait, parts_of}

@@ -1,7 +1,7 @@
 -- Conversions and duties are told apart by their parts.
-use Rattle.std.specs.Prelude.{◌≡◌, ℕ, List, ◌⊎◌, refl}
+use Rattle.std.specs.Prelude.{◌≡◌, ℕ, List, ◌⊎◌, Option, refl}
 use Rattle.std.proofs.Common.{inl, inr}
-use Rattle.std.specs.Coded.{Coded, code_by, coded×, coded⊎, coded_ℕ, coded_list}
+use Rattle.std.specs.Coded.{Coded, code_by, coded×, coded⊎, coded_ℕ, coded_list, coded_option}
 use Rattle.larch_base.specs.declared.label.Label.{Label}
 use Rattle.larch_base.specs.declared.label.Label.TheVariants.{Assume, Imply, Convert}
 use Rattle.larch_term.specs.Operator.{PlainOperator, coded_operator}
@@ -9,6 +9,7 @@ use Rattle.larch_term.specs.Tree.{Tree}
 use Rattle.larch_term.specs.TreeCode.{coded_tree}
 use Rattle.larch_term.specs.declared.statement.Statement.{Statement}
 use Rattle.larch_term.specs.declared.statement.Theory.{Theory}
+use Rattle.larch_duties_meaning.specs.Claims.{Claim}
 use Rattle.larch_duties_meaning.specs.Conversions.{Clause, Conversion, Copied}
 use Rattle.larch_duties_meaning.specs.Duties.{ClauseDuties, Duties, Duty}
 use Rattle.larch_flat_statements.specs.MarkedCode.{coded_statement}
@@ -47,6 +48,13 @@ coded_duty =
     code_by (Label × (Theory × Statement)) (coded× coded_label (coded× coded_theory coded_statement))
     (λ d. (d.label, (d.theory, d.statement)))
     (λ p. record { label = p.0; theory = p.1.0; statement = p.1.1 }) (λ _. refl)
+
+abbrev pub coded_claim : Coded Claim
+coded_claim =
+    code_by (Label × (Option ℕ × (Theory × Statement)))
+    (coded× coded_label (coded× (coded_option coded_ℕ) (coded× coded_theory coded_statement)))
+    (λ c. (c.label, (c.clause, (c.theory, c.statement))))
+    (λ p. record { label = p.0; clause = p.1.0; theory = p.1.1.0; statement = p.1.1.1 }) (λ _. refl)
 
 abbrev pub coded_copied : Coded Copied
 coded_copied =

@@ -5,6 +5,7 @@ use Rattle.larch_traits_items.specs.Steps.{after}
 use Rattle.larch_flat_meaning.specs.Flat.{FlatTrait}
 use Rattle.larch_flat_meaning.specs.Gathered.{Gathered}
 use Rattle.larch_flat_meaning.specs.Stops.{Stop}
+use Rattle.larch_duties_meaning.specs.Claims.{Claim, claims_in}
 use Rattle.larch_duties_meaning.specs.Duties.{Duties, duties}
 use Rattle.larch_duties_meaning.specs.Listing.{trait_listing}
 use Rattle.larch_flat_sources.specs.Sources.{Table, files_in}
@@ -17,6 +18,10 @@ claims_of sources own = duties (length sources) (files_in sources) own
 -- the duties of the trait of a name, or what is wrong first: its flat trait comes before its claims
 abbrev pub trait_duties : Table → List ℕ → Result Duties Stop
 trait_duties sources name = after (flat_trait sources name) (claims_of sources)
+
+-- the same duties with the numbers of their clauses
+abbrev pub trait_claims : Table → List ℕ → Result (List Claim) Stop
+trait_claims sources name = after (trait_duties sources name) (λ d. Ok (claims_in d))
 
 -- what is written of the trait of a name, behind the line of its name, or what is wrong first
 abbrev pub trait_listed : Table → List ℕ → Result (List ℕ) Stop

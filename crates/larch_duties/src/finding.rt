@@ -1,22 +1,17 @@
-ghost use Rattle.std.specs.Prelude.{◌≡◌, ◌+◌, ◌++◌, bytes_eq, find, map, option_map, IfOk};
+ghost use Rattle.std.specs.Prelude.{◌≡◌, ◌+◌, bytes_eq, find, option_map, IfOk};
 ghost use Rattle.std.specs.Option.{option_copied};
 ghost use Rattle.larch_base.specs.Label.{label_text};
-ghost use Rattle.larch_flat_meaning.specs.Gathered.{statements_in};
-ghost use Rattle.larch_duties_meaning.specs.Conversions.{clause_theory, copy_of};
 ghost use Rattle.larch_duties_meaning.specs.Duties.{all_duties};
 ghost use Rattle.larch_duties.specs.Finding.{clause_duty, converted_duty, kept_duty, label_behind, labelled_in};
 ghost use Rattle.larch_duties.specs.Finding.{own_labelled};
-ghost use Rattle.larch_duties.specs.Kept.{theory_in};
 
-use crate::clause::{Clause, Copied, clause_over, copy_of, is_its_copy};
+use crate::clause::{clause_over, is_its_copy};
 use crate::conversion::Conversion;
-use crate::implied::join_statements;
-use crate::known::marked_at;
+use crate::theories::{clause_theory, theory_of};
 use crate::trait_duties::Duties;
-use larch_base::{Label, Memory, Sequence};
+use larch_base::{Label, Memory};
 use larch_flat_gathering::Flat;
-use larch_flat_statements::MarkedStatements;
-use larch_term::{Operators, Statement, Statements, Theory, copy_operators, copy_statement};
+use larch_term::{Statement, Theory, copy_statement};
 use std::alloc::Global;
 
 /// The theory and the statement of the first duty whose label has this text, where one has it. The theory is made
@@ -141,7 +136,7 @@ fn has_text(alloc: Global, label: Label, text: &[u8]) -> Result<bool, Memory>
 }
 
 // The label of the same kind with the next number.
-fn label_behind(label: Label) -> Result<Label, Memory>
+pub(crate) fn label_behind(label: Label) -> Result<Label, Memory>
     ensures { IfOk result (λ behind. behind ≡ label_behind label) }
 {
     match label {
@@ -161,7 +156,7 @@ fn label_behind(label: Label) -> Result<Label, Memory>
 }
 
 // The number behind so many from here on. No label has a greater one than `u32` has.
-fn number_behind(number: u32, count: usize) -> Result<u32, Memory>
+pub(crate) fn number_behind(number: u32, count: usize) -> Result<u32, Memory>
     ensures { IfOk result (λ next. next ≡ number + count) }
 {
     let Ok(count) = u32::try_from(count) else {
@@ -171,63 +166,4 @@ fn number_behind(number: u32, count: usize) -> Result<u32, Memory>
         Some(next) => Ok(next),
         None => Err(Memory),
     }
-}
-
-// The theory of a flat trait.
-fn theory_of(alloc: Global, flat: &Flat) -> Result<Theory, Memory>
-    ensures { IfOk result (λ theory. theory ≡ theory_in flat.now) }
-{
-    let operators = copy_operators(alloc, flat.operators.as_slice())?;
-    let statements = statements_of(alloc, &flat.marked)?;
-    Ok(Theory {
-        operators,
-        statements,
-    })
-}
-
-// The statements of marked ones.
-fn statements_of(alloc: Global, marked: &MarkedStatements) -> Result<Statements, Memory>
-    ensures { IfOk result (λ statements. statements ≡ statements_in marked.now) }
-{
-    let mut statements = Sequence::new(alloc);
-    for index in 0..marked.len() {
-        let (statement, _) = marked_at(marked, index);
-        let statement = copy_statement(alloc, statement)?;
-        statements.push(statement)?;
-    }
-    Ok(statements)
-}
-
-// The theory of a clause over that of its trait.
-fn clause_theory(alloc: Global, flat: &Flat, clause: Clause) -> Result<Theory, Memory>
-    ensures { IfOk result (λ theory. theory ≡ clause_theory (theory_in flat.now) clause) }
-{
-    let Theory {
-        operators,
-        statements,
-    } = theory_of(alloc, flat)?;
-    let Clause {
-        copies,
-        copied,
-        exempt,
-    } = clause;
-    let operators = with_copies(alloc, operators, copies.as_slice())?;
-    let added = join_statements(copied, exempt)?;
-    let statements = join_statements(statements, added)?;
-    Ok(Theory {
-        operators,
-        statements,
-    })
-}
-
-// Operators with copies behind them.
-fn with_copies(alloc: Global, operators: Operators, copies: &[Copied]) -> Result<Operators, Memory>
-    ensures { IfOk result (λ all. all ≡ operators ++ map copy_of copies.now) }
-{
-    let mut all = operators;
-    for copied in copies {
-        let copy = copy_of(alloc, copied)?;
-        all.push(copy)?;
-    }
-    Ok(all)
 }

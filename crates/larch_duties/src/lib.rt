@@ -6,16 +6,22 @@
 #![tactic(auto)]
 
 mod among;
+mod claims;
 mod clause;
 mod conversion;
 mod finding;
 mod implied;
 mod known;
+mod laws;
 mod printing;
 mod standing;
+mod theories;
 mod trait_duties;
 mod words;
 
+pub use claims::{Claim, Claims, claims_in, find_claim, place_of, trait_claims};
 pub use finding::find_duty;
+pub use larch_base::Label;
+pub use laws::{claims_are_in_words, claims_are_sound, what_is_reached_decides_claims};
 pub use printing::{list_trait, print_duties};
 pub use trait_duties::{Duties, duties_of};

@@ -1,5 +1,5 @@
 -- What is reached over all references decides duties.
-use Rattle.std.proofs.Common.{◌≡◌, refl, ℕ, ◌≤◌, length, List, [], ◌++◌, map, Contains, Result, Ok, Err}
+use Rattle.std.proofs.Common.{◌≡◌, refl, arith, ℕ, ◌+◌, ◌≤◌, length, List, [], ◌++◌, map, Contains, Result, Ok, Err}
 use Rattle.std.proofs.Common.{ap, sym, subst, ◌∙◌}
 use Rattle.std.specs.Prelude.{is_none}
 use Rattle.larch_base.specs.declared.code.Code.TheVariants.{UnknownTrait}
@@ -74,3 +74,14 @@ duties_depths files all among limit other h k name =
     told_same (flat limit files name) (duties limit files) (duties other files)
     (λ own e. claims_same limit other files files own (λ m c. (refl, depths_same files all among limit other h k m)))
     ∙ ap (λ r. after r (duties other files)) (depths_same files all among limit other h k name)
+
+-- the duties of a trait are the same elsewhere
+pub duties_elsewhere : (files other : Files) (all others : Names) → AreAmong files all → AreAmong other others
+    → (name : List ℕ) (names : Names) → AreReached files name names → AgreeOn names files other
+    → (limit deep : ℕ) → length all ≤ limit → length others ≤ deep
+    → duties_named limit files name ≡ duties_named deep other name
+duties_elsewhere files other all others among amid name names v a limit deep h k =
+    let far : ℕ = limit + deep in
+    duties_depths files all among limit far h (omega (arith, h)) name
+    ∙ duties_reached files other name names v a far
+    ∙ duties_depths other others amid far deep (omega (arith, k)) k name

@@ -4,4 +4,5 @@ pub mod Duties
 pub mod Examples
 pub mod Implied
 pub mod Laws
+pub mod Listed
 pub mod Listing

@@ -1,10 +1,8 @@
 -- What is written of a flat trait and its duties: operators, statements with numbers, then duties, and before those of
 -- a clause `converts` what it adds.
-use Rattle.std.specs.Prelude.{ℕ, suc, ◌+◌, Bool, if◌then◌else◌, List, [], ◌∷◌, ◌++◌, map, filter, flat_map, length}
+use Rattle.std.specs.Prelude.{ℕ, suc, ◌+◌, if◌then◌else◌, List, [], ◌∷◌, ◌++◌, flat_map, length}
 use Rattle.std.specs.Prelude.{codes, decimal}
 use Rattle.larch_base.specs.Label.{label_text}
-use Rattle.larch_base.specs.declared.label.Label.{Label}
-use Rattle.larch_base.specs.declared.label.Label.TheVariants.{Assume, Imply, Convert}
 use Rattle.larch_print.specs.Print.{operator_line, printed_statement}
 use Rattle.larch_term.specs.Operator.{PlainOperator}
 use Rattle.larch_term.specs.declared.statement.Statement.{Statement}

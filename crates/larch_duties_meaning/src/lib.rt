@@ -3,6 +3,7 @@
 
 mod examples;
 mod laws;
+mod texts;
 
 pub use examples::{
     a_converted_operator_is_its_copy, an_exempted_term_is_the_same_by_the_copies,
@@ -12,6 +13,10 @@ pub use examples::{
     what_is_wrong_with_an_implied_trait,
 };
 pub use laws::{
-    claims_are_duties, duties_are_in_words, duties_are_sound, duties_are_told,
-    duties_have_plain_names, what_is_reached_decides_duties,
+    claims_are_duties, clauses_have_one_theory, duties_are_in_words, duties_are_sound,
+    duties_are_told, duties_have_plain_names, what_is_reached_decides_duties,
+};
+pub use texts::{
+    operators_statements_and_duties_are_listed, what_clauses_add_is_listed,
+    what_is_assumed_is_listed,
 };

@@ -29,7 +29,7 @@ use Rattle.larch_raw.specs.declared.reference.RawActual.TheVariants as actual
 use Rattle.larch_raw.specs.declared.reference.RawRef.{RawRef}
 use Rattle.larch_raw.specs.declared.shorthand.RawField.{RawField}
 use Rattle.larch_raw.specs.declared.shorthand.RawShorthand.{RawShorthand}
-use Rattle.larch_grammar.specs.Answers.{Traits}
+use Rattle.larch_grammar.specs.Answers.{Equations, References, Traits}
 use Rattle.larch_grammar.specs.Composition.{AreActuals, AreFields, AreRefs, EndActuals, HasActuals, HasFormals, IsField}
 use Rattle.larch_grammar.specs.Composition.{IsRef, IsRefsWord, IsShort, a_ref, a_tuple, a_union, actuals}
 use Rattle.larch_grammar.specs.Composition.{an_enumeration, another_actual, another_field as further_field, another_ref}
@@ -653,6 +653,26 @@ tokens_lettered : (g : Bool) (ms : List (Token × Mark)) → AreWordTokens (toke
 tokens_lettered g [] a = tt
 tokens_lettered g (m ∷ ms) a =
     (token_lettered g m.0 (a 0 m.0 (omega arith)), tokens_lettered g ms (λ k d lt. a (suc k) d (omega arith)))
+
+-- a token that is a word to the grammar is one
+pub word_worded : (g : Bool) (t : Token) (w : RawWord) → IsWordToken t → terminal_of g t ≡ terminal.Word w → Worded w
+word_worded g t w h e = subst Lettered e (token_lettered g t h)
+
+-- the name of a reference, where it is a bare word, and its sorts
+reference_lettered : {i o : List Marked} {r : RawOpRef} → IsOpRef i o r → AllLettered i
+    → WordedForm r.form × WordedRef r
+reference_lettered (by_form q) h = (form_worded q h, tt)
+reference_lettered (by_signature q sig) h = (form_worded q h, (sig_lettered sig (form_left q h).1).0)
+
+pub equation_worded : (tokens : List Token) (raw : RawEquation) → AreWordTokens tokens → Spells Equations tokens raw
+    → WordedEquation raw
+equation_worded tokens raw a s =
+    (equation_lettered s.1 (tokens_lettered false s.0 (subst AreWordTokens (sym s.2) a))).0
+
+pub reference_worded : (tokens : List Token) (raw : RawOpRef) → AreWordTokens tokens → Spells References tokens raw
+    → WordedForm raw.form × WordedRef raw
+reference_worded tokens raw a s =
+    reference_lettered s.1 (tokens_lettered false s.0 (subst AreWordTokens (sym s.2) a))
 
 pub trait_worded : (lists : Bool) (tokens : List Token) (raw : RawTrait) → AreWordTokens tokens
     → Spells (Traits lists) tokens raw → WordedTrait raw

@@ -9,8 +9,11 @@ ghost use Rattle.larch_grammar_law.specs.declared.mark.Flaw.{Flaw};
 ghost use Rattle.larch_raw.specs.declared.declared.RawOpRef.{RawOpRef};
 ghost use Rattle.larch_raw.specs.declared.equation.RawEquation.{RawEquation};
 ghost use Rattle.larch_raw.specs.declared.equation.RawTrait.{RawTrait};
-ghost use Rattle.larch_raw.specs.Worded.{WordedTrait};
-ghost use Rattle.larch_grammar.specs.WordTokens.{AreWordTokens};
+ghost use Rattle.larch_raw.specs.Worded.{Worded, WordedEquation, WordedForm, WordedRef, WordedTrait};
+ghost use Rattle.larch_raw.specs.declared.declared.RawWord.{RawWord};
+ghost use Rattle.larch_grammar.specs.Terminal.{terminal_of};
+ghost use Rattle.larch_grammar.specs.WordTokens.{AreWordTokens, IsWordToken};
+ghost use Rattle.larch_grammar.specs.declared.terminal.Terminal.TheVariants.{Word};
 ghost use Rattle.larch_grammar.specs.Answers.{AnyTrait, Equations, MeansTrait, References, StandsInAny, Traits, reference_answer, term_answer, trait_answer};
 ghost use Rattle.larch_grammar.specs.Refused.{position_of_token};
 
@@ -53,4 +56,17 @@ pub fn flaw_stands_in_any_trait()
 pub fn words_of_raw_trait()
     ensures { (lists : Bool) (tokens : List Token) (raw : RawTrait) → AreWordTokens tokens
         → Spells (Traits lists) tokens raw → WordedTrait raw }
+{}
+
+/// The same of what stands in other lists of tokens: a word; the sorts that are said in an equation or a lone term; and
+/// of a reference to operators the sorts, and the name where it is a bare word.
+pub fn words_of_raw_parts()
+    ensures word { (lists : Bool) (token : Token) (word : RawWord) → IsWordToken token
+        → terminal_of lists token ≡ Word word → Worded word }
+    ensures equation { (tokens : List Token) (raw : RawEquation) → AreWordTokens tokens
+        → Spells Equations tokens raw → WordedEquation raw }
+    ensures name { (tokens : List Token) (raw : RawOpRef) → AreWordTokens tokens
+        → Spells References tokens raw → WordedForm raw.form }
+    ensures sorts { (tokens : List Token) (raw : RawOpRef) → AreWordTokens tokens
+        → Spells References tokens raw → WordedRef raw }
 {}

@@ -1,5 +1,5 @@
 -- Files of a folder, each a name with its bytes.
-use Rattle.std.specs.Prelude.{◌≡◌, if◌then◌else◌, ℕ, List, Option, Some, None}
+use Rattle.std.specs.Prelude.{◌≡◌, if◌then◌else◌, ℕ, List, [], ◌∷◌, ◌++◌, Option, Some, None, option_map}
 use Rattle.std.specs.Str.{bytes_eq}
 use Rattle.std.specs.Map.{lookup}
 
@@ -20,3 +20,7 @@ PutsFile old new name bytes =
 abbrev pub IsFile : Option FileMap → List ℕ → List ℕ → Type 0
 IsFile None name bytes = Unit {0}
 IsFile (Some files) name bytes = file_of files name ≡ Some bytes
+
+-- the names that were looked for with one more behind them, where they are told
+abbrev pub with_look : Option (List (List ℕ)) → List ℕ → Option (List (List ℕ))
+with_look looks name = option_map (λ names. names ++ name ∷ []) looks

@@ -1,4 +1,4 @@
-ghost use Rattle.std.specs.Prelude.{◌≡◌, ◌≤◌, [], Some, vec_len, IfOk, IfErr, OnOk, OnErr};
+ghost use Rattle.std.specs.Prelude.{◌≡◌, ◌≤◌, [], None, Some, vec_len, IfOk, IfErr, OnOk, OnErr};
 ghost use Rattle.std.specs.Option.{option_copied};
 ghost use Rattle.larch_io.specs.Refusal.{FileRefused, FolderFaults};
 ghost use Rattle.larch_io.specs.Folder.{IsFile, PutsFile, file_of};
@@ -56,6 +56,8 @@ impl Folder for CleanFolder {
     ghost files = { λ folder. Some folder };
 
     ghost faults = { λ _. 0 };
+
+    ghost looks = { λ _. None };
 
     fn read_file(&mut self, alloc: Global, name: &str) -> Result<Vec<u8>, FolderRefusal> {
         let name = Name::new(alloc, name.as_bytes())?;

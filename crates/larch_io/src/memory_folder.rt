@@ -1,4 +1,4 @@
-ghost use Rattle.std.specs.Prelude.{◌≡◌, ◌↔◌, ◌≤◌, Some, Contains, [], Err, IfOk, IfErr, OnOk, OnErr, vec_len};
+ghost use Rattle.std.specs.Prelude.{◌≡◌, ◌↔◌, ◌≤◌, None, Some, Contains, [], Err, IfOk, IfErr, OnOk, OnErr, vec_len};
 ghost use Rattle.larch_base.specs.declared.limits.TheConstants.{MAX_FILE_BYTES};
 ghost use Rattle.larch_io.specs.Calls.{IsNextCall, no_calls};
 ghost use Rattle.larch_io.specs.Folder.{IsFile, PutsFile};
@@ -53,6 +53,8 @@ impl Folder for MemoryFolder {
     ghost files = { λ folder. Some folder.files };
 
     ghost faults = { λ folder. folder.calls.faults };
+
+    ghost looks = { λ _. None };
 
     fn read_file(&mut self, alloc: Global, name: &str) -> Result<Vec<u8>, FolderRefusal>
         ensures short { IfOk result (λ bytes. vec_len bytes ≤ MAX_FILE_BYTES) }

@@ -38,6 +38,8 @@ impl<'a> Folder for WorkingFolder<'a> {
 
     ghost faults = { λ folder. folder };
 
+    ghost looks = { λ _. None };
+
     fn read_file(&mut self, alloc: Global, name: &str) -> Result<Vec<u8>, FolderRefusal> {
         match read_short(self.rt, alloc, name) {
             Err(FolderRefusal::Failed) => {

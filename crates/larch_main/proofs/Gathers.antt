@@ -77,7 +77,7 @@ passes told names rest files name g h =
           ∙ one_more folder files name rest (Some is.0) (Whole files) (of name is.0 is.1) same;
     }
 
-whole_is : (b : Bool) (t more : Table) → cond b TooLarge (Whole t) ≡ Whole more → (b ≡ false) × (t ≡ more)
+pub whole_is : (b : Bool) (t more : Table) → cond b TooLarge (Whole t) ≡ Whole more → (b ≡ false) × (t ≡ more)
 whole_is true t more e = cc
 whole_is false t more e = (refl, cc)
 

@@ -16,5 +16,6 @@ pub mod Shapes
 pub mod Spelled
 pub mod Steps
 pub mod Tables
+pub mod Turns
 pub mod Verdicts
 pub mod Whole

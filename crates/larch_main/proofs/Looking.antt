@@ -43,7 +43,7 @@ stopped : (files : Table) (name bytes : List ℕ) (b : Bool)
 stopped files name bytes b e t = ap (λ c. cond c TooLarge (Whole (put_file files name bytes))) (e ∙ t)
 
 -- a file has too many bytes
-too_long : (files : Table) (name bytes : List ℕ) → MAX_FILE_BYTES < length bytes
+pub too_long : (files : Table) (name bytes : List ℕ) → MAX_FILE_BYTES < length bytes
     → putting files name (Some bytes) ≡ TooLarge
 too_long files name bytes h =
     let long : nat_lt MAX_FILE_BYTES (length bytes) ≡ true = grind (arith, nat_tests) in

@@ -2,6 +2,7 @@ pub mod Answer
 pub mod Check
 pub mod Command
 pub mod Complete
+pub mod Examples
 pub mod Gather
 pub mod Input
 pub mod Laws
@@ -16,4 +17,5 @@ pub mod Say
 pub mod Session
 pub mod SoFar
 pub mod Status
+pub mod Turns
 pub mod Verify

@@ -6,6 +6,7 @@ ghost use Rattle.larch_main.specs.Answer.{answer_of};
 ghost use Rattle.larch_main.specs.Check.{check_answer};
 ghost use Rattle.larch_main.specs.Questions.{Answered};
 ghost use Rattle.larch_main.specs.Look.{GatherFaults};
+ghost use Rattle.larch_main.specs.Turns.{LookInTurn, looks_of};
 
 use crate::answer::{Answer, good_or_remains};
 use crate::gather::{GatherRefusal, gather};
@@ -28,6 +29,8 @@ pub fn check<F: Folder>(
     ensures same { F.files folder.new ≡ F.files folder.old }
     ensures fine { OnOk result (F.faults folder.new ≡ F.faults folder.old) }
     ensures faults { IfErr result (λ refusal. GatherFaults refusal (F.faults folder.old) (F.faults folder.new)) }
+    ensures looks { LookInTurn (F.files folder.old) (looks_of question_check names.now)
+        (F.looks folder.old) (F.looks folder.new) }
 {
     let files = gather(alloc, names, folder)?;
     let answer = report(alloc, &files)?;

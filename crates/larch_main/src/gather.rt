@@ -1,11 +1,13 @@
-ghost use Rattle.std.specs.Prelude.{◌≡◌, ◌≤◌, ℕ, IfErr, IfSome, OnOk, true, vec_len};
+ghost use Rattle.std.specs.Prelude.{◌≡◌, ◌≤◌, ◌∷◌, ℕ, IfErr, IfOk, IfSome, OnOk, true, vec_len};
 ghost use Rattle.std.specs.List.{list_all};
 ghost use Rattle.larch_base.specs.FileName.{is_file_name};
 ghost use Rattle.larch_base.specs.declared.limits.TheConstants.{MAX_FILE_BYTES};
+ghost use Rattle.larch_io.specs.Folder.{IsFile, with_look};
 ghost use Rattle.larch_io.specs.Refusal.{FolderFaults};
 ghost use Rattle.larch_words.specs.Call.{is_certificate};
 ghost use Rattle.larch_main.specs.Look.{ComesTo, EvidenceFor, Fetches, GatherFaults, IsRefusalFor, Looks, found_of};
-ghost use Rattle.larch_traits.specs.Files.{put_file};
+ghost use Rattle.larch_main.specs.Turns.{LookInTurn, LooksOnce, looks_for};
+ghost use Rattle.larch_traits.specs.Files.{has_file, put_file};
 
 use larch_base::limits::MAX_FILES;
 use larch_base::{Bytes, FileName, Memory, Name, NameRefusal};
@@ -56,6 +58,7 @@ pub fn gather<F: Folder>(
     ensures same { F.files folder.new ≡ F.files folder.old }
     ensures fine { OnOk result (F.faults folder.new ≡ F.faults folder.old) }
     ensures faults { IfErr result (λ refusal. GatherFaults refusal (F.faults folder.old) (F.faults folder.new)) }
+    ensures looks { LookInTurn (F.files folder.old) (looks_for names.now) (F.looks folder.old) (F.looks folder.new) }
 {
     let mut files = Files::new(alloc);
     for name in names {
@@ -82,6 +85,8 @@ pub fn gather_evidence<F: Folder>(
     ensures same { F.files folder.new ≡ F.files folder.old }
     ensures fine { OnOk result (F.faults folder.new ≡ F.faults folder.old) }
     ensures faults { IfErr result (λ refusal. GatherFaults refusal (F.faults folder.old) (F.faults folder.new)) }
+    ensures looks { LookInTurn (F.files folder.old) (certificate.now ∷ looks_for names.now)
+        (F.looks folder.old) (F.looks folder.new) }
 {
     let text = fetch(alloc, certificate, folder)?;
     let files = gather(alloc, names, folder)?;
@@ -101,6 +106,8 @@ fn fetch<F: Folder>(
     ensures same { F.files folder.new ≡ F.files folder.old }
     ensures fine { OnOk result (F.faults folder.new ≡ F.faults folder.old) }
     ensures faults { IfErr result (λ refusal. GatherFaults refusal (F.faults folder.old) (F.faults folder.new)) }
+    ensures file { IfOk result (λ bytes. IsFile (F.files folder.old) name.now bytes) }
+    ensures looked { F.looks folder.new ≡ with_look (F.looks folder.old) name.now }
 {
     match folder.read_file(alloc, name.text()) {
         Ok(bytes) => Ok(Bytes::from_vec(bytes)),
@@ -145,6 +152,7 @@ fn look<F: Folder>(
     ensures same { F.files folder.new ≡ F.files folder.old }
     ensures fine { OnOk result (F.faults folder.new ≡ F.faults folder.old) }
     ensures faults { IfErr result (λ refusal. FolderFaults refusal (F.faults folder.old) (F.faults folder.new)) }
+    ensures looked { LooksOnce (has_file files.old name.now) (F.looks folder.old) (F.looks folder.new) name.now }
 {
     if files.contains(name) {
         return Ok(());

@@ -4,6 +4,7 @@
 mod answer;
 mod check;
 mod command;
+mod examples;
 mod gather;
 mod laws;
 mod obligations;
@@ -15,6 +16,9 @@ mod session;
 mod status;
 mod verify;
 
+pub use examples::{
+    a_trait_is_told, a_wrong_trait_is_told, certificates_are_told, files_that_lack_are_told,
+};
 pub use laws::{
     each_trait_has_one_line, every_session_ends, one_ending, one_output, what_is_gathered_is_done,
     what_is_in_the_grammar_is_done, what_is_there_is_gathered, what_is_verified_is_derivable,

@@ -8,6 +8,7 @@ ghost use Rattle.larch_flat.specs.Known.{AreAllKnown, Knows};
 ghost use Rattle.larch_main.specs.Obligations.{listed_at, listings_of, obligations_answer};
 ghost use Rattle.larch_main.specs.Questions.{Answered};
 ghost use Rattle.larch_main.specs.Look.{GatherFaults};
+ghost use Rattle.larch_main.specs.Turns.{LookInTurn, looks_of};
 ghost use Rattle.larch_main.specs.Report.{IsLineOf, source_lines};
 
 use crate::answer::{Answer, good_or_remains};
@@ -34,6 +35,8 @@ pub fn obligations<F: Folder>(
     ensures same { F.files folder.new ≡ F.files folder.old }
     ensures fine { OnOk result (F.faults folder.new ≡ F.faults folder.old) }
     ensures faults { IfErr result (λ refusal. GatherFaults refusal (F.faults folder.old) (F.faults folder.new)) }
+    ensures looks { LookInTurn (F.files folder.old) (looks_of question_obligations names.now)
+        (F.looks folder.old) (F.looks folder.new) }
 {
     let files = gather(alloc, names, folder)?;
     let answer = listings(alloc, &files)?;

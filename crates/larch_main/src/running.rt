@@ -9,6 +9,7 @@ ghost use Rattle.larch_main.specs.Running.{Answers, Writes, CallTakes, KeepsFold
 ghost use Rattle.larch_main.specs.Running.{Counts, Shows, folder_failed, sink_failed, source_failed};
 ghost use Rattle.larch_main.specs.Answer.{answer_of};
 ghost use Rattle.larch_main.specs.Look.{GatherFaults};
+ghost use Rattle.larch_main.specs.Turns.{CallLooks, LookInTurn, looks_of};
 ghost use Rattle.larch_main.specs.Progress.{HaltFaults};
 
 use crate::answer::{Answer, answer_to, tell};
@@ -61,6 +62,11 @@ pub fn run<F: Folder, S: Source, K: Sink, L: Ledger>(
     ensures folder { KeepsFolder (call_of (map string_bytes words.now)) folder.old folder.new }
     ensures untouched { KeepsSource (call_of (map string_bytes words.now)) source.old source.new }
 
+    // The folder is looked at in the order of the words, a certificate first, each time for a name that comes for the
+    // first time; and only where all that was looked for before is there.
+    ensures looks { CallLooks (call_of (map string_bytes words.now)) (F.files folder.old)
+        (F.looks folder.old) (F.looks folder.new) }
+
     // Where no count rose and memory didn't run out, the defined output was written, whole, and the status is its own.
     ensures complete { (Rose (S.faults source.old) (S.faults source.new) → ⊥)
         → (Rose (F.faults folder.old) (F.faults folder.new) → ⊥)
@@ -104,6 +110,8 @@ fn run_on_files<F: Folder, K: Sink>(
     ensures folder_faults { Counts (folder_failed (call_on_files question.now names.now) result)
         (F.faults folder.old) (F.faults folder.new) }
     ensures sink_faults { Counts (sink_failed result) (K.faults sink.old) (K.faults sink.new) }
+    ensures looks { CallLooks (call_on_files question.now names.now) (F.files folder.old)
+        (F.looks folder.old) (F.looks folder.new) }
 {
     let answered = answer(alloc, question, names, folder);
     tell(sink, answered)
@@ -122,6 +130,8 @@ fn answer<F: Folder>(
     ensures same { F.files folder.new ≡ F.files folder.old }
     ensures fine { OnOk result (F.faults folder.new ≡ F.faults folder.old) }
     ensures faults { IfErr result (λ halt. HaltFaults halt (F.faults folder.old) (F.faults folder.new)) }
+    ensures looks { LookInTurn (F.files folder.old) (looks_of question.now names.now)
+        (F.looks folder.old) (F.looks folder.new) }
 {
     match answer_of(alloc, question, names, folder) {
         Ok(answer) => Ok(answer),
@@ -143,6 +153,8 @@ fn answer_of<F: Folder>(
     ensures same { F.files folder.new ≡ F.files folder.old }
     ensures fine { OnOk result (F.faults folder.new ≡ F.faults folder.old) }
     ensures faults { IfErr result (λ refusal. GatherFaults refusal (F.faults folder.old) (F.faults folder.new)) }
+    ensures looks { LookInTurn (F.files folder.old) (looks_of question.now names.now)
+        (F.looks folder.old) (F.looks folder.new) }
 {
     match question {
         Question::Check => check(alloc, names, folder),

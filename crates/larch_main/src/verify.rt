@@ -9,6 +9,7 @@ ghost use Rattle.larch_words.specs.declared.call.Question.TheVariants.{Verify as
 ghost use Rattle.larch_main.specs.Answer.{answer_of, said};
 ghost use Rattle.larch_main.specs.Questions.{Answered};
 ghost use Rattle.larch_main.specs.Look.{GatherFaults};
+ghost use Rattle.larch_main.specs.Turns.{LookInTurn, looks_of};
 ghost use Rattle.larch_main.specs.Verify.{duty_in, duty_with, verdict_of, malformed_answer, verdict_told, verification_answer};
 ghost use Rattle.larch_verify.specs.Verdict.{refusal};
 
@@ -42,6 +43,8 @@ pub fn verify<F: Folder>(
     ensures same { F.files folder.new ≡ F.files folder.old }
     ensures fine { OnOk result (F.faults folder.new ≡ F.faults folder.old) }
     ensures faults { IfErr result (λ refusal. GatherFaults refusal (F.faults folder.old) (F.faults folder.new)) }
+    ensures looks { LookInTurn (F.files folder.old) (looks_of (question_verify asked.now) names.now)
+        (F.looks folder.old) (F.looks folder.new) }
 {
     let evidence = gather_evidence(alloc, &asked.certificate, names, folder)?;
     let answer = verification_answer(alloc, &asked.stem, asked.label, &evidence)?;

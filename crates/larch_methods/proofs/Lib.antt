@@ -2,6 +2,7 @@ pub mod Begun
 pub mod Connectives
 pub mod Inductions
 pub mod Joining
+pub mod Leaving
 pub mod Left
 pub mod Lengths
 pub mod Numbered

@@ -1,8 +1,9 @@
--- Lemmas.
 pub mod Different
 pub mod Every
 pub mod Listing
+pub mod Numbering
 pub mod OverOperators
 pub mod Overlapping
 pub mod Pairing
+pub mod Replacements
 pub mod Sorting

@@ -23,7 +23,7 @@ use Rattle.larch_pairs_critical.specs.declared.pair.Rule.{Rule}
 abbrev EntryOver : List PlainOperator → Entry → Type 0
 EntryOver fs e = IsOver fs e.term
 
-marked_over : (fs : List PlainOperator) (k : ℕ) (vs : List Variable)
+pub marked_over : (fs : List PlainOperator) (k : ℕ) (vs : List Variable)
     → All (EntryOver fs) (map (λ v. record { name = v.name; sort = v.sort; term = var (v.name ++ k ∷ []) v.sort }) vs)
 marked_over fs k [] = All-nil (EntryOver fs)
 marked_over fs k (v ∷ vs) =
@@ -31,7 +31,7 @@ marked_over fs k (v ∷ vs) =
     (map (λ v. record { name = v.name; sort = v.sort; term = var (v.name ++ k ∷ []) v.sort }) vs) tt
     (marked_over fs k vs)
 
-numbered_over : (fs : List PlainOperator) (k : ℕ) (vs : List Variable) → All (EntryOver fs) (number_variables k vs)
+pub numbered_over : (fs : List PlainOperator) (k : ℕ) (vs : List Variable) → All (EntryOver fs) (number_variables k vs)
 numbered_over fs k [] = All-nil (EntryOver fs)
 numbered_over fs k (v ∷ vs) =
     All-cons (EntryOver fs) (record { name = v.name; sort = v.sort; term = var (codes "v" ++ decimal k) v.sort })

@@ -65,7 +65,7 @@ unmapped : (vs : List Variable) → map (λ (v : Variable). record { name = v.na
 unmapped [] = refl
 unmapped (v ∷ vs) = ap (λ ws. v ∷ ws) (unmapped vs)
 
-marking_bound : (k : ℕ) (r : Rule) → map variable_of (marking k r) ≡ variables_of_both r.left r.right
+pub marking_bound : (k : ℕ) (r : Rule) → map variable_of (marking k r) ≡ variables_of_both r.left r.right
 marking_bound k r =
     map_map variable_of (λ v. record { name = v.name; sort = v.sort; term = var (v.name ++ k ∷ []) v.sort })
     (variables_of_both r.left r.right)

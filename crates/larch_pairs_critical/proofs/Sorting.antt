@@ -45,7 +45,8 @@ below_root f ts p u (j, q, e, h) a =
 
 mutual
   -- at the places of the list applications stand
-  stands_inner : (t : Tree) (p : List ℕ) → Contains (inner_places t) p → (u : Tree) → at t p ≡ Some u → IsApplication u
+  pub stands_inner : (t : Tree) (p : List ℕ) → Contains (inner_places t) p → (u : Tree) → at t p ≡ Some u
+      → IsApplication u
   stands_inner (var n s) p c u e = absurd (contains_none p c)
   stands_inner (app f ts) p c u e =
       elim (contains_cases [] p (inner_places_from 0 ts) c) [
@@ -71,7 +72,7 @@ mutual
 abbrev EntryFits : Entry → Type 0
 EntryFits e = WellSorted e.term × (sort_of e.term ≡ e.sort)
 
-marked_fit : (k : ℕ) (vs : List Variable)
+pub marked_fit : (k : ℕ) (vs : List Variable)
     → Fits (map (λ v. record { name = v.name; sort = v.sort; term = var (v.name ++ k ∷ []) v.sort }) vs)
 marked_fit k [] = All-nil EntryFits
 marked_fit k (v ∷ vs) =
@@ -79,14 +80,14 @@ marked_fit k (v ∷ vs) =
     (map (λ v. record { name = v.name; sort = v.sort; term = var (v.name ++ k ∷ []) v.sort }) vs) (tt, refl)
     (marked_fit k vs)
 
-numbered_fit : (k : ℕ) (vs : List Variable) → Fits (number_variables k vs)
+pub numbered_fit : (k : ℕ) (vs : List Variable) → Fits (number_variables k vs)
 numbered_fit k [] = All-nil EntryFits
 numbered_fit k (v ∷ vs) =
     All-cons EntryFits (record { name = v.name; sort = v.sort; term = var (codes "v" ++ decimal k) v.sort })
     (number_variables (k + 1) vs)
     (tt, refl) (numbered_fit (k + 1) vs)
 
-under_sorted : (es : List Entry) (l r : Tree) → Fits es → AreSorted l r
+pub under_sorted : (es : List Entry) (l r : Tree) → Fits es → AreSorted l r
     → AreSorted (instance_of es l) (instance_of es r)
 under_sorted es l r k h = (
   substituted_well_sorted es l k h.0,
@@ -94,11 +95,11 @@ under_sorted es l r k h = (
   substituted_sort es r k ∙ h.2 ∙ sym (substituted_sort es l k),
 )
 
-under_application : (es : List Entry) (t : Tree) → IsApplication t → IsApplication (instance_of es t)
+pub under_application : (es : List Entry) (t : Tree) → IsApplication t → IsApplication (instance_of es t)
 under_application es (var n s) c = absurd c
 under_application es (app f ts) c = tt
 
-unifying_fits : (t l : Tree) (u : List Entry) → WellSorted t → WellSorted l → IsApplication t → IsApplication l
+pub unifying_fits : (t l : Tree) (u : List Entry) → WellSorted t → WellSorted l → IsApplication t → IsApplication l
     → unify t l ≡ Ok (Some u) → Fits u
 unifying_fits (var n s) l u a b c d e = absurd c
 unifying_fits (app f ts) (var n s) u a b c d e = absurd d

@@ -1,3 +1,4 @@
 pub mod Examples
 pub mod Overlap
 pub mod Pairs
+pub mod Variables

@@ -55,7 +55,7 @@ pairs_across R (z ∷ xs) ys x y h c d = elim (contains_cases z x xs c) [
   | inr i ↦ pairs_across R xs ys x y (pairs_tail R z (xs ++ ys) h) i d
 ]
 
-made_behind : (bs : List OpenBox) (x : OpenBox)
+pub made_behind : (bs : List OpenBox) (x : OpenBox)
     → flat_map (λ (y : OpenBox). y.constants) (bs ++ x ∷ []) ≡ flat_map (λ (y : OpenBox). y.constants) bs ++ x.constants
 made_behind [] x = append-nil x.constants
 made_behind (b ∷ bs) x =

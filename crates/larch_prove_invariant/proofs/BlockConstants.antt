@@ -29,26 +29,9 @@ use Rattle.larch_prove_invariant.specs.Holding.{AreOwn, Begins, EntersClause, Ha
 use Rattle.larch_prove_invariant.specs.Holding.{open_constants, shape_of}
 use Rattle.larch_prove_invariant.proofs.Apart.{pairs_append, pairs_first}
 use Rattle.larch_prove_invariant.proofs.Held.{boxes_held}
+use Rattle.larch_prove_invariant.proofs.Making.{boxes_made, made_append}
 
 -- ---- boxes and what they make
-
-pub made_append : (xs ys : List SupposingBox) → made_in (xs ++ ys) ≡ made_in xs ++ made_in ys
-made_append [] ys = refl
-made_append (x ∷ xs) ys =
-    ap (λ fs. x.box.constants ++ fs) (made_append xs ys) ∙ sym (append_assoc x.box.constants (made_in xs) (made_in ys))
-
-pub boxes_append : (bs cs : List OpenBox)
-    → flat_map (λ (y : OpenBox). y.constants) (bs ++ cs)
-    ≡ flat_map (λ (y : OpenBox). y.constants) bs ++ flat_map (λ (y : OpenBox). y.constants) cs
-boxes_append [] cs = refl
-boxes_append (b ∷ bs) cs =
-    let made = flat_map (λ (y : OpenBox). y.constants) in
-    ap (λ fs. b.constants ++ fs) (boxes_append bs cs) ∙ sym (append_assoc b.constants (made bs) (made cs))
-
-pub boxes_made : (xs : List SupposingBox)
-    → flat_map (λ (y : OpenBox). y.constants) (map (λ (x : SupposingBox). x.box) xs) ≡ made_in xs
-boxes_made [] = refl
-boxes_made (x ∷ xs) = ap (λ fs. x.box.constants ++ fs) (boxes_made xs)
 
 pub shapes_made : (xs : List SupposingBox)
     → made_in xs ≡ flat_map (λ (h : Shape). h.constants) (map shape_of xs)

@@ -2,8 +2,9 @@
 use Rattle.std.specs.Prelude.{◌≡◌, ℕ, List, [], ◌∷◌, ◌++◌, map, All, Option, None, Some, refl}
 use Rattle.std.specs.List.{AllZip}
 use Rattle.std.proofs.Common.{ap, subst, sym, ◌∙◌}
-use Rattle.std.proofs.lemmas.List.{append_assoc, map-append}
+use Rattle.std.proofs.lemmas.List.{append_assoc, append-nil, map-append}
 use Rattle.std.proofs.lemmas.List.Elements.{All-append, All-nil, All-push, All-weaker}
+use Rattle.larch_term.specs.Sorts.{IsTermOver}
 use Rattle.larch_term.specs.Tree.{Tree}
 use Rattle.larch_term.specs.Truth.{truth}
 use Rattle.larch_term.specs.declared.statement.Statement.{Statement}
@@ -12,8 +13,10 @@ use Rattle.larch_term.specs.declared.statement.Theory.{Theory}
 use Rattle.larch_calculus.specs.Formula.{falsity}
 use Rattle.larch_derive.specs.Builder.{boxes_in, theory_in}
 use Rattle.larch_derive.specs.Predicates.{AreOthers, Grows, HasEquation, HasStatement, HasNoBadLine}
+use Rattle.larch_derive.specs.Words.{IsWordedTerm}
 use Rattle.larch_derive.specs.declared.builder.Builder.{Builder}
-use Rattle.larch_derive.proofs.Growth.{grown_said, grown_stands, grows_alike, grows_same, said_stands}
+use Rattle.larch_derive.proofs.Growth.{grown_said, grown_stands, grows_alike, grows_same, known_left, said_stands}
+use Rattle.larch_derive.proofs.Words.{known_worded}
 use Rattle.larch_derive_boxes.specs.Boxes.{AreOwnConstants}
 use Rattle.larch_prove_meaning.specs.Facts.{Fact}
 use Rattle.larch_prove_meaning.specs.Levels.{Level}
@@ -22,12 +25,15 @@ use Rattle.larch_methods.specs.Opening.{HasOtherConstants, HasOwnConstants}
 use Rattle.larch_methods.proofs.Left.{shown_stays}
 use Rattle.larch_prove_invariant.specs.Book.{AtLine, Book, Done, InBox, IsWorkedOn, Kept, Left, Rests, Running}
 use Rattle.larch_prove_invariant.specs.Book.{SupposingBox, all_boxes, boxes_of, next_running, own_boxes, shared_boxes}
-use Rattle.larch_prove_invariant.specs.Book.{with_extra, with_running}
-use Rattle.larch_prove_invariant.specs.Holding.{HasAbsurd, HasFacts, HasLeft, Holds, HoldsOf, IsEntered, IsPlanned}
-use Rattle.larch_prove_invariant.specs.Holding.{IsStart, IsThere, Runs, RunsIfAny, Says, Through, said_of}
+use Rattle.larch_prove_invariant.specs.Book.{made_in, with_extra, with_running}
+use Rattle.larch_prove_invariant.specs.Holding.{HasAbsurd, HasFacts, HasFirst, HasLeft, Holds, HoldsOf, IsEntered}
+use Rattle.larch_prove_invariant.specs.Holding.{IsPlanned, IsStart, IsThere, Runs, RunsIfAny, Says, Through}
+use Rattle.larch_prove_invariant.specs.Holding.{open_constants, said_of}
 use Rattle.larch_prove_invariant.proofs.Boxes.{all_open, open_through, said_through, through_append, through_boxes}
 use Rattle.larch_prove_invariant.proofs.Boxes.{through_grows}
 use Rattle.larch_prove_invariant.proofs.Entered.{entered_same}
+use Rattle.larch_prove_invariant.proofs.Knowing.{known_over}
+use Rattle.larch_prove_invariant.proofs.Making.{open_inside}
 
 -- ---- what is said of a level
 
@@ -124,6 +130,7 @@ running_grows a b c g level (Some r) h = runs_grows a b c g level r h
 
 level_grows : (a b c : Builder) (k : Kept) → Grows b c → HoldsOf a b k → HoldsOf a c k
 level_grows a b c k g h = record {
+  first = h.first;
   outside = h.outside;
   boxes = h.boxes;
   says = h.says;
@@ -170,13 +177,42 @@ pub idle_boxes : (a b : Builder) (k : Kept) → k.book.running ≡ None → Hold
     → Through a (own_boxes k.book) b
 idle_boxes a b k e h = through_grows a h.outside b (own_boxes k.book) (idle_grows a b k e h) h.boxes
 
-none_waits : (a b : Builder) (k : Kept) → k.book.running ≡ None → RunsIfAny a b k.level k.book.running
+pub none_waits : (a b : Builder) (k : Kept) → k.book.running ≡ None → RunsIfAny a b k.level k.book.running
     → k.level.remaining ≡ []
 none_waits a b k e h = subst (RunsIfAny a b k.level) e h
 
+-- the first goal of a level that has the same one, and was entered in the same box
+first_same : (a : Builder) (k j : Book) → j.first ≡ k.first → j.entrance ≡ k.entrance → HasFirst a k → HasFirst a j
+first_same a k j e f h =
+    record {
+      over = subst (IsTermOver ((theory_in a).operators ++ (open_constants a ++ made_in j.entrance))) (sym e)
+          (subst (λ xs. IsTermOver ((theory_in a).operators ++ (open_constants a ++ made_in xs)) k.first) (sym f)
+          h.over);
+      words = subst IsWordedTerm (sym e) h.words;
+    }
+
+-- where a level has no extra boxes yet, its first goal can be written
+first_entered : (b c : Builder) (k : Kept) → k.book.extras ≡ [] → Through b (own_boxes k.book) c → Says c k
+    → HasFirst b k.book
+first_entered b c k e m h =
+    let known = known_left c k.book.way k.book.first k.level.goal h.way in
+    let opened : open_constants c ≡ open_constants b ++ made_in k.book.entrance =
+    open_inside b c (own_boxes k.book) m
+    ∙ ap (λ xs. open_constants b ++ made_in xs)
+    (ap (λ xs. k.book.entrance ++ xs) e ∙ append-nil k.book.entrance) in
+    record {
+      over = subst (λ (t : Theory). IsTermOver (t.operators ++ (open_constants b ++ made_in k.book.entrance))
+          k.book.first) (through_boxes b c (own_boxes k.book) m).0
+          (subst (λ fs. IsTermOver ((theory_in c).operators ++ fs) k.book.first) opened
+          (known_over c k.book.first known));
+      words = known_worded c k.book.first known;
+    }
+
 -- a level is at rest where the builder stands
-pub rests_held : (a b : Builder) (k : Kept) → Rests k → Through a (own_boxes k.book) b → Says b k → HoldsOf a b k
-rests_held a b k r m h = record {
+pub rests_held : (a b : Builder) (k : Kept) → Rests k → HasFirst a k.book → Through a (own_boxes k.book) b → Says b k
+    → HoldsOf a b k
+rests_held a b k r f m h = record {
+  first = f;
   outside = b;
   boxes = m;
   says = h;
@@ -195,7 +231,7 @@ level_worked t s b c k j ks g w l (a, (i, (e, h))) =
         i,
         (
           entered_same s ks k j w.purpose w.first w.entrance e,
-          rests_held a c j w.behind
+          rests_held a c j w.behind (first_same a k.book j.book w.first w.entrance h.first)
               (subst (λ xs. Through a xs c) (sym same)
               (through_grows a b c (own_boxes k.book) g (idle_boxes a b k w.before.running h))) l,
         ),
@@ -217,6 +253,7 @@ extra_opened t s b c x k ks m e (a, (i, (w, h))) =
           entered_same s ks k (with_extra x k) refl refl refl w,
           rests_held a c (with_extra x k)
               (record { running = e; remaining = none_waits h.outside b k e h.running })
+              (first_same a k.book (with_extra x k).book refl refl h.first)
               (subst (λ xs. Through a xs c) (sym (extra_boxes k.book x))
               (through_append a b c (own_boxes k.book) (x ∷ []) (idle_boxes a b k e h) m))
               (record { facts = said.facts; absurd = said.absurd; way = said.way }),
@@ -227,8 +264,9 @@ extra_opened t s b c x k ks m e (a, (i, (w, h))) =
 -- ---- levels are entered
 
 pub level_entered : (t : Theory) (s : Statement) (b c : Builder) (k : Kept) (ks : List Kept) → Holds t s b ks
-    → IsEntered s ks k → Rests k → Through b (own_boxes k.book) c → Says c k → Holds t s c (k ∷ ks)
-level_entered t s b c k ks h e r m l = (b, (h, (e, rests_held b c k r m l)))
+    → IsEntered s ks k → Rests k → k.book.extras ≡ [] → Through b (own_boxes k.book) c → Says c k
+    → Holds t s c (k ∷ ks)
+level_entered t s b c k ks h e r x m l = (b, (h, (e, rests_held b c k r (first_entered b c k x m l) m l)))
 
 -- what was said where a level was entered is said in it
 pub facts_inside : (t : Theory) (s : Statement) (b c : Builder) (xs : List SupposingBox) (k : Kept) (ks : List Kept)
@@ -250,6 +288,7 @@ method_begun t s b c k ks r waiting e m p d o (a, (i, (w, h))) =
         (
           entered_same s ks k (with_running r waiting k) refl refl refl w,
           record {
+            first = first_same a k.book (with_running r waiting k).book refl refl h.first;
             outside = b;
             boxes = idle_boxes a b k e h;
             says = record { facts = said.facts; absurd = said.absurd; way = said.way };
@@ -294,6 +333,7 @@ subgoal_follows t s b k ks r left next waiting (a, (i, (w, h))) e q l =
         (
           entered_same s ks k (with_running (next_running left next r) waiting k) refl refl refl w,
           record {
+            first = first_same a k.book (with_running (next_running left next r) waiting k).book refl refl h.first;
             outside = h.outside;
             boxes = h.boxes;
             says = record { facts = h.says.facts; absurd = h.says.absurd; way = h.says.way };

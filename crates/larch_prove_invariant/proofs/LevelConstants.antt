@@ -130,13 +130,14 @@ levels_follow t s b cs levels k ks r left next waiting e q l h =
 
 -- a level is entered upon others
 pub levels_entered : (t : Theory) (s : Statement) (b c : Builder) (cs : List PlainOperator) (levels : List Level)
-    (k j : Kept) (ks : List Kept) → IsEntered s (j ∷ ks) k → Rests k → Through b (own_boxes k.book) c → Says c k
-    → All (Contains cs) (made_in (own_boxes k.book)) → AreOwn b (made_in (own_boxes k.book))
-    → HoldsLevels t s b cs levels (j ∷ ks) → HoldsLevels t s c cs (k.level ∷ levels) (k ∷ j ∷ ks)
-levels_entered t s b c cs levels k j ks w r m l among own h =
+    (k j : Kept) (ks : List Kept) → IsEntered s (j ∷ ks) k → Rests k → k.book.extras ≡ []
+    → Through b (own_boxes k.book) c → Says c k → All (Contains cs) (made_in (own_boxes k.book))
+    → AreOwn b (made_in (own_boxes k.book)) → HoldsLevels t s b cs levels (j ∷ ks)
+    → HoldsLevels t s c cs (k.level ∷ levels) (k ∷ j ∷ ks)
+levels_entered t s b c cs levels k j ks w r x m l among own h =
     record {
       levels_are = ap (λ ls. k.level ∷ ls) h.levels_are;
-      held = level_entered t s b c k (j ∷ ks) h.held w r m l;
+      held = level_entered t s b c k (j ∷ ks) h.held w r x m l;
       constants = constants_opened t s b cs (j ∷ ks) (k ∷ j ∷ ks) (own_boxes k.book) h.held
           (ap (λ xs. all_boxes (j ∷ ks) ++ xs) (idle_boxes_are k.book r.running)) refl among own h.constants;
     }

@@ -28,8 +28,9 @@ use Rattle.larch_prove_invariant.specs.Book.{Kept, Running, SupposingBox, all_bo
 use Rattle.larch_prove_invariant.specs.Holding.{AreOwn, HoldsProof, Shape, open_constants, shape_of}
 use Rattle.larch_prove_invariant.specs.Holding.{shared_shapes, theory_for}
 use Rattle.larch_prove_invariant.proofs.Apart.{not_constant, pairs_across, pairs_first, pairs_second}
-use Rattle.larch_prove_invariant.proofs.BlockConstants.{boxes_append, boxes_made, open_made, shapes_made}
+use Rattle.larch_prove_invariant.proofs.BlockConstants.{open_made, shapes_made}
 use Rattle.larch_prove_invariant.proofs.Held.{boxes_held}
+use Rattle.larch_prove_invariant.proofs.Making.{boxes_append, boxes_made}
 
 -- ---- lists
 

@@ -2,10 +2,10 @@
 use Rattle.std.specs.Prelude.{◌≡◌, ◌==◌, ℕ, Bool, true, false, cond, List, [], ◌∷◌, ◌++◌, map, bytes_eq, All, Contains}
 use Rattle.std.specs.Prelude.{Ok, codes, refl}
 use Rattle.std.specs.List.{AllZip}
-use Rattle.std.proofs.Common.{ap, subst, sym, ◌∙◌}
+use Rattle.std.proofs.Common.{ap, inl, inr, subst, sym, ◌∙◌}
 use Rattle.std.proofs.lemmas.List.Elements.{All-head, All-tail}
 use Rattle.larch_base.proofs.Lists.{all_from}
-use Rattle.larch_base.proofs.Members.{contains_none}
+use Rattle.larch_base.proofs.Members.{contains_cases, contains_none}
 use Rattle.larch_term.specs.BuiltIn.{bool_sort, built_in, is_built_in_as}
 use Rattle.larch_term.specs.Operator.{PlainOperator}
 use Rattle.larch_term.specs.OperatorKey.{operator_Decides}
@@ -22,7 +22,7 @@ use Rattle.larch_derive.specs.declared.open_box.OpenBox.{OpenBox}
 use Rattle.larch_derive_boxes.specs.Boxes.{HasResult}
 use Rattle.larch_rewrite_meaning.specs.Sides.{Sides}
 use Rattle.larch_prove_meaning.specs.NewNames.{constant_named, free_name, new_constants}
-use Rattle.larch_prove_meaning.specs.Plans.{Partition, Subgoal, a_variable, arguments_around, names_of}
+use Rattle.larch_prove_meaning.specs.Plans.{Partition, Plan, Setting, Subgoal, a_variable, arguments_around, names_of}
 use Rattle.larch_prove_meaning.specs.Plans.{other_sorts, partition_subgoals, plan, shown, taken_beside}
 use Rattle.larch_prove_meaning.proofs.CasePlans.{arguments_found}
 use Rattle.larch_methods.specs.Opening.{IsShownIn}
@@ -137,6 +137,43 @@ results b s l r taken (w ∷ ws) (x ∷ xs) p h =
           (subst (λ (e : Sides). HasResult b x [] (Equation e.left e.right)) sides h.0.result),
       results b s l r (names_of cs ++ taken) ws xs (All-tail (HasPlace s) w ws p) h.1,
     )
+
+-- a subgoal's goal is the formula of the equation that must be said of it
+observed : (l r : Tree) (z : List ℕ) (taken : List (List ℕ)) (ws : List Observation) → All (HasPlace z) ws
+    → (g : Subgoal) → Contains (partition_subgoals taken l r ws) g
+    → g.goal ≡ formula (said_of Partition g).left (said_of Partition g).right
+observed l r z taken [] p g c = absurd (contains_none g c)
+observed l r z taken (w ∷ ws) p g c =
+    let ss = w.observer.domain in
+    let cs = others_made taken w.place ss in
+    let here = All-head (HasPlace z) w ws p in
+    let sides = sides_of_shown w.observer (arguments_around w.place l 1 ss cs) (arguments_around w.place r 1 ss cs)
+    (shown_first w.place taken l z ss here) (shown_first w.place taken r z ss here) in
+    let first : Subgoal = record {
+      constants = cs;
+      hypotheses = [];
+      goal = formula (shown w cs l) (shown w cs r);
+    } in
+    elim (contains_cases first g (partition_subgoals (names_of cs ++ taken) l r ws) c) [
+      | inl e ↦
+          subst (λ (h : Subgoal). h.goal ≡ formula (said_of Partition h).left (said_of Partition h).right) e
+          (sym (ap (λ (e : Sides). formula e.left e.right) sides))
+      | inr d ↦ observed l r z (names_of cs ++ taken) ws (All-tail (HasPlace z) w ws p) g d
+    ]
+
+pub observations_said : (setting : Setting) (goal : Tree) (made : Plan) (g : Subgoal)
+    → plan setting goal Partition ≡ Ok made → Contains made.subgoals g
+    → g.goal ≡ formula (said_of Partition g).left (said_of Partition g).right
+observations_said setting goal made g e c =
+    let f = is_partition setting goal made e in
+    let l = f.0 in
+    let u = f.1.0 in
+    let os = f.1.1.1.0 in
+    let q = partition_planned setting goal l u os made e f.1.1.0 f.1.1.1.1 in
+    let ws = observations_of (sort_of l) os in
+    observed l u (sort_of l) (taken_beside setting.taken goal) ws
+    (all_from (HasPlace (sort_of l)) ws (λ w i. (observation_is (sort_of l) os w i).1)) g
+    (subst (λ ss. Contains ss g) q c)
 
 -- ---- the sides of the goal
 

@@ -109,7 +109,7 @@ entries_made (v ∷ vs) (c ∷ cs) h =
     (All-head IsWordedOperator c cs h, tt) (entries_made vs cs (All-tail IsWordedOperator c cs h))
 
 -- a term with constants in the places of another one's variables
-closed_worded : (t : Tree) (cs : List PlainOperator) (u : Tree) → AreWordedOperators cs → IsWordedTerm u
+pub closed_worded : (t : Tree) (cs : List PlainOperator) (u : Tree) → AreWordedOperators cs → IsWordedTerm u
     → IsWordedTerm (closed_by t cs u)
 closed_worded t cs u h w = instance_worded (constants_for (variables_of t) cs) u (entries_made (variables_of t) cs h) w
 
@@ -271,7 +271,7 @@ sort_worded : (t : Tree) → IsWordedTerm t → IsWord (sort_of t)
 sort_worded (var n s) w = w.1
 sort_worded (app f ts) w = w.0.1
 
-formula_worded : (l r : Tree) → IsWordedTerm l → IsWordedTerm r → IsWordedTerm (formula l r)
+pub formula_worded : (l r : Tree) → IsWordedTerm l → IsWordedTerm r → IsWordedTerm (formula l r)
 formula_worded l r w v = by_tests (is_truth r) (is_truth l) (bytes_eq (sort_of l) bool_sort)
   where
     by_tests : (a b c : Bool)

@@ -21,11 +21,10 @@ use Rattle.larch_term.specs.declared.statement.Statement.{Statement}
 use Rattle.larch_term.specs.declared.statement.Theory.{Theory}
 use Rattle.larch_calculus.specs.Observation.{observations_of}
 use Rattle.larch_calculus.proofs.Sorted.{Knows, knows_more, statement_over_more, term_over_more}
-use Rattle.larch_derive.specs.Builder.{boxes_in, theory_in}
+use Rattle.larch_derive.specs.Builder.{theory_in}
 use Rattle.larch_derive.specs.Predicates.{AreOthers, Known}
 use Rattle.larch_derive.specs.Words.{AreWordedOperators, AreWordedStatements, IsWordedOperator, IsWordedTerm}
 use Rattle.larch_derive.specs.declared.builder.Builder.{Builder}
-use Rattle.larch_derive.specs.declared.open_box.OpenBox.{OpenBox}
 use Rattle.larch_derive.proofs.Growth.{known_right}
 use Rattle.larch_derive.proofs.Words.{known_worded}
 use Rattle.larch_derive_boxes.specs.Boxes.{IsPart}
@@ -46,9 +45,10 @@ use Rattle.larch_prove_invariant.specs.Book.{Kept, Running, SupposingBox, made_i
 use Rattle.larch_prove_invariant.specs.Holding.{AreOwn, HoldsLevels, HoldsProof, IsKnownFor, IsPlanned, Shape, Through}
 use Rattle.larch_prove_invariant.specs.Holding.{entrances, open_constants, shape_of, shared_shapes, theory_for}
 use Rattle.larch_prove_invariant.proofs.Boxes.{through_boxes, through_stands}
-use Rattle.larch_prove_invariant.proofs.BlockConstants.{boxes_append, boxes_made, open_parts, shapes_made}
+use Rattle.larch_prove_invariant.proofs.BlockConstants.{open_parts, shapes_made}
 use Rattle.larch_prove_invariant.proofs.Held.{boxes_held, current_said, holding_stands, running_is, shared_is}
 use Rattle.larch_prove_invariant.proofs.Knowing.{known_over, open_known}
+use Rattle.larch_prove_invariant.proofs.Making.{open_inside}
 use Rattle.larch_prove_invariant.proofs.Own.{plan_others, shared_own, subgoal_constant, subgoals_own}
 use Rattle.larch_prove_invariant.proofs.PlanWords.{IsWordedFor, IsWordedSubgoal, cases_worded, contradiction_worded}
 use Rattle.larch_prove_invariant.proofs.PlanWords.{implication_worded, method_worded, own_worded, plan_worded}
@@ -152,14 +152,6 @@ planned_for s b c p k ks r h w e q m y t =
     }
 
 -- ---- goals of subgoals
-
--- what is open inside of boxes
-pub open_inside : (a b : Builder) (xs : List SupposingBox) → Through a xs b
-    → open_constants b ≡ open_constants a ++ made_in xs
-open_inside a b xs t =
-    ap (flat_map (λ (z : OpenBox). z.constants)) (through_boxes a b xs t).1
-    ∙ (boxes_append (boxes_in a) (map (λ (z : SupposingBox). z.box) xs)
-    ∙ ap (λ fs. open_constants a ++ fs) (boxes_made xs))
 
 abbrev Bare : Plan → Type 0
 Bare made = made.constants ≡ []
@@ -320,6 +312,29 @@ all_open a b d r g xs goal m p c n e f (inl i) = inl (subst (λ t. Contains (t +
           | inr x ↦ inner x
         ]
 
+-- terms in words over these operators can be written in a subgoal's box
+pub inside_known : (t : Theory) (s : Statement) (b d : Builder) (cs : List PlainOperator) (levels : List Level)
+    (k : Kept) (ks : List Kept) (r : Running) (g : Subgoal) (xs : List SupposingBox)
+    → (h : HoldsLevels t s b cs levels (k ∷ ks)) → k.book.running ≡ Some r → Contains r.plan.subgoals g
+    → Through b xs d → map shape_of xs ≡ entrances r.method g → (a : Tree)
+    → IsTermOver (((theory_in h.held.1.1.1.outside).operators ++ open_constants h.held.1.1.1.outside)
+    ++ (r.plan.constants ++ g.constants)) a → IsWordedTerm a → Known d a
+inside_known t s b d cs levels k ks r g xs h e c n q a over words =
+    let l = h.held.1.1.1 in
+    let p = (running_is l.outside b k r e l.running).planned in
+    let m = shared_is l.outside b k r e l.shared in
+    let own : AreOwn b g.constants = All-contains (λ (z : Subgoal). AreOwn b z.constants) r.plan.subgoals g p.own c in
+    let parts = subst (All IsPart) (sym (open_inside b d xs n))
+    (All-append IsPart (open_constants b) (made_in xs) (open_parts t s b cs (k ∷ ks) h.held h.constants)
+    (all_from IsPart (made_in xs) (λ f i.
+    inl (All-contains (λ (z : PlainOperator). z.domain ≡ []) g.constants f own.constants
+    (entrances_make r.method g f (subst (λ hs. Contains (flat_map (λ (z : Shape). z.constants) hs) f) q
+    (subst (λ fs. Contains fs f) (shapes_made xs) i))))))) in
+    open_known d a (through_stands b d xs n (holding_stands t s b (k ∷ ks) h.held)) parts
+    (term_over_more (((theory_in l.outside).operators ++ open_constants l.outside)
+    ++ (r.plan.constants ++ g.constants)) ((theory_in d).operators ++ open_constants d)
+    (all_open l.outside b d r g xs k.level.goal m p c n q) a over) words
+
 -- the goal of a subgoal can be written in its box
 pub subgoal_known : (t : Theory) (s : Statement) (b d : Builder) (cs : List PlainOperator) (levels : List Level)
     (k : Kept) (ks : List Kept) (r : Running) (g : Subgoal) (xs : List SupposingBox)
@@ -328,20 +343,9 @@ pub subgoal_known : (t : Theory) (s : Statement) (b d : Builder) (cs : List Plai
 subgoal_known t s b d cs levels k ks r g xs h e c n q =
     let l = h.held.1.1.1 in
     let p = (running_is l.outside b k r e l.running).planned in
-    let m = shared_is l.outside b k r e l.shared in
     let over = p.over g c in
-    let own : AreOwn b g.constants = All-contains (λ (z : Subgoal). AreOwn b z.constants) r.plan.subgoals g p.own c in
-    let parts = subst (All IsPart) (sym (open_inside b d xs n))
-    (All-append IsPart (open_constants b) (made_in xs) (open_parts t s b cs (k ∷ ks) h.held h.constants)
-    (all_from IsPart (made_in xs) (λ f i.
-    inl (All-contains (λ (z : PlainOperator). z.domain ≡ []) g.constants f own.constants
-    (entrances_make r.method g f (subst (λ hs. Contains (flat_map (λ (z : Shape). z.constants) hs) f) q
-    (subst (λ fs. Contains fs f) (shapes_made xs) i))))))) in
     record {
-      known = open_known d g.goal (through_stands b d xs n (holding_stands t s b (k ∷ ks) h.held)) parts
-          (term_over_more (((theory_in l.outside).operators ++ open_constants l.outside)
-          ++ (r.plan.constants ++ g.constants)) ((theory_in d).operators ++ open_constants d)
-          (all_open l.outside b d r g xs k.level.goal m p c n q) g.goal over.1.0)
+      known = inside_known t s b d cs levels k ks r g xs h e c n q g.goal over.1.0
           (All-contains IsWordedSubgoal r.plan.subgoals g
           (planned_worded l.outside b k.level.goal r p) c).goal;
       sort = over.1.1;

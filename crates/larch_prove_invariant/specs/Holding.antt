@@ -3,6 +3,7 @@ use Rattle.std.specs.Prelude.{◌≡◌, ◌≢◌, ◌⊎◌, ℕ, IsTrue, true
 use Rattle.std.specs.Prelude.{Option, None, Some, Ok}
 use Rattle.std.specs.List.{AllZip, flat_map}
 use Rattle.larch_term.specs.Operator.{PlainOperator}
+use Rattle.larch_term.specs.Sorts.{IsTermOver}
 use Rattle.larch_term.specs.Statement.{statement_zero}
 use Rattle.larch_term.specs.Tree.{Tree, var, app, none, more}
 use Rattle.larch_term.specs.Truth.{truth}
@@ -14,7 +15,7 @@ use Rattle.larch_calculus.specs.Theories.{AreNew, with_statements}
 use Rattle.larch_derive.specs.Builder.{boxes_in, lines_in, theory_in}
 use Rattle.larch_derive.specs.Finished.{IsFinished}
 use Rattle.larch_derive.specs.Predicates.{Grows, HasEquation, HasNoBadLine}
-use Rattle.larch_derive.specs.Words.{AreWordedOperators}
+use Rattle.larch_derive.specs.Words.{AreWordedOperators, IsWordedTerm}
 use Rattle.larch_derive.specs.declared.builder.Builder.{Builder}
 use Rattle.larch_derive_boxes.specs.Boxes.{AreOwnConstants, IsOpen, Opens}
 use Rattle.larch_rewrite_meaning.specs.Sides.{Sides}
@@ -169,9 +170,16 @@ pub record Says (b : Builder) (k : Kept) : Type 0 where
   pub absurd : IsTrue k.level.facts.contradictory → HasAbsurd b k.book.absurd
   pub way : HasEquation b k.book.way k.book.first k.level.goal
 
+-- Where a level was entered from a builder, its first goal can be written outside of the level's extra boxes: it is in
+-- words, over the theory's operators, the constants that were open, and those of the box by which it was entered.
+pub record HasFirst (a : Builder) (k : Book) : Type 0 where
+  pub over : IsTermOver ((theory_in a).operators ++ (open_constants a ++ made_in k.entrance)) k.first
+  pub words : IsWordedTerm k.first
+
 -- What is held of a level that was entered from a builder. Outside of the box of its method, but in its own boxes,
 -- lines say of it what there is to say; since then that box was opened, if a method runs that has one.
 pub record HoldsOf (a b : Builder) (k : Kept) : Type 0 where
+  pub first : HasFirst a k.book
   pub outside : Builder
   pub boxes : Through a (own_boxes k.book) outside
   pub says : Says outside k

@@ -2,6 +2,7 @@
 ghost use Rattle.std.specs.Prelude.{◌≡◌, ◌≢◌, List, [], ◌∷◌, ◌++◌, map, All, AllPairs, Contains, None, Ok, Some};
 ghost use Rattle.std.specs.List.{flat_map};
 ghost use Rattle.larch_term.specs.Operator.{PlainOperator};
+ghost use Rattle.larch_term.specs.Tree.{Tree};
 ghost use Rattle.larch_term.specs.declared.statement.Statement.{Statement};
 ghost use Rattle.larch_term.specs.declared.statement.Theory.{Theory};
 ghost use Rattle.larch_calculus.specs.Theories.{AreConstants, AreNew};
@@ -16,11 +17,14 @@ ghost use Rattle.larch_prove_meaning.specs.Levels.{Level, Proof, all_constants};
 ghost use Rattle.larch_prove_meaning.specs.Plans.{Method, Plan, Subgoal, plan};
 ghost use Rattle.larch_prove_meaning.specs.Steps.{setting_of};
 ghost use Rattle.larch_prove_meaning.specs.WellSorted.{IsWellSortedProof};
+ghost use Rattle.larch_prove_plans.specs.Planning.{method_of, plan_answer, planned_by, setting_over};
+ghost use Rattle.larch_prove_plans.specs.declared.subgoals.Method as planned;
 ghost use Rattle.larch_prove_invariant.specs.Book.{IsWorkedOn, Kept, Left, Rests, Running, SupposingBox, levels_of};
 ghost use Rattle.larch_prove_invariant.specs.Book.{made_in, next_running, own_boxes, with_extra, with_running};
 ghost use Rattle.larch_prove_invariant.specs.Holding.{AreOwn, HasLeft, Holds, HoldsLevels, HoldsProof, IsEntered};
 ghost use Rattle.larch_prove_invariant.specs.Holding.{IsKnownFor, IsPlanned, Says, Through, open_constants, shape_of};
-ghost use Rattle.larch_prove_invariant.specs.Holding.{shared_shapes};
+ghost use Rattle.larch_prove_invariant.specs.Holding.{shared_shapes, theory_for};
+ghost use Rattle.larch_prove_invariant.specs.Setting.{names_beside};
 ghost use Rattle.larch_prove_invariant.specs.Leaving.{Leaving};
 
 /// While a command is carried out, levels are held with the constants of the block: where the builder grows, where the
@@ -54,9 +58,10 @@ pub fn levels_keep_constants()
         → HoldsLevels t s b cs (levels_of (with_running (next_running left next r) waiting k ∷ ks))
         (with_running (next_running left next r) waiting k ∷ ks) }
     ensures enters { (t : Theory) (s : Statement) (b c : Builder) (cs : List PlainOperator) (levels : List Level)
-        (k j : Kept) (ks : List Kept) → IsEntered s (j ∷ ks) k → Rests k → Through b (own_boxes k.book) c → Says c k
-        → All (Contains cs) (made_in (own_boxes k.book)) → AreOwn b (made_in (own_boxes k.book))
-        → HoldsLevels t s b cs levels (j ∷ ks) → HoldsLevels t s c cs (k.level ∷ levels) (k ∷ j ∷ ks) }
+        (k j : Kept) (ks : List Kept) → IsEntered s (j ∷ ks) k → Rests k → k.book.extras ≡ []
+        → Through b (own_boxes k.book) c → Says c k → All (Contains cs) (made_in (own_boxes k.book))
+        → AreOwn b (made_in (own_boxes k.book)) → HoldsLevels t s b cs levels (j ∷ ks)
+        → HoldsLevels t s c cs (k.level ∷ levels) (k ∷ j ∷ ks) }
     ensures leaves { (t : Theory) (s : Statement) (b c : Builder) (cs : List PlainOperator) (levels : List Level)
         (k j : Kept) (ks : List Kept) → Leaving t s c [] (j ∷ ks) → HoldsLevels t s b cs levels (k ∷ j ∷ ks)
         → HoldsLevels t s c cs (levels_of (j ∷ ks)) (j ∷ ks) }
@@ -95,4 +100,13 @@ pub fn constants_of_plans()
         → plan (setting_of p) p.current.goal r.method ≡ Ok r.plan → IsKnownFor b r.method
         → map shape_of r.shared ≡ shared_shapes r.method r.plan → Through b r.shared c
         → IsPlanned b c k.level.goal r }
+{}
+
+/// What a method looks at in a proof is what the call that plans looks at over the theory with the lemmas: beside the
+/// theory's operators the names of the block's constants and of what is in scope are taken.
+pub fn settings_agree()
+    ensures setting { (p : Proof) → setting_over (theory_for p) (names_beside p) ≡ setting_of p }
+    ensures plans { (p : Proof) (goal : Tree) (method : planned.Method)
+        → plan_answer (theory_for p) (names_beside p) goal method
+        ≡ planned_by (plan (setting_of p) goal (method_of method)) }
 {}

@@ -1,5 +1,5 @@
 //! Laws on ends: of methods, of levels and of proofs. No function here does anything.
-ghost use Rattle.std.specs.Prelude.{◌≡◌, ◌≢◌, ℕ, List, [], ◌∷◌, length, None, Some};
+ghost use Rattle.std.specs.Prelude.{◌≡◌, ◌≢◌, ℕ, List, [], ◌∷◌, length, map, Contains, None, Ok, Some};
 ghost use Rattle.larch_term.specs.Operator.{PlainOperator};
 ghost use Rattle.larch_term.specs.Statement.{IsStatementOver};
 ghost use Rattle.larch_term.specs.Tree.{Tree};
@@ -7,21 +7,25 @@ ghost use Rattle.larch_term.specs.Truth.{truth};
 ghost use Rattle.larch_term.specs.declared.statement.Statement.{Statement};
 ghost use Rattle.larch_term.specs.declared.statement.Statement.TheVariants.{Equation, Generated, Partitioned};
 ghost use Rattle.larch_term.specs.declared.statement.Theory.{Theory};
+ghost use Rattle.larch_calculus.specs.Formula.{falsity, formula, implication};
 ghost use Rattle.larch_verify_meaning.specs.Acceptance.{Accepts};
 ghost use Rattle.larch_verify_meaning.specs.LastLine.{EndsWithoutStatedClause};
 ghost use Rattle.larch_derive.specs.Builder.{lines_in, theory_in};
 ghost use Rattle.larch_derive.specs.Finished.{IsFinished};
 ghost use Rattle.larch_derive.specs.Predicates.{Grows, HasEquation, HasStatement};
 ghost use Rattle.larch_derive.specs.declared.builder.Builder.{Builder};
-ghost use Rattle.larch_derive_boxes.specs.Boxes.{HasResult};
+ghost use Rattle.larch_derive_boxes.specs.Boxes.{HasResult, IsOpen};
+ghost use Rattle.larch_methods.specs.Methods.{IsKnownFormula};
+ghost use Rattle.larch_prove_meaning.specs.Levels.{Level};
 ghost use Rattle.larch_prove_meaning.specs.Plans.{Cases, Conjunction, Contradiction, Implication, Induction};
-ghost use Rattle.larch_prove_meaning.specs.Plans.{Partition};
+ghost use Rattle.larch_prove_meaning.specs.Plans.{Partition, Plan, Setting, Subgoal, closed_by, holds, plan};
 ghost use Rattle.larch_prove_plans.specs.ClauseGoals.{generation_goal, partition_goal};
 ghost use Rattle.larch_prove_invariant.specs.Book.{AtLine, Book, InBox, Kept, Left, Running, SupposingBox, all_left};
 ghost use Rattle.larch_prove_invariant.specs.Ending.{EndsByCases, EndsByConjunction, EndsByContradiction};
 ghost use Rattle.larch_prove_invariant.specs.Ending.{EndsByImplication, EndsByInduction, EndsByPartition};
 ghost use Rattle.larch_prove_invariant.specs.Ending.{EndsGeneration, EndsPartition, HasAllLeft, StandsAt};
-ghost use Rattle.larch_prove_invariant.specs.Holding.{EntersClause, EntersSubgoal, HasLeft, Holds, said_of};
+ghost use Rattle.larch_prove_invariant.specs.Holding.{EntersClause, EntersSubgoal, HasLeft, Holds, HoldsLevels};
+ghost use Rattle.larch_prove_invariant.specs.Holding.{IsThere, Through, entrances, premise, said_of, shape_of};
 ghost use Rattle.larch_prove_invariant.specs.Leaving.{Leaving};
 
 /// A level is left from its own boxes: where no method runs the builder stands in them; where the last subgoal of a
@@ -64,9 +68,33 @@ pub fn subgoals_are_left()
         → HasLeft c r.method r.now (AtLine n) }
 {}
 
+/// What must be said of a subgoal, in the form in which its lines are pushed, beside that its goal is true. Of an
+/// implication, that one is true whose conclusion the goal is: it can be written in the subgoal's box, and is the
+/// method's goal with the shared constants in it. Of a contradiction the goal is `false`, and what must be said is that
+/// the formula is true of which the box supposes that it is false. Of an observation, the equation whose formula the
+/// goal is.
+pub fn subgoals_are_said()
+    ensures implication { (t : Theory) (s : Statement) (b d : Builder) (cs : List PlainOperator) (levels : List Level)
+        (k : Kept) (ks : List Kept) (r : Running) (g : Subgoal) (xs : List SupposingBox)
+        → HoldsLevels t s b cs levels (k ∷ ks) → k.book.running ≡ Some r → r.method ≡ Implication
+        → Contains r.plan.subgoals g → Through b xs d → map shape_of xs ≡ entrances r.method g
+        → (said_of r.method g ≡ holds (implication (premise g.hypotheses) g.goal))
+        × IsKnownFormula d (implication (premise g.hypotheses) g.goal) }
+    ensures closed { (setting : Setting) (goal p q : Tree) (made : Plan) (g : Subgoal) → goal ≡ implication p q
+        → plan setting goal Implication ≡ Ok made → Contains made.subgoals g
+        → implication (premise g.hypotheses) g.goal ≡ closed_by p made.constants goal }
+    ensures contradiction { (setting : Setting) (goal : Tree) (r : Running) (k : Book) (c : Builder)
+        (x : SupposingBox) → plan setting goal r.method ≡ Ok r.plan → r.method ≡ Contradiction
+        → Contains r.plan.subgoals r.now → EntersSubgoal r k → k.entrance ≡ x ∷ [] → IsThere c x
+        → (k.first ≡ falsity) × ((said_of r.method r.now ≡ holds (premise r.now.hypotheses))
+        × IsOpen c x.box (Equation (premise r.now.hypotheses) falsity ∷ [])) }
+    ensures observation { (setting : Setting) (goal : Tree) (made : Plan) (g : Subgoal)
+        → plan setting goal Partition ≡ Ok made → Contains made.subgoals g
+        → g.goal ≡ formula (said_of Partition g).left (said_of Partition g).right }
+{}
+
 /// Where a clause is shown in its box, by a line that its goal is true, and all other boxes are closed, that is what
-/// the
-/// call of its end takes.
+/// the call of its end takes.
 pub fn clauses_end()
     ensures generation { (t : Theory) (s : Statement) (b : Builder) (n z : List ℕ) (fs : List PlainOperator)
         (k : Book) (line : ℕ) → EntersClause (generation_goal n z fs) k → Leaving t s b k.entrance []

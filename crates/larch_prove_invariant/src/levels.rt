@@ -56,10 +56,12 @@ pub fn extra_boxes_are_opened()
 {}
 
 /// A level is put upon others for a subgoal, in its box if it has one, or for a formula that a command proves; and upon
-/// none for what is to be proved, in the box of a clause. Where there is no level, the builder stands at its start.
+/// none for what is to be proved, in the box of a clause. Where there is no level, the builder stands at its start. The
+/// level has no box for a constant yet, so its first goal can be written without one.
 pub fn levels_are_entered()
     ensures { (t : Theory) (s : Statement) (b c : Builder) (k : Kept) (ks : List Kept) → Holds t s b ks
-        → IsEntered s ks k → Rests k → Through b (own_boxes k.book) c → Says c k → Holds t s c (k ∷ ks) }
+        → IsEntered s ks k → Rests k → k.book.extras ≡ [] → Through b (own_boxes k.book) c → Says c k
+        → Holds t s c (k ∷ ks) }
 {}
 
 /// Boxes are closed from the innermost on: one that is closed with what a line says has it as its result. Or by calls:

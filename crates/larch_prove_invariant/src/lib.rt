@@ -4,13 +4,25 @@
 
 mod constants;
 mod ends;
+mod facts;
 mod levels;
 mod terms;
+mod words;
 
-pub use constants::{constants_are_apart, constants_of_plans, levels_keep_constants};
-pub use ends::{clauses_end, levels_are_left, methods_end, proofs_are_accepted, subgoals_are_left};
+pub use constants::{
+    constants_are_apart, constants_of_plans, levels_keep_constants, settings_agree,
+};
+pub use ends::{
+    clauses_end, levels_are_left, methods_end, proofs_are_accepted, subgoals_are_left,
+    subgoals_are_said,
+};
+pub use facts::{deductions_agree, pairs_can_be_written};
 pub use levels::{
     boxes_are_closed, boxes_are_open, extra_boxes_are_opened, growing_keeps_levels,
     levels_are_entered, levels_are_said, lines_change_levels, methods_run,
 };
-pub use terms::{open_terms_are_known, subgoals_are_known, unopened_constants};
+pub use terms::{
+    first_goals_are_known, open_terms_are_known, proofs_are_in_words, subgoals_are_known,
+    unopened_constants,
+};
+pub use words::{what_commands_read_is_in_words, words_are_words};

@@ -17,6 +17,10 @@ pub mod PartitionPlans
 pub mod PlanParts
 pub mod PlanSorts
 pub mod AddingNames
+pub mod LemmaNumbers
 pub mod LevelNames
 pub mod StepNames
 pub mod OpeningNames
+pub mod LevelScopes
+pub mod StepScopes
+pub mod ReadWords

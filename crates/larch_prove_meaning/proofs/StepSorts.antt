@@ -114,7 +114,7 @@ clauses_over t ls cs p g h =
 
 -- ---- readings
 
-read_done : {A : Type 0} (r : Result A Fault) (x : A) → read_or r ≡ Ok x → r ≡ Ok x
+pub read_done : {A : Type 0} (r : Result A Fault) (x : A) → read_or r ≡ Ok x → r ≡ Ok x
 read_done (Ok y) x e = ap (λ z. Ok z) (ok_inj e)
 read_done (Err f) x e = cc
 

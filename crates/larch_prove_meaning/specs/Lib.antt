@@ -12,3 +12,4 @@ pub mod WellSorted
 pub mod Computing
 pub mod Worked
 pub mod Named
+pub mod InWords

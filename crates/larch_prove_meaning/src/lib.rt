@@ -7,6 +7,7 @@ mod names;
 mod order;
 mod refusals;
 mod reports;
+mod words;
 
 pub use examples::{
     a_conversion_is_proved, a_conversion_with_a_choice, a_conversion_without_a_proof,
@@ -26,7 +27,7 @@ pub use laws::{
     plans_make_new_constants, proofs_stay_well_sorted, redoing_is_bounded,
     what_is_the_same_is_equal,
 };
-pub use names::names_of_facts_differ;
+pub use names::{names_of_facts_differ, numbers_of_lemmas_differ};
 pub use order::{at_most_a_thousand_commands, preambles, what_comes_first};
 pub use refusals::{
     facts_by_name, pairs_in_turn, registered_heights, registered_statuses, shapes_and_clauses,
@@ -36,3 +37,4 @@ pub use reports::{
     a_session_of_two_reports, blocks_of_no_duty, lemmas_of_conversions, refused_openings,
     refused_preambles, what_is_done_again,
 };
+pub use words::{commands_read_words, scopes_stay_in_words};

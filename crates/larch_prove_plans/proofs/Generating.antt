@@ -1,8 +1,9 @@
 -- What has to be shown of clauses: one step of each loop.
-use Rattle.std.proofs.Common.{◌≡◌, ◌<◌, ◌≤◌, ◌+◌, ◌==◌, ℕ, suc, true, false, cond, List, [], ◌∷◌, ◌++◌, map}
-use Rattle.std.proofs.Common.{length, drop, get_or, Some, Option, refl, sym, ◌∙◌, ap, ap₂, arith}
-use Rattle.std.specs.Prelude.{None, if◌then◌else◌}
-use Rattle.std.specs.List.{slice_get}
+use Rattle.std.proofs.Common.{◌≡◌, ◌<◌, ◌≤◌, ◌+◌, ◌==◌, ℕ, suc, Bool, true, false, cond, List, [], ◌∷◌, ◌++◌, map}
+use Rattle.std.proofs.Common.{length, drop, get_or, Some, Option, refl, sym, ◌∙◌, ap, arith}
+use Rattle.std.specs.Prelude.{None, if◌then◌else◌, option_map, position}
+use Rattle.std.specs.List.{position_from, slice_get}
+use Rattle.std.proofs.lemmas.Iterator.Adapters.{position_from-zero}
 use Rattle.std.proofs.lemmas.List.{append-nil, append_assoc, drop_more, drop_all}
 use Rattle.std.proofs.lemmas.Option.{slice_get-get_or}
 use Rattle.std.proofs.lemmas.Slice.Eq.{bytes_eq-Decides}
@@ -40,45 +41,61 @@ variables_as_terms (v ∷ vs) = ap (λ ts. more (var v.name v.sort) ts) (variabl
 next_number : (x : Statement) (ss : List Statement) (n i : ℕ) → n ≡ 1 + i → slice_get (x ∷ ss) n ≡ slice_get ss i
 next_number x ss n i e = ap (slice_get (x ∷ ss)) (e ∙ (let q : 1 + i ≡ suc i = omega arith in q))
 
-some_same : {A : Type 0} {p q : A} → Some p ≡ Some q → p ≡ q
-some_same e = cc
+-- the first of several that passes a test
+pub first_here : (p : Statement → Bool) (ss : List Statement) (n i : ℕ) (x : Statement) (o : Option ℕ) → i < length ss
+    → x ≡ get_or ss i x → p x ≡ true → position_from p n (drop i ss) ≡ o → Some n ≡ o
+first_here p ss n i x o lt q t h =
+    sym (ap (position_from p n) (drop_more ss i x lt) ∙ ap (λ y. position_from p n (y ∷ drop (i + 1) ss)) (sym q)
+    ∙ ap (λ b. cond b (Some n) (position_from p (n + 1) (drop (i + 1) ss))) t) ∙ h
 
-first_generated : (s : List ℕ) (x : Statement) (ss : List Statement) (fs : List PlainOperator)
-    → generates s x ≡ true → generators s (x ∷ ss) ≡ Some fs → x ≡ Generated s fs
-first_generated s (Equation l r) ss fs g e = cc
-first_generated s (Partitioned z os) ss fs g e = cc
-first_generated s (Generated z gs) ss fs g e =
-    ap₂ Generated ((bytes_eq-Decides z s).0 g)
-    (some_same (sym (ap (λ b. cond b (Some gs) (generators s ss)) g) ∙ e))
+-- none of them does
+pub first_nowhere : (p : Statement → Bool) (ss : List Statement) (n i : ℕ) (o : Option ℕ) → length ss ≤ i
+    → position_from p n (drop i ss) ≡ o → None ≡ o
+first_nowhere p ss n i o le h = sym (ap (position_from p n) (drop_all i ss le)) ∙ h
+
+-- it isn't the one before them all
+pub first_behind : (p : Statement → Bool) (zero : Statement) (ss : List Statement) (o : Option ℕ) → p zero ≡ false
+    → o ≡ position_from p 1 ss → o ≡ position p (zero ∷ ss)
+first_behind p zero ss o f e =
+    e ∙ sym (ap (λ b. cond b (Some 0) (position_from p 1 ss)) f) ∙ sym (position_from-zero p (zero ∷ ss))
+
+-- a clause with the sort, and the generators by it
+generated_here : (s : List ℕ) (x : Statement) (ss : List Statement) → generates s x ≡ true
+    → (fs : List PlainOperator) × (x ≡ Generated s fs) × (generators s (x ∷ ss) ≡ Some fs)
+generated_here s (Equation l r) ss g = absurd cc
+generated_here s (Partitioned z os) ss g = absurd cc
+generated_here s (Generated z gs) ss g =
+    (gs, ap (λ y. Generated y gs) ((bytes_eq-Decides z s).0 g), ap (λ b. cond b (Some gs) (generators s ss)) g)
 
 -- the number of a statement that says that a sort is generated
 pub generated_at : (zero : Statement) (s : List ℕ) (ss : List Statement) (n i : ℕ) (x : Statement)
-    (fs : List PlainOperator) → n ≡ 1 + i → i < length ss → x ≡ get_or ss i x → generates s x ≡ true
-    → generators s (drop i ss) ≡ generators s ss → generators s ss ≡ Some fs
-    → slice_get (zero ∷ ss) n ≡ Some (Generated s fs)
-generated_at zero s ss n i x fs e lt q g h k =
+    → n ≡ 1 + i → i < length ss → x ≡ get_or ss i x → generates s x ≡ true
+    → generators s (drop i ss) ≡ generators s ss
+    → slice_get (zero ∷ ss) n ≡ option_map (Generated s) (generators s ss)
+generated_at zero s ss n i x e lt q g h =
+    let r = generated_here s x (drop (i + 1) ss) g in
     next_number zero ss n i e
-    ∙ (slice_get-get_or ss i x lt ∙ ap Some (sym q
-    ∙ first_generated s x (drop (i + 1) ss) fs g
-    (ap (λ y. generators s (y ∷ drop (i + 1) ss)) q ∙ (sym (ap (generators s) (drop_more ss i x lt)) ∙ (h ∙ k)))))
+    ∙ (slice_get-get_or ss i x lt ∙ ap Some (sym q ∙ r.1))
+    ∙ ap (option_map (Generated s)) (sym r.2 ∙ ap (λ y. generators s (y ∷ drop (i + 1) ss)) q
+    ∙ sym (ap (generators s) (drop_more ss i x lt)) ∙ h)
 
-first_partitioned : (s : List ℕ) (x : Statement) (ss : List Statement) (os : List PlainOperator)
-    → partitions s x ≡ true → observers s (x ∷ ss) ≡ Some os → x ≡ Partitioned s os
-first_partitioned s (Equation l r) ss os g e = cc
-first_partitioned s (Generated z gs) ss os g e = cc
-first_partitioned s (Partitioned z ps) ss os g e =
-    ap₂ Partitioned ((bytes_eq-Decides z s).0 g)
-    (some_same (sym (ap (λ b. cond b (Some ps) (observers s ss)) g) ∙ e))
+partitioned_here : (s : List ℕ) (x : Statement) (ss : List Statement) → partitions s x ≡ true
+    → (os : List PlainOperator) × (x ≡ Partitioned s os) × (observers s (x ∷ ss) ≡ Some os)
+partitioned_here s (Equation l r) ss g = absurd cc
+partitioned_here s (Generated z gs) ss g = absurd cc
+partitioned_here s (Partitioned z ps) ss g =
+    (ps, ap (λ y. Partitioned y ps) ((bytes_eq-Decides z s).0 g), ap (λ b. cond b (Some ps) (observers s ss)) g)
 
 pub partitioned_at : (zero : Statement) (s : List ℕ) (ss : List Statement) (n i : ℕ) (x : Statement)
-    (os : List PlainOperator) → n ≡ 1 + i → i < length ss → x ≡ get_or ss i x → partitions s x ≡ true
-    → observers s (drop i ss) ≡ observers s ss → observers s ss ≡ Some os
-    → slice_get (zero ∷ ss) n ≡ Some (Partitioned s os)
-partitioned_at zero s ss n i x os e lt q g h k =
+    → n ≡ 1 + i → i < length ss → x ≡ get_or ss i x → partitions s x ≡ true
+    → observers s (drop i ss) ≡ observers s ss
+    → slice_get (zero ∷ ss) n ≡ option_map (Partitioned s) (observers s ss)
+partitioned_at zero s ss n i x e lt q g h =
+    let r = partitioned_here s x (drop (i + 1) ss) g in
     next_number zero ss n i e
-    ∙ (slice_get-get_or ss i x lt ∙ ap Some (sym q
-    ∙ first_partitioned s x (drop (i + 1) ss) os g
-    (ap (λ y. observers s (y ∷ drop (i + 1) ss)) q ∙ (sym (ap (observers s) (drop_more ss i x lt)) ∙ (h ∙ k)))))
+    ∙ (slice_get-get_or ss i x lt ∙ ap Some (sym q ∙ r.1))
+    ∙ ap (option_map (Partitioned s)) (sym r.2 ∙ ap (λ y. observers s (y ∷ drop (i + 1) ss)) q
+    ∙ sym (ap (observers s) (drop_more ss i x lt)) ∙ h)
 
 -- ---- variables and arguments by their places
 

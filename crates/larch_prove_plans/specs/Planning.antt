@@ -1,5 +1,6 @@
 -- Plans as the code has them.
 use Rattle.std.specs.Prelude.{ℕ, List, [], ◌∷◌, ◌++◌, map, Option, Some, None, Result, Ok, Err}
+use Rattle.std.specs.List.{flat_map}
 use Rattle.larch_base.specs.declared.code.Code.{Code}
 use Rattle.larch_base.specs.declared.code.Code.TheVariants as code
 use Rattle.larch_term.specs.Operator.{PlainOperator, name_bytes}
@@ -8,7 +9,7 @@ use Rattle.larch_term.specs.Tree.{Tree}
 use Rattle.larch_term.specs.declared.statement.Statement.{Statement}
 use Rattle.larch_term.specs.declared.statement.Statement.TheVariants.{Equation}
 use Rattle.larch_term.specs.declared.statement.Theory.{Theory}
-use Rattle.larch_rewrite_meaning.specs.Sides.{Sides}
+use Rattle.larch_rewrite_meaning.specs.Sides.{Sides, sides_of}
 use Rattle.larch_prove_meaning.specs.Plans as defined
 use Rattle.larch_prove_plans.specs.declared.subgoals.Method.{Method}
 use Rattle.larch_prove_plans.specs.declared.subgoals.Method.TheVariants.{Cases, Implication, Conjunction, Contradiction}
@@ -43,6 +44,10 @@ equate e = Equation e.left e.right
 -- a subgoal whose hypotheses are statements
 abbrev pub subgoal_of : defined.Subgoal → Subgoal
 subgoal_of s = record { constants = s.constants; hypotheses = map equate s.hypotheses; goal = s.goal }
+
+-- and the other way: the subgoal with the sides of its hypotheses, which are equations
+abbrev pub plain_subgoal : Subgoal → defined.Subgoal
+plain_subgoal s = record { constants = s.constants; hypotheses = flat_map sides_of s.hypotheses; goal = s.goal }
 
 -- a goal by itself
 abbrev pub alone : Tree → Subgoal

@@ -1,9 +1,8 @@
-ghost use Rattle.std.specs.Prelude.{◌≡◌, ◌∷◌, [], List, None, Some, option_map, IfNone, IfOk, IfSome};
-ghost use Rattle.std.specs.List.{slice_get};
+ghost use Rattle.std.specs.Prelude.{◌≡◌, ◌∷◌, [], None, Some, option_map, position, IfNone, IfOk, IfSome};
+ghost use Rattle.std.specs.List.{position_from, slice_get};
 ghost use Rattle.larch_prove_plans.specs.ClauseGoals.{generates, partitions};
 ghost use Rattle.larch_prove_meaning.specs.Plans.{generators, observers};
 ghost use Rattle.larch_term.specs.BuiltIn.{bool_sort, built_in};
-ghost use Rattle.larch_term.specs.Operator.{PlainOperator};
 ghost use Rattle.larch_term.specs.Statement.{statement_zero};
 ghost use Rattle.larch_term.specs.declared.statement.Statement.TheVariants.{Generated, Partitioned};
 
@@ -59,11 +58,12 @@ fn stated_generators<'a>(statements: &'a [Statement], sort: &Sort) -> Option<&'a
     None
 }
 
-/// The number of the first clause that generates a sort: 0 of the truth values, others counted from 1.
+/// The number of the first clause that generates a sort: 0 of the truth values, others counted from 1. `None` exactly
+/// where no clause has the sort.
 pub fn generating_clause(statements: &[Statement], sort: &Sort) -> Option<u64>
-    ensures some { IfSome result (λ k. (fs : List PlainOperator)
-        → generators sort.now (statement_zero ∷ statements.now) ≡ Some fs
-        → slice_get (statement_zero ∷ statements.now) k ≡ Some (Generated sort.now fs)) }
+    ensures first { result ≡ position (generates sort.now) (statement_zero ∷ statements.now) }
+    ensures clause { IfSome result (λ k. slice_get (statement_zero ∷ statements.now) k
+        ≡ option_map (Generated sort.now) (generators sort.now (statement_zero ∷ statements.now))) }
     ensures none { IfNone result (generators sort.now (statement_zero ∷ statements.now) ≡ None) }
 {
     if b"Bool".as_slice() == sort.bytes() {
@@ -77,8 +77,9 @@ pub fn generating_clause(statements: &[Statement], sort: &Sort) -> Option<u64>
 
 // The number of the first statement that says that a sort is generated, counted from 1.
 fn stated_clause(statements: &[Statement], sort: &Sort) -> Option<u64>
-    ensures some { IfSome result (λ k. (fs : List PlainOperator) → generators sort.now statements.now ≡ Some fs
-        → slice_get (statement_zero ∷ statements.now) k ≡ Some (Generated sort.now fs)) }
+    ensures first { result ≡ position_from (generates sort.now) 1 statements.now }
+    ensures clause { IfSome result (λ k. slice_get (statement_zero ∷ statements.now) k
+        ≡ option_map (Generated sort.now) (generators sort.now statements.now)) }
     ensures none { IfNone result (generators sort.now statements.now ≡ None) }
 {
     let mut number = 1;
@@ -101,11 +102,11 @@ fn generates(statement: &Statement, sort: &Sort) -> bool
     }
 }
 
-/// The number of the first clause that partitions a sort, counted from 1.
+/// The number of the first clause that partitions a sort, counted from 1. `None` exactly where no clause has the sort.
 pub fn partitioning_clause(statements: &[Statement], sort: &Sort) -> Option<u64>
-    ensures some { IfSome result (λ k. (os : List PlainOperator)
-        → observers sort.now (statement_zero ∷ statements.now) ≡ Some os
-        → slice_get (statement_zero ∷ statements.now) k ≡ Some (Partitioned sort.now os)) }
+    ensures first { result ≡ position (partitions sort.now) (statement_zero ∷ statements.now) }
+    ensures clause { IfSome result (λ k. slice_get (statement_zero ∷ statements.now) k
+        ≡ option_map (Partitioned sort.now) (observers sort.now (statement_zero ∷ statements.now))) }
     ensures none { IfNone result (observers sort.now (statement_zero ∷ statements.now) ≡ None) }
 {
     let mut number = 1;

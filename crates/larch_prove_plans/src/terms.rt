@@ -20,16 +20,14 @@ pub fn constant(alloc: Global, operator: &Operator) -> Result<Term, Memory>
 pub fn truth(alloc: Global) -> Result<Term, Memory>
     ensures { IfOk result (λ t. t ≡ truth) }
 {
-    let truth = BuiltIn::True.constant(alloc)?;
-    Ok(truth)
+    BuiltIn::True.constant(alloc)
 }
 
 /// The constant false.
 pub fn falsity(alloc: Global) -> Result<Term, Memory>
     ensures { IfOk result (λ t. t ≡ falsity) }
 {
-    let falsity = BuiltIn::False.constant(alloc)?;
-    Ok(falsity)
+    BuiltIn::False.constant(alloc)
 }
 
 /// The formula of an equation: the other side where one is true, the right one first; else the equivalence of truth

@@ -6,7 +6,7 @@ use Rattle.std.proofs.lemmas.Bool.{le-ltb, lt-ltb}
 use Rattle.std.proofs.lemmas.List.{append_assoc, append-nil, drop_all, drop_more, length_push, map_push}
 use Rattle.std.proofs.lemmas.Option.{get_or_from_slice_get, slice_get-get_or, slice_get_within}
 use Rattle.larch_term.specs.Operator.{PlainOperator}
-use Rattle.larch_term.specs.Tree.{Tree, var, app, more, forest_of, nodes}
+use Rattle.larch_term.specs.Tree.{Tree, app, more, forest_of, nodes}
 use Rattle.larch_rewrite_meaning.specs.NormalForm.{normal}
 use Rattle.larch_rewrite_meaning.specs.Sides.{Sides}
 use Rattle.larch_rewrite_meaning.specs.Work.{OverSize, is_large}

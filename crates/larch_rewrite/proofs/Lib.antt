@@ -2,5 +2,8 @@ pub mod Levels
 pub mod Turns
 pub mod Lines
 pub mod Stored
+pub mod PlainRules
+pub mod Layers
 pub mod RuleSets
 pub mod Roots
+pub mod Found

@@ -1,26 +1,22 @@
 -- The machine's lines, turn by turn.
-use Rattle.std.specs.Prelude.{◌≡◌, ◌+◌, ℕ, List, [], ◌∷◌, ◌++◌, All, map, reverse, None}
+use Rattle.std.specs.Prelude.{◌≡◌, ℕ, List, [], ◌∷◌, ◌++◌, All, map, reverse, None}
 use Rattle.std.proofs.Common.{ap, ap₂, sym, subst, inl, inr, ◌∙◌}
 use Rattle.std.proofs.lemmas.List.Elements.{All-nil, All-push, All-weaker}
 use Rattle.larch_term.specs.Tree.{Tree, AllOf, forest_of}
 use Rattle.larch_rewrite_step.specs.Encoding.{AreEncodings}
 use Rattle.larch_rewrite_step.specs.declared.encoding.Encoding.{Encoding}
-use Rattle.larch_rewrite_step.specs.Holding.{RuleHolds, RulesHold, ReasonSays}
 use Rattle.larch_rewrite_step.proofs.Entries.{known_arguments}
 use Rattle.larch_derive.specs.Builder.{IsCodeIn}
 use Rattle.larch_derive.specs.Predicates.{Extends, HasEquation, Known}
 use Rattle.larch_derive.specs.declared.builder.Builder.{Builder}
 use Rattle.larch_derive.proofs.Growth.{stays_said, stays_known}
-use Rattle.larch_rewrite_match.specs.Rule.{left_of, right_of, reason_of}
-use Rattle.larch_rewrite_match.specs.declared.rule.Reason.{Reason}
-use Rattle.larch_rewrite_match.specs.declared.rule.Reason.TheVariants.{Row, Line}
-use Rattle.larch_rewrite_match.specs.declared.rule.RewriteRule.{RewriteRule}
 use Rattle.larch_store.specs.Numbered.{Numbered, term_of}
 use Rattle.larch_derive_lines.specs.Way.{Leads}
 use Rattle.larch_derive_lines.proofs.Ways.{leads_stays, leads_known}
 use Rattle.larch_rewrite.specs.Kept.{IsKeptAt, IsKeptBehind, IsLed, kept_of}
 use Rattle.larch_rewrite.specs.Level.{HaveOneStart, IsApplication, IsArgument, IsLast, further_of, level_of}
 use Rattle.larch_rewrite.specs.Level.{operator_of, start_of}
+use Rattle.larch_rewrite.specs.RuleSet.{AreSaid, IsSaid, PlainRule}
 use Rattle.larch_rewrite.specs.Ways.{AreWaysTo, IsWayTo, MayBegin, Says, term_reached, with_argument, with_done}
 use Rattle.larch_rewrite.specs.declared.kept.KeptForm.{KeptForm}
 use Rattle.larch_rewrite.specs.declared.level.Frame.{Frame}
@@ -33,13 +29,8 @@ use Rattle.larch_rewrite.proofs.Turns.{pushed_first}
 
 -- ---- what lines say stays said
 
-reason_stays : (a b : Builder) (w : Reason) (l r : Tree) → Extends a b → ReasonSays a w l r → ReasonSays b w l r
-reason_stays a b (Row k z) l r x h = h
-reason_stays a b (Line n) l r x h = stays_said a b n _ x h
-
-pub rules_stay : (a b : Builder) (rules : List RewriteRule) → Extends a b → RulesHold a rules → RulesHold b rules
-rules_stay a b rules x h =
-    All-weaker (RuleHolds a) (RuleHolds b) (λ r p. reason_stays a b (reason_of r) (left_of r) (right_of r) x p) rules h
+pub rules_stay : (a b : Builder) (rules : List PlainRule) → Extends a b → AreSaid a rules → AreSaid b rules
+rules_stay a b rules x h = All-weaker (IsSaid a) (IsSaid b) (λ r p. stays_said a b r.line _ x p) rules h
 
 pub led_stays : (a b : Builder) (kept : List KeptForm) → Extends a b → All (IsLed a) kept → All (IsLed b) kept
 led_stays a b kept x h =
@@ -66,11 +57,11 @@ way_stays a b t turn x (k, l) = (stays_known a b t x k, leads_stays a b (level_o
 -- ---- turns
 
 -- a turn that goes on from its own start
-pub says_on : (a b : Builder) (rules : List RewriteRule) (kept : List KeptForm) (frames : List Frame) (turn next : Turn)
+pub says_on : (a b : Builder) (rules : List PlainRule) (kept : List KeptForm) (frames : List Frame) (turn next : Turn)
     → Extends a b → HaveOneStart next turn → IsWayTo b (start_of turn) next → Says a rules kept frames turn
     → Says b rules kept frames next
 says_on a b rules kept frames turn next x same w h = record {
-  rules_hold = rules_stay a b rules x h.rules_hold;
+  rules_said = rules_stay a b rules x h.rules_said;
   kept_led = led_stays a b kept x h.kept_led;
   way = subst (λ t. IsWayTo b t next) (sym (ap term_of same.0)) w;
   ways = subst (λ t. AreWaysTo b t (reverse frames)) (sym (ap term_of same.0))
@@ -82,7 +73,7 @@ kept_behind : (b : Builder) (kept new : List KeptForm) (k : KeptForm) → All (I
 kept_behind b kept new k h l (inl e) = subst (All (IsLed b)) (sym e) h
 kept_behind b kept new k h l (inr e) = subst (All (IsLed b)) (sym e) (All-push (IsLed b) kept k h l)
 
-all_led : (b : Builder) (rules : List RewriteRule) (kept new : List KeptForm) (frames : List Frame)
+all_led : (b : Builder) (rules : List PlainRule) (kept new : List KeptForm) (frames : List Frame)
     (turn : Turn) (n : ℕ)
     → IsKeptAt kept turn n new → Says b rules kept frames turn → All (IsLed b) new
 all_led b rules kept new frames (Begin l) n e h = subst (All (IsLed b)) (sym e) h.kept_led
@@ -90,11 +81,11 @@ all_led b rules kept new frames (Arguments f) n e h = subst (All (IsLed b)) (sym
 all_led b rules kept new frames (Root l) n e h = subst (All (IsLed b)) (sym e) h.kept_led
 all_led b rules kept new frames (Finish l) n e h = kept_behind b kept new (kept_of l n) h.kept_led h.way.1 e
 
-pub says_kept : (b : Builder) (rules : List RewriteRule) (kept new : List KeptForm) (frames : List Frame)
+pub says_kept : (b : Builder) (rules : List PlainRule) (kept new : List KeptForm) (frames : List Frame)
     (turn : Turn) (n : ℕ)
     → IsKeptAt kept turn n new → Says b rules kept frames turn → Says b rules new frames turn
 says_kept b rules kept new frames turn n e h = record {
-  rules_hold = h.rules_hold;
+  rules_said = h.rules_said;
   kept_led = all_led b rules kept new frames turn n e h;
   way = h.way;
   ways = h.ways;
@@ -106,7 +97,7 @@ known_behind b [] rest t h = h.0
 known_behind b (d ∷ ds) rest t h = known_behind b ds rest t h.1
 
 -- an argument begins, and its frame waits
-pub says_deeper : (b : Builder) (rules : List RewriteRule) (kept : List KeptForm)
+pub says_deeper : (b : Builder) (rules : List PlainRule) (kept : List KeptForm)
     (frames pushed : List Frame) (f : Frame)
     (l : Level) (n : ℕ) → pushed ≡ frames ++ f ∷ [] → IsArgument f n l → Says b rules kept frames (Arguments f)
     → Says b rules kept pushed (Begin l)
@@ -118,7 +109,7 @@ says_deeper b rules kept frames pushed f l n p (a, g, k, w, t) h =
     let o : Known b (with_argument f (term_of l.start)) =
     leads_known b f.level.way (term_of f.level.start) (with_argument f (term_of l.start)) h.way.0 m in
     record {
-      rules_hold = h.rules_hold;
+      rules_said = h.rules_said;
       kept_led = h.kept_led;
       way = (
         known_behind b (map term_of f.done) (further_of f) (term_of l.start)
@@ -131,7 +122,7 @@ says_deeper b rules kept frames pushed f l n p (a, g, k, w, t) h =
     }
 
 -- what a frame's ways are, where its argument is normal
-pub first_way : (b : Builder) (rules : List RewriteRule) (kept : List KeptForm) (frames popped : List Frame) (f : Frame)
+pub first_way : (b : Builder) (rules : List PlainRule) (kept : List KeptForm) (frames popped : List Frame) (f : Frame)
     (l : Level) → frames ≡ popped ++ f ∷ [] → Says b rules kept frames (Finish l)
     → Known b (term_of f.level.start) × Leads b f.level.way (term_of f.level.start) (with_argument f (term_of l.start))
     × AreWaysTo b (term_of f.level.start) (reverse popped)
@@ -139,7 +130,7 @@ first_way b rules kept frames popped f l p h =
     subst (λ fs. AreWaysTo b (term_of l.start) fs) (ap reverse p ∙ pushed_first popped f) h.ways
 
 -- an argument is normal, and its frame goes on
-pub says_up : (a b : Builder) (rules : List RewriteRule) (kept : List KeptForm) (frames popped : List Frame)
+pub says_up : (a b : Builder) (rules : List PlainRule) (kept : List KeptForm) (frames popped : List Frame)
     (f g : Frame)
     (l : Level) → frames ≡ popped ++ f ∷ [] → IsApplication f.level.term
     → (g.level.start ≡ f.level.start) × (g.level.begun ≡ f.level.begun) × (g.level.term ≡ f.level.term)
@@ -151,7 +142,7 @@ says_up a b rules kept frames popped f g l p i (s, n, t) d x m h =
     let e : with_argument f (term_of l.term) ≡ with_done g.level.term g.done =
     done_behind f.level.term f.done l.term i ∙ ap₂ (λ y ds. with_done y ds) (sym t) (sym d) in
     record {
-      rules_hold = rules_stay a b rules x h.rules_hold;
+      rules_said = rules_stay a b rules x h.rules_said;
       kept_led = led_stays a b kept x h.kept_led;
       way = subst (λ u. IsWayTo b u (Arguments g)) (sym (ap term_of s)) (
         stays_known a b (term_of f.level.start) x q.0,
@@ -162,12 +153,12 @@ says_up a b rules kept frames popped f g l p i (s, n, t) d x m h =
     }
 
 -- the first turn
-pub says_first : (b : Builder) (rules : List RewriteRule) (x : Numbered) (kept : List KeptForm)
+pub says_first : (b : Builder) (rules : List PlainRule) (x : Numbered) (kept : List KeptForm)
     (frames : List Frame) (l : Level)
     → frames ≡ [] → (l.start ≡ x) × (l.way ≡ None) × (l.term ≡ x) → MayBegin b rules kept (term_of x)
     → Says b rules kept frames (Begin l)
 says_first b rules x kept frames l e (s, w, t) (k, r, m) = record {
-  rules_hold = r;
+  rules_said = r;
   kept_led = m;
   way = (
     subst (λ u. Known b (term_of u)) (sym s) k,
@@ -177,7 +168,7 @@ says_first b rules x kept frames l e (s, w, t) (k, r, m) = record {
 }
 
 -- the last turn is a normal form
-pub last_way : (b : Builder) (rules : List RewriteRule) (kept : List KeptForm) (frames : List Frame) (turn : Turn)
+pub last_way : (b : Builder) (rules : List PlainRule) (kept : List KeptForm) (frames : List Frame) (turn : Turn)
     → IsLast frames turn → Says b rules kept frames turn
     → Known b (start_of turn) × Leads b (level_of turn).way (start_of turn) (term_of (level_of turn).term)
 last_way b rules kept frames (Begin l) e h = absurd e
@@ -203,7 +194,7 @@ last_says b n turn whole form s f h =
     (subst (λ y. HasEquation b n (start_of turn) (term_of y)) (sym f) h)
 
 -- a turn, by another name
-pub says_from : (b : Builder) (rules : List RewriteRule) (kept : List KeptForm) (frames : List Frame)
+pub says_from : (b : Builder) (rules : List PlainRule) (kept : List KeptForm) (frames : List Frame)
     (turn other : Turn)
     → turn ≡ other → Says b rules kept frames turn → Says b rules kept frames other
 says_from b rules kept frames turn other e h = subst (λ t. Says b rules kept frames t) e h

@@ -1,15 +1,14 @@
 -- A rule applied at a root, and a kept form that is taken.
-use Rattle.std.specs.Prelude.{◌≡◌, ◌+◌, ◌-◌, ◌≤◌, ℕ, List, ◌++◌, All, Contains, Option, Some, None, true, false, refl}
+use Rattle.std.specs.Prelude.{◌≡◌, ◌+◌, ◌-◌, ◌≤◌, ℕ, List, ◌++◌, All, map, Contains, Option, Some, None, true, false}
 use Rattle.std.proofs.Common.{arith, ap, ap₂, sym, subst, ◌∙◌}
-use Rattle.std.proofs.lemmas.List.Elements.{All-append, All-contains, All-weaker}
+use Rattle.std.proofs.lemmas.List.Elements.{All-append, All-contains, All-map, All-weaker}
 use Rattle.larch_term.specs.Tree.{Tree, nodes}
 use Rattle.larch_rewrite_step.specs.Applying.{MayRefuse as MayRefuseApplication}
-use Rattle.larch_rewrite_step.specs.Holding.{RuleHolds, RulesHold, ReasonSays}
+use Rattle.larch_rewrite_step.specs.Holding.{RuleHolds, ReasonSays}
 use Rattle.larch_rewrite_step.specs.declared.refusal.ApplyRefusal.{ApplyRefusal}
 use Rattle.larch_rewrite_step.specs.declared.refusal.ApplyRefusal.TheVariants.{TooLarge as application_too_large}
 use Rattle.larch_rewrite_step.specs.declared.refusal.ApplyRefusal.TheVariants.{Memory as application_memory}
 use Rattle.larch_derive.specs.declared.builder.Builder.{Builder}
-use Rattle.larch_derive.specs.Predicates.{HasEquation}
 use Rattle.larch_rewrite_meaning.specs.NormalForm.{normal}
 use Rattle.larch_rewrite_meaning.specs.Rewriting.{rewritten_once}
 use Rattle.larch_rewrite_meaning.specs.Sides.{Sides}
@@ -26,6 +25,7 @@ use Rattle.larch_store.specs.Stored.{most_nodes}
 use Rattle.larch_derive_lines.specs.Way.{Leads}
 use Rattle.larch_rewrite.specs.Kept.{IsForm}
 use Rattle.larch_rewrite.specs.Refusal.{TellsEvent, from_application}
+use Rattle.larch_rewrite.specs.RuleSet.{AreSaid, PlainRule, rule_of}
 use Rattle.larch_rewrite.specs.declared.kept.KeptForm.{KeptForm}
 use Rattle.larch_rewrite.specs.declared.refusal.RewriteRefusal.{RewriteRefusal}
 use Rattle.larch_rewrite.proofs.Levels.{small_is}
@@ -47,13 +47,13 @@ row_says : (b : Builder) (w : Reason) (l r : Tree) → RowSays w l r → ReasonS
 row_says b (Row k z) l r h = h
 row_says b (Line n) l r h = absurd h
 
-pub found_holds : (b : Builder) (rows rules : List RewriteRule) (r : RewriteRule) → Contains (rows ++ rules) r
-    → All IsSaidByRow rows
-    → RulesHold b rules → RuleHolds b r
+pub found_holds : (b : Builder) (rows : List RewriteRule) (rules : List PlainRule) (r : RewriteRule)
+    → Contains (rows ++ map rule_of rules) r → All IsSaidByRow rows → AreSaid b rules → RuleHolds b r
 found_holds b rows rules r m s h =
-    All-contains (RuleHolds b) (rows ++ rules) r
-    (All-append (RuleHolds b) rows rules
-    (All-weaker IsSaidByRow (RuleHolds b) (λ q p. row_says b (reason_of q) (left_of q) (right_of q) p) rows s) h) m
+    All-contains (RuleHolds b) (rows ++ map rule_of rules) r
+    (All-append (RuleHolds b) rows (map rule_of rules)
+    (All-weaker IsSaidByRow (RuleHolds b) (λ q p. row_says b (reason_of q) (left_of q) (right_of q) p) rows s)
+    (All-map (RuleHolds b) rule_of rules h)) m
 
 -- ---- the work at a root
 

@@ -1,172 +1,142 @@
--- Rules as contracts see them.
-use Rattle.std.specs.Prelude.{◌≡◌, ◌+◌, ◌<◌, ℕ, true, List, [], ◌∷◌, ◌++◌, All, Some, map, length, slice_get, take}
-use Rattle.std.specs.Prelude.{drop, refl}
-use Rattle.std.proofs.Common.{arith, ap, ap₂, sym, subst, ◌∙◌}
+-- Rule sets as contracts see them.
+use Rattle.std.specs.Prelude.{◌≡◌, ◌++◌, ◌∷◌, [], ℕ, not, List, All, Option, Some, None, length, take, refl}
+use Rattle.std.proofs.Common.{ap, sym, subst, ◌∙◌}
 use Rattle.std.proofs.Math.Seq.{take-append_seam}
-use Rattle.std.proofs.lemmas.List.{length-append, length-drop, length-take-le, length_push, map-append, take-map}
-use Rattle.std.proofs.lemmas.List.{drop-map}
-use Rattle.std.proofs.lemmas.Option.{slice_get_within}
-use Rattle.std.proofs.lemmas.List.Elements.{All-append, All-cons, All-drop, All-head, All-nil, All-push, All-tail}
-use Rattle.std.proofs.lemmas.List.Elements.{All-take, All-weaker}
-use Rattle.larch_rewrite_step.specs.Holding.{RuleHolds, RulesHold, ReasonSays}
+use Rattle.std.proofs.lemmas.List.Elements.{All-filter, All-nil, All-push, All-weaker}
 use Rattle.larch_base.specs.declared.fact_name.FactName.{FactName}
-use Rattle.larch_derive.specs.Predicates.{Extends, HasEquation, Known}
+use Rattle.larch_derive.specs.Predicates.{Extends, Known, Grows as GrowsBuilder, HasEquation}
 use Rattle.larch_derive.specs.declared.builder.Builder.{Builder}
-use Rattle.larch_derive.proofs.Growth.{stays_said}
-use Rattle.larch_rewrite_meaning.specs.NormalForm.{normal}
-use Rattle.larch_rewrite_match.specs.Rule.{IsRule, all_sides, left_of, right_of, reason_of, sides_of_rule}
-use Rattle.larch_rewrite_match.specs.declared.rule.Reason.{Reason}
-use Rattle.larch_rewrite_match.specs.declared.rule.Reason.TheVariants.{Row, Line}
-use Rattle.larch_rewrite_match.specs.declared.rule.RewriteRule.{RewriteRule}
+use Rattle.larch_derive.proofs.Growth.{extends_grows, grown_said}
+use Rattle.larch_derive_lines.specs.Way.{Leads}
+use Rattle.larch_rewrite_meaning.specs.Sides.{Sides}
+use Rattle.larch_store.specs.Numbered.{Numbered, term_of}
+use Rattle.larch_store.specs.Stored.{Grows}
 use Rattle.larch_term.specs.Tree.{Tree}
-use Rattle.larch_rewrite.specs.Kept.{IsForm, IsFront, IsLed}
-use Rattle.larch_rewrite.specs.Refusal.{IsMade, TellsEvent}
-use Rattle.larch_rewrite.specs.RuleSet.{AreRules, Carries, IsByLine, IsLineRule, IsRemoved, Lined, RuleSet, line_of}
-use Rattle.larch_rewrite.specs.RuleSet.{lined, sides_in, sides_of_lined, without_at}
+use Rattle.larch_rewrite.specs.Kept.{IsForm, IsFront, IsLed, IsOfStore}
+use Rattle.larch_rewrite.specs.RuleSet.{AreSaid, BelongsTo, IsSaid, PlainRule, RuleSet, Serves, has_name, without}
 use Rattle.larch_rewrite.specs.Ways.{MayBegin}
 use Rattle.larch_rewrite.specs.declared.kept.KeptForm.{KeptForm}
-use Rattle.larch_rewrite.specs.declared.refusal.RewriteRefusal.{RewriteRefusal}
+use Rattle.larch_rewrite.proofs.Stored.{kept_stay}
 
-pub sides_same : (rules : List RewriteRule) → map sides_of_lined (map lined rules) ≡ all_sides rules
-sides_same [] = refl
-sides_same (r ∷ rs) = ap (λ xs. sides_of_rule r ∷ xs) (sides_same rs)
+-- ---- nothing is kept
 
-pub are_rules : (rules : List RewriteRule) → All IsLineRule rules → All IsRule rules
-are_rules [] h = All-nil IsRule
-are_rules (r ∷ rs) h =
-    All-cons IsRule r rs (All-head IsLineRule r rs h).0 (are_rules rs (All-tail IsLineRule r rs h))
-
--- a rule holds where its line says it
-by_line : (b : Builder) (w : Reason) (l r : Tree) → IsByLine w → HasEquation b (line_of w) l r → ReasonSays b w l r
-by_line b (Line n) l r i h = h
-by_line b (Row k z) l r i h = absurd i
-
-abbrev IsSaid : Builder → Lined → Type 0
-IsSaid b r = HasEquation b r.line r.left r.right
-
-pub rules_carried : (b : Builder) (rules : List RewriteRule) → All IsLineRule rules → All (IsSaid b) (map lined rules)
-    → RulesHold b rules
-rules_carried b [] h g = All-nil (RuleHolds b)
-rules_carried b (r ∷ rs) h g =
-    All-cons (RuleHolds b) r rs
-    (by_line b (reason_of r) (left_of r) (right_of r) (All-head IsLineRule r rs h).1
-    (All-head (IsSaid b) (lined r) (map lined rs) g))
-    (rules_carried b rs (All-tail IsLineRule r rs h) (All-tail (IsSaid b) (lined r) (map lined rs) g))
-
--- with a rule behind the others
-pub rules_pushed : (names more : List FactName) (rules further : List RewriteRule) (kept : List KeptForm) (n : FactName)
-    (r : RewriteRule)
-    → more ≡ names ++ n ∷ [] → further ≡ rules ++ r ∷ [] → kept ≡ [] → IsLineRule r
-    → (length names ≡ length rules) → All IsLineRule rules → AreRules more further kept
-rules_pushed names more rules further kept n r p q e i l h = (
-  ap length p ∙ length_push names n ∙ ap (λ k. k + 1) l ∙ sym (length_push rules r) ∙ sym (ap length q),
-  subst (All IsLineRule) (sym q) (All-push IsLineRule rules r h i),
-  subst (All (IsForm (all_sides further))) (sym e) (All-nil (IsForm (all_sides further))),
-)
-
--- equal parts make equal sets
-abbrev set_of : List FactName → List Lined → List KeptForm → RuleSet
-set_of names rules kept = record { names = names; rules = rules; kept = kept }
-
-same_set : (ns ms : List FactName) (rs qs : List Lined) (ks js : List KeptForm) → ns ≡ ms → rs ≡ qs → ks ≡ js
-    → set_of ns rs ks ≡ set_of ms qs js
-same_set ns ms rs qs ks js p q r = λ i. record { names = p i; rules = q i; kept = r i }
-
-none_kept : (kept : List KeptForm) → take 0 kept ≡ []
+pub none_kept : (kept : List KeptForm) → take 0 kept ≡ []
 none_kept [] = refl
 none_kept (k ∷ ks) = refl
 
--- without the rule at a place
-fewer_by_one : {X : Type 0} (xs : List X) (i : ℕ) → i < length xs
-    → length (take i xs ++ drop (i + 1) xs) + 1 ≡ length xs
-fewer_by_one xs i h =
-    let a = length-append (take i xs) (drop (i + 1) xs) in
-    let b = length-take-le i xs (omega (arith, h)) in
-    let c = length-drop (i + 1) xs in
-    omega (arith, a, b, c, h)
+pub none_are_forms : (rules : List Sides) (kept : List KeptForm) → kept ≡ [] → All (IsForm rules) kept
+none_are_forms rules kept e = subst (All (IsForm rules)) (sym e) (All-nil (IsForm rules))
 
-pub rules_removed : (names slice fewer : List FactName) (name : FactName) (rules others : List RewriteRule)
-    (kept left : List KeptForm) (i : ℕ) → others ≡ take i rules ++ drop (i + 1) rules
-    → fewer ≡ take i names ++ drop (i + 1) names → slice ≡ names → slice_get slice i ≡ Some name → left ≡ take 0 kept
-    → (length names ≡ length rules) → All IsLineRule rules → AreRules fewer others left
-rules_removed names slice fewer name rules others kept left i q p s g e l h =
-    let w : i < length names = subst (λ ns. i < length ns) s (slice_get_within slice i name g) in
-    let m : length fewer + 1 ≡ length names = ap (λ xs. length xs + 1) p ∙ fewer_by_one names i w in
-    let n : length others + 1 ≡ length rules =
-    ap (λ xs. length xs + 1) q ∙ fewer_by_one rules i (subst (λ k. i < k) l w) in (
-      omega (arith, l, m, n),
-      subst (All IsLineRule) (sym q)
-          (All-append IsLineRule (take i rules) (drop (i + 1) rules) (All-take IsLineRule i rules h)
-          (All-drop IsLineRule (i + 1) rules h)),
-      subst (All (IsForm (all_sides others))) (sym (e ∙ none_kept kept)) (All-nil (IsForm (all_sides others))),
-    )
+pub belongs_alone : (s : List Numbered) (set : RuleSet) → set.kept ≡ [] → BelongsTo s set
+belongs_alone s set e = subst (All (IsOfStore s)) (sym e) (All-nil (IsOfStore s))
 
-pub lined_removed : (rules others : List RewriteRule) (i : ℕ) → others ≡ take i rules ++ drop (i + 1) rules
-    → map lined others ≡ take i (map lined rules) ++ drop (i + 1) (map lined rules)
-lined_removed rules others i q =
-    ap (map lined) q ∙ map-append lined (take i rules) (drop (i + 1) rules)
-    ∙ ap₂ (λ xs ys. xs ++ ys) (sym (take-map lined i rules)) (sym (drop-map lined (i + 1) rules))
+pub serves_alone : (s : List Numbered) (b : Builder) (set : RuleSet) → set.kept ≡ [] → AreSaid b set.rules
+    → Serves s b set
+serves_alone s b set e h = record {
+  said = h;
+  belongs = belongs_alone s set e;
+  led = subst (All (IsLed b)) (sym e) (All-nil (IsLed b));
+}
 
--- the same rules once more
-pub rules_copied : (names more : List FactName) (rules copied : List RewriteRule) (kept : List KeptForm) → more ≡ names
-    → copied ≡ rules → kept ≡ [] → (length names ≡ length rules) → All IsLineRule rules → AreRules more copied kept
-rules_copied names more rules copied kept p q e l h = (
-  ap length p ∙ l ∙ sym (ap length q),
-  subst (All IsLineRule) (sym q) h,
-  subst (All (IsForm (all_sides copied))) (sym e) (All-nil (IsForm (all_sides copied))),
-)
+pub serves_empty : (s : List Numbered) (b : Builder) (set : RuleSet) → set.kept ≡ [] → set.rules ≡ [] → Serves s b set
+serves_empty s b set e q = serves_alone s b set e (subst (AreSaid b) (sym q) (All-nil (IsSaid b)))
+
+-- a rule behind the others, and what has another name
+pub serves_with : (s u : List Numbered) (b : Builder) (old new : RuleSet) (r : PlainRule) → new.kept ≡ []
+    → new.rules ≡ old.rules ++ r ∷ [] → Serves s b old → HasEquation b r.line r.left r.right → Serves u b new
+serves_with s u b old new r e q h k =
+    serves_alone u b new e (subst (AreSaid b) (sym q) (All-push (IsSaid b) old.rules r h.said k))
+
+serves_others : (s : List Numbered) (b : Builder) (old new : RuleSet) (name : FactName) → new.kept ≡ []
+    → new.rules ≡ without name old.rules → Serves s b old → Serves s b new
+serves_others s b old new name e q h =
+    serves_alone s b new e
+    (subst (AreSaid b) (sym q) (All-filter (λ r. not (has_name name r)) (IsSaid b) old.rules h.said))
+
+abbrev set_of : List PlainRule → List KeptForm → RuleSet
+set_of rules kept = record { rules = rules; kept = kept }
+
+pub serves_copied : (s : List Numbered) (b : Builder) (set : RuleSet) (rules more : List PlainRule)
+    (kept left : List KeptForm) → record { rules = rules; kept = kept } ≡ set → more ≡ rules → left ≡ []
+    → AreSaid b set.rules → Serves s b (record { rules = more; kept = left })
+serves_copied s b set rules more kept left e q n h =
+    serves_alone s b (set_of more left) n (subst (AreSaid b) (sym (q ∙ ap (λ (t : RuleSet). t.rules) e)) h)
+
+pub serves_removed : (s : List Numbered) (b : Builder) (name : FactName) (set : RuleSet)
+    (rules others : List PlainRule) (kept left : List KeptForm) → record { rules = rules; kept = kept } ≡ set
+    → others ≡ without name rules → left ≡ take 0 kept → Serves s b set
+    → Serves s b (record { rules = others; kept = left })
+serves_removed s b name set rules others kept left e q n h =
+    serves_others s b set (set_of others left) name (n ∙ none_kept kept)
+    (q ∙ ap (λ (t : RuleSet). without name t.rules) e) h
+
+-- ---- store and builder grow
+
+leads_grown : (a b : Builder) (way : Option ℕ) (s t : Tree) → GrowsBuilder a b → Leads a way s t → Leads b way s t
+leads_grown a b None s t x h = h
+leads_grown a b (Some n) s t x h = grown_said a b n _ x h
+
+pub belongs_on : (s u : List Numbered) (set : RuleSet) → Grows s u → BelongsTo s set → BelongsTo u set
+belongs_on s u set g h = kept_stay s u set.kept g h
+
+pub serving_belongs : (s : List Numbered) (b : Builder) (set : RuleSet) → Serves s b set → BelongsTo s set
+serving_belongs s b set h = h.belongs
+
+pub belongs_still : (s u : List Numbered) (old new : RuleSet) → new ≡ old → Grows s u → BelongsTo s old
+    → BelongsTo u new
+belongs_still s u old new e g h = subst (BelongsTo u) (sym e) (kept_stay s u old.kept g h)
+
+pub serves_on : (s u : List Numbered) (a b : Builder) (set : RuleSet) → Grows s u → GrowsBuilder a b → Serves s a set
+    → Serves u b set
+serves_on s u a b set g x h = record {
+  said = All-weaker (IsSaid a) (IsSaid b) (λ r p. grown_said a b r.line _ x p) set.rules h.said;
+  belongs = kept_stay s u set.kept g h.belongs;
+  led = All-weaker (IsLed a) (IsLed b) (λ k p. leads_grown a b k.way (term_of k.start) (term_of k.form) x p)
+      set.kept h.led;
+}
+
+pub serves_still : (s u : List Numbered) (b : Builder) (old new : RuleSet) → new ≡ old → Grows s u → Serves s b old
+    → Serves u b new
+serves_still s u b old new e g h = subst (Serves u b) (sym e) record {
+  said = h.said;
+  belongs = kept_stay s u old.kept g h.belongs;
+  led = h.led;
+}
+
+pub serves_later : (s u : List Numbered) (a b : Builder) (old new : RuleSet) → new ≡ old → Grows s u → Extends a b
+    → Serves s a old → Serves u b new
+serves_later s u a b old new e g x h =
+    subst (Serves u b) (sym e) (serves_on s u a b old g (extends_grows a b x) h)
+
+-- ---- a normal form
 
 -- what is kept, without what was kept behind it
 pub front_cut : (kept mid : List KeptForm) → IsFront kept mid → take (length kept) mid ≡ kept
 front_cut kept mid (xs, e) = ap (take (length kept)) e ∙ take-append_seam kept xs
 
--- the sides of the rules as contracts see them
-pub sides_now : (set : RuleSet) (names : List FactName) (rules : List RewriteRule) (kept : List KeptForm)
-    → record { names = names; rules = map lined rules; kept = kept } ≡ set → sides_in set ≡ all_sides rules
-sides_now set names rules kept e = ap sides_in (sym e) ∙ sides_same rules
+-- where rules serve the machine may begin
+pub may_begin : (s : List Numbered) (b : Builder) (set : RuleSet) (rules : List PlainRule) (kept : List KeptForm)
+    (t : Tree) → record { rules = rules; kept = kept } ≡ set → Known b t → Serves s b set → MayBegin b rules kept t
+may_begin s b set rules kept t e k h =
+    let g : Serves s b (set_of rules kept) = subst (Serves s b) (sym e) h in (k, g.said, g.led)
 
--- what the machine makes by them, or tells
-pub made_now : (set : RuleSet) (names : List FactName) (rules : List RewriteRule) (kept : List KeptForm) (budget k : ℕ)
-    (u t : Tree) → record { names = names; rules = map lined rules; kept = kept } ≡ set
-    → IsMade budget k u (normal (all_sides rules) t budget) → IsMade budget k u (normal (sides_in set) t budget)
-made_now set names rules kept budget k u t e h =
-    subst (λ ss. IsMade budget k u (normal ss t budget)) (sym (sides_now set names rules kept e)) h
+-- they still serve, with what is kept from then on
+pub went_on : (s u : List Numbered) (a b : Builder) (set : RuleSet) (rules : List PlainRule)
+    (kept more : List KeptForm) → record { rules = rules; kept = kept } ≡ set → Extends a b → Serves s a set
+    → All (IsOfStore u) more → All (IsLed b) more → Serves u b (record { rules = rules; kept = more })
+went_on s u a b set rules kept more e x h m l =
+    let g : Serves s a (set_of rules kept) = subst (Serves s a) (sym e) h in
+    record {
+      said = All-weaker (IsSaid a) (IsSaid b) (λ r p. grown_said a b r.line _ (extends_grows a b x) p) rules g.said;
+      belongs = m;
+      led = l;
+    }
 
-pub tells_now : (set : RuleSet) (names : List FactName) (rules : List RewriteRule) (kept : List KeptForm) (budget : ℕ)
-    (t : Tree) (x : RewriteRefusal) → record { names = names; rules = map lined rules; kept = kept } ≡ set
-    → TellsEvent (normal (all_sides rules) t budget) x → TellsEvent (normal (sides_in set) t budget) x
-tells_now set names rules kept budget t x e h =
-    subst (λ ss. TellsEvent (normal ss t budget) x) (sym (sides_now set names rules kept e)) h
+-- what was kept meanwhile is forgotten
+cut_back : (kept mid cut : List KeptForm) (n : ℕ) → cut ≡ take n mid → n ≡ length kept → IsFront kept mid → cut ≡ kept
+cut_back kept mid cut n e l f = e ∙ ap (λ k. take k mid) l ∙ front_cut kept mid f
 
--- where all that the rules carry is said the machine may begin
-pub may_begin : (b : Builder) (set : RuleSet) (names : List FactName) (rules : List RewriteRule) (kept : List KeptForm)
-    (t : Tree) → record { names = names; rules = map lined rules; kept = kept } ≡ set → All IsLineRule rules → Known b t
-    → Carries b set → MayBegin b rules kept t
-may_begin b set names rules kept t e i k h =
-    let g : Carries b (record { names = names; rules = map lined rules; kept = kept }) = subst (Carries b) (sym e) h in
-    (k, rules_carried b rules i g.0, g.1)
-
--- the rules' own lines still say them, and what is kept is led to
-pub carried_on : (a b : Builder) (set : RuleSet) (names : List FactName) (rules : List RewriteRule)
-    (kept more : List KeptForm)
-    → record { names = names; rules = map lined rules; kept = kept } ≡ set → Extends a b → Carries a set
-    → All (IsLed b) more → Carries b (record { names = names; rules = map lined rules; kept = more })
-carried_on a b set names rules kept more e x h m =
-    let g : Carries a (record { names = names; rules = map lined rules; kept = kept }) = subst (Carries a) (sym e) h in
-    (All-weaker (IsSaid a) (IsSaid b) (λ r p. stays_said a b r.line _ x p) (map lined rules) g.0, m)
-
--- the rule at a place is taken out, and has the name
-pub removed_now : (name : FactName) (set : RuleSet) (names slice fewer : List FactName)
-    (rules others : List RewriteRule)
-    (kept left : List KeptForm) (i : ℕ) → record { names = names; rules = map lined rules; kept = kept } ≡ set
-    → slice ≡ names → slice_get slice i ≡ Some name → fewer ≡ take i names ++ drop (i + 1) names
-    → others ≡ take i rules ++ drop (i + 1) rules → left ≡ take 0 kept
-    → IsRemoved name set (record { names = fewer; rules = map lined others; kept = left }) true
-removed_now name set names slice fewer rules others kept left i e n g p q k = (
-  i,
-  subst (λ (s : RuleSet). slice_get s.names i ≡ Some name) e (subst (λ ns. slice_get ns i ≡ Some name) n g),
-  same_set fewer (take i names ++ drop (i + 1) names) (map lined others)
-      (take i (map lined rules) ++ drop (i + 1) (map lined rules)) left [] p (lined_removed rules others i q)
-      (k ∙ none_kept kept)
-      ∙ ap (without_at i) e,
-)
+pub same_set : (set : RuleSet) (rules : List PlainRule) (kept mid cut : List KeptForm) (n : ℕ)
+    → record { rules = rules; kept = kept } ≡ set → cut ≡ take n mid → n ≡ length kept → IsFront kept mid
+    → record { rules = rules; kept = cut } ≡ set
+same_set set rules kept mid cut n e q l f = ap (set_of rules) (cut_back kept mid cut n q l f) ∙ e

@@ -1,12 +1,12 @@
 -- The machine's work, turn by turn.
-use Rattle.std.specs.Prelude.{◌≡◌, ◌+◌, ◌-◌, ◌≤◌, ℕ, List, [], ◌∷◌, ◌++◌, All, map, reverse}
+use Rattle.std.specs.Prelude.{◌≡◌, ◌-◌, ◌≤◌, ℕ, List, [], ◌∷◌, ◌++◌, All, map, reverse}
 use Rattle.std.proofs.Common.{arith, ap, ap₂, sym, subst, inl, inr, ◌∙◌}
 use Rattle.std.proofs.lemmas.List.{reverse-append}
 use Rattle.std.proofs.lemmas.List.Elements.{All-push}
 use Rattle.larch_term.specs.Tree.{Tree}
 use Rattle.larch_rewrite_meaning.specs.NormalForm.{normal}
 use Rattle.larch_rewrite_meaning.specs.Sides.{Sides}
-use Rattle.larch_rewrite_meaning.specs.Work.{Work, Made}
+use Rattle.larch_rewrite_meaning.specs.Work.{Made}
 use Rattle.larch_rewrite_law.specs.Levels.{arguments_work}
 use Rattle.larch_rewrite_law.proofs.Charging.{made_costs}
 use Rattle.larch_rewrite_law.proofs.Rising.{waiting_limit, waiting_size, waiting_argument, waiting_form}

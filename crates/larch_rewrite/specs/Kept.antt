@@ -1,5 +1,5 @@
 -- Normal forms that are kept.
-use Rattle.std.specs.Prelude.{◌≡◌, ◌⊎◌, ◌-◌, ◌++◌, ◌∷◌, [], ℕ, List, All}
+use Rattle.std.specs.Prelude.{◌≡◌, ◌⊎◌, ◌-◌, ◌++◌, ◌∷◌, [], ℕ, List}
 use Rattle.larch_derive.specs.declared.builder.Builder.{Builder}
 use Rattle.larch_rewrite_meaning.specs.Sides.{Sides}
 use Rattle.larch_rewrite_law.specs.Costs.{HasCost}

@@ -1,5 +1,5 @@
 -- What the turns of the machine mean: what belongs to the store, and how much work each leaves.
-use Rattle.std.specs.Prelude.{◌≡◌, ◌+◌, ℕ, List, [], ◌∷◌, All, map, drop, length, reverse, slice_get, Some, None}
+use Rattle.std.specs.Prelude.{◌≡◌, ◌+◌, ℕ, List, [], All, map, drop, length, reverse, slice_get, Some, None}
 use Rattle.larch_term.specs.Operator.{PlainOperator, plain}
 use Rattle.larch_term.specs.Tree.{Tree, var}
 use Rattle.larch_rewrite_meaning.specs.NormalForm.{normal}

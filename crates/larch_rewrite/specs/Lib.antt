@@ -3,4 +3,5 @@ pub mod Level
 pub mod Refusal
 pub mod RuleSet
 pub mod RuleSetCode
+pub mod Search
 pub mod Ways

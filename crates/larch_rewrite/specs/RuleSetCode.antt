@@ -8,7 +8,7 @@ use Rattle.larch_store.specs.Numbered.{Numbered}
 use Rattle.larch_store.specs.NumberedCode.{coded_numbered}
 use Rattle.larch_term.specs.Tree.{Tree}
 use Rattle.larch_term.specs.TreeCode.{coded_tree}
-use Rattle.larch_rewrite.specs.RuleSet.{Lined, RuleSet}
+use Rattle.larch_rewrite.specs.RuleSet.{PlainRule, RuleSet}
 use Rattle.larch_rewrite.specs.declared.kept.KeptForm.{KeptForm}
 
 abbrev letter_number : FactLetter → ℕ
@@ -37,10 +37,11 @@ coded_name =
     code_by (FactLetter × (ℕ × ℕ)) (coded× coded_letter (coded× coded_ℕ coded_ℕ)) (λ n. (n.letter, (n.number, n.part)))
     (λ p. record { letter = p.0; number = p.1.0; part = p.1.1 }) (λ _. refl)
 
-abbrev coded_lined : Coded Lined
-coded_lined =
-    code_by (Tree × (Tree × ℕ)) (coded× coded_tree (coded× coded_tree coded_ℕ)) (λ r. (r.left, (r.right, r.line)))
-    (λ p. record { left = p.0; right = p.1.0; line = p.1.1 }) (λ _. refl)
+abbrev pub coded_rule : Coded PlainRule
+coded_rule =
+    code_by (FactName × (Tree × (Tree × ℕ))) (coded× coded_name (coded× coded_tree (coded× coded_tree coded_ℕ)))
+    (λ r. (r.name, (r.left, (r.right, r.line))))
+    (λ p. record { name = p.0; left = p.1.0; right = p.1.1.0; line = p.1.1.1 }) (λ _. refl)
 
 abbrev coded_kept : Coded KeptForm
 coded_kept =
@@ -51,6 +52,5 @@ coded_kept =
 
 abbrev pub coded_set : Coded RuleSet
 coded_set =
-    code_by (List FactName × (List Lined × List KeptForm))
-    (coded× (coded_list coded_name) (coded× (coded_list coded_lined) (coded_list coded_kept)))
-    (λ s. (s.names, (s.rules, s.kept))) (λ p. record { names = p.0; rules = p.1.0; kept = p.1.1 }) (λ _. refl)
+    code_by (List PlainRule × List KeptForm) (coded× (coded_list coded_rule) (coded_list coded_kept))
+    (λ s. (s.rules, s.kept)) (λ p. record { rules = p.0; kept = p.1 }) (λ _. refl)

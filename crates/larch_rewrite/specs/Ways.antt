@@ -1,10 +1,8 @@
 -- What the lines say in the midst of the work.
 use Rattle.std.specs.Prelude.{List, ◌∷◌, [], ◌++◌, All, map, drop, length, reverse}
 use Rattle.larch_term.specs.Tree.{Tree, var, app, forest_of}
-use Rattle.larch_rewrite_step.specs.Holding.{RulesHold}
 use Rattle.larch_derive.specs.Predicates.{Known}
 use Rattle.larch_derive.specs.declared.builder.Builder.{Builder}
-use Rattle.larch_rewrite_match.specs.declared.rule.RewriteRule.{RewriteRule}
 use Rattle.larch_store.specs.Numbered.{Numbered, leaf, branch, term_of, list_of_several}
 use Rattle.larch_derive_lines.specs.Way.{Leads}
 use Rattle.larch_rewrite.specs.declared.kept.KeptForm.{KeptForm}
@@ -13,6 +11,7 @@ use Rattle.larch_rewrite.specs.declared.level.Turn.{Turn}
 use Rattle.larch_rewrite.specs.declared.level.Turn.TheVariants.{Begin, Arguments, Root, Finish}
 use Rattle.larch_rewrite.specs.Kept.{IsLed}
 use Rattle.larch_rewrite.specs.Level.{level_of, start_of, operator_of, further_of}
+use Rattle.larch_rewrite.specs.RuleSet.{AreSaid, PlainRule}
 
 -- a term with its first arguments changed
 abbrev pub with_done : Numbered → List Numbered → Tree
@@ -43,13 +42,13 @@ AreWaysTo b start (f ∷ fs) =
     × AreWaysTo b (term_of f.level.start) fs
 
 -- all lines of the machine say what they should
-pub record Says (b : Builder) (rules : List RewriteRule) (kept : List KeptForm) (frames : List Frame) (turn : Turn)
+pub record Says (b : Builder) (rules : List PlainRule) (kept : List KeptForm) (frames : List Frame) (turn : Turn)
     : Type 0 where
-  pub rules_hold : RulesHold b rules
+  pub rules_said : AreSaid b rules
   pub kept_led : All (IsLed b) kept
   pub way : IsWayTo b (start_of turn) turn
   pub ways : AreWaysTo b (start_of turn) (reverse frames)
 
--- with a known term, rules that hold and ways to what is kept, the machine may begin
-abbrev pub MayBegin : Builder → List RewriteRule → List KeptForm → Tree → Type 0
-MayBegin b rules kept t = Known b t × RulesHold b rules × All (IsLed b) kept
+-- with a known term, rules that are said and ways to what is kept, the machine may begin
+abbrev pub MayBegin : Builder → List PlainRule → List KeptForm → Tree → Type 0
+MayBegin b rules kept t = Known b t × AreSaid b rules × All (IsLed b) kept

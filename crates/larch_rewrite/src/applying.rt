@@ -1,16 +1,17 @@
 ghost use Rattle.std.specs.Prelude.{◌≡◌, ◌+◌, List, All, Some, false, IfOk, IfErr, OnOk};
 ghost use Rattle.larch_rewrite_step.specs.Encoding.{AreEncodings, AreOfStore};
-ghost use Rattle.larch_rewrite_step.specs.Holding.{RuleHolds, RulesHold};
+ghost use Rattle.larch_rewrite_step.specs.Holding.{RuleHolds};
 ghost use Rattle.larch_derive.specs.Predicates.{Extends, Known};
 ghost use Rattle.larch_rewrite_meaning.specs.Rewriting.{rewritten_once};
 ghost use Rattle.larch_rewrite_meaning.specs.Sides.{Sides};
 ghost use Rattle.larch_rewrite_meaning.specs.Work.{is_large};
 ghost use Rattle.larch_rewrite_law.specs.Levels.{root_work};
-ghost use Rattle.larch_rewrite_match.specs.Rule.{IsRule, all_sides, right_of};
+ghost use Rattle.larch_rewrite_match.specs.Rule.{right_of};
 ghost use Rattle.larch_rewrite_match.specs.Bound.{entries_of};
 ghost use Rattle.larch_rewrite_match.specs.Search.{IsFoundIn, IsBy};
 ghost use Rattle.larch_rewrite.specs.Level.{HaveOneStart, IsTurnOf, work_at};
 ghost use Rattle.larch_rewrite.specs.Refusal.{TellsEvent};
+ghost use Rattle.larch_rewrite.specs.RuleSet.{AreSaid, sides_in};
 ghost use Rattle.larch_rewrite.specs.Ways.{IsWayTo};
 ghost use Rattle.larch_rewrite.specs.declared.level.Turn.TheVariants.{Root as at_root};
 ghost use Rattle.larch_store.specs.Numbered.{term_of};
@@ -20,11 +21,13 @@ ghost use Rattle.larch_term.specs.Tree.{Tree};
 ghost use Rattle.larch_derive_lines.specs.Way.{Leads};
 
 use crate::kept::Kept;
+use crate::layered_rules::LayeredRules;
 use crate::level::{Level, Means, Turn};
 use crate::refusal::RewriteRefusal;
+use crate::searching::first_redex;
 use larch_derive::Builder;
 use larch_derive_lines::push_further;
-use larch_rewrite_match::{Match, RuleTable, first_redex};
+use larch_rewrite_match::Match;
 use larch_rewrite_step::{Applied, apply_match};
 use larch_store::Store;
 use std::alloc::Global;
@@ -36,23 +39,22 @@ use std::alloc::Global;
 pub(crate) fn rewrite(
     store: &mut Store,
     builder: &mut Builder,
-    rules: &RuleTable,
+    rules: &LayeredRules,
     kept: &mut Kept,
     level: Level,
     means: &mut Means,
 ) -> Result<Turn, RewriteRefusal>
-    requires rules { All IsRule rules.now }
     requires turn { IsTurnOf store.old (at_root level) }
     requires encodings { AreOfStore store.old means.old.encodings }
     ensures start { IfOk result (λ t. HaveOneStart t (at_root level)) }
     ensures turn { IfOk result (IsTurnOf store.new) }
     ensures work { IfOk result (λ t.
-        work_at (all_sides rules.now) (at_root level) means.old.left ≡ work_at (all_sides rules.now) t means.new.left) }
-    ensures refused { IfErr result (TellsEvent (work_at (all_sides rules.now) (at_root level) means.old.left)) }
-    ensures says { IfOk result (λ t. (x : Tree) → RulesHold builder.old rules.now
+        work_at (sides_in rules.now) (at_root level) means.old.left ≡ work_at (sides_in rules.now) t means.new.left) }
+    ensures refused { IfErr result (TellsEvent (work_at (sides_in rules.now) (at_root level) means.old.left)) }
+    ensures says { IfOk result (λ t. (x : Tree) → AreSaid builder.old rules.now
         → IsWayTo builder.old x (at_root level)
         → AreEncodings builder.old means.old.encodings → IsWayTo builder.new x t) }
-    ensures extends { (x : Tree) → RulesHold builder.old rules.now → IsWayTo builder.old x (at_root level)
+    ensures extends { (x : Tree) → AreSaid builder.old rules.now → IsWayTo builder.old x (at_root level)
         → AreEncodings builder.old means.old.encodings → Extends builder.old builder.new }
     ensures grows { Grows store.old store.new }
     ensures belong { AreOfStore store.new means.new.encodings }
@@ -61,7 +63,7 @@ pub(crate) fn rewrite(
 {
     store.sizes_are_told();
     kept.prepare_rows(&level.term)?;
-    let alloc = rules.allocator();
+    let alloc = kept.allocator();
     let rows = kept.rows().rows_for(&level.term)?;
     let Some(found) = first_redex(alloc, store, rows, rules, &level.term)? else {
         return Ok(Turn::Finish(level));

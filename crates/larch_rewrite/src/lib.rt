@@ -4,10 +4,15 @@
 mod applying;
 mod finishing;
 mod kept;
+pub mod laws;
+mod layered_rules;
 mod level;
 mod machine;
+mod named_rule;
+mod named_rules;
 mod refusal;
 mod rules;
+mod searching;
 mod turning;
 
 pub use kept::KeptForm;

@@ -4,11 +4,10 @@ ghost use Rattle.larch_derive.specs.Predicates.{Extends, HasEquation, Known};
 ghost use Rattle.larch_derive.specs.declared.builder.Builder.{Builder as is_builder};
 ghost use Rattle.larch_rewrite_meaning.specs.NormalForm.{normal};
 ghost use Rattle.larch_rewrite_meaning.specs.Sides.{Sides};
-ghost use Rattle.larch_rewrite_match.specs.Rule.{IsRule, all_sides};
-ghost use Rattle.larch_rewrite_match.specs.declared.rule.RewriteRule.{RewriteRule as is_rule};
 ghost use Rattle.larch_rewrite.specs.Kept.{IsForm, IsFront, IsLed, IsOfStore};
 ghost use Rattle.larch_rewrite.specs.Level.{IsFrameOf, IsLast, IsStored, IsTurnOf, Works, level_of, start_of};
 ghost use Rattle.larch_rewrite.specs.Refusal.{IsMade, TellsEvent};
+ghost use Rattle.larch_rewrite.specs.RuleSet.{PlainRule, sides_in};
 ghost use Rattle.larch_rewrite.specs.Ways.{MayBegin, Says};
 ghost use Rattle.larch_rewrite.specs.declared.kept.KeptForm.{KeptForm};
 ghost use Rattle.larch_rewrite.specs.declared.level.Turn.TheVariants.{Arguments as among_arguments, Finish as finished};
@@ -20,12 +19,12 @@ ghost use Rattle.larch_derive_lines.specs.Way.{Leads};
 use crate::applying::rewrite;
 use crate::finishing::{keep, push_whole, resume};
 use crate::kept::Kept;
+use crate::layered_rules::LayeredRules;
 use crate::level::{Frame, Level, Means, Turn};
 use crate::refusal::RewriteRefusal;
 use crate::turning::{argument, begin, first_level, form};
 use larch_base::Memory;
 use larch_derive::Builder;
-use larch_rewrite_match::RuleTable;
 use larch_rewrite_step::Encodings;
 use larch_store::{Shared, Store};
 use std::alloc::Global;
@@ -51,23 +50,22 @@ pub(crate) struct Pending {
 fn step(
     store: &mut Store,
     builder: &mut Builder,
-    rules: &RuleTable,
+    rules: &LayeredRules,
     kept: &mut Kept,
     pending: &mut Pending,
     turn: Turn,
 ) -> Result<Turn, RewriteRefusal>
-    requires rules { All IsRule rules.now }
     requires stored { IsStored store.old kept.old pending.old.frames.items turn }
     requires encodings { AreOfStore store.old pending.old.means.encodings }
     ensures stored { IfOk result (IsStored store.new kept.new pending.new.frames.items) }
     ensures grows { Grows store.old store.new }
     ensures front { IsFront kept.old kept.new }
     ensures works { IfOk result (λ t. (whole : Tree) (budget : ℕ)
-        → Works (all_sides rules.now) whole budget kept.old pending.old.frames.items turn pending.old.means.left
-        → Works (all_sides rules.now) whole budget kept.new pending.new.frames.items t pending.new.means.left) }
+        → Works (sides_in rules.now) whole budget kept.old pending.old.frames.items turn pending.old.means.left
+        → Works (sides_in rules.now) whole budget kept.new pending.new.frames.items t pending.new.means.left) }
     ensures refused { IfErr result (λ e. (whole : Tree) (budget : ℕ)
-        → Works (all_sides rules.now) whole budget kept.old pending.old.frames.items turn pending.old.means.left
-        → TellsEvent (normal (all_sides rules.now) whole budget) e) }
+        → Works (sides_in rules.now) whole budget kept.old pending.old.frames.items turn pending.old.means.left
+        → TellsEvent (normal (sides_in rules.now) whole budget) e) }
     ensures says { IfOk result (λ t. Says builder.old rules.now kept.old pending.old.frames.items turn
         → AreEncodings builder.old pending.old.means.encodings
         → Says builder.new rules.now kept.new pending.new.frames.items t) }
@@ -114,7 +112,7 @@ fn go_on(store: &mut Store, pending: &mut Pending, frame: Frame) -> Result<Turn,
     ensures refused { IfErr result (λ e. (rs : List Sides) (whole : Tree) (budget : ℕ) (kept : List KeptForm)
         → Works rs whole budget kept pending.old.frames.items (among_arguments frame) pending.old.means.left
         → TellsEvent (normal rs whole budget) e) }
-    ensures says { IfOk result (λ t. (b : is_builder) (rules : List is_rule) (kept : List KeptForm)
+    ensures says { IfOk result (λ t. (b : is_builder) (rules : List PlainRule) (kept : List KeptForm)
         → Says b rules kept pending.old.frames.items (among_arguments frame)
         → Says b rules kept pending.new.frames.items t) }
     ensures means { pending.new.means ≡ pending.old.means }
@@ -148,10 +146,10 @@ fn go_up(
     ensures works { IfOk result (λ t. (rs : List Sides) (whole : Tree) (budget : ℕ) (kept : List KeptForm)
         → Works rs whole budget kept pending.old.frames.items (finished level) pending.old.means.left
         → Works rs whole budget kept pending.new.frames.items t pending.new.means.left) }
-    ensures says { IfOk result (λ t. (rules : List is_rule) (kept : List KeptForm)
+    ensures says { IfOk result (λ t. (rules : List PlainRule) (kept : List KeptForm)
         → Says builder.old rules kept pending.old.frames.items (finished level)
         → Says builder.new rules kept pending.new.frames.items t) }
-    ensures extends { (rules : List is_rule) (kept : List KeptForm)
+    ensures extends { (rules : List PlainRule) (kept : List KeptForm)
         → Says builder.old rules kept pending.old.frames.items (finished level) → Extends builder.old builder.new }
     ensures means { pending.new.means ≡ pending.old.means }
 {
@@ -195,23 +193,22 @@ fn normal_of(store: &Store, builder: &mut Builder, turn: Turn, cost: u32) -> Res
 pub(crate) fn run(
     store: &mut Store,
     builder: &mut Builder,
-    rules: &RuleTable,
+    rules: &LayeredRules,
     kept: &mut Kept,
     term: &Shared,
     budget: u32,
 ) -> Result<Normal, RewriteRefusal>
-    requires rules { All IsRule rules.now }
     requires term { Belongs store.old term.now }
     requires kept { All (IsOfStore store.old) kept.old }
-    requires forms { All (IsForm (all_sides rules.now)) kept.old }
+    requires forms { All (IsForm (sides_in rules.now)) kept.old }
     ensures belongs { IfOk result (λ n. Belongs store.new n.form) }
     ensures made { IfOk result (λ n. IsMade budget n.cost (term_of n.form)
-        (normal (all_sides rules.now) (term_of term.now) budget)) }
-    ensures refused { IfErr result (TellsEvent (normal (all_sides rules.now) (term_of term.now) budget)) }
+        (normal (sides_in rules.now) (term_of term.now) budget)) }
+    ensures refused { IfErr result (TellsEvent (normal (sides_in rules.now) (term_of term.now) budget)) }
     ensures grows { Grows store.old store.new }
     ensures front { IsFront kept.old kept.new }
     ensures kept { OnOk result (All (IsOfStore store.new) kept.new) }
-    ensures forms { OnOk result (All (IsForm (all_sides rules.now)) kept.new) }
+    ensures forms { OnOk result (All (IsForm (sides_in rules.now)) kept.new) }
     ensures says { IfOk result (λ n. MayBegin builder.old rules.now kept.old (term_of term.now)
         → HasEquation builder.new n.line (term_of term.now) (term_of n.form)) }
     ensures led { OnOk result (MayBegin builder.old rules.now kept.old (term_of term.now)

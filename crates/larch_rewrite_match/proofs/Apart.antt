@@ -1,5 +1,5 @@
 -- What matches binds no variable twice.
-use Rattle.std.specs.Prelude.{◌≡◌, ◌&&◌, ◌⊎◌, ◌<◌, ◌↔◌, IsTrue, ℕ, suc, Bool, true, false, cond, All, AllPairs, List}
+use Rattle.std.specs.Prelude.{◌≡◌, ◌⊎◌, ◌↔◌, IsTrue, ℕ, suc, Bool, true, false, cond, All, AllPairs, List}
 use Rattle.std.specs.Prelude.{[], ◌∷◌, length, bytes_eq, Option, Some, None, option_and_then, refl}
 use Rattle.std.proofs.Common.{inl, inr, arith, ap, sym, subst, ◌∙◌}
 use Rattle.std.specs.Bool.{Decides}
@@ -9,7 +9,6 @@ use Rattle.std.proofs.lemmas.List.Elements.{All-cons, All-nil, All-weaker}
 use Rattle.std.proofs.lemmas.List.Kept.{AllPairs-cons}
 use Rattle.std.proofs.lemmas.Slice.Eq.{bytes_eq-Decides}
 use Rattle.larch_base.proofs.Options.{some_inj}
-use Rattle.larch_term.specs.Operator.{PlainOperator}
 use Rattle.larch_term.specs.Tree.{Tree, Forest, var, app, none, more, forest_of}
 use Rattle.larch_term.specs.Sorts.{sort_of}
 use Rattle.larch_term.specs.Equality.{same_operator, same_tree}

@@ -1,17 +1,15 @@
 -- Rows of the table, as rules.
-use Rattle.std.specs.Prelude.{◌≡◌, ℕ, zero, suc, ◌+◌, ◌-◌, ◌==◌, ◌≤◌, ◌<◌, ◌||◌, ◌↔◌, IsSome, IsTrue, Bool, true, false}
-use Rattle.std.specs.Prelude.{cond, All, List, [], ◌∷◌, ◌++◌, take, map, bytes_eq, Option, Some, None, option_map, refl}
+use Rattle.std.specs.Prelude.{◌≡◌, ℕ, zero, suc, ◌+◌, ◌-◌, ◌==◌, ◌≤◌, ◌||◌, ◌↔◌, IsSome, IsTrue, Bool, true, false}
+use Rattle.std.specs.Prelude.{cond, All, List, [], ◌∷◌, ◌++◌, take, bytes_eq, Option, Some, None, option_map, refl}
 use Rattle.std.specs.List.{flat_map, slice_get}
 use Rattle.std.specs.Option.{option_and_then}
 use Rattle.std.proofs.Common.{arith, ap, sym, subst, eqb-true, ◌∙◌}
 use Rattle.larch_base.proofs.Options.{some_inj}
 use Rattle.larch_term.specs.BuiltIn.{bool_sort}
-use Rattle.larch_term.specs.Tree.{Tree}
 use Rattle.larch_term.specs.declared.statement.Statement.{Statement}
-use Rattle.larch_term.specs.declared.statement.Statement.TheVariants.{Equation}
 use Rattle.larch_verify_meaning.specs.Rules.{row_says}
-use Rattle.larch_term.proofs.BuiltIns.{is_built_in_Decides, built_in_told}
-use Rattle.larch_term.specs.BuiltIn.{IsBuiltIn, is_built_in}
+use Rattle.larch_term.proofs.BuiltIns.{built_in_told}
+use Rattle.larch_term.specs.BuiltIn.{IsBuiltIn}
 use Rattle.larch_term.specs.Operator.{PlainOperator}
 use Rattle.larch_term.specs.Tree.{Forest, app}
 use Rattle.larch_rewrite_match.specs.Rule.{all_sides, sides_of_rule, IsRule, IsSaidByRow}

@@ -1,25 +1,22 @@
 -- Rules that are tried one behind the other.
-use Rattle.std.specs.Prelude.{◌≡◌, ◌&&◌, ℕ, Bool, true, false, cond, All, Contains, List, [], ◌∷◌, ◌++◌, Option, Some}
+use Rattle.std.specs.Prelude.{◌≡◌, Bool, true, false, cond, All, Contains, List, [], ◌∷◌, ◌++◌, Option, Some}
 use Rattle.std.specs.Prelude.{None, option_map, option_and_then, refl}
-use Rattle.std.proofs.Common.{ap, sym, subst, ◌∙◌}
+use Rattle.std.proofs.Common.{ap, sym, ◌∙◌}
 use Rattle.std.specs.List.{flat_map}
 use Rattle.std.proofs.lemmas.List.Elements.{All-contains}
-use Rattle.larch_base.proofs.Members.{contains_right}
-use Rattle.larch_term.specs.Tree.{Tree, Forest, var, app, none, more}
+use Rattle.larch_term.specs.Tree.{Tree, var, app, none, more}
 use Rattle.larch_term.specs.Operator.{PlainOperator}
 use Rattle.larch_term.specs.BuiltIn.{is_built_in_as}
 use Rattle.larch_term.specs.Substitution.{instance_of}
 use Rattle.larch_term.specs.declared.built_in.BuiltIn.TheVariants.{Equal}
 use Rattle.larch_term.specs.declared.substitution.Entry.{Entry}
 use Rattle.larch_rewrite_meaning.specs.Matching.{match_term}
-use Rattle.larch_rewrite_meaning.specs.Rewriting.{tries_of, exchange_rule, rewrite_of, rewritten_by, rewritten_once}
-use Rattle.larch_rewrite_meaning.specs.Rewriting.{rows_for}
+use Rattle.larch_rewrite_meaning.specs.Rewriting.{tries_of, exchange_rule, rewrite_of, rewritten_by}
 use Rattle.larch_rewrite_meaning.specs.Sides.{Sides}
 use Rattle.larch_rewrite_match.specs.Exchanged.{exchange_equality}
 use Rattle.larch_rewrite_match.specs.Heads.{Suffice}
 use Rattle.larch_rewrite_match.specs.Rule.{sides_of_rule, all_sides}
-use Rattle.larch_rewrite_match.specs.Search.{AreRowsFor, IsFirst, IsRedex}
-use Rattle.larch_rewrite_match.specs.Bound.{entries_of}
+use Rattle.larch_rewrite_match.specs.Search.{IsFirst}
 use Rattle.larch_rewrite_match.specs.declared.search.Match.{Match}
 use Rattle.larch_rewrite_match.specs.declared.rule.RewriteRule.{RewriteRule}
 
@@ -94,29 +91,10 @@ tried_by r t =
     by_match r t (match_term r.left t []) (option_and_then (λ l. match_term l t []) (exchange_equality r.left))
     (rewrite_of (exchange_rule (sides_of_rule r)) t) (turned_tried r r.left t)
 
--- ---- rows before rules
+-- ---- rules that suffice
 
-pub once_first : (rows rs : List RewriteRule) (t u : Tree) → AreRowsFor rows t
-    → rewrite_of (flat_map tries_of (all_sides rows)) t ≡ Some u → rewritten_once (all_sides rs) t ≡ Some u
-once_first rows rs t u e h =
-    rewritten_further (rows_for t) (flat_map tries_of (all_sides rs)) t
-    ∙ ap (λ o. or_further o (rewrite_of (flat_map tries_of (all_sides rs)) t)) (sym e ∙ h)
-
-once_further : (rows few rs : List RewriteRule) (t : Tree) (o : Option Tree) → AreRowsFor rows t
-    → rewrite_of (flat_map tries_of (all_sides rows)) t ≡ None → Suffice few rs t
-    → rewrite_of (flat_map tries_of (all_sides few)) t ≡ o → rewritten_once (all_sides rs) t ≡ o
-once_further rows few rs t o e h s k =
-    rewritten_further (rows_for t) (flat_map tries_of (all_sides rs)) t
-    ∙ (ap (λ p. or_further p (rewrite_of (flat_map tries_of (all_sides rs)) t)) (sym e ∙ h) ∙ (sym s ∙ k))
-
--- what is first among rules that suffice, where no row applies
-pub first_once : (rows few rs : List RewriteRule) (t : Tree) (o : Option Match) → AreRowsFor rows t
-    → rewrite_of (flat_map tries_of (all_sides rows)) t ≡ None → Suffice few rs t → All (Contains rs) few
-    → IsFirst few t o
-    → IsRedex rows rs t o
-first_once rows few rs t None e h s a f = once_further rows few rs t None e h s f
-first_once rows few rs t (Some m) e h s a f = (
-  contains_right rows rs m.rule.now (All-contains (Contains rs) few m.rule.now a f.0),
-  f.1,
-  once_further rows few rs t (Some (instance_of (entries_of m.by) m.rule.now.right)) e h s f.2,
-)
+-- what is first among rules that suffice is first among all
+pub first_among : (few rs : List RewriteRule) (t : Tree) (o : Option Match) → Suffice few rs t → All (Contains rs) few
+    → IsFirst few t o → IsFirst rs t o
+first_among few rs t None s a f = sym s ∙ f
+first_among few rs t (Some m) s a f = (All-contains (Contains rs) few m.rule.now a f.0, f.1, sym s ∙ f.2)

@@ -1,12 +1,12 @@
 -- Built-in rows that are found by the sorts and the heads of terms.
-use Rattle.std.specs.Prelude.{◌≡◌, ◌↔◌, ℕ, IsTrue, Bool, true, false, cond, All, Contains, IfSome, List, [], ◌∷◌}
-use Rattle.std.specs.Prelude.{bytes_eq, map, Option, Some, None, refl}
+use Rattle.std.specs.Prelude.{◌≡◌, ◌↔◌, ℕ, IsTrue, Bool, true, false, cond, All, Contains, IfSome, List, []}
+use Rattle.std.specs.Prelude.{bytes_eq, Some, refl}
 use Rattle.std.proofs.Common.{ap, sym, subst, ◌∙◌}
 use Rattle.std.proofs.lemmas.List.Elements.{All-contains, All-weaker}
 use Rattle.std.proofs.lemmas.Slice.Eq.{bytes_eq-Decides}
 use Rattle.std.specs.List.{flat_map}
 use Rattle.std.specs.Map.{lookup}
-use Rattle.larch_rewrite_meaning.specs.Rewriting.{rewrite_of, rows_for, sort_at, tries_of}
+use Rattle.larch_rewrite_meaning.specs.Rewriting.{rewrite_of, sort_at, tries_of}
 use Rattle.larch_store.specs.Numbered.{Numbered, several, term_of, terms_of}
 use Rattle.larch_store.specs.SharedView.{view_shared}
 use Rattle.larch_store.specs.declared.shared.SharedNode.TheVariants.{Variable, Application}

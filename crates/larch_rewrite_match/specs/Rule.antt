@@ -24,8 +24,8 @@ abbrev pub IsRule : RewriteRule → Type 0
 IsRule r = r.turned ≡ exchange_equality r.left
 
 -- the rule with these sides and this reason
-abbrev pub IsRuleOf : Tree → Tree → Reason → RewriteRule → Type 0
-IsRuleOf l r w rule = (rule.left ≡ l) × (rule.right ≡ r) × (rule.reason ≡ w) × IsRule rule
+abbrev pub rule_from : Tree → Tree → Reason → RewriteRule
+rule_from l r w = record { left = l; right = r; turned = exchange_equality l; reason = w }
 
 -- the sides alone
 abbrev pub sides_of_rule : RewriteRule → Sides

@@ -1,12 +1,12 @@
 -- What a search for a rule that applies finds.
-use Rattle.std.specs.Prelude.{◌≡◌, Bool, true, false, List, [], ◌++◌, Contains, Option, Some, None, option_and_then}
+use Rattle.std.specs.Prelude.{◌≡◌, Bool, true, false, List, [], Contains, Option, Some, None, option_and_then}
 use Rattle.std.specs.List.{flat_map}
 use Rattle.larch_term.specs.Arguments.{has_two_arguments}
 use Rattle.larch_term.specs.Tree.{Tree}
 use Rattle.larch_term.specs.Substitution.{instance_of}
 use Rattle.larch_term.specs.declared.substitution.Entry.{Entry}
 use Rattle.larch_rewrite_meaning.specs.Matching.{match_term}
-use Rattle.larch_rewrite_meaning.specs.Rewriting.{tries_of, rewrite_of, rewritten_once, rows_for}
+use Rattle.larch_rewrite_meaning.specs.Rewriting.{tries_of, rewrite_of, rows_for}
 use Rattle.larch_rewrite_match.specs.Bound.{IsBinding, entries_of}
 use Rattle.larch_rewrite_match.specs.Exchanged.{exchange_equality}
 use Rattle.larch_rewrite_match.specs.Rule.{sides_of_rule, all_sides, left_of}
@@ -41,10 +41,3 @@ IsFirst rs t None = rewrite_of (flat_map tries_of (all_sides rs)) t ≡ None
 IsFirst rs t (Some m) =
     Contains rs m.rule.now × IsBy m.rule.now m.exchanged t (entries_of m.by)
     × (rewrite_of (flat_map tries_of (all_sides rs)) t ≡ Some (instance_of (entries_of m.by) m.rule.now.right))
-
--- the first of the rows for a term, or else of some rules, that applies to it, and by which substitution
-abbrev pub IsRedex : List RewriteRule → List RewriteRule → Tree → Option Match → Type 0
-IsRedex rows rs t None = rewritten_once (all_sides rs) t ≡ None
-IsRedex rows rs t (Some m) =
-    Contains (rows ++ rs) m.rule.now × IsBy m.rule.now m.exchanged t (entries_of m.by)
-    × (rewritten_once (all_sides rs) t ≡ Some (instance_of (entries_of m.by) m.rule.now.right))

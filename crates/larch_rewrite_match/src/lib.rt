@@ -16,6 +16,6 @@ pub use patterns::{Bound, MatchBindings, matching, written_substitution};
 pub use row_tables::RowTables;
 pub use rows::rows_at;
 pub use rule::{Reason, RewriteRule, sort_at};
-pub use search::{Match, first_match, first_redex};
-pub use shared::{RuleList, SharedRule, copy_rules};
+pub use search::{Match, first_in_table, first_match};
+pub use shared::{RuleList, SharedRule};
 pub use table::RuleTable;

@@ -1,5 +1,5 @@
 ghost use Rattle.std.specs.Prelude.{◌≡◌, IfOk};
-ghost use Rattle.larch_rewrite_match.specs.Rule.{IsRuleOf, left_of, right_of, reason_of};
+ghost use Rattle.larch_rewrite_match.specs.Rule.{left_of, right_of, reason_of, rule_from};
 ghost use Rattle.larch_rewrite_meaning.specs.Rewriting.{sort_at};
 ghost use Rattle.larch_term.specs.Tree.{app, more, none};
 ghost use Rattle.larch_rewrite_match.specs.Exchanged.{exchange_equality};
@@ -36,7 +36,7 @@ impl RewriteRule {
         right: Term,
         reason: Reason,
     ) -> Result<RewriteRule, Memory>
-        ensures { IfOk result (IsRuleOf left right reason) }
+        ensures { IfOk result (λ rule. rule ≡ rule_from left right reason) }
     {
         let turned = turned(alloc, &left)?;
         Ok(RewriteRule {

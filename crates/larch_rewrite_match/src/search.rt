@@ -1,7 +1,7 @@
 ghost use Rattle.std.specs.Prelude.{◌≡◌, IfOk, IfSome, All, Contains};
 ghost use Rattle.larch_rewrite_match.specs.Heads.{Suffice};
 ghost use Rattle.larch_rewrite_match.specs.Rule.{IsRule};
-ghost use Rattle.larch_rewrite_match.specs.Search.{AreRowsFor, IsFoundIn, IsFirst, IsMatch, IsRedex};
+ghost use Rattle.larch_rewrite_match.specs.Search.{IsFoundIn, IsFirst, IsMatch};
 ghost use Rattle.larch_store.specs.Numbered.{term_of};
 ghost use Rattle.larch_store.specs.Stored.{Belongs};
 
@@ -22,25 +22,19 @@ pub struct Match<'a> {
     pub by: MatchBindings<'a>,
 }
 
-/// The first of the rows for a term, or else of some rules, that applies to it at its root.
-#[tactic(auto, using(crate::proofs::Searching::first_once))]
-pub fn first_redex<'a>(
+/// The first of a table's rules that applies to a term at its root.
+#[tactic(auto, using(crate::proofs::Searching::first_among))]
+pub fn first_in_table<'a>(
     alloc: Global,
     store: &Store,
-    rows: &'a [SharedRule],
     rules: &'a RuleTable,
     term: &Shared,
 ) -> Result<Option<Match<'a>>, Memory>
     requires term { Belongs store.now term.now }
-    requires rows { AreRowsFor rows.now (term_of term.now) }
-    requires row_rules { All IsRule rows.now }
     requires rules { All IsRule rules.now }
-    ensures found { IfOk result (IsRedex rows.now rules.now (term_of term.now)) }
+    ensures first { IfOk result (IsFirst rules.now (term_of term.now)) }
     ensures bound { IfOk result (λ found. IfSome found (IsFoundIn store.now)) }
 {
-    if let Some(found) = first_match(alloc, store, rows, term)? {
-        return Ok(Some(found));
-    }
     let found = first_match(alloc, store, rules_for(rules, term), term)?;
     Ok(found)
 }

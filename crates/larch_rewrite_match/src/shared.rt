@@ -52,15 +52,3 @@ impl SharedRule {
         self.rule.as_ref()
     }
 }
-
-/// The same rules once more.
-pub fn copy_rules(alloc: Global, rules: &[SharedRule]) -> Result<RuleList, Memory>
-    ensures { IfOk result (λ copied. copied ≡ rules.now) }
-{
-    let mut copied = Sequence::new(alloc);
-    for rule in rules {
-        let rule = rule.copy()?;
-        copied.push(rule)?;
-    }
-    Ok(copied)
-}

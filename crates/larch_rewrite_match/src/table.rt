@@ -1,4 +1,4 @@
-ghost use Rattle.std.specs.Prelude.{◌≡◌, ◌+◌, ◌<◌, ◌++◌, ◌∷◌, [], ℕ, length, false, List, All, Contains, cond, drop, take, IfOk, OnOk, OnErr};
+ghost use Rattle.std.specs.Prelude.{◌≡◌, ◌++◌, ◌∷◌, [], ℕ, false, List, All, Contains, cond, OnOk, OnErr};
 ghost use Rattle.larch_rewrite_match.specs.Heads.{IsIndexed, Suffice, found_under};
 ghost use Rattle.larch_rewrite_match.specs.Rule.{IsRule};
 ghost use Rattle.larch_rewrite_match.specs.declared.rule.RewriteRule.{RewriteRule as is_rule};
@@ -57,45 +57,6 @@ impl RuleTable {
     /// Where its memory comes from.
     pub fn allocator(&self) -> Global {
         self.alloc
-    }
-
-    /// The rules, in order.
-    pub fn as_slice(&self) -> &[SharedRule]
-        ensures { result.now ≡ self.now }
-    {
-        self.rules.as_slice()
-    }
-
-    /// The same rules once more.
-    pub fn copy(&self) -> Result<RuleTable, Memory>
-        ensures { IfOk result (λ table. table ≡ self.now) }
-    {
-        let mut copied = RuleTable::new(self.alloc);
-        copied.append(self.rules.as_slice())?;
-        Ok(copied)
-    }
-
-    /// The rules without the one at an index.
-    pub fn without(&self, index: usize) -> Result<RuleTable, Memory>
-        requires { index < length self.now }
-        ensures { IfOk result (λ table. table ≡ take index self.now ++ drop (index + 1) self.now) }
-    {
-        let rules = self.rules.as_slice();
-        let mut others = RuleTable::new(self.alloc);
-        others.append(&rules[..index])?;
-        others.append(&rules[index + 1..])?;
-        Ok(others)
-    }
-
-    // Puts rules behind the others.
-    fn append(&mut self, rules: &[SharedRule]) -> Result<(), Memory>
-        ensures { OnOk result (self.new ≡ self.old ++ rules.now) }
-    {
-        for rule in rules {
-            let rule = rule.copy()?;
-            self.push(rule)?;
-        }
-        Ok(())
     }
 
     /// Puts a rule behind the others. Where memory runs out nothing changes.

@@ -3,7 +3,7 @@ ghost use Rattle.larch_rewrite.specs.RuleSet.{BelongsTo};
 ghost use Rattle.larch_store.specs.Stored.{Belongs};
 
 use crate::problem::{Problem, Task};
-use larch_base::{Bytes, FactLetter, FactName, Memory, Sequence};
+use larch_base::{Bytes, FactLetter, FactName, Memory, Sequence, let_go};
 use larch_certificate::{Certificate, Line};
 use larch_certificate_printer::print_certificate;
 use larch_derive::Builder;
@@ -13,12 +13,13 @@ use larch_store::{Shared, Store, StoreRefusal};
 use larch_term::{Statement, Term, Theory};
 use std::alloc::Global;
 
-/// What the tasks are done with, and what they came to.
+/// What the tasks are done with, and what they came to. The copies stay until the end.
 pub struct Desk {
     alloc: Global,
     store: Store,
     builder: Builder,
     rules: Rules,
+    copies: Vec<Snapshot>,
     told: Bytes,
     forms: Certificate,
 }
@@ -31,15 +32,33 @@ impl Drop for Desk {
             store: _store,
             builder: _builder,
             rules: _rules,
+            copies: _copies,
             told: _told,
             forms: _forms,
         } = self;
     }
 }
 
+/// A store, a builder and rules, as they once were.
+pub struct Snapshot {
+    store: Store,
+    builder: Builder,
+    rules: Rules,
+}
+
+// By a call, so that a proof takes it apart in one place alone.
+impl Drop for Snapshot {
+    fn drop(self) {
+        let Snapshot {
+            store: _store,
+            builder: _builder,
+            rules: _rules,
+        } = self;
+    }
+}
+
 impl Desk {
     /// No rules, and nothing done.
-    #[tactic(auto, using(crate::proofs::Fitting::fits_at_first))]
     pub fn new(alloc: Global, theory: &Theory) -> Result<Desk, Memory>
         ensures { IfOk result (λ desk. BelongsTo desk.store desk.rules) }
     {
@@ -51,6 +70,7 @@ impl Desk {
             store,
             builder,
             rules,
+            copies: Vec::new(alloc),
             told: Bytes::new(alloc),
             forms: Sequence::new(alloc),
         })
@@ -91,13 +111,13 @@ impl Desk {
                     brought = brought.saturating_add(1);
                     self.bring(term, budget)?;
                 }
+                Task::Copy => self.copy()?,
             }
         }
         Ok(())
     }
 
     // Puts a statement of the theory, by its number, behind the rules.
-    #[tactic(auto, using(crate::proofs::Fitting::fits_with, crate::proofs::Fitting::fits_still))]
     fn put(&mut self, statement: Option<&Statement>, number: u32) -> Result<(), Memory>
         requires { BelongsTo self.old.store self.old.rules }
         ensures { BelongsTo self.new.store self.new.rules }
@@ -118,7 +138,6 @@ impl Desk {
     }
 
     // Takes out the rule of a statement.
-    #[tactic(auto, using(crate::proofs::Fitting::fits_without))]
     fn take(&mut self, number: u32) -> Result<(), Memory>
         requires { BelongsTo self.old.store self.old.rules }
         ensures { BelongsTo self.new.store self.new.rules }
@@ -131,7 +150,6 @@ impl Desk {
     }
 
     // Brings a term to its normal form.
-    #[tactic(auto, using(larch_rewrite::proofs::Stored::kept_stay))]
     fn bring(&mut self, term: &Term, budget: u32) -> Result<(), Memory>
         requires { BelongsTo self.old.store self.old.rules }
         ensures { BelongsTo self.new.store self.new.rules }
@@ -144,7 +162,6 @@ impl Desk {
     }
 
     // Brings a shared term to its normal form.
-    #[tactic(auto, using(crate::proofs::Fitting::fits_still))]
     fn bring_shared(&mut self, term: &Shared, budget: u32) -> Result<(), Memory>
         requires term { Belongs self.old.store term.now }
         requires kept { BelongsTo self.old.store self.old.rules }
@@ -161,6 +178,15 @@ impl Desk {
         }
     }
 
+    // Keeps copies of the store, the builder and the rules.
+    fn copy(&mut self) -> Result<(), Memory>
+        ensures { (self.new.store ≡ self.old.store) × (self.new.rules ≡ self.old.rules) }
+    {
+        let snapshot = take_snapshot(&self.store, &self.builder, &self.rules)?;
+        self.copies.push(snapshot)?;
+        self.told.append(b"copied\n")
+    }
+
     // Tells a cost and a line, and puts the form behind the others.
     fn tell(&mut self, normal: &Normal) -> Result<(), Memory>
         ensures { (self.new.store ≡ self.old.store) × (self.new.rules ≡ self.old.rules) }
@@ -172,6 +198,27 @@ impl Desk {
         self.forms.push(Line::Refl(form))?;
         let line = format!(in self.alloc; "cost {cost} line {line}\n")?;
         self.told.append(line.as_bytes())
+    }
+}
+
+// Copies of a store, a builder and rules.
+fn take_snapshot(store: &Store, builder: &Builder, rules: &Rules) -> Result<Snapshot, Memory> {
+    let store = store.copy()?;
+    match builder.copy() {
+        Ok(builder) => with_rules(store, builder, rules),
+        Err(memory) => Err(let_go(memory, store)),
+    }
+}
+
+// A store and a builder with a copy of rules.
+fn with_rules(store: Store, builder: Builder, rules: &Rules) -> Result<Snapshot, Memory> {
+    match rules.copy() {
+        Ok(rules) => Ok(Snapshot {
+            store,
+            builder,
+            rules,
+        }),
+        Err(memory) => Err(let_go(memory, (store, builder))),
     }
 }
 

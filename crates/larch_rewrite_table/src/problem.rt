@@ -14,6 +14,8 @@ pub enum Task {
     Take(u32),
     /// A term is brought to its normal form.
     Bring(Term),
+    /// Copies of the store, the builder and the rules are kept until the end.
+    Copy,
 }
 
 /// Operators, with the rules as statements, and what is to be done.
@@ -128,6 +130,7 @@ fn add_task(alloc: Global, problem: &mut Problem, line: &Line) -> Result<bool, M
         },
         Line::Axiom(number) => add_removal(problem, *number),
         Line::Refl(term) => add_term(alloc, problem, term),
+        Line::Done => add_copy(problem),
         _ => Ok(false),
     }
 }
@@ -137,6 +140,11 @@ fn add_removal(problem: &mut Problem, number: u64) -> Result<bool, Memory> {
         return Ok(false);
     };
     problem.tasks.push(Task::Take(number))?;
+    Ok(true)
+}
+
+fn add_copy(problem: &mut Problem) -> Result<bool, Memory> {
+    problem.tasks.push(Task::Copy)?;
     Ok(true)
 }
 

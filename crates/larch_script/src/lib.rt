@@ -5,6 +5,7 @@ mod commands;
 mod draft;
 mod facts;
 mod instances;
+mod laws;
 mod line;
 mod numbers;
 mod read;
@@ -12,4 +13,5 @@ mod register;
 mod terms;
 mod tokens;
 
+pub use laws::commands_are_in_words;
 pub use read::read_script;

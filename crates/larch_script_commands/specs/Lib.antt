@@ -1,3 +1,4 @@
 pub mod Bare
 pub mod Same
+pub mod Worded
 pub mod Written

@@ -1,21 +1,25 @@
 -- What is lexed and read has the words of its text.
-use Rattle.std.proofs.Common.{◌≡◌, ℕ, IsTrue, List, [], ◌∷◌, Result, Ok, Err, ap, subst}
-use Rattle.std.proofs.lemmas.List.Elements.{All-nil, All-cons}
+use Rattle.std.proofs.Common.{◌≡◌, ℕ, ◌+◌, IsTrue, List, [], ◌∷◌, ◌++◌, length, drop, Result, Ok, Err, ap, subst}
+use Rattle.std.proofs.Math.Seq.{take-append_seam}
+use Rattle.std.proofs.lemmas.List.Elements.{All-nil, All-cons, All-drop, All-take}
+use Rattle.larch_base.specs.declared.fault.Fault.{Fault}
 use Rattle.larch_base.specs.declared.position.Pos.{Pos}
-use Rattle.larch_lexer.specs.Lexing.{lexing_of}
+use Rattle.larch_lexer.specs.Lexing.{lexed_line, lexing_of}
 use Rattle.larch_lexer.specs.TokenList.{TokenList}
 use Rattle.larch_lexer.specs.TokenTable.{has_form, LexAnswer, with_tokens, Lexes, at_end, skips_blank, skips_comment}
 use Rattle.larch_lexer.specs.TokenTable.{takes_token, no_token}
 use Rattle.larch_lexer.specs.declared.token.Token.{Token}
-use Rattle.larch_lexer.proofs.OneAnswer.{lexes_given}
+use Rattle.larch_lexer.proofs.OneAnswer.{lexes_given, line_lexes}
 use Rattle.larch_grammar_law.specs.declared.mark.Flaw.{Flaw}
-use Rattle.larch_grammar.specs.Answers.{trait_answer}
+use Rattle.larch_grammar.specs.Answers.{reference_answer, term_answer, trait_answer}
 use Rattle.larch_grammar.specs.WordTokens.{IsWordToken, AreWordTokens}
-use Rattle.larch_grammar.proofs.Law.{trait_law}
-use Rattle.larch_grammar.proofs.Words.{trait_worded}
-use Rattle.larch_raw.specs.Worded.{WordedTrait}
+use Rattle.larch_grammar.proofs.Law.{reference_law, term_law, trait_law}
+use Rattle.larch_grammar.proofs.Words.{equation_worded, reference_worded, trait_worded}
+use Rattle.larch_raw.specs.Worded.{WordedEquation, WordedForm, WordedRef, WordedTrait}
+use Rattle.larch_raw.specs.declared.declared.RawOpRef.{RawOpRef}
+use Rattle.larch_raw.specs.declared.equation.RawEquation.{RawEquation}
 use Rattle.larch_raw.specs.declared.equation.RawTrait.{RawTrait}
-use Rattle.larch_syntax.specs.Read.{with_fault, trait_of}
+use Rattle.larch_syntax.specs.Read.{from_there, reference_of, term_of, with_fault, trait_of}
 
 -- the words among the tokens that are answered are words
 abbrev WordsIn : LexAnswer → Type 0
@@ -50,3 +54,43 @@ pub read_words : (tokens : TokenList) (raw : RawTrait) → AreWordTokens tokens.
 read_words tokens raw ws e =
     let means = trait_law tokens (Ok raw) (read_from (trait_answer tokens) raw e) in
     trait_worded means.0 tokens.tokens raw ws means.1.1
+
+-- so are those of a line
+pub line_words : (number : ℕ) (line : List ℕ) (tokens : TokenList) → lexed_line number line ≡ Ok tokens
+    → AreWordTokens tokens.tokens
+line_words number line tokens e = subst WordsIn e (words_in (line_lexes number line))
+
+-- the words of a front
+front_words : (from : ℕ) (tokens before rest : List Token) → drop from tokens ≡ before ++ rest → AreWordTokens tokens
+    → AreWordTokens before
+front_words from tokens before rest e ws =
+    subst AreWordTokens (take-append_seam before rest)
+    (All-take IsWordToken (length before) (before ++ rest)
+    (subst AreWordTokens e (All-drop IsWordToken from tokens ws)))
+
+-- the value of a front that was read
+abbrev first_or : {Value : Type 0} → Value → Result (Value × ℕ) Fault → Value
+first_or value (Ok read) = read.0
+first_or value (Err fault) = value
+
+-- what was read at a front
+front_from : {Value : Type 0} (from : ℕ) (answer : Result (Value × ℕ) (Flaw × Pos)) (read : Value × ℕ)
+    → from_there from (with_fault answer) ≡ Ok read → (taken : ℕ) × (answer ≡ Ok (read.0, taken))
+front_from from (Ok other) read e = (other.1, ap (λ v. Ok (v, other.1)) (ap (first_or other.0) e))
+front_from from (Err found) read e = absurd cc
+
+-- an equation or a lone term that is read of them says sorts that are words
+pub equation_words : (tokens : TokenList) (from : ℕ) (read : RawEquation × ℕ) → AreWordTokens tokens.tokens
+    → term_of tokens from ≡ Ok read → WordedEquation read.0
+equation_words tokens from read ws e =
+    let answered = front_from from (term_answer tokens from) read e in
+    let means = (term_law tokens from (Ok (read.0, answered.0))).0 answered.1 in
+    equation_worded means.0 read.0 (front_words from tokens.tokens means.0 means.1 means.2 ws) means.4
+
+-- and a reference has such sorts, and such a name where it is a bare word
+pub reference_words : (tokens : TokenList) (from : ℕ) (read : RawOpRef × ℕ) → AreWordTokens tokens.tokens
+    → reference_of tokens from ≡ Ok read → WordedForm read.0.form × WordedRef read.0
+reference_words tokens from read ws e =
+    let answered = front_from from (reference_answer tokens from) read e in
+    let means = (reference_law tokens from (Ok (read.0, answered.0))).0 answered.1 in
+    reference_worded means.0 read.0 (front_words from tokens.tokens means.0 means.1 means.2 ws) means.4

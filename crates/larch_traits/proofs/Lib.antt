@@ -1,1 +1,3 @@
+pub mod EachFile
+pub mod SameTexts
 pub mod Worded

@@ -1,5 +1,6 @@
 -- What is read of files is written with words.
-use Rattle.std.proofs.Common.{◌≡◌, ℕ, Bool, true, false, cond, List, [], ◌∷◌, Option, Some, None, Result, Ok, Err, refl}
+use Rattle.std.proofs.Common.{◌≡◌, ℕ, Bool, true, false, cond, length, List, [], ◌∷◌, All, Option, Some, None, Result}
+use Rattle.std.proofs.Common.{Ok, Err, refl}
 use Rattle.std.specs.Prelude.{bytes_eq, fold}
 use Rattle.std.specs.Map.{lookup}
 use Rattle.std.specs.Result.{result_map_both}
@@ -7,6 +8,7 @@ use Rattle.indexmap.specs.IndexMap.{insert_entry}
 use Rattle.larch_base.specs.FileName.{is_trait_file, stem_of}
 use Rattle.larch_base.specs.declared.code.Code.TheVariants.{Lex}
 use Rattle.larch_base.specs.declared.fault.Fault.{Fault}
+use Rattle.larch_calculus.specs.Renaming.{HasPlainNames}
 use Rattle.larch_lexer.specs.Lexing.{lexing_of}
 use Rattle.larch_lexer.specs.TokenTable.{LexAnswer}
 use Rattle.larch_raw.specs.Worded.{WordedTrait}
@@ -14,10 +16,19 @@ use Rattle.larch_raw.specs.declared.equation.RawTrait.{RawTrait}
 use Rattle.larch_syntax.specs.Read.{trait_of}
 use Rattle.larch_syntax.proofs.Words.{lexed_words, read_words}
 use Rattle.larch_traits_items.specs.Steps.{after}
+use Rattle.larch_traits_items.proofs.Kept.{after_was}
 use Rattle.larch_flat_meaning.specs.Laws.{AreWorded}
+use Rattle.larch_duties_meaning.specs.Claims.{claims_in, duty_of}
+use Rattle.larch_duties_meaning.specs.Duties.{Duties, all_duties, duties}
+use Rattle.larch_duties_meaning.specs.Laws.{IsDutyInWords, IsSoundDuty}
+use Rattle.larch_duties_meaning.proofs.Claims.{each_has}
+use Rattle.larch_duties_meaning.proofs.Plain.{duties_plain}
+use Rattle.larch_duties_meaning.proofs.Sound.{duties_sound}
+use Rattle.larch_duties_meaning.proofs.Words.{duties_words}
 use Rattle.larch_flat_sources.specs.Sources.{Table as Sources, files_in, put_text}
+use Rattle.larch_flat.specs.Parts.{flat_trait}
 use Rattle.larch_traits.specs.Files.{Table, names_of, text_of}
-use Rattle.larch_traits.specs.Reading.{read_files, read_text, with_file}
+use Rattle.larch_traits.specs.Reading.{duties_of, read_files, read_text, with_file}
 
 -- what is read is written with words
 abbrev IsWorded : Result RawTrait Fault → Type 0
@@ -83,3 +94,26 @@ files_worded files (name ∷ names) sources ws =
 -- what is read of files is written with words
 pub read_worded : (files : Table) → AreWorded (files_in (read_files files))
 read_worded files name raw e = found_worded (read_files files) name raw (files_worded files (names_of files) [] tt) e
+
+-- the duties of a trait are in words, and sound
+module _ (files : Table) (stem : List ℕ) (d : Duties) (e : duties_of files stem ≡ Ok d) where
+  abbrev read : Sources
+  read = read_files files
+
+  pub duties_worded : All IsDutyInWords (all_duties d)
+  duties_worded =
+      let p = after_was (flat_trait read stem) (duties (length read) (files_in read)) d e in
+      duties_words (files_in read) (read_worded files) (length read) stem p.0 d p.1 p.2
+
+  pub claims_worded : All (λ c. IsDutyInWords (duty_of c)) (claims_in d)
+  claims_worded = each_has IsDutyInWords d duties_worded
+
+  pub duties_are_theories : All IsSoundDuty (all_duties d)
+  duties_are_theories =
+      let p = after_was (flat_trait read stem) (duties (length read) (files_in read)) d e in
+      duties_sound (files_in read) (read_worded files) (length read) stem p.0 d p.1 p.2
+
+  pub duties_are_plain : All (λ duty. HasPlainNames duty.theory) (all_duties d)
+  duties_are_plain =
+      let p = after_was (flat_trait read stem) (duties (length read) (files_in read)) d e in
+      duties_plain (files_in read) (length read) stem p.0 d p.1 p.2

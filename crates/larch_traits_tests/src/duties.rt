@@ -1,6 +1,8 @@
 use crate::making::sources;
 use larch_base::Bytes;
-use larch_duties::{duties_of, find_duty, list_trait};
+use larch_duties::{
+    Claims, Label, duties_of, find_claim, find_duty, list_trait, place_of, trait_claims,
+};
 use larch_flat::flatten;
 use larch_flat_sources::Sources;
 use larch_traits_items::TraitRefusal;
@@ -36,6 +38,15 @@ fn has_duty(alloc: Global, sources: &Sources, label: &[u8]) -> Result<bool, Trai
     Ok(found.is_some())
 }
 
+// The duties of the first trait, to be kept.
+fn claims_of_first(alloc: Global, sources: &Sources) -> Result<Claims, TraitRefusal> {
+    if sources.len() == 0 {
+        return Err(TraitRefusal::Memory);
+    }
+    let flat_traits = flatten(alloc, sources)?;
+    trait_claims(alloc, sources, &flat_traits, 0)
+}
+
 #[test]
 fn lists_a_claim(rt: HostRuntime) -> Result<(), Fail> {
     let sources = claiming(rt.alloc())?;
@@ -49,5 +60,15 @@ fn finds_a_claim(rt: HostRuntime) -> Result<(), Fail> {
     let sources = claiming(rt.alloc())?;
     assert!(rt; has_duty(rt.alloc(), &sources, b"imply.1")?);
     assert!(rt; !has_duty(rt.alloc(), &sources, b"imply.2")?);
+    Ok(())
+}
+
+#[test]
+fn keeps_a_claim(rt: HostRuntime) -> Result<(), Fail> {
+    let sources = claiming(rt.alloc())?;
+    let claims = claims_of_first(rt.alloc(), &sources)?;
+    assert_eq!(rt; claims.as_slice().len(), 1);
+    assert_eq!(rt; place_of(claims.as_slice(), Label::Imply(1)), Some(0));
+    assert!(rt; find_claim(claims.as_slice(), Label::Imply(2)).is_none());
     Ok(())
 }

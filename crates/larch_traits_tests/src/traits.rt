@@ -1,6 +1,6 @@
 use crate::making::{put, raw_trait, wrong};
-use larch_base::{Code, FileName};
-use larch_traits::{Files, read_files};
+use larch_base::{Code, FileName, Name};
+use larch_traits::{Files, deciding_stems, read_files};
 use std::alloc::Global;
 use std::test::Fail;
 
@@ -48,4 +48,19 @@ fn trait_files_are_read(rt: HostRuntime) -> Result<(), Fail> {
 fn put_trait_and_script(alloc: Global, files: &mut Files) -> Result<(), Fail> {
     put(alloc, files, b"One.lsl", b"One: trait")?;
     put(alloc, files, b"One.lp", b"")
+}
+
+#[test]
+fn a_file_that_isnt_there_decides(rt: HostRuntime) -> Result<(), Fail> {
+    let mut files = Files::new(rt.alloc());
+    put(
+        rt.alloc(),
+        &mut files,
+        b"One.lsl",
+        b"One: trait includes Two",
+    )?;
+    let stem = Name::new(rt.alloc(), b"One")?;
+    let stems = deciding_stems(rt.alloc(), &files, &stem)?;
+    assert_eq!(rt; stems.as_slice().len(), 2);
+    Ok(())
 }

@@ -1,4 +1,5 @@
 pub mod Ends
 pub mod Kept
+pub mod Names
 pub mod Opened
 pub mod Taken

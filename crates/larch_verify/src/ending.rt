@@ -10,8 +10,7 @@ use larch_verify_history::{KeptEvent, KeptHistory, Stated, intern_statement, sam
 use larch_verify_pool::Pool;
 use std::alloc::Global;
 
-// Whether no box is open and the last line says the statement. This goes down the statement's terms by recursion; they
-// are those of `larch_term`, which are at most 5,000 deep.
+// Whether no box is open and the last line says the statement.
 pub(crate) fn ends_with(
     alloc: Global,
     pool: &mut Pool,

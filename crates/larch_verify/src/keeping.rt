@@ -26,8 +26,7 @@ pub(crate) fn intern_operators(
     Ok(numbers)
 }
 
-// A theory's statements by numbers. This goes down their terms by recursion; they are those of `larch_term`, which are
-// at most 5,000 deep.
+// A theory's statements by numbers.
 pub(crate) fn intern_statements(
     alloc: Global,
     pool: &mut Pool,

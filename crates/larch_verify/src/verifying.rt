@@ -1,7 +1,7 @@
-ghost use Rattle.std.specs.Prelude.{◌≡◌, [], IfOk, length};
+ghost use Rattle.std.specs.Prelude.{◌≡◌, [], All, IfOk, length};
 ghost use Rattle.larch_term.specs.Statement.{IsWellSortedTheory};
 ghost use Rattle.larch_calculus.specs.Derivable.{Derivable};
-ghost use Rattle.larch_calculus.specs.Renaming.{HasPlainNames};
+ghost use Rattle.larch_calculus.specs.Renaming.{IsPlainName};
 ghost use Rattle.larch_verify_meaning.specs.Acceptance.{verdict, verdict_from};
 ghost use Rattle.larch_verify_pool.specs.Pooled.{Pooled};
 ghost use Rattle.larch_verify_history.specs.Past.{IsPast, history_of};
@@ -15,17 +15,17 @@ use crate::steps::take_lines;
 use crate::verdict::Verdict;
 use larch_base::Memory;
 use larch_certificate::Line;
-use larch_term::{Statement, Theory};
+use larch_term::{Operator, Statement, Theory};
 use larch_verify_history::KeptHistory;
 use larch_verify_law::laws::accepted_is_derivable;
 use larch_verify_pool::Pool;
 use std::alloc::Global;
 
 /// The verdict on a certificate for a statement over a theory. Whoever wrote the certificate: where it is accepted the
-/// statement is derivable, if the theory's statements are well sorted and its operators have plain names.
+/// statement is derivable, if the theory's statements are well sorted.
 ///
-/// A line takes time by the size of its own terms. A certificate's terms may have any depth, and nothing goes down them
-/// by recursion; the theory's statements and the statement itself are at most 5,000 deep.
+/// A line takes time by the size of its own terms. Terms may have any depth, those of the theory and of the statement
+/// too: nothing goes down them by recursion.
 pub fn verify(
     alloc: Global,
     theory: &Theory,
@@ -33,12 +33,22 @@ pub fn verify(
     certificate: &[Line],
 ) -> Result<Verdict, Memory>
     ensures verdict { IfOk result (λ v. refusal v ≡ verdict theory.now statement.now certificate.now) }
-    ensures derivable { IfOk result (λ v. v ≡ Accepted → IsWellSortedTheory theory.now → HasPlainNames theory.now
+    ensures derivable { IfOk result (λ v. v ≡ Accepted → IsWellSortedTheory theory.now
         → Derivable theory.now statement.now) }
 {
     accepted_is_derivable();
+    names_are_plain(theory.operators.as_slice());
     let verdict = check_verdict(alloc, theory, statement, certificate)?;
     Ok(verdict)
+}
+
+// No operator of the code has the name of a box's constant.
+fn names_are_plain(operators: &[Operator])
+    ensures { All (λ f. IsPlainName f.name) operators.now }
+{
+    for operator in operators {
+        let _ = operator.name();
+    }
 }
 
 // The verdict, with a pool and a past of its own.

@@ -8,9 +8,6 @@ use Rattle.larch_term.specs.Operator.{PlainOperator}
 use Rattle.larch_term.specs.Tree.{Tree, var, app, more, forest_of}
 use Rattle.larch_verify_pool.specs.Exchanging.{map_forest, ExchangesAt, IsExchange, Exchanged, IsWithin}
 use Rattle.larch_verify_pool.specs.Pooled.{tree_in, no_tree, operator_in, node_tree, StandsBehind}
-use Rattle.larch_verify_pool.specs.Exchanging.{Told}
-use Rattle.larch_verify_pool.specs.declared.exchanging.Ready.TheVariants.{Variable, Application}
-use Rattle.larch_verify_pool.specs.declared.node.PoolNode.{PoolNode}
 use Rattle.larch_verify_pool.specs.declared.node.PoolNode.TheVariants.{Var, App}
 use Rattle.larch_verify_pool.proofs.Front.{front_within, front_at, front_get, trees_stay}
 
@@ -47,11 +44,6 @@ ready_within vs g (c ∷ cs) (n ∷ ns) h e =
     let q : map g cs ≡ map Some ns = cc in
     All-cons (λ m. m < length vs) n ns (h c n p) (ready_within vs g cs ns h q)
 
-pub told_arguments : (vs : List Tree) (g : ℕ → Option ℕ) (n : PoolNode) (f : ℕ) (ns : List ℕ)
-    → Told n g (Application f ns) → IsWithin vs g → All (λ m. m < length vs) ns
-told_arguments vs g (Var n s) f ns t h = absurd t
-told_arguments vs g (App k cs) f ns t h = ready_within vs g cs ns h t.1
-
 ready_trees : (us vs : List Tree) (F : Tree → Tree) (g : ℕ → Option ℕ) (cs ns : List ℕ) → Exchanged us vs F g
     → map g cs ≡ map Some ns → map F (map (tree_in us) cs) ≡ map (tree_in vs) ns
 ready_trees us vs F g [] [] h e = refl
@@ -67,31 +59,28 @@ none_at : (us : List Tree) (F : Tree → Tree) (o : Option ℕ) (t : Tree) → o
 none_at us F o t e h = subst (λ p. ExchangesAt us F p t) e h
 
 -- an application is rebuilt
-pub told_rebuilt : (fs : List PlainOperator) (us vs : List Tree) (F : Tree → Tree) (table g : ℕ → Option ℕ) (q : ℕ)
-    (n : PoolNode) (f : ℕ) (ns : List ℕ) → take (length us) vs ≡ us → q < length us
-    → node_tree fs vs n ≡ tree_in vs q → StandsBehind (length fs) q n → IsExchange us table F → table q ≡ None
-    → Exchanged us vs F g → Told n g (Application f ns)
+pub rebuilt : (fs : List PlainOperator) (us vs : List Tree) (F : Tree → Tree) (table g : ℕ → Option ℕ) (q f : ℕ)
+    (cs ns : List ℕ) → take (length us) vs ≡ us → q < length us
+    → node_tree fs vs (App f cs) ≡ tree_in vs q → StandsBehind (length fs) q (App f cs) → IsExchange us table F
+    → table q ≡ None → Exchanged us vs F g → map g cs ≡ map Some ns
     → F (tree_in us q) ≡ app (operator_in fs f) (forest_of (map (tree_in vs) ns))
-told_rebuilt fs us vs F table g q (Var n s) f ns front lt is stands ex miss h t = absurd t
-told_rebuilt fs us vs F table g q (App k cs) f ns front lt is stands ex miss h t =
+rebuilt fs us vs F table g q f cs ns front lt is stands ex miss h m =
     let a : All (λ c. c < length us) cs =
     All-weaker (λ c. c < q) (λ c. c < length us) (λ c l. omega arith) cs stands.1 in
-    let x : tree_in us q ≡ app (operator_in fs k) (forest_of (map (tree_in us) cs)) =
+    let x : tree_in us q ≡ app (operator_in fs f) (forest_of (map (tree_in us) cs)) =
     sym (is ∙ front_at us vs q no_tree front lt)
-    ∙ ap (λ ts. app (operator_in fs k) (forest_of ts)) (trees_stay us vs cs front a) in
-    let e : ExchangesAt us F None (app (operator_in fs k) (forest_of (map (tree_in us) cs))) =
+    ∙ ap (λ ts. app (operator_in fs f) (forest_of ts)) (trees_stay us vs cs front a) in
+    let e : ExchangesAt us F None (app (operator_in fs f) (forest_of (map (tree_in us) cs))) =
     subst (ExchangesAt us F None) x (none_at us F (table q) (tree_in us q) miss (ex q lt)) in
-    ap F x ∙ e ∙ ap (app (operator_in fs k))
-    (mapped_forest F (map (tree_in us) cs) ∙ ap forest_of (ready_trees us vs F g cs ns h t.1))
-    ∙ ap (λ j. app (operator_in fs j) (forest_of (map (tree_in vs) ns))) t.0
+    ap F x ∙ e ∙ ap (app (operator_in fs f))
+    (mapped_forest F (map (tree_in us) cs) ∙ ap forest_of (ready_trees us vs F g cs ns h m))
 
 -- a variable stays
-pub told_kept : (fs : List PlainOperator) (us vs : List Tree) (F : Tree → Tree) (table g : ℕ → Option ℕ) (q : ℕ)
-    (n : PoolNode) → take (length us) vs ≡ us → q < length us
-    → node_tree fs vs n ≡ tree_in vs q → IsExchange us table F → table q ≡ None → Told n g Variable
+pub kept : (fs : List PlainOperator) (us vs : List Tree) (F : Tree → Tree) (table : ℕ → Option ℕ) (q : ℕ)
+    (n s : List ℕ) → take (length us) vs ≡ us → q < length us
+    → node_tree fs vs (Var n s) ≡ tree_in vs q → IsExchange us table F → table q ≡ None
     → slice_get vs q ≡ Some (F (tree_in us q))
-told_kept fs us vs F table g q (App k cs) front lt is ex miss t = absurd t
-told_kept fs us vs F table g q (Var n s) front lt is ex miss t =
+kept fs us vs F table q n s front lt is ex miss =
     let le : length us ≤ length vs = front_within us vs front in
     let x : tree_in us q ≡ var n s = sym (is ∙ front_at us vs q no_tree front lt) in
     let e : ExchangesAt us F None (var n s) =

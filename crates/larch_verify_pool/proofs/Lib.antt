@@ -9,7 +9,9 @@ pub mod Ground
 pub mod Interned
 pub mod Operators
 pub mod Placed
+pub mod Postorders
 pub mod Reading
 pub mod Same
 pub mod SubstitutionExchanges
+pub mod Tasks
 pub mod Trees

@@ -1,17 +1,13 @@
 -- Maps of terms that change some subterms and rebuild what is above them.
-use Rattle.std.specs.Prelude.{◌≡◌, ℕ, suc, ◌<◌, if◌then◌else◌, nat_eq, List, [], ◌∷◌, length, map, slice_get, Some}
+use Rattle.std.specs.Prelude.{◌≡◌, ℕ, suc, ◌<◌, if◌then◌else◌, nat_eq, List, [], ◌∷◌, length, slice_get, Some}
 use Rattle.std.specs.Prelude.{None, Option}
 use Rattle.std.specs.HashMap.{get}
 use Rattle.larch_term.specs.Operator.{OperatorName, boxed}
 use Rattle.larch_term.specs.OperatorKey.{same_name}
 use Rattle.larch_term.specs.Tree.{Tree, Forest, var, app, none, more}
 use Rattle.larch_verify_pool.specs.Pooled.{tree_in}
-use Rattle.larch_verify_pool.specs.declared.exchanging.Ready.{Ready}
-use Rattle.larch_verify_pool.specs.declared.exchanging.Ready.TheVariants.{Variable, Application, Waits}
 use Rattle.larch_verify_pool.specs.declared.exchanging.Rule.{Rule}
 use Rattle.larch_verify_pool.specs.declared.exchanging.Rule.TheVariants.{Table, Constants}
-use Rattle.larch_verify_pool.specs.declared.node.PoolNode.{PoolNode}
-use Rattle.larch_verify_pool.specs.declared.node.PoolNode.TheVariants.{Var, App}
 
 -- what takes the place of a name, if it is that of a constant of the box; the first constant has a number
 abbrev pub constant_image : ℕ → ℕ → List ℕ → OperatorName → Option ℕ
@@ -54,11 +50,3 @@ Exchanged us vs F done = (q r : ℕ) → done q ≡ Some r → slice_get vs r �
 -- what a table gives are nodes
 abbrev pub IsWithin : List Tree → (ℕ → Option ℕ) → Type 0
 IsWithin us table = (q r : ℕ) → table q ≡ Some r → r < length us
-
--- what a node is ready for, by what is done
-abbrev pub Told : PoolNode → (ℕ → Option ℕ) → Ready → Type 0
-Told (Var n s) done Variable = Unit {0}
-Told (Var n s) done (Application f ns) = ⊥
-Told (App f cs) done Variable = ⊥
-Told (App f cs) done (Application g ns) = (f ≡ g) × (map done cs ≡ map Some ns)
-Told n done Waits = Unit {0}

@@ -4,4 +4,6 @@ pub mod Freeing
 pub mod Places
 pub mod Pooled
 pub mod PooledCode
+pub mod Postorder
 pub mod Substitution
+pub mod Tasks

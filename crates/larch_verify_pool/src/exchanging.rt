@@ -1,10 +1,13 @@
-ghost use Rattle.std.specs.Prelude.{◌≡◌, ℕ, ◌<◌, List, nat_eq, length, map, take, All, IfOk, IfSome, OnOk, Some};
-ghost use Rattle.std.specs.Prelude.{slice_get};
+ghost use Rattle.std.specs.Prelude.{◌≡◌, ℕ, ◌<◌, ◌≤◌, ◌+◌, ◌*◌, ◌++◌, ◌∷◌, [], List, nat_eq, length, map, take, All};
+ghost use Rattle.std.specs.Prelude.{reverse, sum_by, slice_get, IsSome, IfOk, OnOk, Option, Some, None};
 ghost use Rattle.std.specs.HashMap.{get};
-ghost use Rattle.larch_term.specs.Tree.{Tree, app, forest_of};
-ghost use Rattle.larch_verify_pool.specs.Pooled.{name_of, operator_in, tree_in, StandsBehind, Grows, HasTree};
+ghost use Rattle.larch_term.specs.Tree.{Tree, nodes};
+ghost use Rattle.larch_verify_pool.specs.Pooled.{name_of, tree_in, Grows, HasTree};
 ghost use Rattle.larch_verify_pool.specs.Exchanging.{image_by, image_in, constant_image, IsRule, IsExchange, Exchanged};
-ghost use Rattle.larch_verify_pool.specs.Exchanging.{IsWithin, Told};
+ghost use Rattle.larch_verify_pool.specs.Exchanging.{IsWithin};
+ghost use Rattle.larch_verify_pool.specs.Tasks.{AreArgumentsDue, AreTasks, IsApplication, IsDue, IsReady, effort};
+ghost use Rattle.larch_verify_pool.specs.Tasks.{number_of};
+ghost use Rattle.larch_verify_pool.specs.declared.exchanging.Rule.{Rule};
 
 use crate::node::PoolNode;
 use crate::numbers::NodeNumbers;
@@ -23,12 +26,13 @@ pub(crate) enum Rule {
     Constants(u64, u64, NodeNumbers),
 }
 
-// What a node is ready for.
-#[derive(Drop)]
-pub(crate) enum Ready {
-    Variable,
-    Application(u32, NodeNumbers),
-    Waits,
+// What waits to be done with a number.
+#[derive(Clone, Copy, Drop)]
+pub(crate) enum Task {
+    // To see what takes its place.
+    Visit(u32),
+    // To rebuild it of what its arguments became, which stand above it.
+    Rebuild(u32),
 }
 
 // The number of what a map makes of a term: it goes to a rule's numbers where the rule has one, and rebuilds what is
@@ -48,42 +52,78 @@ pub(crate) fn exchange(
     ensures operators { OnOk result (pool.new.operators ≡ pool.old.operators) }
 {
     let mut done = HashMap::new(alloc);
-    let mut waiting = Vec::new(alloc);
-    waiting.push(term)?;
-    for _ in 0..u64::MAX {
-        let Some(number) = waiting.pop() else {
-            break;
-        };
-        exchange_step(alloc, pool, number, rule, &mut done, &mut waiting)?;
+    let mut tasks = Vec::new(alloc);
+    tasks.push(Task::Visit(term))?;
+    while let Some(task) = tasks.pop() {
+        carry_out(alloc, pool, rule, task, &mut done, &mut tasks)?;
     }
-    // The term is done then: the other arm is never taken.
-    match done.get(&term) {
-        Some(number) => Ok(*number),
-        None => Err(Memory),
+    let Some(number) = done.get(&term) else {
+        unreachable!()
+    };
+    Ok(*number)
+}
+
+// Carries out a task, where all that it needs is done.
+fn carry_out(
+    alloc: Global,
+    pool: &mut Pool,
+    rule: &Rule,
+    task: Task,
+    done: &mut HashMap<u32, u32>,
+    tasks: &mut Vec<Task>,
+) -> Result<(), Memory>
+    requires number { number_of task < length pool.old.trees }
+    requires ready { IsReady pool.old.trees rule.now (get nat_eq done.old) [] task }
+    requires rule { IsRule pool.old.trees rule.now }
+    requires within { IsWithin pool.old.trees (get nat_eq done.old) }
+    ensures grows { OnOk result (Grows pool.old pool.new) }
+    ensures operators { OnOk result (pool.new.operators ≡ pool.old.operators) }
+    ensures within { OnOk result (IsWithin pool.new.trees (get nat_eq done.new)) }
+    ensures right { OnOk result ((us : List Tree) (F : Tree → Tree) → take (length us) pool.old.trees ≡ us
+        → number_of task < length us → IsExchange us (image_in us rule.now) F
+        → Exchanged us pool.old.trees F (get nat_eq done.old) → Exchanged us pool.new.trees F (get nat_eq done.new)) }
+    ensures tasks { OnOk result ((t : ℕ) → t < length pool.old.trees
+        → AreTasks pool.old.trees rule.now t (get nat_eq done.old) [] (task ∷ reverse tasks.old.items)
+        → AreTasks pool.new.trees rule.now t (get nat_eq done.new) [] (reverse tasks.new.items)) }
+    ensures effort { OnOk result ((t : ℕ) → t < length pool.old.trees
+        → AreTasks pool.old.trees rule.now t (get nat_eq done.old) [] (task ∷ reverse tasks.old.items)
+        → sum_by (effort pool.new.trees) (reverse tasks.new.items)
+        < sum_by (effort pool.old.trees) (task ∷ reverse tasks.old.items)) }
+{
+    match task {
+        Task::Visit(number) => {
+            visit(pool, number, rule, done, tasks)?;
+            Ok(())
+        }
+        Task::Rebuild(number) => {
+            rebuild(alloc, pool, number, done)?;
+            Ok(())
+        }
     }
 }
 
-// Does a number, or lets it wait for the arguments that it needs first.
-fn exchange_step(
-    alloc: Global,
-    pool: &mut Pool,
+// Finds what takes a number's place, or puts it on the stack to be rebuilt, below the arguments that it needs first.
+fn visit(
+    pool: &Pool,
     number: u32,
     rule: &Rule,
     done: &mut HashMap<u32, u32>,
-    waiting: &mut Vec<u32>,
+    tasks: &mut Vec<Task>,
 ) -> Result<(), Memory>
-    requires number { number < length pool.old.trees }
-    requires rule { IsRule pool.old.trees rule.now }
-    requires done { IsWithin pool.old.trees (get nat_eq done.old) }
-    ensures grows { OnOk result (Grows pool.old pool.new) }
-    ensures operators { OnOk result (pool.new.operators ≡ pool.old.operators) }
-    ensures done { OnOk result (IsWithin pool.new.trees (get nat_eq done.new)) }
-    ensures waiting { OnOk result ((b : ℕ) → number < b → All (λ q. q < b) waiting.old.items
-        → All (λ q. q < b) waiting.new.items) }
-    ensures right { OnOk result ((us : List Tree) (F : Tree → Tree) → take (length us) pool.old.trees ≡ us
+    requires number { number < length pool.now.trees }
+    requires rule { IsRule pool.now.trees rule.now }
+    requires within { IsWithin pool.now.trees (get nat_eq done.old) }
+    ensures within { OnOk result (IsWithin pool.now.trees (get nat_eq done.new)) }
+    ensures right { OnOk result ((us : List Tree) (F : Tree → Tree) → take (length us) pool.now.trees ≡ us
         → number < length us → IsExchange us (image_in us rule.now) F
-        → Exchanged us pool.old.trees F (get nat_eq done.old) → Exchanged us pool.new.trees F (get nat_eq done.new)) }
+        → Exchanged us pool.now.trees F (get nat_eq done.old) → Exchanged us pool.now.trees F (get nat_eq done.new)) }
+    ensures tasks { OnOk result ((t : ℕ) → number ≤ t
+        → AreTasks pool.now.trees rule.now t (get nat_eq done.old) (number ∷ []) (reverse tasks.old.items)
+        → AreTasks pool.now.trees rule.now t (get nat_eq done.new) [] (reverse tasks.new.items)) }
+    ensures effort { OnOk result (sum_by (effort pool.now.trees) (reverse tasks.new.items)
+        < 2 * nodes (tree_in pool.now.trees number) + sum_by (effort pool.now.trees) (reverse tasks.old.items)) }
 {
+    pool.are_apart();
     if done.contains_key(&number) {
         return Ok(());
     }
@@ -91,17 +131,17 @@ fn exchange_step(
         done.insert(number, image)?;
         return Ok(());
     }
-    let ready = make_ready(alloc, pool.node(number), number, done, waiting)?;
-    match ready {
-        Ready::Variable => {
+    match pool.node(number) {
+        PoolNode::Var(_, _) => {
             done.insert(number, number)?;
+            Ok(())
         }
-        Ready::Application(operator, arguments) => {
-            rebuild(pool, number, operator, arguments, done)?;
+        PoolNode::App(_, arguments) => {
+            tasks.push(Task::Rebuild(number))?;
+            push_missing(arguments.as_slice(), done, tasks)?;
+            Ok(())
         }
-        Ready::Waits => {}
     }
-    Ok(())
 }
 
 // The number that a rule has for a number.
@@ -142,87 +182,73 @@ fn image_at(images: &[u32], index: usize) -> Option<u32>
     images.get(index).copied()
 }
 
-// An application of what its arguments became.
+// Rebuilds an application of what its arguments became.
 fn rebuild(
+    alloc: Global,
     pool: &mut Pool,
     number: u32,
-    operator: u32,
-    arguments: NodeNumbers,
     done: &mut HashMap<u32, u32>,
 ) -> Result<(), Memory>
-    requires operator { operator < length pool.old.operators }
-    requires arguments { All (λ q. q < length pool.old.trees) arguments }
-    requires done { IsWithin pool.old.trees (get nat_eq done.old) }
+    requires number { number < length pool.old.trees }
+    requires application { IsApplication (tree_in pool.old.trees number) }
+    requires arguments { AreArgumentsDue pool.old.trees (get nat_eq done.old) [] number }
+    requires within { IsWithin pool.old.trees (get nat_eq done.old) }
     ensures grows { OnOk result (Grows pool.old pool.new) }
     ensures operators { OnOk result (pool.new.operators ≡ pool.old.operators) }
-    ensures done { OnOk result (IsWithin pool.new.trees (get nat_eq done.new)) }
-    ensures right { OnOk result ((us : List Tree) (F : Tree → Tree)
-        → F (tree_in us number) ≡ app (operator_in pool.old.operators operator)
-        (forest_of (map (tree_in pool.old.trees) arguments)) → Exchanged us pool.old.trees F (get nat_eq done.old)
-        → Exchanged us pool.new.trees F (get nat_eq done.new)) }
+    ensures within { OnOk result (IsWithin pool.new.trees (get nat_eq done.new)) }
+    ensures right { OnOk result ((us : List Tree) (table : ℕ → Option ℕ) (F : Tree → Tree)
+        → take (length us) pool.old.trees ≡ us → number < length us → IsExchange us table F → table number ≡ None
+        → Exchanged us pool.old.trees F (get nat_eq done.old) → Exchanged us pool.new.trees F (get nat_eq done.new)) }
+    ensures due { OnOk result ((q : ℕ) → IsDue (get nat_eq done.old) (number ∷ []) q
+        → IsDue (get nat_eq done.new) [] q) }
 {
-    let made = pool.apply(operator, arguments)?;
+    let PoolNode::App(operator, arguments) = pool.node(number) else {
+        unreachable!()
+    };
+    let operator = *operator;
+    let images = images_of(alloc, arguments.as_slice(), done)?;
+    let made = pool.apply(operator, images)?;
     done.insert(number, made)?;
     Ok(())
 }
 
-// What a node is ready for. Where it waits, it and all arguments that it waits for are put on the stack.
-fn make_ready(
-    alloc: Global,
-    node: &PoolNode,
-    number: u32,
-    done: &HashMap<u32, u32>,
-    waiting: &mut Vec<u32>,
-) -> Result<Ready, Memory>
-    ensures told { IfOk result (λ r. Told node.now (get nat_eq done.now) r) }
-    ensures waiting { OnOk result ((o b : ℕ) → StandsBehind o b node.now → number < b
-        → All (λ q. q < b) waiting.old.items → All (λ q. q < b) waiting.new.items) }
-{
-    match node {
-        PoolNode::Var(_, _) => Ok(Ready::Variable),
-        PoolNode::App(operator, arguments) => {
-            let images = images_of(alloc, arguments.as_slice(), done)?;
-            let Some(images) = images else {
-                waiting.push(number)?;
-                push_missing(arguments.as_slice(), done, waiting)?;
-                return Ok(Ready::Waits);
-            };
-            Ok(Ready::Application(*operator, images))
-        }
-    }
-}
-
-// What numbers became, if all are done.
+// What numbers became, all of which are done.
 fn images_of(
     alloc: Global,
     numbers: &[u32],
     done: &HashMap<u32, u32>,
-) -> Result<Option<NodeNumbers>, Memory>
-    ensures { IfOk result (λ o. IfSome o (λ ns. map (get nat_eq done.now) numbers.now ≡ map Some ns)) }
+) -> Result<NodeNumbers, Memory>
+    requires { All (λ q. IsSome (get nat_eq done.now q)) numbers.now }
+    ensures { IfOk result (λ ns. map (get nat_eq done.now) numbers.now ≡ map Some ns) }
 {
     let mut images = Vec::with_capacity(alloc, numbers.len())?;
     for number in numbers {
         let Some(image) = done.get(number) else {
-            return Ok(None);
+            unreachable!()
         };
         images.push(*image)?;
     }
-    Ok(Some(NodeNumbers::from_vec(images)))
+    Ok(NodeNumbers::from_vec(images))
 }
 
 // Puts the numbers that aren't done on the stack.
 fn push_missing(
     numbers: &[u32],
     done: &HashMap<u32, u32>,
-    waiting: &mut Vec<u32>,
+    tasks: &mut Vec<Task>,
 ) -> Result<(), Memory>
-    ensures { OnOk result ((b : ℕ) → All (λ q. q < b) numbers.now → All (λ q. q < b) waiting.old.items
-        → All (λ q. q < b) waiting.new.items) }
+    ensures tasks { OnOk result ((us : List Tree) (rule : Rule) (t : ℕ) (ns : List ℕ)
+        → All (λ q. q ≤ t) numbers.now
+        → AreTasks us rule t (get nat_eq done.now) (numbers.now ++ ns) (reverse tasks.old.items)
+        → AreTasks us rule t (get nat_eq done.now) ns (reverse tasks.new.items)) }
+    ensures effort { OnOk result ((us : List Tree) → sum_by (effort us) (reverse tasks.new.items)
+        ≤ sum_by (λ q. 2 * nodes (tree_in us q)) numbers.now + sum_by (effort us) (reverse tasks.old.items)) }
 {
     for number in numbers {
-        if !done.contains_key(number) {
-            waiting.push(*number)?;
+        if done.contains_key(number) {
+            continue;
         }
+        tasks.push(Task::Visit(*number))?;
     }
     Ok(())
 }

@@ -1,24 +1,19 @@
 -- Different variables have different numbers.
-use Rattle.std.proofs.Common.{◌≡◌, ◌==◌, ℕ, suc, ◌+◌, ◌<◌, Bool, true, false, not, ◌&&◌, ◌||◌, if◌then◌else◌, List, []}
-use Rattle.std.proofs.Common.{◌∷◌, ◌++◌, length, take, drop, get_or, map, All, Option, Some, None, refl, sym, ◌∙◌, ap}
+use Rattle.std.proofs.Common.{◌≡◌, ℕ, suc, ◌+◌, ◌<◌, Bool, true, false, if◌then◌else◌, List, []}
+use Rattle.std.proofs.Common.{◌∷◌, ◌++◌, length, take, drop, get_or, map, Option, Some, None, refl, sym, ◌∙◌, ap}
 use Rattle.std.proofs.Common.{subst}
-use Rattle.std.specs.List.{list_any}
-use Rattle.std.specs.Option.{is_some, option_map, option_and_then}
-use Rattle.std.proofs.lemmas.Bool.Decides.{Decides-eqb}
+use Rattle.std.specs.Option.{option_map, option_and_then}
 use Rattle.std.proofs.lemmas.List.{map_push, take_more}
 use Rattle.std.proofs.lemmas.List.Elements.{All-head, All-tail, All-nil, All-cons, All-push}
 use Rattle.std.proofs.lemmas.Option.{option_and_then_some}
-use Rattle.larch_base.proofs.Bools.{same_truth}
 use Rattle.larch_base.proofs.Options.{some_inj}
 use Rattle.larch_term.specs.Operator.{PlainOperator}
 use Rattle.larch_term.specs.Substitution.{instance_of}
-use Rattle.larch_term.specs.Tree.{Tree, var, app}
-use Rattle.larch_term.specs.Variable.{same_variable}
+use Rattle.larch_term.specs.Tree.{Tree}
 use Rattle.larch_term.specs.declared.statement.Statement.{Statement}
 use Rattle.larch_term.specs.declared.statement.Statement.TheVariants.{Equation}
 use Rattle.larch_term.specs.declared.substitution.Entry.{Entry}
 use Rattle.larch_term.specs.declared.variable.Variable.{Variable}
-use Rattle.larch_term_law.proofs.Occurring.{variable_Decides}
 use Rattle.larch_certificate.specs.declared.line.Binding.{Binding as Written}
 use Rattle.larch_certificate.specs.declared.symbol.Symbol.{Symbol}
 use Rattle.larch_verify_meaning.specs.BoxRules.{equation_alone}

@@ -1,9 +1,7 @@
 -- Rows with and without sorts of their own.
-use Rattle.std.proofs.Common.{◌≡◌, ℕ, zero, suc, ◌==◌, ◌-◌, ◌<◌, ◌≤◌, Bool, true, false, not, ◌||◌, if◌then◌else◌}
-use Rattle.std.proofs.Common.{length, arith, List, [], ◌∷◌, take, bytes_eq, Option, Some, None, refl, sym, ◌∙◌, ap}
+use Rattle.std.proofs.Common.{◌≡◌, ℕ, ◌<◌, ◌≤◌, Bool, true, false, not, ◌||◌, if◌then◌else◌}
+use Rattle.std.proofs.Common.{length, arith, List, take, bytes_eq, Option, Some, None, refl, sym, ◌∙◌, ap}
 use Rattle.std.specs.Option.{is_some, option_map, option_and_then}
-use Rattle.std.specs.List.{slice_get}
-use Rattle.std.proofs.lemmas.Option.{slice_get_past}
 use Rattle.std.proofs.lemmas.Slice.Eq.{bytes_eq-Decides}
 use Rattle.larch_base.specs.ByNumber.{numbered}
 use Rattle.larch_term.specs.BuiltIn.{bool_sort}
@@ -71,13 +69,13 @@ pub marked : (b : Bool) (n : ℕ) (s : List ℕ) → has_mark b (numbered (built
     → offered_row n s ≡ row_at b (numbered (built_in_rows s) n)
 marked b n s e h = marked_as b (numbered (built_in_rows s) n) s e h
 
--- there are 40 rows
-pub no_further : (s : List ℕ) (n : ℕ) → 40 < n → numbered (built_in_rows s) n ≡ None
+-- no row has a number of more than 32 bits
+pub no_further : (s : List ℕ) (n : ℕ) → (n < 4294967296 → ⊥) → None ≡ numbered (built_in_rows s) n
 no_further s n l = by (numbered (built_in_rows s) n) refl
   where
-    by : (o : Option PlainRow) → numbered (built_in_rows s) n ≡ o → o ≡ None
+    by : (o : Option PlainRow) → numbered (built_in_rows s) n ≡ o → None ≡ o
     by None e = refl
     by (Some row) e =
-        let k : length (built_in_rows s) ≡ 40 = refl in
+        let k : length (built_in_rows s) < 4294967296 = omega arith in
         let h : n ≤ length (built_in_rows s) = ((has_number (built_in_rows s) n).0 (ap is_some e)).1 in
-        absurd (omega (arith, k, h, l))
+        absurd (l (omega (arith, k, h)))

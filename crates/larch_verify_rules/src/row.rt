@@ -71,13 +71,13 @@ fn row_equation(
     requires { sorted ≡ false → sort.now ≡ bool_sort }
     ensures { IfOk result (λ o. o ≡ row_at sorted (numbered (built_in_rows sort.now) number)) }
 {
-    if number > 40 {
+    let Ok(number) = u32::try_from(number) else {
+        return Ok(None);
+    };
+    if !has_row(number, sorted) {
         return Ok(None);
     }
-    if !has_row(number as u32, sorted) {
-        return Ok(None);
-    }
-    match row_statement(alloc, number as u32, sort) {
+    match row_statement(alloc, number, sort) {
         Ok(statement) => Ok(Some(statement)),
         Err(RowRefusal::NoRow) => Ok(None),
         Err(RowRefusal::Memory) => Err(Memory),

@@ -1,5 +1,5 @@
 use larch_base::{Bytes, Memory, Sequence};
-use larch_certificate::Line;
+use larch_certificate::{Coded, CodedTerms, Line, Symbol};
 use larch_certificate_reader::read_certificate;
 use larch_term::{Operators, Statement, Theory};
 use larch_theory_text::{read_operators, read_statements};
@@ -72,4 +72,16 @@ pub(crate) fn verdict_of(
     let lines = read_certificate(alloc, text)?;
     let verdict = verdict_on(alloc, shown, lines.as_slice())?;
     Ok(verdict)
+}
+
+// s(s(..s(c)..)), so deep.
+pub(crate) fn deep(alloc: Global, constant: Symbol, depth: u64) -> Result<Coded, Memory> {
+    let mut term = Coded::app(constant, CodedTerms::none());
+    for _ in 0..depth {
+        let mut arguments = Vec::with_capacity(alloc, 1)?;
+        arguments.push(term)?;
+        let arguments = CodedTerms::from_vec(arguments)?;
+        term = Coded::app(Symbol::Own(2), arguments);
+    }
+    Ok(term)
 }

@@ -1,6 +1,6 @@
-use crate::making::{verdict_of, verdict_on};
+use crate::making::{deep, verdict_of, verdict_on};
 use larch_base::{Bytes, Memory};
-use larch_certificate::{Coded, CodedTerms, Line, Symbol};
+use larch_certificate::{Line, Symbol};
 use larch_verify::Verdict;
 use std::alloc::Global;
 use std::test::Fail;
@@ -79,21 +79,9 @@ fn refuses_changed_lines(rt: HostRuntime) -> Result<(), Fail> {
     Ok(())
 }
 
-// s(s(..s(0)..)), so deep.
-fn deep(alloc: Global, depth: u64) -> Result<Coded, Memory> {
-    let mut term = Coded::app(Symbol::Own(1), CodedTerms::none());
-    for _ in 0..depth {
-        let mut arguments = Vec::with_capacity(alloc, 1)?;
-        arguments.push(term)?;
-        let arguments = CodedTerms::from_vec(arguments)?;
-        term = Coded::app(Symbol::Own(2), arguments);
-    }
-    Ok(term)
-}
-
 #[test]
 fn goes_down_terms_by_loops(rt: HostRuntime) -> Result<(), Memory> {
-    let term = deep(rt.alloc(), 100_000)?;
+    let term = deep(rt.alloc(), Symbol::Own(1), 100_000)?;
     let verdict = verdict_on(rt.alloc(), SHOWN, &[Line::Refl(term)])?;
     assert_eq!(rt; verdict, Some(Verdict::Refused(2)));
     Ok(())

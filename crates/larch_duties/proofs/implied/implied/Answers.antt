@@ -6,7 +6,7 @@ use Rattle.larch_traits_items.specs.Refusal.{cause}
 use Rattle.larch_traits_items.specs.Steps.{all_behind, all_taken}
 use Rattle.larch_duties.specs.Steps.{reference_implies}
 use Rattle.larch_duties.specs.TraitDuties.{flat_with}
-use Rattle.larch_duties.proofs.Claims.{implied_told, items_wrong}
+use Rattle.larch_duties.proofs.ByParts.{implied_told, items_wrong}
 use Rattle.larch_duties.proofs.implied.implied.Goals as goal
 
 pub returns-in_err-more : goal.returns-in_err-more

@@ -10,7 +10,7 @@ use Rattle.larch_duties_meaning.specs.Duties.{all_duties}
 use Rattle.larch_flat.specs.Known.{stop_told}
 use Rattle.larch_duties.specs.Kept.{duties_in}
 use Rattle.larch_duties.specs.TraitDuties.{flat_with}
-use Rattle.larch_duties.proofs.Claims.{claims_kept, claims_stopped, clauses_wrong}
+use Rattle.larch_duties.proofs.ByParts.{claims_kept, claims_stopped, clauses_wrong}
 use Rattle.larch_duties.proofs.trait_duties.claims_of.Goals as goal
 
 pub returns-in_err-statements : goal.returns-in_err-statements

@@ -18,3 +18,12 @@ returns-clause-answer g c =
     files_answered Check c.args.names.now (g.F.Folder.files c.args.folder.now) (λ files. IsAnswer (check_answer files))
     (λ folder text status by. by) (Whole c.in_ok-files.files) c.in_ok-answer.answer c.in_ok-files.ensures.found
     (is_answer _ _ c.in_ok-answer.ensures)
+
+pub returns-in_err-files-clause-looks : goal.returns-in_err-files-clause-looks
+returns-in_err-files-clause-looks g c = c.gather.ensures.looks
+
+pub returns-in_err-answer-clause-looks : goal.returns-in_err-answer-clause-looks
+returns-in_err-answer-clause-looks g c = c.gather.ensures.looks
+
+pub returns-clause-looks : goal.returns-clause-looks
+returns-clause-looks g c = c.gather.ensures.looks

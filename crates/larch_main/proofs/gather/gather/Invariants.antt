@@ -1,5 +1,6 @@
-use Rattle.std.proofs.Common.{◌≡◌, drop}
+use Rattle.std.proofs.Common.{◌≡◌, drop, take}
 use Rattle.larch_main.specs.Look.{Gathers}
+use Rattle.larch_main.proofs.Turns.{Searched}
 use Rattle.larch_main.proofs.gather.gather.Given as goal
 
 -- the files of the names so far
@@ -8,4 +9,7 @@ invariant-loop-name g l = record {
   gathers : Gathers (g.F.Folder.files l.initial.folder) l.names (drop l.name-index l.names) l.files;
   same : g.F.Folder.files l.folder ≡ g.F.Folder.files l.initial.folder;
   fine : g.F.Folder.faults l.folder ≡ g.F.Folder.faults l.initial.folder;
+  searched :
+      Searched (g.F.Folder.files l.initial.folder) (g.F.Folder.looks l.initial.folder) (g.F.Folder.looks l.folder)
+      (take l.name-index l.names) l.files;
 }

@@ -6,6 +6,7 @@ use Rattle.larch_traits.specs.Files.{Table}
 use Rattle.larch_main.specs.Gather.{Whole}
 use Rattle.larch_main.specs.Look.{ComesTo, found_of}
 use Rattle.larch_main.proofs.Evidence.{certificate_refused, files_refused, whole_evidence}
+use Rattle.larch_main.proofs.Turns.{certificate_alone, certificate_first}
 use Rattle.larch_main.proofs.gather.gather_evidence.Goals as goal
 
 pub returns-in_err-text-clause-found : goal.returns-in_err-text-clause-found
@@ -31,3 +32,17 @@ returns-clause-found g c =
     c.requires.names c.in_ok-text.text c.in_ok-text.ensures.found (Whole c.in_ok-files.files)
     (subst (λ told. ComesTo told c.args.names.now (Whole c.in_ok-files.files)) c.in_ok-text.ensures.same
     c.in_ok-files.ensures.found)
+
+pub returns-in_err-text-clause-looks : goal.returns-in_err-text-clause-looks
+returns-in_err-text-clause-looks g c =
+    certificate_alone _ c.args.certificate.now c.args.names.now _ _ c.fetch.ensures.looked
+
+pub returns-in_err-files-clause-looks : goal.returns-in_err-files-clause-looks
+returns-in_err-files-clause-looks g c =
+    certificate_first _ _ c.args.certificate.now c.in_ok-text.text c.args.names.now _ _ _ c.fetch.ensures.same
+    c.in_ok-text.ensures.file c.fetch.ensures.looked c.gather.ensures.looks
+
+pub returns-clause-looks : goal.returns-clause-looks
+returns-clause-looks g c =
+    certificate_first _ _ c.args.certificate.now c.in_ok-text.text c.args.names.now _ _ _ c.fetch.ensures.same
+    c.in_ok-text.ensures.file c.fetch.ensures.looked c.gather.ensures.looks

@@ -17,3 +17,6 @@ returns-in-Err-clause-fine g c =
 pub returns-in-Err-clause-faults : goal.returns-in-Err-clause-faults
 returns-in-Err-clause-faults g c =
     err_by _ _ c.answer_to.result (λ halt by. by _ _ c.in-Err.ensures.faults) c.answer_to.ensures.halt
+
+pub returns-in-Err-clause-looks : goal.returns-in-Err-clause-looks
+returns-in-Err-clause-looks g c = c.in-Err.ensures.looks

@@ -1,6 +1,7 @@
 -- What the words ask for, and what that call does.
 use Rattle.std.proofs.Common.{◌∙◌, ap, map, refl, string_bytes, sym}
 use Rattle.larch_words.specs.declared.call.Call.TheVariants as call_
+use Rattle.larch_main.proofs.Turns.{looks_as, no_look}
 use Rattle.larch_main.proofs.Whole.{asked_certificate, completes_as, folder_kept, memory_input}
 use Rattle.larch_main.proofs.Whole.{nothing_written, shows, source_kept, unlooked, unread, usage_sink, usage_writes}
 use Rattle.larch_main.proofs.Whole.{writes_as}
@@ -96,3 +97,18 @@ returns-in-Err-clause-folder g c = folder_kept _ _
 
 pub returns-in-Err-clause-untouched : goal.returns-in-Err-clause-untouched
 returns-in-Err-clause-untouched g c = source_kept _ _
+
+pub returns-in-Session-clause-looks : goal.returns-in-Session-clause-looks
+returns-in-Session-clause-looks g c = no_look _ _ _
+
+pub returns-in-Nothing-clause-looks : goal.returns-in-Nothing-clause-looks
+returns-in-Nothing-clause-looks g c = no_look _ _ _
+
+pub returns-in-Err-clause-looks : goal.returns-in-Err-clause-looks
+returns-in-Err-clause-looks g c = no_look _ _ _
+
+pub returns-clause-looks : goal.returns-clause-looks
+returns-clause-looks g c =
+    looks_as _ _ _ _ _
+    (ap (λ names. call_.OnFiles c.in-OnFiles.question names) c.as_slice.ensures
+    ∙ (sym c.in-OnFiles.is ∙ c.in-Ok.ensures)) c.run_on_files.ensures.looks

@@ -25,3 +25,6 @@ returns-clause-sink_faults g c =
     look_sink c.args.question.now c.args.names.now
     (g.F.Folder.files c.args.folder.now) c.answer-answered.result c.answer-answered.ensures.answer _ _ _ _
     c.tell.result c.tell.ensures
+
+pub returns-clause-looks : goal.returns-clause-looks
+returns-clause-looks g c = c.answer-answered.ensures.looks

@@ -22,3 +22,12 @@ returns-clause-answer g c =
     (λ evidence. IsAnswer (verification_answer c.args.asked.now.stem c.args.asked.now.label evidence))
     (λ folder text status by. by) (Whole c.in_ok-evidence.evidence) c.in_ok-answer.answer
     c.in_ok-evidence.ensures.found (is_answer _ _ c.in_ok-answer.ensures)
+
+pub returns-in_err-evidence-clause-looks : goal.returns-in_err-evidence-clause-looks
+returns-in_err-evidence-clause-looks g c = c.gather_evidence.ensures.looks
+
+pub returns-in_err-answer-clause-looks : goal.returns-in_err-answer-clause-looks
+returns-in_err-answer-clause-looks g c = c.gather_evidence.ensures.looks
+
+pub returns-clause-looks : goal.returns-clause-looks
+returns-clause-looks g c = c.gather_evidence.ensures.looks

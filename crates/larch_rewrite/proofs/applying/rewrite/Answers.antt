@@ -1,16 +1,16 @@
-use Rattle.std.specs.Prelude.{All, Some}
+use Rattle.std.specs.Prelude.{Some}
 use Rattle.std.proofs.Common.{sym, subst}
 use Rattle.std.proofs.lemmas.List.Elements.{All-nil}
 use Rattle.larch_rewrite_step.specs.Holding.{RuleHolds}
 use Rattle.larch_derive.specs.Predicates.{Known}
 use Rattle.larch_derive.proofs.Growth.{stays_known}
-use Rattle.larch_rewrite_match.specs.Rule.{IsSaidByRow}
 use Rattle.larch_rewrite_match.specs.Bound.{entries_of}
-use Rattle.larch_rewrite_match.specs.Search.{IsBy, IsRedex}
+use Rattle.larch_rewrite_match.specs.Search.{IsBy}
 use Rattle.larch_store.specs.Numbered.{term_of}
 use Rattle.larch_store.specs.Stored.{Belongs}
 use Rattle.larch_store.proofs.Growth.{belongs_stays}
 use Rattle.larch_derive_lines.proofs.Ways.{leads_known}
+use Rattle.larch_rewrite.specs.Search.{IsRedex}
 use Rattle.larch_rewrite.proofs.Roots.{found_holds}
 use Rattle.larch_rewrite.proofs.applying.rewrite.Goals as goal
 

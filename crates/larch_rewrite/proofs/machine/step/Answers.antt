@@ -110,9 +110,9 @@ pub returns-in_ok-turn-in-Root-clause-says : goal.returns-in_ok-turn-in-Root-cla
 returns-in_ok-turn-in-Root-clause-says c h d =
     let g = says_from _ _ _ _ _ _ c.in-Root.is h in
     says_kept _ _ _ _ _ _ _ (kept_from _ _ _ _ _ c.in_ok-turn-in-Root.ensures.kept c.keep-in-Root.ensures)
-    (says_on _ _ _ _ _ _ _ (c.in_ok-turn-in-Root.ensures.extends _ g.rules_hold g.way d)
+    (says_on _ _ _ _ _ _ _ (c.in_ok-turn-in-Root.ensures.extends _ g.rules_said g.way d)
     c.in_ok-turn-in-Root.ensures.start
-    (c.in_ok-turn-in-Root.ensures.says _ g.rules_hold g.way d) g)
+    (c.in_ok-turn-in-Root.ensures.says _ g.rules_said g.way d) g)
 
 pub returns-in_err-turn-in-Root-clause-refused : goal.returns-in_err-turn-in-Root-clause-refused
 returns-in_err-turn-in-Root-clause-refused c =

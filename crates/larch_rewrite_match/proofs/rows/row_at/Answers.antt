@@ -1,4 +1,4 @@
-use Rattle.std.proofs.Common.{◌≡◌, Some, cond, None, sym, ◌∙◌, ap, subst}
+use Rattle.std.proofs.Common.{Some, sym, ◌∙◌, ap, subst}
 use Rattle.larch_rewrite_meaning.specs.Sides.{sides_of}
 use Rattle.larch_tables.specs.Statement.{offered_row}
 use Rattle.larch_rewrite_match.specs.Rule.{RowSays}

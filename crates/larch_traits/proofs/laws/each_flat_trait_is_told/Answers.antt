@@ -1,4 +1,4 @@
-use Rattle.std.proofs.Common.{length, refl, subst, ◌≤◌, sym, arith}
+use Rattle.std.proofs.Common.{length, arith}
 use Rattle.larch_flat_meaning.proofs.DeepEnough.{deep_enough}
 use Rattle.larch_flat_sources.specs.Sources.{files_in, names_in}
 use Rattle.larch_flat_sources.proofs.Tables.{among, names_length}

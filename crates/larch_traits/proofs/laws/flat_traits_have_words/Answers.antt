@@ -1,5 +1,5 @@
 use Rattle.std.proofs.Common.{length}
-use Rattle.larch_flat_meaning.proofs.Variables.{variables_words}
+use Rattle.larch_flat_meaning.proofs.Variables.{discharge_in_words, variables_words}
 use Rattle.larch_flat_meaning.proofs.Words.{operators_words, statements_words}
 use Rattle.larch_flat_sources.specs.Sources.{files_in}
 use Rattle.larch_traits.specs.Reading.{read_files}
@@ -17,3 +17,7 @@ returns-clause-sorts c files stem t e =
 pub returns-clause-variables : goal.returns-clause-variables
 returns-clause-variables c files stem t e =
     variables_words (files_in (read_files files)) (read_worded files) (length (read_files files)) stem t e
+
+pub returns-clause-discharge : goal.returns-clause-discharge
+returns-clause-discharge c files stem t e =
+    discharge_in_words (files_in (read_files files)) (read_worded files) (length (read_files files)) stem t e

@@ -1,4 +1,4 @@
-use Rattle.std.proofs.Common.{◌≡◌, sym, ◌∙◌, ap, map}
+use Rattle.std.proofs.Common.{◌≡◌, sym, ◌∙◌, ap}
 use Rattle.std.specs.Option.{option_map, option_and_then}
 use Rattle.larch_base.specs.ByNumber.{numbered}
 use Rattle.larch_verify_meaning.specs.Context.{find_open}

@@ -1,10 +1,9 @@
-use Rattle.std.proofs.Common.{◌≡◌, ◌++◌, [], ◌∷◌, List, Some, None, sym, ◌∙◌, ap, subst, arith}
+use Rattle.std.proofs.Common.{◌≡◌, ◌++◌, [], ◌∷◌, Some, sym, ◌∙◌, ap, subst, arith}
 use Rattle.std.specs.Prelude.{IfSome}
 use Rattle.std.specs.Option.{option_map}
 use Rattle.std.proofs.lemmas.Grind.{common_steps}
 use Rattle.larch_verify_meaning.specs.Context.{find_symbol}
 use Rattle.larch_verify_meaning.specs.Decoding.{decode_binding}
-use Rattle.larch_verify_pool.specs.declared.substitution.PoolBinding.{PoolBinding}
 use Rattle.larch_verify_history.specs.Past.{history_of}
 use Rattle.larch_verify_history.proofs.Staying.{past_stays, history_same}
 use Rattle.larch_verify_rules.specs.Instances.{IsBinding, entry_of}

@@ -1,4 +1,4 @@
-use Rattle.std.proofs.Common.{Some, sym, ◌∙◌, ap, subst}
+use Rattle.std.proofs.Common.{Some, ◌∙◌, subst}
 use Rattle.std.specs.Prelude.{IfSome}
 use Rattle.larch_term.specs.Place.{put}
 use Rattle.larch_term.specs.declared.statement.Statement.TheVariants.{Equation}

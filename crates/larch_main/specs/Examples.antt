@@ -1,0 +1,35 @@
+-- What the examples of answers are written with.
+use Rattle.std.specs.Prelude.{ℕ, codes, List, [], ◌∷◌, ◌++◌}
+use Rattle.larch_base.specs.declared.label.Label.{Label}
+use Rattle.larch_certificate_text.specs.CertificateText.{read_certificate}
+use Rattle.larch_certificate_text.specs.TermText.{run}
+use Rattle.larch_duties_meaning.specs.Examples.{computing}
+use Rattle.larch_io.specs.Folder.{FileMap}
+use Rattle.larch_lexer.specs.Lexing.{lexing_of}
+use Rattle.larch_words.specs.declared.call.Question.{Question}
+use Rattle.larch_words.specs.declared.call.Question.TheVariants.{Verify}
+
+-- all words that an example unfolds
+unfoldable pub answering : Unit {0}
+unfolding computing lexing_of read_certificate run
+answering = tt
+
+-- a trait of one constant c that implies c == c
+abbrev pub one_text : List ℕ
+one_text = codes "One: trait introduces c: -> S implies c == c"
+
+-- the name of its file
+abbrev pub one_file : List ℕ
+one_file = codes "One.lsl"
+
+-- a folder of that file
+abbrev pub one_folder : FileMap
+one_folder = (one_file, one_text) ∷ []
+
+-- the question whether c.cert shows the duty of that trait with a label
+abbrev pub asked_of_one : Label → Question
+asked_of_one label = Verify (record { stem = codes "One"; label = label; certificate = codes "c.cert" })
+
+-- a folder of that file and a certificate with these lines
+abbrev pub with_certificate : List ℕ → FileMap
+with_certificate lines = (codes "c.cert", codes "certificate 1\n" ++ lines) ∷ one_folder

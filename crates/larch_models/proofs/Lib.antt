@@ -1,0 +1,15 @@
+pub mod Answers
+pub mod Counts
+pub mod Cuts
+pub mod Equations
+pub mod Every
+pub mod Generations
+pub mod Lasts
+pub mod Makers
+pub mod ModelLines
+pub mod Operations
+pub mod Partitions
+pub mod Programs
+pub mod Rests
+pub mod SortWords
+pub mod TableWords

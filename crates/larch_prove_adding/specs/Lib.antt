@@ -1,0 +1,5 @@
+pub mod Deductions
+pub mod Equation
+pub mod KeptFacts
+pub mod KeptFactsCode
+pub mod Turns

@@ -1,0 +1,15 @@
+//! The facts of a level with the lines that say them: how its goal gets its normal form, and how equations are added.
+#![tactic(auto)]
+
+mod adding;
+mod deducing;
+mod equation;
+mod facts;
+mod normal;
+mod orienting;
+mod treating;
+
+pub use equation::SaidEquation;
+pub use facts::Facts;
+pub use normal::{LevelGoal, normal_goal};
+pub use treating::Manner;
