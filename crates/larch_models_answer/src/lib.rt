@@ -8,4 +8,4 @@ mod laws;
 
 pub use finding::{Ending, Finding};
 pub use judging::judge_model;
-pub use laws::derivable_claims_hold;
+pub use laws::{derivable_claims_hold, failing_claims_fail};

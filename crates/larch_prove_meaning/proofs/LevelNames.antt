@@ -251,7 +251,11 @@ risen_by parent below (OfProof f) go p q h l b k =
 risen_goes : (below : List Level) (level : Level) → GoesUpon level below (rise below level)
 risen_goes [] level p q h l b k =
     subst (Goes p) (ok_inj k)
-    (record { named = record { current = l; below = b }; hypotheses = omega arith; derived = omega arith })
+    (record {
+      named = record { current = record { different = l.different; given = l.given }; below = b };
+      hypotheses = omega arith;
+      derived = omega arith;
+    })
 risen_goes (parent ∷ below) level p q h l b k =
     let N = IsNamedLevel p.next_hypothesis p.next_derived in
     risen_by parent below level.purpose (risen_goes below) p q h (All-head N parent below b)

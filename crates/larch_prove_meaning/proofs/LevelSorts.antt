@@ -318,7 +318,15 @@ risen_by t ls cs parent below (OfProof f) go u l b p q h k =
 pub risen_keeps : (t : Theory) (ls : List EarlierDuty) (cs : List PlainOperator) (below : List Level)
     → All (IsLevelOver (t.operators ++ cs)) below → RisesOver t ls cs below
 risen_keeps t ls cs [] b level l p q h k =
-    subst (Is t ls cs) (ok_inj k) (moved t ls cs p level [] h l b)
+    subst (Is t ls cs) (ok_inj k)
+    (moved t ls cs p (record level { remaining = [] }) [] h
+    (record {
+      purpose = l.purpose;
+      facts = l.facts;
+      goal = l.goal;
+      remaining = All-nil (IsSubgoalOver (t.operators ++ cs));
+    })
+    b)
 risen_keeps t ls cs (parent ∷ below) b level l p q h k =
     let fs = t.operators ++ cs in
     let rest = All-tail (IsLevelOver fs) parent below b in

@@ -148,9 +148,11 @@ opened_from done parent below (s ∷ ss) p =
     ])
 
 -- A level is proved, and these stand below it: the next subgoal is opened, or the level below is proved by it; a
--- formula that a command proved is added to the level below, which may be proved by that.
+-- formula that a command proved is added to the level below, which may be proved by that. Behind the last level all is
+-- proved, and nothing remains.
 abbrev pub rise : List Level → Level → Next
-rise [] level p = Ok (with_mark true (record p { current = level; below = []; is_proved = true }))
+rise [] level p =
+    Ok (with_mark true (record p { current = record level { remaining = [] }; below = []; is_proved = true }))
 rise (parent ∷ below) level p = elim level.purpose [
   -- never: nothing stands below the duty's level
   | OfDuty ↦ Ok p

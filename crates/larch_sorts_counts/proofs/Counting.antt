@@ -145,3 +145,12 @@ times_times Often Once c = refl
 times_times Often Often Never = refl
 times_times Often Often Once = refl
 times_times Often Often Often = refl
+
+pub plus_plus : (a b c : Count) → plus (plus a b) c ≡ plus a (plus b c)
+plus_plus Never b c = refl
+plus_plus Once Never c = refl
+plus_plus Once Once Never = refl
+plus_plus Once Once Once = refl
+plus_plus Once Once Often = refl
+plus_plus Once Often c = refl
+plus_plus Often b c = refl

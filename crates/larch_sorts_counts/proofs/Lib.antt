@@ -1,5 +1,6 @@
 pub mod Counting
 pub mod CountsTold
+pub mod InCommon
 pub mod Numbering
 pub mod Products
 pub mod Spreading

@@ -1,7 +1,7 @@
 -- Counts of which a part is held.
-use Rattle.std.proofs.Common.{◌≡◌, ℕ, ◌+◌, ◌-◌, ◌<◌, ◌≤◌, zero, suc, List, [], ◌∷◌, set, length, replicate, get_or}
+use Rattle.std.proofs.Common.{◌≡◌, ℕ, ◌+◌, ◌<◌, ◌≤◌, zero, suc, List, [], ◌∷◌, set, length, replicate, get_or}
 use Rattle.std.proofs.Common.{All, take, inl, inr, refl, sym, ◌∙◌, ap, subst, arith}
-use Rattle.std.proofs.lemmas.List.{set_past, take_all}
+use Rattle.std.proofs.lemmas.List.{set-get_or, set_past, take_all}
 use Rattle.std.proofs.lemmas.List.Elements.{All-more, All-same, All-weaker}
 use Rattle.larch_sorts_counts.specs.Count.{alone, count_at, plus, sum_to}
 use Rattle.larch_sorts_counts.specs.Spread.{LiesBetween, spread}
@@ -147,3 +147,11 @@ module _ (gs : List Numbered) (n : ℕ) where
       → All (λ h. LiesBetween first end n h.range) gs
   lie_all i first end l all =
       All-same (λ (h : Numbered). LiesBetween first end n h.range) gs (take i gs) (sym (take_all i gs l)) all
+
+-- where nothing is added all counts stay
+pub nothing_added : (cs : List Count) (number : ℕ) (count : Count) → count ≡ Never
+    → cs ≡ set cs number (plus (count_at cs number) count)
+nothing_added cs number count e =
+    sym (ap (λ c. set cs number (plus (count_at cs number) c)) e
+    ∙ ap (set cs number) (plus_never (count_at cs number))
+    ∙ set-get_or cs number Never)

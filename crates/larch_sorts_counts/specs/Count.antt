@@ -32,6 +32,10 @@ times Often Often = Often
 abbrev pub count_at : List Count → ℕ → Count
 count_at counts i = get_or counts i Never
 
+-- how often two have one number in common
+abbrev pub together : List Count → List Count → ℕ → Count
+together counts further i = times (count_at counts i) (count_at further i)
+
 -- the counts of all numbers below one together
 abbrev pub sum_to : (ℕ → Count) → ℕ → Count
 sum_to f zero = Never

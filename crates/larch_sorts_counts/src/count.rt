@@ -1,5 +1,6 @@
-ghost use Rattle.std.specs.Prelude.{◌≡◌};
+ghost use Rattle.std.specs.Prelude.{◌≡◌, false};
 ghost use Rattle.larch_sorts_counts.specs.Count.{plus, times};
+ghost use Rattle.larch_sorts_counts.specs.declared.count.Count.TheVariants.{Never};
 
 /// How often something is found: never, once, or in several ways.
 #[derive(Clone, Copy)]
@@ -32,6 +33,16 @@ impl Count {
             (Count::Never, _) | (_, Count::Never) => Count::Never,
             (Count::Once, other) => other,
             (Count::Often, _) => Count::Often,
+        }
+    }
+
+    // Whether something is found at all.
+    pub(crate) fn occurs(self) -> bool
+        ensures { result ≡ false → self ≡ Never }
+    {
+        match self {
+            Count::Never => false,
+            Count::Once | Count::Often => true,
         }
     }
 }

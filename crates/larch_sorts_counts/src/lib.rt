@@ -4,6 +4,7 @@
 mod count;
 mod counts;
 mod numbers;
+mod pairing;
 pub mod tally;
 mod words;
 

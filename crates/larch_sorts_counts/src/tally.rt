@@ -1,12 +1,13 @@
 ghost use Rattle.std.specs.Prelude.{◌≡◌, ◌≤◌, ◌<◌, ◌+◌, ◌-◌, ℕ, All, IfOk, IfSome, length, map, set, suc};
 ghost use Rattle.larch_sorts_counts.specs.Counted.{counts_in};
-ghost use Rattle.larch_sorts_counts.specs.Count.{alone, count_at, counts_made, plus, product, sum_to, times};
+ghost use Rattle.larch_sorts_counts.specs.Count.{alone, count_at, counts_made, plus, product, sum_to, times, together};
 ghost use Rattle.larch_sorts_counts.specs.Spread.{LiesBetween, spread};
 ghost use Rattle.larch_sorts_counts.specs.declared.count.Count.TheVariants.{Never};
 
 use crate::count::Count;
 use crate::counts::Counted;
 use crate::numbers::Numbered;
+use crate::pairing::count_pairs;
 use larch_base::Memory;
 use std::alloc::Global;
 use std::marker::Model;
@@ -142,6 +143,9 @@ fn add(held: &mut Vec<Count>, first: usize, numbers: usize, number: usize, count
     if numbers <= number {
         return;
     }
+    if !count.occurs() {
+        return;
+    }
     let place = number - first;
     held[place] = held[place].plus(count);
 }
@@ -189,6 +193,9 @@ pub fn product(arguments: &[Counted], numbers: &[usize]) -> Count
     for i in 0..numbers.len() {
         let count = count_at(&arguments[i].counts, numbers[i]);
         product = product.times(count);
+        if let Count::Never = product {
+            return Count::Never;
+        }
     }
     product
 }
@@ -212,18 +219,26 @@ pub fn total(size: usize, counts: &SortCounts) -> Count
 /// takes no memory.
 pub fn meeting(size: usize, left: &SortCounts, right: &SortCounts) -> Option<Count>
     ensures { IfSome result (λ count. (times (count_at left.now size) (count_at right.now size) ≡ Never)
-        × (count ≡ sum_to (λ i. times (count_at left.now i) (count_at right.now i)) size)) }
+        × (count ≡ sum_to (together left.now right.now) size)) }
 {
     let Count::Never = count_at(left, size).times(count_at(right, size)) else {
         return None;
     };
-    let (first, end) = span(left, size);
-    let mut total = Count::Never;
-    for i in first..end {
-        total = total.plus(count_at(left, i).times(count_at(right, i)));
-        if let Count::Often = total {
-            return Some(Count::Often);
-        }
+    Some(common(size, left, right))
+}
+
+// How often two terms have one of so many sorts in common.
+fn common(size: usize, left: &SortCounts, right: &SortCounts) -> Count
+    ensures { result ≡ sum_to (together left.now right.now) size }
+{
+    let first = left.first.max(right.first);
+    let behind_left = left.first.saturating_add(left.held.len());
+    let behind_right = right.first.saturating_add(right.held.len());
+    let end = size.min(behind_left.min(behind_right));
+    if end <= first {
+        return Count::Never;
     }
-    Some(total)
+    let lefts = &left.held[first - left.first..end - left.first];
+    let rights = &right.held[first - right.first..end - right.first];
+    count_pairs(lefts, rights)
 }

@@ -2,7 +2,7 @@ use Rattle.std.proofs.Common.{◌≡◌, ◌+◌, ◌-◌, ◌<◌, arith, lengt
 use Rattle.std.proofs.lemmas.Grind.{common_steps}
 use Rattle.larch_sorts_counts.specs.Count.{count_at, plus}
 use Rattle.larch_sorts_counts.specs.Spread.{spread}
-use Rattle.larch_sorts_counts.proofs.Spreading.{added_outside, added_within}
+use Rattle.larch_sorts_counts.proofs.Spreading.{added_outside, added_within, nothing_added}
 use Rattle.larch_sorts_counts.proofs.tally.add.Goals as goal
 
 pub returns-then-numbers-number-clause-added : goal.returns-then-numbers-number-clause-added
@@ -21,3 +21,8 @@ returns-clause-added c =
     added_within c.args.numbers c.args.first c.args.held.now.items
     (set c.args.held.now.items (c.args.number - c.args.first) c.plus.result) c.args.number
     (c.args.number - c.args.first) c.args.count c.requires.fits here within (grind (arith, common_steps))
+
+pub returns-then-not-occurs-clause-added : goal.returns-then-not-occurs-clause-added
+returns-then-not-occurs-clause-added c =
+    nothing_added (spread c.args.numbers c.args.first c.args.held.now.items) c.args.number c.args.count
+    (c.occurs.ensures c.if-not-occurs.true)

@@ -1,0 +1,5 @@
+pub mod Deriving
+pub mod Ending
+pub mod Joining
+pub mod Reducing
+pub mod Rewritten

@@ -1,0 +1,2 @@
+pub mod PairEntries
+pub mod Waiting

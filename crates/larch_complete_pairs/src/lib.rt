@@ -1,0 +1,9 @@
+//! Critical pairs with their lines: two rules that lines say → the equations of their critical pairs, each with a line
+//! that says it.
+#![tactic(auto)]
+
+mod pairs;
+mod said;
+
+pub use pairs::push_pairs;
+pub use said::{SaidEquation, SaidRule};

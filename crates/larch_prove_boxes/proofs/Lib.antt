@@ -1,0 +1,15 @@
+pub mod Begun
+pub mod Closes
+pub mod Closing
+pub mod Ended
+pub mod Ends
+pub mod Entrances
+pub mod Equalities
+pub mod Extras
+pub mod Handed
+pub mod Hypotheses
+pub mod Results
+pub mod Shared
+pub mod Stated
+pub mod ToOpen
+pub mod Wants

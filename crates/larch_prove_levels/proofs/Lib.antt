@@ -1,0 +1,5 @@
+pub mod Hypotheses
+pub mod Opening
+pub mod Rises
+pub mod Settling
+pub mod Telling

@@ -1,0 +1,4 @@
+pub mod ByFacts
+pub mod Nothing
+pub mod Stating
+pub mod Steps

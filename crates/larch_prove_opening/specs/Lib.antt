@@ -1,0 +1,2 @@
+pub mod FirstFacts
+pub mod Stating

@@ -1,0 +1,5 @@
+pub mod Building
+pub mod ByNumbers
+pub mod Collecting
+pub mod Ends
+pub mod Searching

@@ -1,0 +1,4 @@
+pub mod Examples
+pub mod Needed
+pub mod Reached
+pub mod Trimmed
