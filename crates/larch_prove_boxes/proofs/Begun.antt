@@ -1,12 +1,11 @@
 -- The lowest level begins: for an equation, and for clauses.
-use Rattle.std.specs.Prelude.{◌≡◌, ◌≢◌, ◌+◌, ◌-◌, ◌<◌, ◌≤◌, ℕ, zero, suc, List, [], ◌∷◌, ◌++◌, cond, length, map, take}
+use Rattle.std.specs.Prelude.{◌≡◌, ◌≢◌, ◌+◌, ◌-◌, ◌<◌, ℕ, zero, suc, List, [], ◌∷◌, ◌++◌, cond, length, map}
 use Rattle.std.specs.Prelude.{All}
 use Rattle.std.specs.Prelude.{None, Some, refl}
 use Rattle.std.specs.List.{slice_get}
 use Rattle.std.proofs.Common.{add-one, ap, arith, inl, inr, ne_eqb, subst, sym, ◌∙◌}
-use Rattle.std.proofs.lemmas.List.{append-nil, take_all, take_more}
+use Rattle.std.proofs.lemmas.List.{append-nil}
 use Rattle.std.proofs.lemmas.List.Elements.{All-cons, All-nil}
-use Rattle.std.proofs.lemmas.Option.{get_or_from_slice_get}
 use Rattle.larch_base.specs.ByNumber.{numbered}
 use Rattle.larch_base.proofs.Members.{contains_here, contains_later, contains_right}
 use Rattle.larch_term.specs.Operator.{PlainOperator}
@@ -25,7 +24,7 @@ use Rattle.larch_derive.specs.Predicates.{AreOthers, Extends, HasEquation, HasNo
 use Rattle.larch_derive.specs.Words.{IsWordedStatement, IsWordedTerm}
 use Rattle.larch_derive.specs.declared.builder.Builder.{Builder}
 use Rattle.larch_derive.specs.declared.open_box.OpenBox.{OpenBox}
-use Rattle.larch_derive.proofs.Growth.{extends_grows, extends_refl, extends_trans, grows_same, stays_said}
+use Rattle.larch_derive.proofs.Growth.{extends_grows, extends_trans, grows_same, stays_said}
 use Rattle.larch_derive.proofs.Start.{known_own as known_there}
 use Rattle.larch_derive_boxes.specs.Boxes.{IsOpen, IsPart, Opens}
 use Rattle.larch_derive_boxes.proofs.Inside.{known_own, opened_known_inside}
@@ -94,35 +93,6 @@ one_said b [] [] h n z w = (w, tt)
 one_said b [] (k ∷ ns) h n z w = absurd z
 one_said b (s ∷ hs) [] h n z w = absurd z
 one_said b (s ∷ hs) (k ∷ ns) h n z w = (z.0, one_said b hs ns h n z.1 w)
-
--- the first hypotheses of an open box are said, and lines alone were added
-abbrev pub SaysFirst : Builder → Builder → List Statement → ℕ → List ℕ → Type 0
-SaysFirst a b hs i ns = AreSaidBy b (take i hs) ns × Extends a b
-
-pub none_said : (a : Builder) (hs : List Statement) (ns : List ℕ) → ns ≡ [] → SaysFirst a a hs 0 ns
-none_said a [] ns e = (subst (AreSaidBy a []) (sym e) tt, extends_refl a)
-none_said a (h ∷ hs) ns e = (subst (AreSaidBy a []) (sym e) tt, extends_refl a)
-
-pub next_said : (a b c : Builder) (x : OpenBox) (hs : List Statement) (ns more : List ℕ) (i n : ℕ) → i < length hs
-    → IsOpen a x hs → SaysFirst a b hs i ns
-    → ((h : Statement) → IsOpen b x hs → numbered hs (i + 1) ≡ Some h → HasStatement c n h)
-    → ((h : Statement) → IsOpen b x hs → numbered hs (i + 1) ≡ Some h → Extends b c) → more ≡ ns ++ n ∷ []
-    → SaysFirst a c hs (i + 1) more
-next_said a b c x hs ns more i n lt o w says further e =
-    let h = at_place hs i lt in
-    let q = next_number hs i h.0 h.1 in
-    let there = grown_open a b x hs (extends_grows a b w.1) o in
-    let m = further h.0 there q in (
-      subst (AreSaidBy c (take (i + 1) hs)) (sym e)
-          (subst (λ ss. AreSaidBy c ss (ns ++ n ∷ [])) (ap (λ s. take i hs ++ s ∷ [])
-          (sym (get_or_from_slice_get hs i h.0 h.0 h.1)) ∙ sym (take_more hs i h.0 lt))
-          (one_said c (take i hs) ns h.0 n (says_stay b c (take i hs) ns m w.0) (says h.0 there q))),
-      extends_trans a b c w.1 m,
-    )
-
-pub all_said : (a b : Builder) (hs : List Statement) (ns : List ℕ) (i : ℕ) → length hs ≤ i → SaysFirst a b hs i ns
-    → AreSaidBy b hs ns
-all_said a b hs ns i le w = subst (λ ss. AreSaidBy b ss ns) (take_all i hs le) w.0
 
 -- ---- a clause
 

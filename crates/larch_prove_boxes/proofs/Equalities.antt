@@ -1,5 +1,5 @@
 -- Equalities, and the row that says that a term is equal to itself.
-use Rattle.std.specs.Prelude.{◌≡◌, ◌+◌, ℕ, true, cond, List, [], ◌∷◌, ◌++◌, map, length, bytes_eq, codes, Some}
+use Rattle.std.specs.Prelude.{◌≡◌, ◌+◌, ℕ, true, cond, List, [], ◌∷◌, ◌++◌, map, length, codes, Some}
 use Rattle.std.specs.Prelude.{refl}
 use Rattle.std.proofs.Common.{ap, subst, sym, ◌∙◌}
 use Rattle.std.proofs.lemmas.List.Elements.{All-cons, All-nil}

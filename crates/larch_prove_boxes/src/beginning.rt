@@ -1,10 +1,7 @@
-ghost use Rattle.std.specs.Prelude.{◌≡◌, ◌≢◌, ℕ, List, IfOk, OnOk};
+ghost use Rattle.std.specs.Prelude.{◌≡◌, ◌≢◌, ℕ, List, IfOk};
 ghost use Rattle.larch_calculus.specs.Theories.{AreNew};
-ghost use Rattle.larch_derive.specs.Predicates.{Extends};
 ghost use Rattle.larch_derive.specs.Words.{IsWordedStatement};
-ghost use Rattle.larch_derive.specs.declared.open_box.OpenBox.{OpenBox as IsOpenBox};
-ghost use Rattle.larch_derive_boxes.specs.Boxes.{IsOpen};
-ghost use Rattle.larch_prove_boxes.specs.Lowest.{AreSaidBy, IsBegun};
+ghost use Rattle.larch_prove_boxes.specs.Lowest.{IsBegun};
 ghost use Rattle.larch_prove_invariant.specs.Holding.{IsStart};
 ghost use Rattle.larch_prove_plans.specs.ClauseGoals.{generation_goal, partition_goal};
 ghost use Rattle.larch_term.specs.Operator.{PlainOperator};
@@ -13,14 +10,14 @@ ghost use Rattle.larch_term.specs.declared.statement.Statement.{Statement as IsS
 ghost use Rattle.larch_term.specs.declared.statement.Statement.TheVariants.{Equation, Generated, Partitioned};
 ghost use Rattle.larch_term.specs.declared.statement.Theory.{Theory as IsTheory};
 
+use crate::entering::push_hypotheses;
 use larch_base::{Memory, Sequence};
 use larch_certificate::Numbers;
 use larch_derive::{Builder, OpenBox};
-use larch_derive_boxes::push_hyp;
 use larch_derive_lines::push_refl;
 use larch_methods::open_subgoal;
 use larch_prove_plans::{Subgoal, formula};
-use larch_term::{Statement, Term, copy};
+use larch_term::{Term, copy};
 use std::alloc::Global;
 
 /// How the lowest level begins: the box of a clause; the lines of the hypotheses that are supposed there, in order; the
@@ -78,31 +75,11 @@ pub fn begin_clause(
     let first = copy(alloc, &subgoal.goal)?;
     let opened = open_subgoal(alloc, builder, subgoal)?;
     let way = push_refl(builder, &first)?;
-    let hypotheses = push_hypotheses(alloc, builder, opened.number, subgoal.hypotheses.as_slice())?;
+    let hypotheses = push_hypotheses(alloc, builder, opened.number, &subgoal.hypotheses)?;
     Ok(Beginning {
         entrance: Some(opened),
         hypotheses,
         first,
         way,
     })
-}
-
-// The lines of the hypotheses of an open box, in order.
-fn push_hypotheses(
-    alloc: Global,
-    builder: &mut Builder,
-    number: u64,
-    hypotheses: &[Statement],
-) -> Result<Numbers, Memory>
-    ensures says { IfOk result (λ ns. (x : IsOpenBox) → x.number ≡ number → IsOpen builder.old x hypotheses.now
-        → AreSaidBy builder.new hypotheses.now ns) }
-    ensures extends { OnOk result ((x : IsOpenBox) → x.number ≡ number → IsOpen builder.old x hypotheses.now
-        → Extends builder.old builder.new) }
-{
-    let mut lines = Sequence::new(alloc);
-    for i in 0..hypotheses.len() {
-        let line = push_hyp(builder, number, i as u64 + 1)?;
-        lines.push(line)?;
-    }
-    Ok(lines)
 }

@@ -97,7 +97,7 @@ fn enter_bare(alloc: Global, builder: &mut Builder, goal: &Term) -> Result<Entra
 }
 
 // The lines that say the hypotheses of the open box with a number, in order.
-fn push_hypotheses(
+pub(crate) fn push_hypotheses(
     alloc: Global,
     builder: &mut Builder,
     number: u64,

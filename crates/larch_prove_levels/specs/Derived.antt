@@ -20,7 +20,7 @@ abbrev pub with_normal_goal : ℕ → Tree → Facts → Result Worked Code
 with_normal_goal limit goal facts =
     after (work_result (normal (rules_of facts.rules) goal limit)) (λ g. Ok (record { facts = facts; goal = g }))
 
--- an equation is added as the one with a number that a command derives, and behind it the goal is with_normal_goal
+-- an equation is added as the one with a number that a command derives, and behind it the goal gets its normal form
 abbrev pub derived_in : List Ranked → ℕ → Sides → ℕ → Worked → Result Worked Code
 derived_in ranks limit e number level =
     after (work_result (add (record { serves = all_serve; ranks = ranks; name = whole_name Derived number }) e

@@ -56,7 +56,7 @@ pub fn derive<'a>(
     normalise_goal(around.alloc, store, builder, level, around.limit)
 }
 
-/// That a shared term is true, as a line says it.
+/// The equation that a shared term is true, with a line for it. Whoever calls knows that the line says it.
 pub fn said_true(
     alloc: Global,
     store: &Store,

@@ -16,7 +16,8 @@ use larch_term::{BuiltIn, is_truth};
 use std::alloc::Global;
 
 /// The line that says that a level's first goal is true, where the level is proved: its goal is true, or its facts
-/// contradict each other.
+/// contradict each other; none where it isn't. The one refusal is out of memory. The builder may have further lines,
+/// none of them bad, also behind a refusal.
 #[tactic(auto, using(larch_derive::proofs::Growth::extends_same))]
 pub fn line_of_goal(
     alloc: Global,

@@ -108,7 +108,8 @@ pub fn suppose<'a>(
     facts.add(around.alloc, store, builder, &manner, equation)
 }
 
-/// Hypotheses more among facts, in order.
+/// Hypotheses more among facts, in order, each under the next number. A refusal comes exactly where it is the defined
+/// event, or where memory runs out; the facts may then not be used.
 #[tactic(auto, using(larch_store::proofs::Growth::grows_refl, larch_derive::proofs::Growth::extends_same))]
 pub fn suppose_all<'a>(
     store: &mut Store,
