@@ -1,5 +1,5 @@
-"""What stands around the program: the cause of a refusal and how to mend it, and hints at what is well formed and yet
-suspect. It needs python3 alone, and nothing of it is proved.
+"""What stands around the program: the cause of a refusal and how to mend it, hints at what is well formed and yet
+suspect, and finite models that are looked for. It needs python3 alone, and nothing of it is proved.
 
 Two calls are what editors and commands need:
 
@@ -17,6 +17,7 @@ what it has found. Places are offsets of bytes, `start` and `end`; a change has 
     lexical, syntax (structure, shapes, shapes_of_terms, habits), reading (undeclared), items, referring
                   the causes, by what codes are about
     further       what is wrong behind the first refusal
+    listed, finite    what `larch obligations` lists, with its terms read, and the search for a finite model of it
     spelling, wording, showing    names that are near, pieces of titles, and how all is shown in a terminal
     samples       wrong traits and their titles, which tools/gate/check_causes.py tries
 """

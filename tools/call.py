@@ -16,26 +16,31 @@ from companions.program import FILE_NAME, MOST_BYTES, MOST_FILES
 from companions.scope import reached
 from companions.spelling import nearest
 
-COMMANDS = ("session", "check", "obligations", "verify")
+COMMANDS = ("session", "check", "obligations", "verify", "model")
 AROUND = ("help", "explain", "watch")
 OPTIONS = ("--build", "--help", "--install", "--program", "--uninstall", "--unproved", "--version")
 # What people type that isn't there, and what there is.
 NOT_THERE = {
     **dict.fromkeys(("show", "print", "list", "duties"), "`larch obligations FILE..` lists what a trait consists of"),
     **dict.fromkeys(("prove", "proof"), "nothing looks for proofs yet; `larch verify` looks at certificates"),
+    **dict.fromkeys(("find", "find-model", "search"), "`tools/larch-find-model TRAIT FILE..` looks for a small model"),
     **dict.fromkeys(("eval", "run", "reduce", "rewrite"), "nothing computes the value of a term yet"),
     **dict.fromkeys(("lint", "parse", "typecheck", "compile"), "`larch check FILE..` says whether something is wrong"),
     **dict.fromkeys(("fmt", "format"), "nothing lays traits out"),
     **dict.fromkeys(("-V", "-v", "-version"), "`larch --version` says which program it is")}
 FILE, CERT = re.compile(r"[A-Za-z0-9_]{1,64}\.(?:lsl|lp)"), re.compile(r"(?s).*\.cert")
+MODEL = re.compile(r"[A-Za-z0-9_]{1,64}\.mod")
 LABEL = re.compile(r"(?:assume|imply|convert)\.[1-9][0-9]{0,5}")
 WITH_INCLUDED = "--with-included"
+# The words before the files of a command.
+FRONTS = {"verify": ("TRAIT", "LABEL", "CERT"), "model": ("TRAIT", "MODEL")}
 HELP = """\
 larch checks specifications in the Larch Shared Language.
 
   larch check FILE..                    is something wrong with these traits?
   larch obligations FILE..              what each consists of, and what is to be proved of it
   larch verify TRAIT LABEL CERT FILE..  does this certificate show that duty?
+  larch model TRAIT MODEL FILE..        is this a finite model of the trait, and which claims hold in it?
   larch session                         the same for programs, over standard input
 
   larch explain FILE..                  why a trait is refused, and how to mend it
@@ -65,7 +70,7 @@ def cut(words):
         rest, wants = [word for word in rest if word != WITH_INCLUDED], True
     if rest[:1] == ["--"]:
         rest = rest[1:]
-    number = 3 if words[0] == "verify" else 0
+    number = len(FRONTS.get(words[0], ()))
     return words[0], rest[:number], rest[number:], wants
 
 
@@ -101,15 +106,23 @@ def one_folder(files):
     return os.path.abspath(named[0]), ""
 
 
+def beside(words):
+    """The words for what lies in the folder of a call: its files, and a model."""
+    command, front, files, _ = cut(words)
+    return [*front[1:], *files] if command == "model" else files
+
+
 def words_there(words):
     """The folder and the words of the call there; nothing where the words are left as they are."""
     if not words or words[0] not in COMMANDS:
         return None
     command, front, files, wants = cut(words)
-    folder, _ = one_folder(files)
+    folder, _ = one_folder(beside(words))
     if folder is None:
         return None
     names = [os.path.basename(file) for file in files]
+    if command == "model":
+        front[1:] = [os.path.basename(name) for name in front[1:]]
     if len(front) == 3 and not os.path.samefile(folder, "."):
         place, name = os.path.split(front[2])
         same = os.path.isdir(place or ".") and os.path.samefile(place or ".", folder)
@@ -132,9 +145,10 @@ def why_usage(words):
     command, front, files, _ = cut(words)
     if command == "session":
         return "`session` takes no words; its files come over standard input"
-    if len(front) + len(files) < (4 if command == "verify" else 1):
-        return f"too few words: larch {command} {'TRAIT LABEL CERT ' if command == 'verify' else ''}FILE.."
-    for bad in (*why_front(front), one_folder(files)[1], *map(why_file, files)):
+    wanted = FRONTS.get(command, ())
+    if len(front) + len(files) < len(wanted) + 1:
+        return f"too few words: larch {' '.join([command, *wanted])} FILE.."
+    for bad in (*why_front(front), one_folder(beside(words))[1], *map(why_file, files)):
         if bad:
             return bad
     return f"`larch help {command}` says what its words are"
@@ -156,10 +170,16 @@ def why_no_command(word):
 
 
 def why_front(front):
-    """Why the words before the files of `verify` are none."""
+    """Why the words before the files of `verify` or of `model` are none."""
     if front:
-        trait, label, certificate = front
+        trait = front[0]
         yield "" if FILE.fullmatch(trait + ".lsl") else f"`{trait}` is no trait: its name without `.lsl` is wanted"
+    if len(front) == 2:
+        name = os.path.basename(front[1])
+        meant = "1 to 64 letters, digits and `_` stand before its ending `.mod`"
+        yield "" if MODEL.fullmatch(name) else f"`{front[1]}` is no model: {meant}"
+    if len(front) == 3:
+        _, label, certificate = front
         yield "" if LABEL.fullmatch(label) else f"`{label}` is no label: assume.N, imply.N or convert.N"
         yield "" if CERT.fullmatch(certificate) else f"`{certificate}` is no certificate: its name ends in `.cert`"
 
@@ -182,18 +202,23 @@ def why_file(word):
 
 def why_too_large(words):
     """Which number passes a limit."""
-    _, front, files, _ = cut(words)
-    for name in front[2:] + files:
+    command, front, files, _ = cut(words)
+    more = f"; {TOP}/docs/SCALE.md says how more is checked"
+    for name in front[-1:] + files:
         if os.path.isfile(name) and os.path.getsize(name) > MOST_BYTES:
-            return f"{name} has {os.path.getsize(name):,} bytes, and a file {MOST_BYTES:,} at most"
+            return f"{name} has {os.path.getsize(name):,} bytes, and a file {MOST_BYTES:,} at most{more}"
     number = len(set(files))
-    return f"{number:,} files are named, and a call takes {MOST_FILES}" if number > MOST_FILES else "a limit is passed"
+    if number > MOST_FILES:
+        return f"{number:,} files are named, and a call takes {MOST_FILES}{more}"
+    if command == "model":
+        return "an equation has more than 1,000,000 assignments in this model; give its sorts fewer values"
+    return f"a limit is passed{more}"
 
 
 def why_no_file(words):
     """Which file isn't there, and where it was looked for."""
     _, front, files, _ = cut(words)
-    gone = next((name for name in front[2:] + files if not os.path.exists(name)), None)
+    gone = next((name for name in front[-1:] + files if not os.path.exists(name)), None)
     if gone is None:
         return "a file isn't there"
     folder = os.path.dirname(gone) or "."
@@ -216,9 +241,11 @@ def why(status, words):
     if status == "1":
         say(why_wrong(words))
     elif status == "6":
-        say(f"that is a line of the certificate {cut(words)[1][2]}; docs/CERTIFICATES.md has its grammar")
+        command, front, _, _ = cut(words)
+        kind, page = ("model", "MODELS") if command == "model" else ("certificate", "CERTIFICATES")
+        say(f"that is a line of the {kind} {front[-1]}; docs/{page}.md has its grammar")
     elif status == "7":
-        say(f"{why_too_large(words)}; {TOP}/docs/SCALE.md says how more is checked")
+        say(why_too_large(words))
     else:
         say(why_usage(words) if status == "2" else why_no_file(words))
 

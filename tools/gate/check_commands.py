@@ -46,14 +46,30 @@ CALLS = {
                7: [("Nat imply.1 Big.cert Nat.lsl", b"", "too large")],
                8: [("Nat imply.1 Nope.cert Nat.lsl", b"", "no file Nope.cert"),
                    ("Nat imply.1 Nat.cert Nope.lsl", b"", "no file Nope.lsl")]},
+    "model": {0: [("Nat Nat.mod Nat.lsl", b"", "end"), ("Nat -- Nat.mod Nat.lsl", b"", "end")],
+              1: [("Nat Wrong.mod Nat.lsl", b"", "fails 3"), ("Claim Point.mod One.lsl", b"", "no trait"),
+                  ("Two Form.mod Two.lsl", b"", "no trait"), ("Near Near.mod Near.lsl", b"", "end")],
+              2: [("Nat Nat.mod", b"", "USAGE"), ("Nat .mod Nat.lsl", b"", "USAGE"),
+                  ("Nat a/Nat.mod Nat.lsl", b"", "USAGE")],
+              6: [("Nat Form.mod Nat.lsl", b"", "malformed at line 4")],
+              7: [("Nat Big.mod Nat.lsl", b"", "too large"), ("Near Sixteen.mod Near.lsl", b"", "too large")],
+              8: [("Nat Nope.mod Nat.lsl", b"", "no file Nope.mod"),
+                  ("Nat Nat.mod Nope.lsl", b"", "no file Nope.lsl")]},
 }
+# Traits and models beside the texts that calls are compared on.
+NEAR = (b"Near: trait\n  introduces\n    c: -> S\n  implies\n    \\forall p, q, r, t, u: S\n"
+        b"      p = q == (r = t) /\\ (u = p)\n")
+MODELS = {"Nat.mod": b"model\nsort N 2\nop 1 0\nop 2 1 0\nop 3 0 1 1 0\n", "Near.lsl": NEAR,
+          "Wrong.mod": b"model\nsort N 2\nop 1 0\nop 2 1 0\nop 3 0 0 1 1\n", "Form.mod": b"model\nsort N 2\nop 1 0\n\n",
+          "Near.mod": b"model\nsort S 2\nop 1 0\n", "Sixteen.mod": b"model\nsort S 16\nop 1 0\n",
+          "Point.mod": b"model\nop 1 0\n", "Big.mod": b"model\n".ljust(1048577, b" ")}
 # What the script around the program has besides, and its options.
 AROUND = ["help", "explain", "watch"]
 OPTIONS = ["--build", "--help", "--install", "--program", "--uninstall", "--unproved", "--version"]
 # Words before the cursor, the last of which is begun, and what may stand there.
 COMPLETED = [
-    ([""], ["check", "explain", "help", "obligations", "session", "verify", "watch"]), (["ob"], ["obligations"]),
-    (["Frob"], []), (["--"], OPTIONS), (["--un"], ["--uninstall", "--unproved"]),
+    ([""], ["check", "explain", "help", "model", "obligations", "session", "verify", "watch"]),
+    (["ob"], ["obligations"]), (["Frob"], []), (["--"], OPTIONS), (["--un"], ["--uninstall", "--unproved"]),
     (["--unproved", "verify", "Na"], ["Nat"]), (["--install", ""], ["sub/"]), (["--build", ""], []),
     (["help", "v"], ["verify"]), (["help", "SYN"], ["SYNTAX"]), (["explain", "CY"], ["CYCLE"]),
     (["explain", "On"], ["One.lsl"]), (["watch", "s"], ["sub/"]),
@@ -64,6 +80,8 @@ COMPLETED = [
     (["--", "obligations", "Na"], ["Nat.lsl"]), (["session", ""], []), (["frobnicate", ""], []),
     (["verify", "Na"], ["Nat"]), (["verify", "Nat", "i"], ["imply.1", "imply.2"]),
     (["verify", "Nat", "c"], ["convert.1"]), (["verify", "One", ""], []),
+    (["model", "Na"], ["Nat"]), (["model", "Nat", ""], ["Nat.mod", "sub/"]),
+    (["model", "Nat", "Nat.mod", "Na"], ["Nat.lsl"]), (["help", "mo"], ["model"]),
     (["verify", "Nat", "imply.1", "F"], ["Form.cert"]), (["check", "a"], []),
     (["verify", "Nat", "imply.1", "Nat.cert", "Na"], ["Nat.lsl"])]
 WITHOUT = (["verify", "Nat", ""], ["assume.1", "convert.1", "imply.1"])
@@ -250,15 +268,15 @@ def main():
     tests = Tests()
     with tempfile.TemporaryDirectory() as place:
         folder = pathlib.Path(place)
-        for name, text in call_texts.fixed_folder().items():
+        for name, text in {**call_texts.fixed_folder(), **MODELS}.items():
             (folder / name).write_bytes(text)
         (folder / "a-b.lsl").write_text("")
         agreement(tests, program, folder)
         answers(tests, program, folder)
     with tempfile.TemporaryDirectory() as place:
         folder = pathlib.Path(place)
-        for name in ("One.lsl", "One.lp", "Nat.lsl", "Nat.cert", "Form.cert"):
-            (folder / name).write_bytes({**call_texts.TEXTS, **call_texts.CERTIFICATES}[name])
+        for name in ("One.lsl", "One.lp", "Nat.lsl", "Nat.cert", "Form.cert", "Nat.mod"):
+            (folder / name).write_bytes({**call_texts.TEXTS, **call_texts.CERTIFICATES, **MODELS}[name])
         (folder / "sub").mkdir()
         for name in ("a-b.lsl", "sub/Two.lsl", "sub/Two.cert"):
             (folder / name).write_text("")

@@ -41,6 +41,12 @@ CALLS = [
      "verify Natural imply.1 Natural.imply.1.cert Natural.lsl", "a", ""),
     ("verify Natural imply.1 b/Natural.imply.1.cert a/Natural.lsl",
      "verify Natural imply.1 ../b/Natural.imply.1.cert Natural.lsl", "a", ""),
+    ("model Two a/Two.mod a/Two.lsl", "model Two Two.mod Two.lsl", "a", ""),
+    ("model Two b/Two.mod a/Two.lsl", "model Two b/Two.mod a/Two.lsl", ".", "lie in one folder, and these in b and a"),
+    ("model Two a/Two.lsl a/Two.lsl", "model Two Two.lsl Two.lsl", "a", "`Two.lsl` is no model: 1 to 64 letters"),
+    ("model Two a/Form.mod a/Two.lsl", "model Two Form.mod Two.lsl", "a",
+     "that is a line of the model Form.mod; "),
+    ("model Two a/Two.mod", "model Two Two.mod", "a", "too few words: larch model TRAIT MODEL FILE.."),
     ("chekc One.lsl", "chekc One.lsl", "a", "`chekc`: did you mean `check`?"),
     ("frobnicate", "frobnicate", "a", "`frobnicate` is no command"),
     ("show Two.lsl", "show Two.lsl", "a", "there is no `show`: `larch obligations FILE..` lists"),
@@ -84,6 +90,8 @@ def make_folder(folder):
         shutil.copy(TOP / "examples/lessons" / name, folder / "a" / name)
     shutil.copy(TOP / "examples/lessons" / CERTIFIED[1], folder / "b" / CERTIFIED[1])
     (folder / "a/Form.cert").write_text("no certificate\n")
+    (folder / "a/Two.mod").write_text("model\nop 1 0\n")
+    (folder / "a/Form.mod").write_text("no model\n")
     (folder / "a/Big.lsl").write_text("Big: trait".ljust(1048577))
 
 
@@ -104,9 +112,9 @@ def around(tests, larch, folder):
     for word in ("help", "--help", "-h"):
         output, status, _ = run([larch, word], folder)
         tests.see(f"larch {word}: the status", status, 0)
-        for command in ("check", "obligations", "verify", "session", "explain", "watch", "--install"):
+        for command in ("check", "obligations", "verify", "model", "session", "explain", "watch", "--install"):
             tests.has(f"larch {word}", output, f"larch {command}")
-    for command in ("check", "obligations", "verify", "session", "explain", "watch"):
+    for command in ("check", "obligations", "verify", "model", "session", "explain", "watch"):
         output, status, _ = run([larch, "help", command], folder)
         tests.see(f"larch help {command}", (bool(output), status), (True, 0))
         tests.see(f"larch {command} --help", run([larch, command, "--help"], folder)[1], 0)
@@ -237,6 +245,8 @@ def used(tests, program, prefix, folder):
               f"{prefix}/bin/larch-program\n")
     output = run([prefix / "bin/larch", "explain", "a/Wrong.lsl"], folder, **free)[0]
     tests.has("its explain", output, "Wrong.lsl:3:7: ")
+    found = run([prefix / "bin/larch-find-model", "Two", "a/Two.lsl"], folder, **free)
+    tests.see("its larch-find-model", found, ("model\nsort S 1\nop 1 0\n", 0, ""))
     tests.has("its larch-watch", run([prefix / "bin/larch-watch", "a", "--once"], folder, **free)[0], "Wrong.lsl:3:7: ")
     tests.see("its --version", run([prefix / "bin/larch", "--version"], folder, **free),
               run([TOP / "larch", "--version"], folder))

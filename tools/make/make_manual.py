@@ -17,7 +17,7 @@ SECTIONS = {"Commands": "DESCRIPTION", "The files of a call": "FILES", "How a ca
             "In a script or a CI job": "EXAMPLES"}
 SPELLED = {"\\": "\\e", "'": "\\(aq", "`": "\\(ga", "^": "\\(ha", "~": "\\(ti"}
 LEFT_OUT = "Manual and completion"
-STANDING = r"\b(?:FILE|TRAIT|LABEL|CERT|COMMAND|WORD|NAME|CODE|[NLCT])\b"
+STANDING = r"\b(?:FILE|TRAIT|LABEL|CERT|MODEL|COMMAND|WORD|NAME|CODE|[NKLCT])\b"
 
 
 # The page ----------------------------------------------------------------------------------------

@@ -168,7 +168,7 @@ absent e (d ∷ es) h =
     let P : Entry → Type 0 = λ x. is_entry_of x.name x.sort e ≡ false in
     ap₂ (λ x y. x || y) (All-head P d es h) (absent e es (All-tail P d es h))
 
-all_apart : (es : List Entry) → AllPairs (λ d e. is_entry_of e.name e.sort d ≡ false) es
+pub all_apart : (es : List Entry) → AllPairs (λ d e. is_entry_of e.name e.sort d ≡ false) es
     → all_different (map variable_in es) ≡ true
 all_apart [] h = refl
 all_apart (e ∷ es) h =

@@ -5,5 +5,5 @@
 mod pairs;
 mod said;
 
-pub use pairs::push_pairs;
+pub use pairs::{push_pairs, say_pair};
 pub use said::{SaidEquation, SaidRule};

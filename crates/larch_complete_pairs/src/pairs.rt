@@ -71,10 +71,10 @@ fn say_pairs(
     Ok(())
 }
 
-// The equation of a critical pair, with the line that says it, from the lines of its rules: the second rule's instance
-// takes the place of its left side in that of the first rule.
+/// The equation of a critical pair, with the line that says it, from the lines of its rules: the second rule's instance
+/// takes the place of its left side in that of the first rule.
 #[tactic(auto, using(larch_derive::proofs::Growth::extends_same))]
-fn say_pair(
+pub fn say_pair(
     alloc: Global,
     builder: &mut Builder,
     pair: &Pair,

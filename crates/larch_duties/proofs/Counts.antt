@@ -17,7 +17,7 @@ use Rattle.larch_duties_meaning.specs.Conversions.{word_tried}
 use Rattle.larch_duties_meaning.specs.Duties.{Duty, all_duties, clause_duties, is_its_copy, label_all}
 use Rattle.larch_duties.specs.Kept.{duties_in, theory_in}
 
-labelled_length : (kind : ℕ → Label) (n : ℕ) (t : Theory) (ss : List Statement)
+pub labelled_length : (kind : ℕ → Label) (n : ℕ) (t : Theory) (ss : List Statement)
     → length (label_all kind n t ss) ≡ length ss
 labelled_length kind n t [] = refl
 labelled_length kind n t (s ∷ ss) = ap suc (labelled_length kind (suc n) t ss)

@@ -34,7 +34,7 @@ found_by text d ds es true h = refl
 found_by text d ds es false h = h
 
 -- what isn't found among the first is found among the others
-found_joined : (text : List ℕ) (ds es : List Duty)
+pub found_joined : (text : List ℕ) (ds es : List Duty)
     → duty_with text (ds ++ es) ≡ or_else (duty_with text ds) (duty_with text es)
 found_joined text [] es = refl
 found_joined text (d ∷ ds) es = found_by text d ds es (has text d) (found_joined text ds es)
@@ -65,7 +65,7 @@ map_same [] = refl
 map_same (x ∷ xs) = ap (λ ys. x ∷ ys) (map_same xs)
 
 -- among duties of one kind with these statements
-stated_found : (kind : ℕ → Label) (next : (n : ℕ) → label_behind (kind n) ≡ kind (suc n)) (n : ℕ) (t : Theory)
+pub stated_found : (kind : ℕ → Label) (next : (n : ℕ) → label_behind (kind n) ≡ kind (suc n)) (n : ℕ) (t : Theory)
     (ss : List Statement) (text : List ℕ)
     → duty_with text (label_all kind n t ss) ≡ option_map (λ s. (t, s)) (labelled_in (kind n) ss text)
 stated_found kind next n t ss text =

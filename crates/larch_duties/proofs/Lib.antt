@@ -10,6 +10,8 @@ pub mod Labels
 pub mod Lines
 pub mod Listed
 pub mod Once
+pub mod OwnKept
+pub mod OwnDuties
 pub mod Places
 pub mod References
 pub mod Worded

@@ -4,5 +4,6 @@ pub mod Kept
 pub mod Labelling
 pub mod Lines
 pub mod Names
+pub mod Own
 pub mod Steps
 pub mod TraitDuties

@@ -13,6 +13,7 @@ mod finding;
 mod implied;
 mod known;
 mod laws;
+mod own;
 mod printing;
 mod standing;
 mod theories;
@@ -22,6 +23,9 @@ mod words;
 pub use claims::{Claim, Claims, claims_in, find_claim, place_of, trait_claims};
 pub use finding::find_duty;
 pub use larch_base::Label;
-pub use laws::{claims_are_in_words, claims_are_sound, what_is_reached_decides_claims};
+pub use laws::{
+    claims_are_in_words, claims_are_sound, own_claims_are_duties, what_is_reached_decides_claims,
+};
+pub use own::{OwnClaims, own_claims};
 pub use printing::{list_trait, print_duties};
 pub use trait_duties::{Duties, duties_of};

@@ -1,6 +1,7 @@
 -- What is accepted is derivable.
-use Rattle.std.proofs.Common.{◌≡◌, refl, sym, ap, ◌∙◌, ℕ, Bool, false, List, [], Option, Some, None, Result, Ok, Err}
-use Rattle.std.specs.Prelude.{bytes_eq, length}
+use Rattle.std.proofs.Common.{◌≡◌, ◌≢◌, refl, sym, ap, subst, ◌∙◌, ℕ, Bool, false, List, [], Option, Some, None}
+use Rattle.std.proofs.Common.{Result, Ok, Err}
+use Rattle.std.specs.Prelude.{bytes_eq, codes, length}
 use Rattle.std.proofs.lemmas.List.Elements.{All-contains}
 use Rattle.larch_base.specs.Label.{label_text}
 use Rattle.larch_base.specs.declared.label.Label.{Label}
@@ -13,26 +14,29 @@ use Rattle.larch_term.specs.Statement.{IsWellSortedTheory}
 use Rattle.larch_term.specs.declared.statement.Statement.{Statement}
 use Rattle.larch_term.specs.declared.statement.Theory.{Theory}
 use Rattle.larch_traits_items.proofs.Kept.{after_was, found_is}
-use Rattle.larch_flat_meaning.specs.Stops.{Stop}
 use Rattle.larch_flat.specs.Parts.{flat_trait}
 use Rattle.larch_flat_sources.specs.Sources.{Table as Sources, files_in}
 use Rattle.larch_traits.specs.Files.{Table}
 use Rattle.larch_traits.specs.Reading.{read_files}
 use Rattle.larch_traits.proofs.Worded.{read_worded}
-use Rattle.larch_duties_meaning.specs.Duties.{Duties, Duty, all_duties}
+use Rattle.larch_duties_meaning.specs.Duties.{Duty, all_duties}
 use Rattle.larch_duties_meaning.specs.Laws.{IsSoundDuty}
 use Rattle.larch_duties_meaning.proofs.Plain.{duties_plain}
 use Rattle.larch_duties_meaning.proofs.Sound.{duties_sound}
 use Rattle.larch_duties.specs.TraitDuties.{claims_of, trait_duties}
 use Rattle.larch_io.specs.Folder.{FileMap, file_of}
+use Rattle.larch_models_answer.specs.Failing.{HasLine, failing_line}
+use Rattle.larch_models_answer.proofs.Failing.{no_failing, words_lack}
 use Rattle.larch_words.specs.declared.call.Verification.{Verification}
 use Rattle.larch_main.specs.Answer.{AnswersBy, IsAnswer}
 use Rattle.larch_main.specs.Gather.{Gathered, Whole, Absent, TooLarge, and_then, evidence_in, fetching, gather_names}
-use Rattle.larch_main.specs.Verify.{IsShown, duty_among, duty_in, duty_with, judged_by, verdict_told}
-use Rattle.larch_main.specs.Verify.{verification_answer}
+use Rattle.larch_main.specs.Model.{trial_answer}
+use Rattle.larch_main.specs.declared.status.Status.{Status}
+use Rattle.larch_main.specs.Verify.{IsShown, duty_in, judged_by, verdict_told, verification_answer}
 use Rattle.larch_main.specs.declared.answer.Answer.{Answer}
 use Rattle.larch_main.specs.declared.gather.Evidence.{Evidence}
 use Rattle.larch_main.specs.declared.status.Status.TheVariants.{Good, NoFile, Size}
+use Rattle.larch_main.proofs.Fails.{duty_from, fails_in_none}
 
 -- a good answer is that to something whole
 answer_good : {A : Type 0} (told : A → Answer) (found : Gathered A) (output : List ℕ)
@@ -51,6 +55,12 @@ then_whole TooLarge next b e = cc
 abbrev SameFound : Gathered Evidence → Gathered Evidence → Type 0
 SameFound found other = found ≡ other
 
+abbrev SameTables : Gathered Table → Gathered Table → Type 0
+SameTables found other = found ≡ other
+
+whole_inj : (one other : Table) → SameTables (Whole one) (Whole other) → one ≡ other
+whole_inj one other e = cc
+
 whole_same : (one e : Evidence) → SameFound (Whole one) (Whole e) → one.files ≡ e.files
 whole_same one e is = let same : one ≡ e = cc in ap (λ x. x.files) same
 
@@ -60,11 +70,11 @@ evidence_files : (folder : FileMap) (certificate : List ℕ) (names : List (List
     → gather_names folder [] names ≡ Whole e.files
 evidence_files folder certificate names e is =
     let a = then_whole (fetching certificate (file_of folder certificate))
-    (λ text. and_then (gather_names folder [] names) (λ files. Whole (record { certificate = text; files = files }))) e
+    (λ text. and_then (gather_names folder [] names) (λ files. Whole (record { text = text; files = files }))) e
     is in
     let b = then_whole (gather_names folder [] names)
-    (λ files. Whole (record { certificate = a.0; files = files })) e a.2 in
-    b.1 ∙ ap Whole (whole_same (record { certificate = a.0; files = b.0 }) e b.2)
+    (λ files. Whole (record { text = a.0; files = files })) e a.2 in
+    b.1 ∙ ap Whole (whole_same (record { text = a.0; files = b.0 }) e b.2)
 
 told_good : (o : Option ℕ) → (verdict_told o).status ≡ Good → o ≡ None
 told_good None e = refl
@@ -76,17 +86,17 @@ judged_good None (Ok read) e = cc
 judged_good (Some d) (Ok read) e = (d, refl, read.1, told_good (verdict d.theory d.statement read.1) e)
 judged_good duty (Err number) e = cc
 
-duty_from : (label : List ℕ) (r : Result Duties Stop) (d : Duty) → duty_among label r ≡ Some d
-    → (ds : Duties) × (r ≡ Ok ds) × (duty_with label (all_duties ds) ≡ Some d)
-duty_from label (Ok ds) d e = (ds, refl, e)
-duty_from label (Err stop) d e = cc
+-- what is answered about a text as a model of a trait among files has a line that says that a claim fails
+abbrev SaysFails : Label → List ℕ → List ℕ → Table → Type 0
+SaysFails label stem text files =
+    HasLine (trial_answer stem (record { text = text; files = files })).text (failing_line label)
 
 module _ (law : (t : Theory) (s : Statement) (lines : List Line) → IsWellSortedTheory t → HasPlainNames t
     → verdict t s lines ≡ None → Derivable t s) where
-  -- a duty of a trait for which a certificate is accepted
+  -- a duty of a trait for which a certificate is accepted; its theory is well sorted
   duty_derivable : (files : Table) (stem : List ℕ) (label : Label) (d : Duty) (lines : List Line)
-      → duty_in files stem label ≡ Some d
-      → verdict d.theory d.statement lines ≡ None → Derivable d.theory d.statement
+      → duty_in files stem label ≡ Some d → verdict d.theory d.statement lines ≡ None
+      → IsWellSortedTheory d.theory × Derivable d.theory d.statement
   duty_derivable files stem label d lines found accepted =
       let sources : Sources = read_files files in
       let a = duty_from (label_text label) (trait_duties sources stem) d found in
@@ -96,7 +106,7 @@ module _ (law : (t : Theory) (s : Statement) (lines : List Line) → IsWellSorte
       (duties_sound (files_in sources) (read_worded files) (length sources) stem b.0 a.0 b.1 b.2) c.0 in
       let plain = All-contains (λ x. HasPlainNames x.theory) (all_duties a.0) d
       (duties_plain (files_in sources) (length sources) stem b.0 a.0 b.1 b.2) c.0 in
-      law d.theory d.statement lines sound.0.0.well_sorted plain accepted
+      (sound.0.0.well_sorted, law d.theory d.statement lines sound.0.0.well_sorted plain accepted)
 
   pub shown : (asked : Verification) (names : List (List ℕ)) (folder : FileMap) (output : List ℕ)
       → AnswersBy (λ evidence. IsAnswer (verification_answer asked.stem asked.label evidence))
@@ -105,11 +115,38 @@ module _ (law : (t : Theory) (s : Statement) (lines : List Line) → IsWellSorte
       let a = answer_good (verification_answer asked.stem asked.label)
       (evidence_in folder asked.certificate names) output is in
       let e : Evidence = a.0 in
-      let j = judged_good (duty_in e.files asked.stem asked.label) (read_certificate false e.certificate) a.2 in
+      let j = judged_good (duty_in e.files asked.stem asked.label) (read_certificate false e.text) a.2 in
+      let so = duty_derivable e.files asked.stem asked.label j.0 j.2 j.1 j.3 in
       record {
         files = e.files;
         are_files = evidence_files folder asked.certificate names e a.1;
         duty = j.0;
         is_duty = j.1;
-        derivable = duty_derivable e.files asked.stem asked.label j.0 j.2 j.1 j.3;
+        derivable = so.1;
+        fails_nowhere = fails_in_none e.files asked.stem asked.label j.0 j.1 so.0 so.1;
       }
+
+  -- nothing that is answered about a model of the trait has a line that says that the duty fails
+  pub never_fails : (asked : Verification) (names : List (List ℕ)) (folder : FileMap) (output : List ℕ)
+      → AnswersBy (λ evidence. IsAnswer (verification_answer asked.stem asked.label evidence))
+      (evidence_in folder asked.certificate names) output Good
+      → (stem model text : List ℕ) (status : Status) → stem ≡ asked.stem → status ≢ NoFile
+      → AnswersBy (λ evidence. IsAnswer (trial_answer stem evidence)) (evidence_in folder model names) text status
+      → HasLine text (failing_line asked.label) → ⊥
+  never_fails asked names folder output is stem model text status same here answers h =
+      by_found (shown asked names folder output is) (evidence_in folder model names) refl answers
+    where
+      by_found : IsShown folder asked names → (found : Gathered Evidence) → evidence_in folder model names ≡ found
+          → AnswersBy (λ evidence. IsAnswer (trial_answer stem evidence)) found text status → ⊥
+      by_found s (Whole e) from answer =
+          let files : e.files ≡ s.files =
+          whole_inj e.files s.files (sym (evidence_files folder model names e from) ∙ s.are_files) in
+          let says : SaysFails asked.label stem e.text e.files =
+          subst (λ t. HasLine t (failing_line asked.label)) answer.0 h in
+          s.fails_nowhere e.text
+          (subst (λ t. SaysFails asked.label t e.text s.files) same
+          (subst (SaysFails asked.label stem e.text) files says))
+      by_found s (Absent name) from answer = here answer.1
+      by_found s TooLarge from answer =
+          no_failing asked.label (codes "too large") (words_lack (codes "too large") refl) refl
+          (subst (λ t. HasLine t (failing_line asked.label)) answer.0 h)

@@ -41,13 +41,13 @@ module _ (question : Question) (names : List (List ℕ)) (told : Option FileMap)
   files_refused refusal_.ReadFault comes = tt
   files_refused refusal_.Memory comes = tt
 
--- the same of what was gathered of a certificate and files
-module _ (question : Question) (names : List (List ℕ)) (told : Option FileMap) (certificate : List ℕ)
+-- the same of what was gathered of a certificate or a model, and files
+module _ (question : Question) (names : List (List ℕ)) (told : Option FileMap) (evidence : List ℕ)
     (Told : Evidence → List ℕ → Status → Type 0)
     (about : (folder : FileMap) (text : List ℕ) (status : Status)
-    → AnswersBy Told (evidence_in folder certificate names) text status
+    → AnswersBy Told (evidence_in folder evidence names) text status
     → MayAnswer question names folder text status) where
-  pub evidence_answered : (found : Gathered Evidence) (answer : Answer) → EvidenceFor told certificate names found
+  pub evidence_answered : (found : Gathered Evidence) (answer : Answer) → EvidenceFor told evidence names found
       → AnswersBy Told found answer.text answer.status → Answered question names told answer
   evidence_answered found answer comes by = record {
     folder = comes.folder;
@@ -58,7 +58,7 @@ module _ (question : Question) (names : List (List ℕ)) (told : Option FileMap)
   }
 
   pub evidence_refused : (refusal : GatherRefusal)
-      → IfSome (found_of {A = Evidence} (Err refusal)) (λ found. EvidenceFor told certificate names found)
+      → IfSome (found_of {A = Evidence} (Err refusal)) (λ found. EvidenceFor told evidence names found)
       → IfSome (answer_to refusal) (λ answer. Answered question names told answer)
   evidence_refused (refusal_.Absent name) comes = evidence_answered (Absent name) (no_file name) comes (refl, refl)
   evidence_refused refusal_.TooLarge comes = evidence_answered TooLarge size_passed comes (refl, refl)

@@ -1,7 +1,8 @@
 -- What is there is gathered, and where all is gathered a call is done.
 use Rattle.std.proofs.Common.{◌≡◌, refl, sym, subst, ap, ◌∙◌, ℕ, ◌+◌, ◌<◌, ◌≤◌, Bool, true, false, cond, nat_lt}
-use Rattle.std.proofs.Common.{◌||◌, not, nat_le, List, [], ◌∷◌, length, Option, Some, None, Ok, arith}
-use Rattle.std.specs.List.{All}
+use Rattle.std.proofs.Common.{◌||◌, ◌&&◌, not, nat_le, codes, List, [], ◌∷◌, length, Option, Some, None, Result, Ok}
+use Rattle.std.proofs.Common.{Err, arith}
+use Rattle.std.specs.List.{All, list_all}
 use Rattle.std.specs.Prelude.{IsSomeAnd}
 use Rattle.std.specs.Cmp.Lexicographic.{slice_cmp}
 use Rattle.std.specs.Ordering.{match_ordering, nat_cmp}
@@ -14,16 +15,29 @@ use Rattle.larch_base.specs.declared.limits.TheConstants.{MAX_FILES, MAX_FILE_BY
 use Rattle.larch_certificate.specs.declared.line.Line.{Line}
 use Rattle.larch_certificate_text.specs.CertificateText.{IsTextOf}
 use Rattle.larch_duties_meaning.specs.Duties.{Duty}
+use Rattle.larch_duties.specs.Own.{trait_own_claims}
+use Rattle.larch_duties.specs.declared.own.OwnClaims.{OwnClaims}
+use Rattle.larch_flat_meaning.specs.Stops.{Stop}
 use Rattle.larch_io.specs.Folder.{FileMap, file_of}
+use Rattle.larch_models_answer.specs.Judgements.{ending_of, finding_by, found, is_small, judge, judge_reading}
+use Rattle.larch_models_answer.specs.declared.finding.Ending.TheVariants as ending_
+use Rattle.larch_models_answer.specs.declared.finding.Finding.{Finding}
+use Rattle.larch_models_meaning.specs.Computed.{holds}
+use Rattle.larch_models_meaning.specs.FiniteModel.{first_failing, interpretation_of}
+use Rattle.larch_models_meaning.specs.Interpretation.{Interpretation}
+use Rattle.larch_models_meaning.specs.declared.finite_model.FiniteModel.{FiniteModel}
+use Rattle.larch_term.specs.declared.statement.Statement.{Statement}
 use Rattle.larch_report.specs.Counts.{counts_of, is_good}
 use Rattle.larch_traits.specs.Files.{Table, has_file, put_file}
+use Rattle.larch_traits.specs.Reading.{read_files}
 use Rattle.larch_verify_meaning.specs.Acceptance.{verdict}
 use Rattle.larch_words.specs.declared.call.Question.{Question}
-use Rattle.larch_words.specs.declared.call.Question.TheVariants.{Check, Obligations, Verify}
+use Rattle.larch_words.specs.declared.call.Question.TheVariants.{Check, Model, Obligations, Verify}
 use Rattle.larch_main.specs.Answer.{AnswersBy, IsAnswer, good_or_remains}
 use Rattle.larch_main.specs.Check.{check_answer}
-use Rattle.larch_main.specs.Complete.{HasAll, HasFiles, HasShort, IsDone, IsThere}
+use Rattle.larch_main.specs.Complete.{AreSmall, HasAll, HasFiles, HasShort, IsDone, IsThere, Suits}
 use Rattle.larch_main.specs.Gather.{Gathered, Whole, TooLarge, and_then, evidence_in, fetching, gather_names, putting}
+use Rattle.larch_main.specs.Model.{ending_status, trial_answer, tried_over}
 use Rattle.larch_main.specs.Obligations.{obligations_answer}
 use Rattle.larch_main.specs.Questions.{MayAnswer}
 use Rattle.larch_main.specs.Report.{check_of}
@@ -45,6 +59,36 @@ judged_done : (duty : Option Duty) (read : Bool × List Line) → IsDone (judged
 judged_done None read = tt
 judged_done (Some duty) read = verdict_done (verdict duty.theory duty.statement read.1)
 
+ending_done : (b : Bool) → IsDone (ending_status (ending_of b))
+ending_done true = tt
+ending_done false = tt
+
+found_done : (m : Interpretation) (assumed implied : List Statement) (o : Option ℕ)
+    → IsDone (ending_status (finding_by m assumed implied o).ending)
+found_done m assumed implied None = ending_done (list_all (holds m) assumed && list_all (holds m) implied)
+found_done m assumed implied (Some k) = tt
+
+judgement_done : (m : FiniteModel) (own : OwnClaims) → AreSmall m own.theory.statements → AreSmall m own.assumed
+    → AreSmall m own.implied → IsDone (ending_status (judge m own.theory own.assumed own.implied).ending)
+judgement_done m own stated assumed implied =
+    let small : (list_all (is_small m) own.theory.statements
+    && (list_all (is_small m) own.assumed && list_all (is_small m) own.implied)) ≡ true =
+    ap (λ a. a && (list_all (is_small m) own.assumed && list_all (is_small m) own.implied)) stated
+    ∙ ap (λ b. b && list_all (is_small m) own.implied) assumed ∙ implied in
+    let claims : Finding = finding_by (interpretation_of m) own.assumed own.implied
+    (first_failing (interpretation_of m) own.theory.statements) in
+    subst (λ s. IsDone (ending_status (cond s claims (found (codes "too large\n") ending_.TooLarge)).ending))
+    (sym small)
+    (found_done (interpretation_of m) own.assumed own.implied
+    (first_failing (interpretation_of m) own.theory.statements))
+
+tried_done : (text : List ℕ) (claims : Result OwnClaims Stop) → Suits claims text
+    → IsDone (tried_over text claims).status
+tried_done text (Err stop) suits = tt
+tried_done text (Ok own) (m, read, first, second, third) =
+    subst (λ reading. IsDone (ending_status (judge_reading own.theory own.assumed own.implied reading).ending))
+    (sym read) (judgement_done m own first second third)
+
 -- what may be answered to what is whole
 whole_answer : {A : Type 0} (told : A → Answer) (found : Gathered A) (a : A) (text : List ℕ) (status : Status)
     → found ≡ Whole a → AnswersBy (λ x. IsAnswer (told x)) found text status → IsDone (told a).status → IsDone status
@@ -65,8 +109,11 @@ there_is_done (Verify asked) names folder text status (evidence, lines, whole, i
     let duty = duty_in evidence.files asked.stem asked.label in
     whole_answer (verification_answer asked.stem asked.label) (evidence_in folder asked.certificate names) evidence text
     status whole is
-    (subst (λ read. IsDone (judged_by duty read).status) (sym (text_read evidence.certificate lines is_text))
+    (subst (λ read. IsDone (judged_by duty read).status) (sym (text_read evidence.text lines is_text))
     (judged_done duty (false, lines)))
+there_is_done (Model tried) names folder text status (evidence, whole, suits) is =
+    whole_answer (trial_answer tried.stem) (evidence_in folder tried.model names) evidence text status whole is
+    (tried_done evidence.text (trait_own_claims (read_files evidence.files) tried.stem) suits)
 
 -- a file more makes the table longer by one at most
 put_length_by : (file : List ℕ × List ℕ) (files : Table) (name text : List ℕ) (r : Ordering)
@@ -130,6 +177,15 @@ fetched_whole name (Some text) (short, lines, is) =
     let small : nat_lt MAX_FILE_BYTES (length text) ≡ false = grind (arith, nat_tests, short) in
     (text, lines, else_whole _ text small, is)
 
+-- a model that is there is fetched
+model_whole : (name : List ℕ) (seen : Option (List ℕ)) (P : List ℕ → Type 0)
+    → IsSomeAnd seen (λ text. (length text ≤ MAX_FILE_BYTES) × P text)
+    → (text : List ℕ) × (fetching name seen ≡ Whole text) × P text
+model_whole name None P there = absurd there
+model_whole name (Some text) P (short, suits) =
+    let small : nat_lt MAX_FILE_BYTES (length text) ≡ false = grind (arith, nat_tests, short) in
+    (text, else_whole _ text small, suits)
+
 pub all_is_there : (question : Question) (names : List (List ℕ)) (folder : FileMap) → HasAll question names folder
     → IsThere question names folder
 all_is_there Check names folder has = files_whole folder names has
@@ -137,10 +193,21 @@ all_is_there Obligations names folder has = files_whole folder names has
 all_is_there (Verify asked) names folder has =
     let c = fetched_whole asked.certificate (file_of folder asked.certificate) has.0 in
     let f = files_whole folder names has.1 in (
-      record { certificate = c.0; files = f.0 },
+      record { text = c.0; files = f.0 },
       c.1,
       ap (λ found. and_then found (λ text.
-          and_then (gather_names folder [] names) (λ files. Whole (record { certificate = text; files = files })))) c.2
-          ∙ ap (λ found. and_then found (λ files. Whole (record { certificate = c.0; files = files }))) f.1,
+          and_then (gather_names folder [] names) (λ files. Whole (record { text = text; files = files })))) c.2
+          ∙ ap (λ found. and_then found (λ files. Whole (record { text = c.0; files = files }))) f.1,
       c.3,
+    )
+all_is_there (Model tried) names folder has =
+    let c = model_whole tried.model (file_of folder tried.model)
+    (λ text. (files : Table) → gather_names folder [] names ≡ Whole files
+    → Suits (trait_own_claims (read_files files) tried.stem) text) has.0 in
+    let f = files_whole folder names has.1 in (
+      record { text = c.0; files = f.0 },
+      ap (λ found. and_then found (λ text.
+          and_then (gather_names folder [] names) (λ files. Whole (record { text = text; files = files })))) c.1
+          ∙ ap (λ found. and_then found (λ files. Whole (record { text = c.0; files = files }))) f.1,
+      c.2 f.0 f.1,
     )

@@ -1,4 +1,4 @@
--- A certificate and files that a folder has.
+-- A certificate or a model, and files that a folder has.
 use Rattle.std.proofs.Common.{◌≡◌, refl, sym, ap, subst, ◌∙◌, ℕ, ◌≤◌, Bool, true, false, cond, nat_lt, ◌&&◌, List, []}
 use Rattle.std.proofs.Common.{◌∷◌, length, Option, Some, None, inl, inr, arith, Err}
 use Rattle.std.specs.Prelude.{IfSome}
@@ -16,15 +16,13 @@ use Rattle.larch_io.specs.declared.refusal.FolderRefusal.TheVariants.{Failed, Me
 use Rattle.larch_main.specs.declared.gather.GatherRefusal.{GatherRefusal}
 use Rattle.larch_main.specs.declared.gather.GatherRefusal.TheVariants as refusal_
 use Rattle.larch_traits.specs.Files.{Table}
-use Rattle.larch_words.specs.Call.{is_certificate}
 use Rattle.larch_main.specs.Gather.{Gathered, Whole, Absent, TooLarge, IsFolder, and_then, fetching, gather_names}
 use Rattle.larch_main.specs.Gather.{putting}
 use Rattle.larch_main.specs.Look.{ComesTo, EvidenceFor, Fetches, IsRefusalFor, IsSeen, found_of}
 use Rattle.larch_main.specs.declared.gather.Evidence.{Evidence}
 use Rattle.larch_main.proofs.Looking.{seen_absent, seen_file, seen_long}
-use Rattle.larch_main.proofs.NameTexts.{certificate_is_no_file}
 
--- what a folder gave under a certificate's name
+-- what a folder gave under the name of a certificate or a model
 pub fetched : (told : Option FileMap) (name bytes : List ℕ) → IsFile told name bytes → length bytes ≤ MAX_FILE_BYTES
     → Fetches told name (Whole bytes)
 fetched told name bytes is short =
@@ -61,46 +59,47 @@ same_gathered folder other (name ∷ names) all same files =
     then_same (Absent name) h = refl
     then_same TooLarge h = refl
 
--- some folder, the told one where it is told, has this under a certificate's name and the files of the other one
-record Joined (told : Option FileMap) (certificate : List ℕ) (seen : Option (List ℕ)) (folder : FileMap) : Type 0 where
+-- some folder, the told one where it is told, has this under the name of evidence and the files of the other one
+record Joined (told : Option FileMap) (evidence : List ℕ) (seen : Option (List ℕ)) (folder : FileMap) : Type 0 where
   pub both : FileMap
   pub is_folder : IsFolder told both
-  pub is_seen : file_of both certificate ≡ seen
+  pub is_seen : file_of both evidence ≡ seen
   pub same : (name : List ℕ) → is_file_name name ≡ true → file_of both name ≡ file_of folder name
 
-joined_with : (certificate : List ℕ) → is_certificate certificate ≡ true → (bytes : List ℕ) (folder : FileMap)
-    → Joined None certificate (Some bytes) folder
-joined_with certificate is bytes folder = record {
-  both = (certificate, bytes) ∷ folder;
+joined_with : (evidence : List ℕ) → is_file_name evidence ≡ false → (bytes : List ℕ) (folder : FileMap)
+    → Joined None evidence (Some bytes) folder
+joined_with evidence is bytes folder = record {
+  both = (evidence, bytes) ∷ folder;
   is_folder = tt;
-  is_seen = ap (λ b. cond b (Some bytes) (file_of folder certificate)) (nat_list_eq_equiv.refl certificate);
+  is_seen = ap (λ b. cond b (Some bytes) (file_of folder evidence)) (nat_list_eq_equiv.refl evidence);
   same = λ name named. ap (λ b. cond b (Some bytes) (file_of folder name)) (apart name named);
 }
   where
-    apart : (name : List ℕ) → is_file_name name ≡ true → bytes_eq name certificate ≡ false
-    apart name named = elim (true_or_false (bytes_eq name certificate)) [
+    apart : (name : List ℕ) → is_file_name name ≡ true → bytes_eq name evidence ≡ false
+    apart name named = elim (true_or_false (bytes_eq name evidence)) [
       | inl same ↦
-          absurd (certificate_is_no_file certificate is
-          (subst (λ n. is_file_name n ≡ true) ((bytes_decides name certificate).0 same) named))
+          let other : is_file_name name ≡ false =
+          subst (λ n. is_file_name n ≡ false) (sym ((bytes_decides name evidence).0 same)) is in
+          let no : true ≡ false = sym named ∙ other in cc
       | inr other ↦ other
     ]
 
-joined : (told : Option FileMap) (certificate : List ℕ) → is_certificate certificate ≡ true → (bytes : List ℕ)
-    → IsSeen told certificate (Some bytes)
-    → (folder : FileMap) → IsFolder told folder → Joined told certificate (Some bytes) folder
-joined None certificate is bytes seen folder told_is = joined_with certificate is bytes folder
-joined (Some files) certificate is bytes seen folder told_is = record {
+joined : (told : Option FileMap) (evidence : List ℕ) → is_file_name evidence ≡ false → (bytes : List ℕ)
+    → IsSeen told evidence (Some bytes)
+    → (folder : FileMap) → IsFolder told folder → Joined told evidence (Some bytes) folder
+joined None evidence is bytes seen folder told_is = joined_with evidence is bytes folder
+joined (Some files) evidence is bytes seen folder told_is = record {
   both = files;
   is_folder = refl;
   is_seen = seen;
   same = λ name named. ap (λ f. file_of f name) told_is;
 }
 
--- the certificate is there, and the files come to something
-module _ (told : Option FileMap) (certificate : List ℕ) (is : is_certificate certificate ≡ true) (names : List (List ℕ))
+-- the evidence is there, and the files come to something
+module _ (told : Option FileMap) (evidence : List ℕ) (is : is_file_name evidence ≡ false) (names : List (List ℕ))
     (all : list_all is_file_name names ≡ true)
-    (bytes : List ℕ) (got : Fetches told certificate (Whole bytes)) where
-  seen_whole : (seen : Option (List ℕ)) → fetching certificate seen ≡ Whole bytes → seen ≡ Some bytes
+    (bytes : List ℕ) (got : Fetches told evidence (Whole bytes)) where
+  seen_whole : (seen : Option (List ℕ)) → fetching evidence seen ≡ Whole bytes → seen ≡ Some bytes
   seen_whole None e = cc
   seen_whole (Some text) e = by_size (nat_lt MAX_FILE_BYTES (length text)) e
     where
@@ -109,69 +108,69 @@ module _ (told : Option FileMap) (certificate : List ℕ) (is : is_certificate c
       by_size false e = cc
 
   pub whole_evidence : (found : Gathered Table) → ComesTo told names found
-      → EvidenceFor told certificate names
-      (and_then found (λ files. Whole (record { certificate = bytes; files = files })))
+      → EvidenceFor told evidence names
+      (and_then found (λ files. Whole (record { text = bytes; files = files })))
   whole_evidence found comes =
       let e = seen_whole got.seen got.comes_to in
       let j =
-      joined told certificate is bytes
-      (subst (IsSeen told certificate) e got.is_seen) comes.folder comes.is_folder in
+      joined told evidence is bytes
+      (subst (IsSeen told evidence) e got.is_seen) comes.folder comes.is_folder in
       record {
         folder = j.both;
         is_folder = j.is_folder;
         is_found =
             ap
             (λ f. and_then f (λ text. and_then (gather_names j.both [] names)
-            (λ files. Whole (record { certificate = text; files = files }))))
-            (ap (fetching certificate) (j.is_seen ∙ sym e) ∙ got.comes_to)
-            ∙ ap (λ f. and_then f (λ files. Whole (record { certificate = bytes; files = files })))
+            (λ files. Whole (record { text = text; files = files }))))
+            (ap (fetching evidence) (j.is_seen ∙ sym e) ∙ got.comes_to)
+            ∙ ap (λ f. and_then f (λ files. Whole (record { text = bytes; files = files })))
             (same_gathered comes.folder j.both names all j.same [] ∙ comes.is_found);
       }
 
   -- the files are not all there
   pub files_refused : (refusal : GatherRefusal)
       → IfSome (found_of {A = Table} (Err refusal)) (λ found. ComesTo told names found)
-      → IfSome (found_of {A = Evidence} (Err refusal)) (λ found. EvidenceFor told certificate names found)
+      → IfSome (found_of {A = Evidence} (Err refusal)) (λ found. EvidenceFor told evidence names found)
   files_refused (refusal_.Absent name) comes = whole_evidence (Absent name) comes
   files_refused refusal_.TooLarge comes = whole_evidence TooLarge comes
   files_refused refusal_.ReadFault comes = tt
   files_refused refusal_.Memory comes = tt
 
--- nothing comes of the certificate
-folder_showing : (told : Option FileMap) (certificate : List ℕ) (seen : Option (List ℕ)) → IsSeen told certificate seen
-    → (folder : FileMap) × IsFolder told folder × (file_of folder certificate ≡ seen)
-folder_showing (Some files) certificate seen is = (files, refl, is)
-folder_showing None certificate None is = ([], tt, refl)
-folder_showing None certificate (Some bytes) is =
-    ((certificate, bytes) ∷ [], tt, ap (λ b. cond b (Some bytes) None) (nat_list_eq_equiv.refl certificate))
+-- nothing comes of the evidence
+folder_showing : (told : Option FileMap) (evidence : List ℕ) (seen : Option (List ℕ)) → IsSeen told evidence seen
+    → (folder : FileMap) × IsFolder told folder × (file_of folder evidence ≡ seen)
+folder_showing (Some files) evidence seen is = (files, refl, is)
+folder_showing None evidence None is = ([], tt, refl)
+folder_showing None evidence (Some bytes) is =
+    ((evidence, bytes) ∷ [], tt, ap (λ b. cond b (Some bytes) None) (nat_list_eq_equiv.refl evidence))
 
-no_evidence : (told : Option FileMap) (certificate : List ℕ) (names : List (List ℕ)) (found : Gathered (List ℕ))
+no_evidence : (told : Option FileMap) (evidence : List ℕ) (names : List (List ℕ)) (found : Gathered (List ℕ))
     (ends : Gathered Evidence)
-    → Fetches told certificate found → ((next : List ℕ → Gathered Evidence) → and_then found next ≡ ends)
-    → EvidenceFor told certificate names ends
-no_evidence told certificate names found ends got stops =
-    let f = folder_showing told certificate got.seen got.is_seen in
+    → Fetches told evidence found → ((next : List ℕ → Gathered Evidence) → and_then found next ≡ ends)
+    → EvidenceFor told evidence names ends
+no_evidence told evidence names found ends got stops =
+    let f = folder_showing told evidence got.seen got.is_seen in
     let next : List ℕ → Gathered Evidence =
-    λ text. and_then (gather_names f.0 [] names) (λ files. Whole (record { certificate = text; files = files })) in
+    λ text. and_then (gather_names f.0 [] names) (λ files. Whole (record { text = text; files = files })) in
     record {
       folder = f.0;
       is_folder = f.1;
-      is_found = ap (λ g. and_then g next) (ap (fetching certificate) f.2 ∙ got.comes_to) ∙ stops next;
+      is_found = ap (λ g. and_then g next) (ap (fetching evidence) f.2 ∙ got.comes_to) ∙ stops next;
     }
 
--- the certificate isn't there
-pub certificate_refused : (told : Option FileMap) (certificate : List ℕ) (names : List (List ℕ))
+-- the evidence isn't there
+pub evidence_refused : (told : Option FileMap) (evidence : List ℕ) (names : List (List ℕ))
     (refusal : GatherRefusal)
-    → IfSome (found_of {A = List ℕ} (Err refusal)) (λ found. Fetches told certificate found)
-    → IfSome (found_of {A = Evidence} (Err refusal)) (λ found. EvidenceFor told certificate names found)
-certificate_refused told certificate names (refusal_.Absent name) got =
-    no_evidence told certificate names (Absent name) (Absent name) got (λ next. refl)
-certificate_refused told certificate names refusal_.TooLarge got =
-    no_evidence told certificate names TooLarge TooLarge got (λ next. refl)
-certificate_refused told certificate names refusal_.ReadFault got = tt
-certificate_refused told certificate names refusal_.Memory got = tt
+    → IfSome (found_of {A = List ℕ} (Err refusal)) (λ found. Fetches told evidence found)
+    → IfSome (found_of {A = Evidence} (Err refusal)) (λ found. EvidenceFor told evidence names found)
+evidence_refused told evidence names (refusal_.Absent name) got =
+    no_evidence told evidence names (Absent name) (Absent name) got (λ next. refl)
+evidence_refused told evidence names refusal_.TooLarge got =
+    no_evidence told evidence names TooLarge TooLarge got (λ next. refl)
+evidence_refused told evidence names refusal_.ReadFault got = tt
+evidence_refused told evidence names refusal_.Memory got = tt
 
--- the folder refused to give the certificate
+-- the folder refused to give the evidence
 pub fetch_refused : (told : Option FileMap) (name : List ℕ) (why : FolderRefusal) (refusal : GatherRefusal)
     → FileRefused why told name → IsRefusalFor name why refusal
     → IfSome (found_of {A = List ℕ} (Err refusal)) (λ found. Fetches told name found)

@@ -5,6 +5,7 @@ pub mod Digits
 pub mod Endings
 pub mod Entries
 pub mod Evidence
+pub mod Fails
 pub mod Found
 pub mod Gathers
 pub mod Looking
@@ -16,6 +17,7 @@ pub mod Shapes
 pub mod Spelled
 pub mod Steps
 pub mod Tables
+pub mod Trials
 pub mod Turns
 pub mod Verdicts
 pub mod Whole

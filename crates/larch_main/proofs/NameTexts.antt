@@ -1,6 +1,6 @@
 -- Names of files are texts.
-use Rattle.std.proofs.Common.{◌≡◌, ℕ, ◌+◌, ◌-◌, ◌<◌, ◌≤◌, Bool, true, false, ◌||◌, nat_le, List, [], ◌∷◌, length, drop}
-use Rattle.std.proofs.Common.{get_or, refl, sym, subst, ap, ◌∙◌, arith, drop-drop, length-drop}
+use Rattle.std.proofs.Common.{◌≡◌, ◌≢◌, ℕ, ◌+◌, ◌-◌, ◌<◌, ◌≤◌, Bool, true, false, ◌||◌, nat_le, List, [], ◌∷◌, length}
+use Rattle.std.proofs.Common.{drop, get_or, refl, sym, subst, ap, ◌∙◌, arith, drop-drop, length-drop}
 use Rattle.std.specs.List.{list_all, position_or_len}
 use Rattle.std.specs.Prelude.{codes}
 use Rattle.std.specs.Str.{IsAscii, IsUtf8}
@@ -10,7 +10,7 @@ use Rattle.std.proofs.lemmas.List.Sums.{passes_at_first, split_at_first}
 use Rattle.std.proofs.lemmas.Str.{IsAscii-append, IsUtf8-from_ascii}
 use Rattle.std.proofs.lemmas.Str.Ascii.{IsAscii-cons, IsAscii-nil}
 use Rattle.larch_base.proofs.Bools.{and_left, and_right}
-use Rattle.larch_words.specs.Call.{is_certificate}
+use Rattle.larch_words.specs.Call.{is_certificate, is_model}
 use Rattle.larch_base.specs.FileName.{ending_of, is_dot, is_file_name, is_stem, is_stem_byte, is_trait_file}
 use Rattle.larch_base.specs.FileName.{is_script_file, stem_of}
 
@@ -70,57 +70,82 @@ pub name_is_text : (name : List ℕ) → is_file_name name ≡ true → IsUtf8 n
 name_is_text name e =
     IsUtf8-from_ascii name (either_is_ascii name (is_trait_file name) (is_script_file name) refl refl e)
 
--- the ending of a name whose last bytes are those of the name of a certificate
-ending_is : (name ending : List ℕ) (k : ℕ) → ending_of name ≡ ending → 0 < length ending → length ending + k ≡ 5
-    → 5 ≤ length name
-    → drop (length name - 5) name ≡ codes ".cert" → ending ≡ drop k (codes ".cert")
-ending_is name ending k is some long enough e =
+-- the ending of a name with these last bytes
+ending_is : (name last ending : List ℕ) (size k : ℕ) → ending_of name ≡ ending → 0 < length ending
+    → length ending + k ≡ size → size ≤ length name
+    → drop (length name - size) name ≡ last → ending ≡ drop k last
+ending_is name last ending size k is some long enough e =
     let place : ℕ = position_or_len is_dot name in
-    let size : length (drop (place + 1) name) ≡ length ending = ap length is in
+    let behind : length (drop (place + 1) name) ≡ length ending = ap length is in
     let rest = length-drop (place + 1) name in
-    let at : (length name - 5) + k ≡ place + 1 = omega (arith, size, rest, some, long, enough) in
-    sym is ∙ ap (λ n. drop n name) (sym at) ∙ sym (drop-drop k (length name - 5) name) ∙ ap (λ xs. drop k xs) e
+    let at : (length name - size) + k ≡ place + 1 = omega (arith, behind, rest, some, long, enough) in
+    sym is ∙ ap (λ n. drop n name) (sym at) ∙ sym (drop-drop k (length name - size) name) ∙ ap (λ xs. drop k xs) e
 
 abbrev first_of : List ℕ → ℕ
 first_of bytes = get_or bytes 0 0
 
--- the endings of names of files begin with other bytes than stand there in the name of a certificate
+-- the endings of names of files begin with other bytes than stand there in the name of a certificate or of a model
+abbrev DifferAt : List ℕ → ℕ → List ℕ → Type 0
+DifferAt ending k last = first_of ending ≡ first_of (drop k last) → ⊥
+
 trait_first : first_of (codes "lsl") ≡ 108
 trait_first = refl
-
-there_trait : first_of (drop 2 (codes ".cert")) ≡ 101
-there_trait = refl
 
 script_first : first_of (codes "lp") ≡ 108
 script_first = refl
 
-there_script : first_of (drop 3 (codes ".cert")) ≡ 114
-there_script = refl
+other_than : (ending last : List ℕ) (k byte : ℕ) → first_of ending ≡ 108 → first_of (drop k last) ≡ byte → 108 ≢ byte
+    → DifferAt ending k last
+other_than ending last k byte e f other same = other (sym e ∙ same ∙ f)
 
-trait_differs : first_of (codes "lsl") ≡ first_of (drop 2 (codes ".cert")) → ⊥
-trait_differs same = let no : 108 ≡ 101 = sym trait_first ∙ same ∙ there_trait in absurd (omega (arith, no))
+trait_no_certificate : DifferAt (codes "lsl") 2 (codes ".cert")
+trait_no_certificate = other_than (codes "lsl") (codes ".cert") 2 101 trait_first refl (λ e. absurd (omega (arith, e)))
 
-script_differs : first_of (codes "lp") ≡ first_of (drop 3 (codes ".cert")) → ⊥
-script_differs same = let no : 108 ≡ 114 = sym script_first ∙ same ∙ there_script in absurd (omega (arith, no))
+script_no_certificate : DifferAt (codes "lp") 3 (codes ".cert")
+script_no_certificate = other_than (codes "lp") (codes ".cert") 3 114 script_first refl (λ e. absurd (omega (arith, e)))
 
-no_ending : (name ending : List ℕ) (k : ℕ) → 0 < length ending → length ending + k ≡ 5
-    → (first_of ending ≡ first_of (drop k (codes ".cert")) → ⊥)
-    → is_certificate name ≡ true → ending_of name ≡ ending → ⊥
-no_ending name ending k some long differ is named =
-    let enough : 5 ≤ length name = let le = and_left (nat_le 5 (length name)) _ is in grind (arith, nat_tests, le) in
-    let last =
-    (bytes_decides (drop (length name - 5) name) (codes ".cert")).0 (and_right (nat_le 5 (length name)) _ is) in
-    differ (ap first_of (ending_is name ending k named some long enough last))
+trait_no_model : DifferAt (codes "lsl") 1 (codes ".mod")
+trait_no_model = other_than (codes "lsl") (codes ".mod") 1 109 trait_first refl (λ e. absurd (omega (arith, e)))
+
+script_no_model : DifferAt (codes "lp") 2 (codes ".mod")
+script_no_model = other_than (codes "lp") (codes ".mod") 2 111 script_first refl (λ e. absurd (omega (arith, e)))
+
+no_ending : (name last ending : List ℕ) (size k : ℕ) → 0 < length ending → length ending + k ≡ size
+    → DifferAt ending k last → size ≤ length name → drop (length name - size) name ≡ last
+    → ending_of name ≡ ending → ⊥
+no_ending name last ending size k some long differ enough is named =
+    differ (ap first_of (ending_is name last ending size k named some long enough is))
+
+-- a name that ends in one of these is no name of a file
+no_file : (name last : List ℕ) (size k m : ℕ) → 3 + k ≡ size → 2 + m ≡ size → DifferAt (codes "lsl") k last
+    → DifferAt (codes "lp") m last → size ≤ length name → drop (length name - size) name ≡ last
+    → is_file_name name ≡ false
+no_file name last size k m long short trait script enough is =
+    by_kind (is_trait_file name) (is_script_file name) refl refl
+  where
+    by_kind : (a b : Bool) → is_trait_file name ≡ a → is_script_file name ≡ b → (a || b) ≡ false
+    by_kind true b p q =
+        absurd (no_ending name last (codes "lsl") size k (omega arith) long trait enough is
+        ((bytes_decides (ending_of name) (codes "lsl")).0 (and_right (is_stem (stem_of name)) _ p)))
+    by_kind false true p q =
+        absurd (no_ending name last (codes "lp") size m (omega arith) short script enough is
+        ((bytes_decides (ending_of name) (codes "lp")).0 (and_right (is_stem (stem_of name)) _ q)))
+    by_kind false false p q = refl
+
+at_least : (size : ℕ) (name : List ℕ) → nat_le size (length name) ≡ true → size ≤ length name
+at_least size name le = grind (arith, nat_tests, le)
 
 -- the name of a certificate is no name of a file
-pub certificate_is_no_file : (name : List ℕ) → is_certificate name ≡ true → is_file_name name ≡ true → ⊥
-certificate_is_no_file name is named = by_kind (is_trait_file name) (is_script_file name) refl refl named
-  where
-    by_kind : (a b : Bool) → is_trait_file name ≡ a → is_script_file name ≡ b → (a || b) ≡ true → ⊥
-    by_kind true b p q e =
-        no_ending name (codes "lsl") 2 (omega arith) refl trait_differs is
-        ((bytes_decides (ending_of name) (codes "lsl")).0 (and_right (is_stem (stem_of name)) _ p))
-    by_kind false true p q e =
-        no_ending name (codes "lp") 3 (omega arith) refl script_differs is
-        ((bytes_decides (ending_of name) (codes "lp")).0 (and_right (is_stem (stem_of name)) _ q))
-    by_kind false false p q e = cc
+pub certificate_is_no_file : (name : List ℕ) → is_certificate name ≡ true → is_file_name name ≡ false
+certificate_is_no_file name is =
+    no_file name (codes ".cert") 5 2 3 refl refl trait_no_certificate script_no_certificate
+    (at_least 5 name (and_left (nat_le 5 (length name)) _ is))
+    ((bytes_decides (drop (length name - 5) name) (codes ".cert")).0 (and_right (nat_le 5 (length name)) _ is))
+
+-- nor is that of a model
+pub model_is_no_file : (name : List ℕ) → is_model name ≡ true → is_file_name name ≡ false
+model_is_no_file name is =
+    let rest = and_right (nat_le 4 (length name)) _ is in
+    no_file name (codes ".mod") 4 1 2 refl refl trait_no_model script_no_model
+    (at_least 4 name (and_left (nat_le 4 (length name)) _ is))
+    ((bytes_decides (drop (length name - 4) name) (codes ".mod")).0 (and_left _ _ rest))

@@ -227,16 +227,16 @@ searched_all told before now names i files past s =
           s.looks ∙ ap (λ xs. option_map (λ looks. looks ++ xs) before) (sym (append-nil (looks_for (take i names))));
     }
 
--- ---- a certificate first
+-- ---- a certificate or a model first
 
 -- it isn't there, or can't be read
-pub certificate_alone : (told : Option FileMap) (certificate : List ℕ) (names : List (List ℕ))
+pub evidence_alone : (told : Option FileMap) (evidence : List ℕ) (names : List (List ℕ))
     (before now : Option (List (List ℕ)))
-    → now ≡ with_look before certificate
-    → LookInTurn told (certificate ∷ looks_for names) before now
-certificate_alone told certificate names before now e = record {
+    → now ≡ with_look before evidence
+    → LookInTurn told (evidence ∷ looks_for names) before now
+evidence_alone told evidence names before now e = record {
   found = [];
-  last = Some certificate;
+  last = Some evidence;
   rest = looks_for names;
   order = refl;
   there = All-nil (IsThere told);
@@ -244,19 +244,19 @@ certificate_alone told certificate names before now e = record {
 }
 
 -- it is there, and then the files are looked for
-pub certificate_first : (told told' : Option FileMap) (certificate bytes : List ℕ) (names : List (List ℕ))
+pub evidence_first : (told told' : Option FileMap) (evidence bytes : List ℕ) (names : List (List ℕ))
     (before now later : Option (List (List ℕ)))
-    → told' ≡ told → IsFile told certificate bytes → now ≡ with_look before certificate
-    → LookInTurn told' (looks_for names) now later → LookInTurn told (certificate ∷ looks_for names) before later
-certificate_first told told' certificate bytes names before now later same is e t = record {
-  found = certificate ∷ t.found;
+    → told' ≡ told → IsFile told evidence bytes → now ≡ with_look before evidence
+    → LookInTurn told' (looks_for names) now later → LookInTurn told (evidence ∷ looks_for names) before later
+evidence_first told told' evidence bytes names before now later same is e t = record {
+  found = evidence ∷ t.found;
   last = t.last;
   rest = t.rest;
-  order = ap (λ xs. certificate ∷ xs) t.order;
-  there = All-cons (IsThere told) certificate t.found (bytes, is) (subst (λ o. All (IsThere o) t.found) same t.there);
+  order = ap (λ xs. evidence ∷ xs) t.order;
+  there = All-cons (IsThere told) evidence t.found (bytes, is) (subst (λ o. All (IsThere o) t.found) same t.there);
   looks =
       t.looks ∙ (ap (λ o. option_map (λ looks. looks ++ (t.found ++ option_to_list t.last)) o) e
-      ∙ further_told before certificate (t.found ++ option_to_list t.last));
+      ∙ further_told before evidence (t.found ++ option_to_list t.last));
 }
 
 -- ---- calls

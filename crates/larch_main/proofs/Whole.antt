@@ -11,12 +11,13 @@ use Rattle.larch_certificate.specs.declared.line.Line.{Line}
 use Rattle.larch_certificate_text.specs.CertificateText.{read_certificate}
 use Rattle.larch_verify_meaning.specs.Acceptance.{verdict}
 use Rattle.larch_duties_meaning.specs.Duties.{Duty}
-use Rattle.larch_words.specs.Call.{call_of, is_certificate}
+use Rattle.larch_words.specs.Call.{call_of, is_certificate, is_model}
 use Rattle.larch_words.specs.declared.call.Call.{Call}
+use Rattle.larch_words.specs.declared.call.Trial.{Trial}
 use Rattle.larch_words.specs.declared.call.Verification.{Verification}
 use Rattle.larch_words.specs.declared.call.Call.TheVariants as call_
 use Rattle.larch_words.specs.declared.call.Question.{Question}
-use Rattle.larch_words.specs.declared.call.Question.TheVariants.{Check, Obligations, Verify}
+use Rattle.larch_words.specs.declared.call.Question.TheVariants.{Check, Model, Obligations, Verify}
 use Rattle.larch_main.specs.Answer.{AnswersBy, IsAnswer, TellsAnswer, good_or_remains, no_file, said, size_passed}
 use Rattle.larch_main.specs.declared.answer.Answer.{Answer}
 use Rattle.larch_main.specs.declared.progress.Halt.{Halt}
@@ -27,10 +28,18 @@ use Rattle.larch_main.specs.declared.status.Status.TheVariants.{Malformed, Size,
 use Rattle.larch_main.specs.Check.{check_answer}
 use Rattle.larch_main.specs.Gather.{Gathered, Whole, Absent, TooLarge, IsFolder, evidence_in, gather_names}
 use Rattle.larch_main.specs.Obligations.{obligations_answer}
-use Rattle.larch_main.specs.Questions.{Answered, IsCertified, MayAnswer}
+use Rattle.larch_main.specs.Questions.{Answered, IsCertified, MayAnswer, NamesModel}
 use Rattle.larch_main.specs.Running.{usage_text, Output, Answers, WritesBefore, WritesFront, Writes}
 use Rattle.larch_main.specs.Running.{CallTakes, Counts, KeepsFolder, KeepsSource, folder_failed, source_failed}
 use Rattle.larch_main.specs.Running.{Shows, sink_failed, reads_folder, reads_source}
+use Rattle.larch_duties.specs.Own.{trait_own_claims}
+use Rattle.larch_duties.specs.declared.own.OwnClaims.{OwnClaims}
+use Rattle.larch_flat_meaning.specs.Stops.{Stop}
+use Rattle.larch_models_answer.specs.Judgements.{judge_model}
+use Rattle.larch_models_answer.specs.declared.finding.Ending.{Ending}
+use Rattle.larch_models_answer.specs.declared.finding.Ending.TheVariants as ending_
+use Rattle.larch_traits.specs.Reading.{read_files}
+use Rattle.larch_main.specs.Model.{ending_status, trial_answer, tried_over}
 use Rattle.larch_main.specs.Progress.{HaltFaults}
 use Rattle.larch_main.specs.Report.{check_of}
 use Rattle.larch_report.specs.Counts.{counts_of, is_good}
@@ -65,6 +74,16 @@ judged_said None (Ok read) = tt
 judged_said (Some duty) (Ok read) = verdict_said (verdict duty.theory duty.statement read.1)
 judged_said duty (Err number) = tt
 
+ending_said : (ending : Ending) → IsSaid (ending_status ending)
+ending_said ending_.Holds = tt
+ending_said ending_.Fails = tt
+ending_said ending_.Malformed = tt
+ending_said ending_.TooLarge = tt
+
+tried_said : (text : List ℕ) (claims : Result OwnClaims Stop) → IsSaid (tried_over text claims).status
+tried_said text (Ok own) = ending_said (judge_model own.theory own.assumed own.implied text).ending
+tried_said text (Err stop) = tt
+
 -- what may be answered to a question about files stands beside such a status
 pub may_said : (question : Question) (names : List (List ℕ)) (folder : FileMap) (text : List ℕ) (status : Status)
     → MayAnswer question names folder text status → IsSaid status
@@ -79,8 +98,13 @@ may_said Obligations names folder text status is =
 may_said (Verify asked) names folder text status is =
     by_said (λ e. IsAnswer (verification_answer asked.stem asked.label e))
     (λ e text status is. subst IsSaid (sym is.1)
-    (judged_said (duty_in e.files asked.stem asked.label) (read_certificate false e.certificate)))
+    (judged_said (duty_in e.files asked.stem asked.label) (read_certificate false e.text)))
     (evidence_in folder asked.certificate names) text status is
+may_said (Model tried) names folder text status is =
+    by_said (λ e. IsAnswer (trial_answer tried.stem e))
+    (λ e text status is. subst IsSaid (sym is.1)
+    (tried_said e.text (trait_own_claims (read_files e.files) tried.stem)))
+    (evidence_in folder tried.model names) text status is
 
 -- whatever was found, something may be answered
 by_some : {A : Type 0} (Told : A → List ℕ → Status → Type 0)
@@ -102,6 +126,9 @@ some_answer (Verify asked) names folder =
     by_some (λ e. IsAnswer (verification_answer asked.stem asked.label e))
     (λ e. (verification_answer asked.stem asked.label e, (refl, refl)))
     (evidence_in folder asked.certificate names)
+some_answer (Model tried) names folder =
+    by_some (λ e. IsAnswer (trial_answer tried.stem e)) (λ e. (trial_answer tried.stem e, (refl, refl)))
+    (evidence_in folder tried.model names)
 
 writes_said : (call : Call) (told : Option FileMap) (left leaves held holds : Option (List ℕ)) (status : Status)
     → IsSaid status
@@ -328,6 +355,11 @@ module _ (call : Call) (words : List (List ℕ)) (question : Question) (names : 
   asked_certificate certified asked e =
       certified words names asked (sym read ∙ is ∙ ap (λ q. call_.OnFiles q names) e)
 
+  pub asked_model : ((others these : List (List ℕ)) (tried : Trial)
+      → call_of others ≡ call_.OnFiles (Model tried) these → is_model tried.model ≡ true)
+      → NamesModel question
+  asked_model named tried e = named words names tried (sym read ∙ is ∙ ap (λ q. call_.OnFiles q names) e)
+
 -- what a call shows, by what was written
 module _ (law : (asked : Verification) (names : List (List ℕ)) (folder : FileMap) (input output : List ℕ)
     → Output (call_.OnFiles (Verify asked) names) folder input output Good → IsShown folder asked names) where
@@ -337,6 +369,7 @@ module _ (law : (asked : Verification) (names : List (List ℕ)) (folder : FileM
   shows call_.Nothing told left leaves held holds status w = tt
   shows (call_.OnFiles Check names) told left leaves held holds status w = tt
   shows (call_.OnFiles Obligations names) told left leaves held holds status w = tt
+  shows (call_.OnFiles (Model tried) names) told left leaves held holds status w = tt
   shows (call_.OnFiles (Verify asked) names) told left leaves held holds Good w =
       (w.folder, w.is_folder, law asked names w.folder w.input w.output w.defined)
   shows (call_.OnFiles (Verify asked) names) told left leaves held holds Remains w = tt

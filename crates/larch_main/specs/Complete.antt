@@ -1,12 +1,21 @@
 -- When all that a call needs is there, and what it then comes to.
-use Rattle.std.specs.Prelude.{◌≡◌, ◌≤◌, ℕ, false, List, [], length, All, IsSomeAnd}
+use Rattle.std.specs.Prelude.{◌≡◌, ◌≤◌, ℕ, true, false, List, [], length, All, IsSomeAnd, Result, Ok, Err}
+use Rattle.std.specs.List.{list_all}
 use Rattle.larch_base.specs.declared.limits.TheConstants.{MAX_FILES, MAX_FILE_BYTES}
 use Rattle.larch_certificate.specs.declared.line.Line.{Line}
 use Rattle.larch_certificate_text.specs.CertificateText.{IsTextOf}
+use Rattle.larch_duties.specs.Own.{trait_own_claims}
+use Rattle.larch_duties.specs.declared.own.OwnClaims.{OwnClaims}
+use Rattle.larch_flat_meaning.specs.Stops.{Stop}
 use Rattle.larch_io.specs.Folder.{FileMap, file_of}
+use Rattle.larch_models_answer.specs.Judgements.{is_small}
+use Rattle.larch_models_meaning.specs.ModelText.{read_model}
+use Rattle.larch_models_meaning.specs.declared.finite_model.FiniteModel.{FiniteModel}
+use Rattle.larch_term.specs.declared.statement.Statement.{Statement}
 use Rattle.larch_traits.specs.Files.{Table}
+use Rattle.larch_traits.specs.Reading.{read_files}
 use Rattle.larch_words.specs.declared.call.Question.{Question}
-use Rattle.larch_words.specs.declared.call.Question.TheVariants.{Check, Obligations, Verify}
+use Rattle.larch_words.specs.declared.call.Question.TheVariants.{Check, Model, Obligations, Verify}
 use Rattle.larch_main.specs.Gather.{Whole, evidence_in, gather_names}
 use Rattle.larch_main.specs.declared.gather.Evidence.{Evidence}
 use Rattle.larch_main.specs.declared.status.Status.{Status}
@@ -32,16 +41,39 @@ HasCertificate folder name =
     IsSomeAnd (file_of folder name)
     (λ text. (length text ≤ MAX_FILE_BYTES) × (lines : List Line) × IsTextOf text false lines)
 
+-- each statement has few enough assignments to be tried
+abbrev pub AreSmall : FiniteModel → List Statement → Type 0
+AreSmall m ss = list_all (is_small m) ss ≡ true
+
+-- A text is in the grammar of models of what a trait claims, and each statement has few enough assignments; where there
+-- is no such trait, nothing is asked of it.
+abbrev pub Suits : Result OwnClaims Stop → List ℕ → Type 0
+Suits (Ok own) text =
+    (m : FiniteModel) × (read_model own.theory.operators text ≡ Ok m)
+    × AreSmall m own.theory.statements × AreSmall m own.assumed × AreSmall m own.implied
+Suits (Err stop) text = Unit {0}
+
+-- a folder has a file of this name that isn't too long, and suits a trait among these files as a model
+abbrev pub HasModel : FileMap → List ℕ → List ℕ → List (List ℕ) → Type 0
+HasModel folder name stem names =
+    IsSomeAnd (file_of folder name)
+    (λ text. (length text ≤ MAX_FILE_BYTES) × ((files : Table) → gather_names folder [] names ≡ Whole files
+    → Suits (trait_own_claims (read_files files) stem) text))
+
 -- what a question is about is all there, within the limits and in its grammar
 abbrev pub IsThere : Question → List (List ℕ) → FileMap → Type 0
 IsThere Check names folder = (files : Table) × (gather_names folder [] names ≡ Whole files)
 IsThere Obligations names folder = (files : Table) × (gather_names folder [] names ≡ Whole files)
 IsThere (Verify asked) names folder =
     (evidence : Evidence) × (lines : List Line) × (evidence_in folder asked.certificate names ≡ Whole evidence)
-    × IsTextOf evidence.certificate false lines
+    × IsTextOf evidence.text false lines
+IsThere (Model tried) names folder =
+    (evidence : Evidence) × (evidence_in folder tried.model names ≡ Whole evidence)
+    × Suits (trait_own_claims (read_files evidence.files) tried.stem) evidence.text
 
 -- a folder has what a question is about
 abbrev pub HasAll : Question → List (List ℕ) → FileMap → Type 0
 HasAll Check names folder = HasFiles folder names
 HasAll Obligations names folder = HasFiles folder names
 HasAll (Verify asked) names folder = HasCertificate folder asked.certificate × HasFiles folder names
+HasAll (Model tried) names folder = HasModel folder tried.model tried.stem names × HasFiles folder names

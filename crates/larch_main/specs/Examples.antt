@@ -7,11 +7,12 @@ use Rattle.larch_duties_meaning.specs.Examples.{computing}
 use Rattle.larch_io.specs.Folder.{FileMap}
 use Rattle.larch_lexer.specs.Lexing.{lexing_of}
 use Rattle.larch_words.specs.declared.call.Question.{Question}
-use Rattle.larch_words.specs.declared.call.Question.TheVariants.{Verify}
+use Rattle.larch_models_meaning.specs.ModelText.{read_model}
+use Rattle.larch_words.specs.declared.call.Question.TheVariants.{Model, Verify}
 
 -- all words that an example unfolds
 unfoldable pub answering : Unit {0}
-unfolding computing lexing_of read_certificate run
+unfolding computing lexing_of read_certificate read_model run
 answering = tt
 
 -- a trait of one constant c that implies c == c
@@ -29,6 +30,18 @@ one_folder = (one_file, one_text) ∷ []
 -- the question whether c.cert shows the duty of that trait with a label
 abbrev pub asked_of_one : Label → Question
 asked_of_one label = Verify (record { stem = codes "One"; label = label; certificate = codes "c.cert" })
+
+-- a folder of a trait of two constants that implies that they are the same
+abbrev pub differing : FileMap
+differing = (codes "Wk.lsl", codes "Wk: trait introduces c, d: -> S implies c == d") ∷ []
+
+-- the question whether m.mod is a model of a trait
+abbrev pub model_of : List ℕ → Question
+model_of stem = Model (record { stem = stem; model = codes "m.mod" })
+
+-- a folder with a model more, with these lines
+abbrev pub with_model : FileMap → List ℕ → FileMap
+with_model folder lines = (codes "m.mod", codes "model\n" ++ lines) ∷ folder
 
 -- a folder of that file and a certificate with these lines
 abbrev pub with_certificate : List ℕ → FileMap

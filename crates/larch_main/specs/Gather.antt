@@ -43,8 +43,8 @@ abbrev pub fetching : List ℕ → Option (List ℕ) → Gathered (List ℕ)
 fetching name None = Absent name
 fetching name (Some bytes) = if nat_lt MAX_FILE_BYTES (length bytes) then TooLarge else Whole bytes
 
--- a certificate comes first, then the files of these names
+-- a certificate or a model comes first, then the files of these names
 abbrev pub evidence_in : FileMap → List ℕ → List (List ℕ) → Gathered Evidence
-evidence_in folder certificate names =
-    and_then (fetching certificate (file_of folder certificate)) (λ text.
-    and_then (gather_names folder [] names) (λ files. Whole (record { certificate = text; files = files })))
+evidence_in folder evidence names =
+    and_then (fetching evidence (file_of folder evidence)) (λ text.
+    and_then (gather_names folder [] names) (λ files. Whole (record { text = text; files = files })))

@@ -8,6 +8,7 @@ pub mod Input
 pub mod Laws
 pub mod Lines
 pub mod Look
+pub mod Model
 pub mod Obligations
 pub mod Progress
 pub mod Questions

@@ -86,10 +86,10 @@ pub record Fetches (told : Option FileMap) (name : List ℕ) (found : Gathered (
   pub is_seen : IsSeen told name seen
   pub comes_to : fetching name seen ≡ found
 
--- some folder, the told one where it is told, comes to this by a certificate's name and these names
-pub record EvidenceFor (told : Option FileMap) (certificate : List ℕ) (names : List (List ℕ))
+-- some folder, the told one where it is told, comes to this by the name of a certificate or a model and these names
+pub record EvidenceFor (told : Option FileMap) (evidence : List ℕ) (names : List (List ℕ))
     (found : Gathered Evidence)
     : Type 0 where
   pub folder : FileMap
   pub is_folder : IsFolder told folder
-  pub is_found : evidence_in folder certificate names ≡ found
+  pub is_found : evidence_in folder evidence names ≡ found

@@ -1,13 +1,15 @@
 -- What may be answered to a question about files.
 use Rattle.std.specs.Prelude.{◌≡◌, ℕ, true, List, [], Option}
 use Rattle.larch_io.specs.Folder.{FileMap}
-use Rattle.larch_words.specs.Call.{is_certificate}
+use Rattle.larch_words.specs.Call.{is_certificate, is_model}
 use Rattle.larch_words.specs.declared.call.Question.{Question}
-use Rattle.larch_words.specs.declared.call.Question.TheVariants.{Check, Obligations, Verify}
+use Rattle.larch_words.specs.declared.call.Question.TheVariants.{Check, Model, Obligations, Verify}
+use Rattle.larch_words.specs.declared.call.Trial.{Trial}
 use Rattle.larch_words.specs.declared.call.Verification.{Verification}
 use Rattle.larch_main.specs.Answer.{AnswersBy, IsAnswer}
 use Rattle.larch_main.specs.Check.{check_answer}
 use Rattle.larch_main.specs.Gather.{IsFolder, evidence_in, gather_names}
+use Rattle.larch_main.specs.Model.{trial_answer}
 use Rattle.larch_main.specs.Obligations.{obligations_answer}
 use Rattle.larch_main.specs.Verify.{verification_answer}
 use Rattle.larch_main.specs.declared.answer.Answer.{Answer}
@@ -21,11 +23,17 @@ MayAnswer Obligations names folder =
 MayAnswer (Verify asked) names folder =
     AnswersBy (λ evidence. IsAnswer (verification_answer asked.stem asked.label evidence))
     (evidence_in folder asked.certificate names)
+MayAnswer (Model tried) names folder =
+    AnswersBy (λ evidence. IsAnswer (trial_answer tried.stem evidence)) (evidence_in folder tried.model names)
 
 -- the certificate that a question names has the name of one
 abbrev pub IsCertified : Question → Type 0
 IsCertified question =
     (asked : Verification) → question ≡ Verify asked → is_certificate asked.certificate ≡ true
+
+-- and so has the model
+abbrev pub NamesModel : Question → Type 0
+NamesModel question = (tried : Trial) → question ≡ Model tried → is_model tried.model ≡ true
 
 -- this was answered to a question: on some folder, the told one where it is told
 pub record Answered (question : Question) (names : List (List ℕ)) (told : Option FileMap) (answer : Answer) : Type 0

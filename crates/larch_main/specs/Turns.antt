@@ -7,7 +7,7 @@ use Rattle.larch_io.specs.Folder.{FileMap, IsFile, with_look}
 use Rattle.larch_words.specs.declared.call.Call.{Call}
 use Rattle.larch_words.specs.declared.call.Call.TheVariants as call_
 use Rattle.larch_words.specs.declared.call.Question.{Question}
-use Rattle.larch_words.specs.declared.call.Question.TheVariants.{Check, Obligations, Verify}
+use Rattle.larch_words.specs.declared.call.Question.TheVariants.{Check, Model, Obligations, Verify}
 
 -- the looks with one more for a name that wasn't looked for
 abbrev pub next_look : List (List ℕ) → List ℕ → List (List ℕ)
@@ -17,11 +17,12 @@ next_look seen name = if list_any (bytes_eq name) seen then seen else (seen ++ n
 abbrev pub looks_for : List (List ℕ) → List (List ℕ)
 looks_for names = fold next_look [] names
 
--- the looks for what a question names: a certificate is looked for before the files
+-- the looks for what a question names: a certificate or a model is looked for before the files
 abbrev pub looks_of : Question → List (List ℕ) → List (List ℕ)
 looks_of Check names = looks_for names
 looks_of Obligations names = looks_for names
 looks_of (Verify asked) names = asked.certificate ∷ looks_for names
+looks_of (Model tried) names = tried.model ∷ looks_for names
 
 -- there is a file of this name, where the folder tells
 abbrev pub IsThere : Option FileMap → List ℕ → Type 0

@@ -9,6 +9,7 @@ use Rattle.larch_verify_meaning.specs.Acceptance.{verdict}
 use Rattle.larch_calculus.specs.Derivable.{Derivable}
 use Rattle.larch_flat_meaning.specs.Stops.{Stop}
 use Rattle.larch_io.specs.Folder.{FileMap}
+use Rattle.larch_models_answer.specs.Failing.{HasLine, failing_line}
 use Rattle.larch_duties.specs.TraitDuties.{trait_duties}
 use Rattle.larch_traits.specs.Files.{Table}
 use Rattle.larch_traits.specs.Reading.{read_files}
@@ -16,6 +17,7 @@ use Rattle.larch_duties_meaning.specs.Duties.{Duties, Duty, all_duties}
 use Rattle.larch_words.specs.declared.call.Verification.{Verification}
 use Rattle.larch_main.specs.Answer.{said}
 use Rattle.larch_main.specs.Gather.{Whole, gather_names}
+use Rattle.larch_main.specs.Model.{trial_answer}
 use Rattle.larch_main.specs.declared.answer.Answer.{Answer}
 use Rattle.larch_main.specs.declared.gather.Evidence.{Evidence}
 use Rattle.larch_main.specs.declared.status.Status.TheVariants.{Good, Remains, Malformed}
@@ -54,13 +56,15 @@ judged_by duty (Err number) = malformed_answer number
 
 -- the verdict on a certificate and files
 abbrev pub verification_answer : List ℕ → Label → Evidence → Answer
-verification_answer stem label e = judged_by (duty_in e.files stem label) (read_certificate false e.certificate)
+verification_answer stem label e = judged_by (duty_in e.files stem label) (read_certificate false e.text)
 
--- what was to be verified is so: among these files of the folder the trait has a duty with the label, and its statement
--- is derivable from its theory
+-- what was to be verified is so: among these files of the folder the trait has a duty with the label, its statement is
+-- derivable from its theory, and whichever text is tried as a model of the trait, no line says that the duty fails
 pub record IsShown (folder : FileMap) (asked : Verification) (names : List (List ℕ)) : Type 0 where
   pub files : Table
   pub are_files : gather_names folder [] names ≡ Whole files
   pub duty : Duty
   pub is_duty : duty_in files asked.stem asked.label ≡ Some duty
   pub derivable : Derivable duty.theory duty.statement
+  pub fails_nowhere : (text : List ℕ)
+      → HasLine (trial_answer asked.stem (record { text = text; files = files })).text (failing_line asked.label) → ⊥

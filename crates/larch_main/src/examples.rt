@@ -4,7 +4,8 @@ ghost use Rattle.larch_base.specs.declared.label.Label.TheVariants.{Imply};
 ghost use Rattle.larch_base.specs.declared.limits.TheConstants.{MAX_FILE_BYTES};
 ghost use Rattle.larch_io.specs.Folder.{FileMap, file_of};
 ghost use Rattle.larch_words.specs.declared.call.Question.TheVariants.{Check, Obligations};
-ghost use Rattle.larch_main.specs.Examples.{asked_of_one, one_file, one_folder, with_certificate};
+ghost use Rattle.larch_main.specs.Examples.{asked_of_one, differing, model_of, one_file, one_folder, with_certificate};
+ghost use Rattle.larch_main.specs.Examples.{with_model};
 ghost use Rattle.larch_main.specs.Questions.{MayAnswer};
 ghost use Rattle.larch_main.specs.declared.status.Status.TheVariants.{Good, Malformed, NoFile, Remains, Size};
 
@@ -38,6 +39,20 @@ pub fn certificates_are_told()
         (codes "malformed at line 2\n") Malformed }
     ensures no_duty { MayAnswer (asked_of_one (Imply 2)) (one_file ∷ []) (with_certificate (codes "1 refl #1\n"))
         (codes "no duty\n") Remains }
+{}
+
+/// A claim holds in a model, or fails in it; a text is no model from a line on; that there is no such trait comes
+/// first.
+pub fn models_are_told()
+    ensures holds { MayAnswer (model_of (codes "One")) (one_file ∷ []) (with_model one_folder (codes "op 1 0\n"))
+        (codes "model\n" ++ (codes "imply.1 holds\n" ++ codes "end\n")) Good }
+    ensures fails { MayAnswer (model_of (codes "Wk")) (codes "Wk.lsl" ∷ [])
+        (with_model differing (codes "sort S 2\nop 1 0\nop 2 1\n"))
+        (codes "model\n" ++ (codes "imply.1 fails\n" ++ codes "end\n")) Remains }
+    ensures malformed { MayAnswer (model_of (codes "One")) (one_file ∷ []) (with_model one_folder (codes "op 1 1\n"))
+        (codes "malformed at line 2\n") Malformed }
+    ensures no_trait { MayAnswer (model_of (codes "Two")) (one_file ∷ []) (with_model one_folder [])
+        (codes "no trait\n") Remains }
 {}
 
 /// A file isn't there, or has too many bytes. The certificate comes first.

@@ -1,10 +1,9 @@
-ghost use Rattle.std.specs.Prelude.{◌≡◌, ◌≤◌, ◌∷◌, ℕ, IfErr, IfOk, IfSome, OnOk, true, vec_len};
+ghost use Rattle.std.specs.Prelude.{◌≡◌, ◌≤◌, ◌∷◌, ℕ, IfErr, IfOk, IfSome, OnOk, false, true, vec_len};
 ghost use Rattle.std.specs.List.{list_all};
 ghost use Rattle.larch_base.specs.FileName.{is_file_name};
 ghost use Rattle.larch_base.specs.declared.limits.TheConstants.{MAX_FILE_BYTES};
 ghost use Rattle.larch_io.specs.Folder.{IsFile, with_look};
 ghost use Rattle.larch_io.specs.Refusal.{FolderFaults};
-ghost use Rattle.larch_words.specs.Call.{is_certificate};
 ghost use Rattle.larch_main.specs.Look.{ComesTo, EvidenceFor, Fetches, GatherFaults, IsRefusalFor, Looks, found_of};
 ghost use Rattle.larch_main.specs.Turns.{LookInTurn, LooksOnce, looks_for};
 ghost use Rattle.larch_traits.specs.Files.{has_file, put_file};
@@ -13,13 +12,13 @@ use larch_base::limits::MAX_FILES;
 use larch_base::{Bytes, FileName, Memory, Name, NameRefusal};
 use larch_io::{Folder, FolderRefusal};
 use larch_traits::Files;
-use larch_words::CertificateName;
+use larch_words::EvidenceName;
 use std::alloc::Global;
 
-/// What is looked at to verify a certificate: its text, and the files among which the trait is.
+/// What is looked at to verify a certificate or to try a model: its text, and the files among which the trait is.
 #[derive(Drop)]
 pub struct Evidence {
-    pub certificate: Bytes,
+    pub text: Bytes,
     pub files: Files,
 }
 
@@ -70,36 +69,33 @@ pub fn gather<F: Folder>(
     Ok(files)
 }
 
-/// Looks for a certificate and then for the files of these names, until one isn't there or passes a limit, which is
-/// refused.
+/// Looks for a certificate or a model and then for the files of these names, until one isn't there or passes a limit,
+/// which is refused.
 pub fn gather_evidence<F: Folder>(
     alloc: Global,
-    certificate: &CertificateName,
+    evidence: &EvidenceName,
     names: &[FileName],
     folder: &mut F,
 ) -> Result<Evidence, GatherRefusal>
     requires names { list_all is_file_name names.now ≡ true }
-    requires other { is_certificate certificate.now ≡ true }
+    requires other { is_file_name evidence.now ≡ false }
     ensures found { IfSome (found_of result) (λ found.
-        EvidenceFor (F.files folder.old) certificate.now names.now found) }
+        EvidenceFor (F.files folder.old) evidence.now names.now found) }
     ensures same { F.files folder.new ≡ F.files folder.old }
     ensures fine { OnOk result (F.faults folder.new ≡ F.faults folder.old) }
     ensures faults { IfErr result (λ refusal. GatherFaults refusal (F.faults folder.old) (F.faults folder.new)) }
-    ensures looks { LookInTurn (F.files folder.old) (certificate.now ∷ looks_for names.now)
+    ensures looks { LookInTurn (F.files folder.old) (evidence.now ∷ looks_for names.now)
         (F.looks folder.old) (F.looks folder.new) }
 {
-    let text = fetch(alloc, certificate, folder)?;
+    let text = fetch(alloc, evidence, folder)?;
     let files = gather(alloc, names, folder)?;
-    Ok(Evidence {
-        certificate: text,
-        files,
-    })
+    Ok(Evidence { text, files })
 }
 
-// Looks for a certificate.
+// Looks for a certificate or a model.
 fn fetch<F: Folder>(
     alloc: Global,
-    name: &CertificateName,
+    name: &EvidenceName,
     folder: &mut F,
 ) -> Result<Bytes, GatherRefusal>
     ensures found { IfSome (found_of result) (λ found. Fetches (F.files folder.old) name.now found) }

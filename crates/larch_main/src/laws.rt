@@ -1,12 +1,14 @@
 //! Laws about sessions and reports.
-ghost use Rattle.std.specs.Prelude.{◌≡◌, ◌≤◌, ℕ, Bool, true, List, [], flat_map, length, map};
+ghost use Rattle.std.specs.Prelude.{◌≡◌, ◌≢◌, ◌≤◌, ℕ, Bool, true, List, [], flat_map, length, map};
 ghost use Rattle.larch_base.specs.declared.limits.TheConstants.{MAX_SOURCE_BYTES};
 ghost use Rattle.larch_traits.specs.Files.{Table};
 ghost use Rattle.larch_traits.specs.Reading.{read_files};
 ghost use Rattle.larch_io.specs.Folder.{FileMap};
+ghost use Rattle.larch_models_answer.specs.Failing.{HasLine, failing_line};
 ghost use Rattle.larch_words.specs.declared.call.Call.TheVariants.{OnFiles};
 ghost use Rattle.larch_words.specs.declared.call.Question.{Question};
-ghost use Rattle.larch_words.specs.declared.call.Question.TheVariants.{Verify};
+ghost use Rattle.larch_words.specs.declared.call.Question.TheVariants.{Model, Verify};
+ghost use Rattle.larch_words.specs.declared.call.Trial.{Trial};
 ghost use Rattle.larch_words.specs.declared.call.Verification.{Verification};
 ghost use Rattle.larch_main.specs.Complete.{HasAll, IsDone, IsThere};
 ghost use Rattle.larch_main.specs.Input.{Entry, IsInputOf};
@@ -17,7 +19,7 @@ ghost use Rattle.larch_main.specs.Report.{check_of};
 ghost use Rattle.larch_main.specs.Session.{State, Ending, Session, start, with_status};
 ghost use Rattle.larch_main.specs.Verify.{IsShown};
 ghost use Rattle.larch_main.specs.declared.status.Status.{Status};
-ghost use Rattle.larch_main.specs.declared.status.Status.TheVariants.{Good};
+ghost use Rattle.larch_main.specs.declared.status.Status.TheVariants.{Good, NoFile};
 
 use larch_traits::laws::each_flat_trait_is_told;
 use larch_verify_law::laws::accepted_is_derivable;
@@ -48,8 +50,8 @@ pub fn each_trait_has_one_line()
     each_flat_trait_is_told()
 }
 
-/// Where a folder has all that is asked about, within the limits, and a certificate in its grammar, all of it is
-/// gathered.
+/// Where a folder has all that is asked about, within the limits, a certificate in its grammar, and a model in that of
+/// its trait, of which each statement has few enough assignments, all of it is gathered.
 pub fn what_is_there_is_gathered()
     ensures { (question : Question) (names : List (List ℕ)) (folder : FileMap) → HasAll question names folder
         → IsThere question names folder }
@@ -68,10 +70,23 @@ pub fn what_is_in_the_grammar_is_done()
         → Session true start input output (with_status status) last → IsDone status }
 {}
 
-/// Where `verify` ends well, the trait has the duty that was named, and its statement is derivable from its theory.
+/// Where `verify` ends well, the trait has the duty that was named, its statement is derivable from its theory, and in
+/// no text that is tried as a model of the trait over these files it fails.
 pub fn what_is_verified_is_derivable()
     ensures { (asked : Verification) (names : List (List ℕ)) (folder : FileMap) (input output : List ℕ)
         → Output (OnFiles (Verify asked) names) folder input output Good → IsShown folder asked names }
+{
+    accepted_is_derivable()
+}
+
+/// Where `verify` ends well, nothing that `model` answers about the same trait among the same files of the folder has a
+/// line that says that the duty fails; of a file that isn't there only its name is answered.
+pub fn what_is_verified_never_fails()
+    ensures { (asked : Verification) (tried : Trial) (names : List (List ℕ)) (folder : FileMap)
+        (input output given text : List ℕ) (status : Status) → tried.stem ≡ asked.stem
+        → Output (OnFiles (Verify asked) names) folder input output Good
+        → Output (OnFiles (Model tried) names) folder given text status → status ≢ NoFile
+        → HasLine text (failing_line asked.label) → ⊥ }
 {
     accepted_is_derivable()
 }

@@ -4,7 +4,7 @@ ghost use Rattle.larch_base.specs.FileName.{is_file_name};
 ghost use Rattle.larch_io.specs.Faults.{Rose};
 ghost use Rattle.larch_words.specs.Call.{call_of};
 ghost use Rattle.larch_words.specs.declared.call.Call.TheVariants.{OnFiles as call_on_files};
-ghost use Rattle.larch_main.specs.Questions.{Answered, IsCertified};
+ghost use Rattle.larch_main.specs.Questions.{Answered, IsCertified, NamesModel};
 ghost use Rattle.larch_main.specs.Running.{Answers, Writes, CallTakes, KeepsFolder, KeepsSource};
 ghost use Rattle.larch_main.specs.Running.{Counts, Shows, folder_failed, sink_failed, source_failed};
 ghost use Rattle.larch_main.specs.Answer.{answer_of};
@@ -16,6 +16,7 @@ use crate::answer::{Answer, answer_to, tell};
 use crate::check::check;
 use crate::gather::GatherRefusal;
 use crate::laws::what_is_verified_is_derivable;
+use crate::model::model;
 use crate::obligations::obligations;
 use crate::progress::Halt;
 use crate::say::say;
@@ -24,7 +25,9 @@ use crate::status::Status;
 use crate::verify::verify;
 use larch_base::{FileName, Steps};
 use larch_io::{Folder, Sink, Source};
-use larch_words::{Call, Question, calls_name_files, certificates_are_named, read_words};
+use larch_words::{
+    Call, Question, calls_name_files, certificates_are_named, models_are_named, read_words,
+};
 use std::alloc::Global;
 use std::sync::ledger::Ledger;
 
@@ -46,7 +49,7 @@ pub fn run<F: Folder, S: Source, K: Sink, L: Ledger>(
     // A session that ends by itself has taken its input to the end or through `quit`.
     ensures input { CallTakes (call_of (map string_bytes words.now))
         (S.left source.old) (S.left source.new) (K.held sink.old) (K.held sink.new) result }
-    // Where `verify` ends well, the duty that it was asked for is derivable from its theory.
+    // Where `verify` ends well, the duty that it was asked for is derivable from its theory, and fails in no model.
     ensures shown { Shows (call_of (map string_bytes words.now)) (F.files folder.old) result }
     ensures steps { steps.new ≡ steps.old }
 
@@ -62,8 +65,8 @@ pub fn run<F: Folder, S: Source, K: Sink, L: Ledger>(
     ensures folder { KeepsFolder (call_of (map string_bytes words.now)) folder.old folder.new }
     ensures untouched { KeepsSource (call_of (map string_bytes words.now)) source.old source.new }
 
-    // The folder is looked at in the order of the words, a certificate first, each time for a name that comes for the
-    // first time; and only where all that was looked for before is there.
+    // The folder is looked at in the order of the words, a certificate or a model first, each time for a name that
+    // comes for the first time; and only where all that was looked for before is there.
     ensures looks { CallLooks (call_of (map string_bytes words.now)) (F.files folder.old)
         (F.looks folder.old) (F.looks folder.new) }
 
@@ -77,6 +80,7 @@ pub fn run<F: Folder, S: Source, K: Sink, L: Ledger>(
 {
     calls_name_files();
     certificates_are_named();
+    models_are_named();
     what_is_verified_is_derivable();
     let call = match read_words(alloc, words) {
         Ok(call) => call,
@@ -101,6 +105,7 @@ fn run_on_files<F: Folder, K: Sink>(
 ) -> Status
     requires names { list_all is_file_name names.now ≡ true }
     requires certificate { IsCertified question.now }
+    requires model { NamesModel question.now }
     // The source, of which nothing is taken, may have left anything.
     ensures output { (left : Option (List ℕ)) → Writes (call_on_files question.now names.now) (F.files folder.old)
         left left (K.held sink.old) (K.held sink.new) result }
@@ -126,6 +131,7 @@ fn answer<F: Folder>(
 ) -> Result<Answer, Halt>
     requires names { list_all is_file_name names.now ≡ true }
     requires certificate { IsCertified question.now }
+    requires model { NamesModel question.now }
     ensures answer { IfOk result (λ answer. Answered question.now names.now (F.files folder.old) answer) }
     ensures same { F.files folder.new ≡ F.files folder.old }
     ensures fine { OnOk result (F.faults folder.new ≡ F.faults folder.old) }
@@ -148,6 +154,7 @@ fn answer_of<F: Folder>(
 ) -> Result<Answer, GatherRefusal>
     requires names { list_all is_file_name names.now ≡ true }
     requires certificate { IsCertified question.now }
+    requires model { NamesModel question.now }
     ensures answer { IfSome (answer_of result) (λ answer.
         Answered question.now names.now (F.files folder.old) answer) }
     ensures same { F.files folder.new ≡ F.files folder.old }
@@ -160,5 +167,6 @@ fn answer_of<F: Folder>(
         Question::Check => check(alloc, names, folder),
         Question::Obligations => obligations(alloc, names, folder),
         Question::Verify(asked) => verify(alloc, asked, names, folder),
+        Question::Model(tried) => model(alloc, tried, names, folder),
     }
 }

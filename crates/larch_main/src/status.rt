@@ -3,9 +3,11 @@ ghost use Rattle.std.specs.Prelude.{◌≡◌};
 /// How a call of the program ended.
 #[derive(Clone, Copy, Debug, PartialEq, Eq)]
 pub enum Status {
-    /// Nothing is wrong in the last report, or the listing; or a certificate was accepted.
+    /// Nothing is wrong in the last report, or the listing; or a certificate was accepted, or all claims hold in a
+    /// model.
     Good,
-    /// Something is wrong in the last report, or the listing; or a certificate was refused, or there is no such duty.
+    /// Something is wrong in the last report, or the listing; or a certificate was refused, or there is no such duty;
+    /// or a text is no model of a trait, a claim fails in it, or there is no such trait.
     Remains,
     /// The words of the command line mean no command.
     Words,
@@ -15,7 +17,7 @@ pub enum Status {
     WriteFault,
     /// Out of memory.
     Memory,
-    /// The input isn't in the session's grammar, or a certificate isn't in that of certificates.
+    /// The input isn't in the session's grammar, or a certificate or a model isn't in its own.
     Malformed,
     /// Something passes a limit.
     Size,

@@ -60,7 +60,7 @@ fn verification_answer(
 ) -> Result<Answer, Memory>
     ensures { IfOk result (λ answer. answer ≡ verification_answer stem.now label evidence.now) }
 {
-    match read_certificate(alloc, evidence.certificate.bytes()) {
+    match read_certificate(alloc, evidence.text.bytes()) {
         Ok(lines) => verdict_of(alloc, &evidence.files, stem, label, lines.as_slice()),
         Err(FormRefusal::Form(number)) => malformed_answer(alloc, number),
         Err(FormRefusal::Memory) => Err(Memory),

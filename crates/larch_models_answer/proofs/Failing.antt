@@ -280,3 +280,15 @@ module _ (t : Theory) (assumed implied : List Statement) (label : Label) where
   pub failing_underivable : (f : FailsIn t assumed implied label) → IsWellSortedTheory t → Derivable t f.claim → ⊥
   failing_underivable f w d =
       let no : true ≡ false = sym (derivable_holds t f.model f.is_model w f.claim d) ∙ f.fails in cc
+
+  -- what is so of each claim, under the label of its kind and number, is so of a claim that fails
+  pub of_failing : (So : Label → Statement → Type 0)
+      → ((place : ℕ) (s : Statement) → slice_get assumed place ≡ Some s → So (Assume (suc place)) s)
+      → ((place : ℕ) (s : Statement) → slice_get implied place ≡ Some s → So (Imply (suc place)) s)
+      → (f : FailsIn t assumed implied label) → So (label_at f.kind (suc f.place)) f.claim
+  of_failing So first second f = by_kind f.kind f.place f.claim f.is_claim
+    where
+      by_kind : (kind : Kind) (place : ℕ) (s : Statement)
+          → slice_get (claims_of kind assumed implied) place ≡ Some s → So (label_at kind (suc place)) s
+      by_kind Assumed place s is = first place s is
+      by_kind Implied place s is = second place s is

@@ -1,7 +1,9 @@
 pub mod Consequences
 pub mod Deductions
 pub mod FactLists
+pub mod Naming
 pub mod Numbers
+pub mod Serving
 pub mod Staying
 pub mod Turning
 pub mod Values

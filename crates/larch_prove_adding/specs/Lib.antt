@@ -1,3 +1,4 @@
+pub mod Beside
 pub mod Deductions
 pub mod Equation
 pub mod KeptFacts

@@ -58,14 +58,14 @@ impl Facts {
 }
 
 // A number of the code is one that a fact's name may have.
-fn number_is_small(number: u32)
+pub(crate) fn number_is_small(number: u32)
     ensures { number ≤ max_fact_number }
 {
     let _ = number;
 }
 
 // An equation that waits by itself.
-fn alone(alloc: Global, equation: SaidEquation) -> Result<Vec<SaidEquation>, Memory>
+pub(crate) fn alone(alloc: Global, equation: SaidEquation) -> Result<Vec<SaidEquation>, Memory>
     ensures { IfOk result (λ es. es.items ≡ equation ∷ []) }
 {
     let mut waiting = Vec::with_capacity(alloc, 1)?;
@@ -75,7 +75,7 @@ fn alone(alloc: Global, equation: SaidEquation) -> Result<Vec<SaidEquation>, Mem
 
 // An equation that waited is taken: its sides are normalised, and it is treated.
 #[tactic(auto, using(larch_derive::proofs::Growth::extends_same, larch_store::proofs::Growth::grows_refl))]
-fn take<'a>(
+pub(crate) fn take<'a>(
     facts: &mut Facts,
     store: &mut Store,
     builder: &mut Builder,

@@ -1,21 +1,29 @@
 ghost use Rattle.std.specs.Prelude.{◌≡◌, ◌⊎◌, ◌<◌, ◌≤◌, ℕ, true, false, IsTrue, length, IfOk, IfErr, OnOk, OnErr, Some, List};
+ghost use Rattle.std.specs.Prelude.{IfSome, find, option_map, slice_get};
 ghost use Rattle.larch_derive.specs.Predicates.{Extends, HasEquation, Known};
 ghost use Rattle.larch_derive.specs.declared.builder.Builder.{Builder as is_builder};
-ghost use Rattle.larch_prove_adding.specs.KeptFacts.{AreNone, AreSaid, AreSame, facts_of, lines_of, with_absurd, with_one};
+ghost use Rattle.larch_prove_adding.specs.Beside.{HasNoRoomFor, HasRoomFor, facts_without, with_new};
+ghost use Rattle.larch_prove_adding.specs.Equation.{IsSaid, sides_in};
+ghost use Rattle.larch_prove_adding.specs.KeptFacts.{AreNone, AreSaid, AreSame, fact_by, facts_of, lines_of, with_absurd};
+ghost use Rattle.larch_prove_adding.specs.KeptFacts.{with_one};
 ghost use Rattle.larch_prove_adding.specs.Turns.{MayPut};
 ghost use Rattle.larch_prove_invariant.specs.Holding.{HasAbsurd, HasFacts};
 ghost use Rattle.larch_prove_meaning.specs.Facts.{is_full, rules_of};
+ghost use Rattle.larch_prove_meaning.specs.Steps.{has_name};
 ghost use Rattle.larch_rewrite.specs.Refusal.{IsMade, TellsEvent};
-ghost use Rattle.larch_rewrite.specs.RuleSet.{BelongsTo};
+ghost use Rattle.larch_rewrite.specs.RuleSet.{BelongsTo, sides_of_plain};
+ghost use Rattle.larch_rewrite.specs.RuleSet.{IsSaid as IsRuleSaid};
 ghost use Rattle.larch_rewrite_meaning.specs.NormalForm.{normal};
 ghost use Rattle.larch_store.specs.Numbered.{Numbered, term_of};
 ghost use Rattle.larch_store.specs.Stored.{Belongs, Grows, most_nodes};
 ghost use Rattle.larch_term.specs.Tree.{nodes};
 
+use crate::equation::SaidEquation;
+use crate::named::{count_others, equation_of, rule_named};
 use larch_base::limits::MAX_FACTS;
 use larch_base::{FactName, Memory};
 use larch_derive::Builder;
-use larch_rewrite::{Normal, RewriteRefusal, Rules};
+use larch_rewrite::{NamedRule, Normal, RewriteRefusal, Rules};
 use larch_store::{Shared, Store};
 use larch_term::Term;
 use std::alloc::Global;
@@ -73,6 +81,84 @@ impl Facts {
             count: self.count,
             absurd: self.absurd,
         })
+    }
+
+    /// How many facts there are.
+    #[tactic(auto, using(crate::proofs::Naming::counted))]
+    pub fn len(&self) -> u32
+        ensures { result ≡ length (facts_of self.now).rules }
+    {
+        self.count
+    }
+
+    /// The fact of a name, with the line that says it: the first one that has the name, if one has.
+    pub fn find(&self, alloc: Global, name: &FactName) -> Result<Option<SaidEquation>, Memory>
+        ensures found { IfOk result (λ found. find (has_name name.now) (facts_of self.now).rules
+            ≡ option_map (λ e. record { name = name.now; sides = sides_in e }) found) }
+        ensures said { IfOk result (λ found. IfSome found
+            (λ e. (b : is_builder) → AreSaid b self.now → IsSaid b e)) }
+    {
+        let Some(rule) = rule_named(&self.rules, self.count, name) else {
+            return Ok(None);
+        };
+        let equation = equation_of(alloc, rule)?;
+        Ok(Some(equation))
+    }
+
+    /// The facts that have another name; the two share what is there. No normal form is kept for them, so they are said
+    /// wherever lines say the facts.
+    pub fn without(&self, name: &FactName) -> Result<Facts, Memory>
+        ensures facts { IfOk result (λ others. facts_of others ≡ facts_without name.now (facts_of self.now)) }
+        ensures absurd { IfOk result (λ others. others.absurd ≡ self.now.absurd) }
+        ensures kept { IfOk result (λ others. (s : List Numbered) → BelongsTo s others.rules) }
+        ensures said { IfOk result (λ others. (b : is_builder) → AreSaid b self.now → AreSaid b others) }
+    {
+        let mut rules = self.rules.copy()?;
+        let _ = rules.remove(name)?;
+        let count = count_others(&self.rules, self.count, name);
+        Ok(Facts {
+            rules,
+            count,
+            absurd: self.absurd,
+        })
+    }
+
+    // What has come to facts that serve, at a place, comes behind these too, and where they contradict each other, so
+    // do these. It is refused as too large where something comes and there are as many facts as a level may have.
+    pub(crate) fn follow(&mut self, serving: &Facts, place: u32) -> Result<(), RewriteRefusal>
+        ensures facts { OnOk result (facts_of self.new ≡ with_new (facts_of serving.now) place (facts_of self.old)) }
+        ensures room { OnOk result
+            (HasRoomFor (slice_get (facts_of serving.now).rules place) (facts_of self.old)) }
+        ensures refused { IfErr result
+            (HasNoRoomFor (slice_get (facts_of serving.now).rules place) (facts_of self.old)) }
+        ensures said { OnOk result ((b : is_builder) → AreSaid b self.old → AreSaid b serving.now
+            → AreSaid b self.new) }
+        ensures kept { OnOk result ((s : List Numbered) → BelongsTo s self.old.rules → BelongsTo s self.new.rules) }
+    {
+        self.absurd = serving.absurd;
+        let Some(rule) = serving.rules.get(place as usize) else {
+            return Ok(());
+        };
+        self.share(rule)?;
+        Ok(())
+    }
+
+    // Puts a fact of others behind these. It is refused as too large where there are as many as a level may have.
+    fn share(&mut self, rule: &NamedRule) -> Result<(), RewriteRefusal>
+        ensures facts { OnOk result
+            (facts_of self.new ≡ with_one rule.now.name (sides_of_plain rule.now) (facts_of self.old)) }
+        ensures room { OnOk result (is_full (facts_of self.old) ≡ false) }
+        ensures refused { IfErr result (HasNoRoomFor (Some (fact_by rule.now)) (facts_of self.old)) }
+        ensures said { OnOk result ((b : is_builder) → AreSaid b self.old → IsRuleSaid b rule.now
+            → AreSaid b self.new) }
+        ensures kept { OnOk result ((s : List Numbered) → BelongsTo s self.new.rules) }
+    {
+        if self.count >= MAX_FACTS {
+            return Err(RewriteRefusal::TooLarge);
+        }
+        self.rules.share(rule)?;
+        self.count += 1;
+        Ok(())
     }
 
     /// The line that says that true is false, where the facts contradict each other.

@@ -2,13 +2,16 @@
 #![tactic(auto)]
 
 mod adding;
+mod beside;
 mod deducing;
 mod equation;
 mod facts;
+mod named;
 mod normal;
 mod orienting;
 mod treating;
 
+pub use beside::Instance;
 pub use equation::SaidEquation;
 pub use facts::Facts;
 pub use normal::{LevelGoal, normal_goal};

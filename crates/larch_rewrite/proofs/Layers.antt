@@ -1,9 +1,10 @@
 -- Rules that lie in layers.
-use Rattle.std.specs.Prelude.{◌≡◌, ◌+◌, ◌<◌, ◌||◌, ℕ, Bool, true, false, List, ◌∷◌, [], ◌++◌, length, map, take, drop}
+use Rattle.std.specs.Prelude.{◌≡◌, ◌+◌, ◌-◌, ◌<◌, ◌≤◌, ◌||◌, ℕ, zero, suc, Bool, true, false, List, ◌∷◌, [], ◌++◌}
+use Rattle.std.specs.Prelude.{length, map, take, drop, slice_get}
 use Rattle.std.specs.Prelude.{get_or, not, refl}
 use Rattle.std.specs.List.{list_any}
-use Rattle.std.proofs.Common.{ap, sym, ◌∙◌}
-use Rattle.std.proofs.lemmas.List.{map_push}
+use Rattle.std.proofs.Common.{ap, append_assoc, arith, sym, ◌∙◌}
+use Rattle.std.proofs.lemmas.List.{drop_more, map_push}
 use Rattle.std.proofs.lemmas.List.Elements.{filter-append}
 use Rattle.std.proofs.lemmas.List.Folds.{list_any-append}
 use Rattle.larch_base.specs.declared.fact_name.FactName.{FactName}
@@ -81,3 +82,41 @@ others_more v name rs qs ps i r q is lt h g p =
     ∙ ap (λ es. es ++ v q) h ∙ ap (λ es. without name (join_layers (map v (take i rs))) ++ es) g
     ∙ sym (filter-append (λ x. not (has_name name x)) (join_layers (map v (take i rs))) (v r))
     ∙ ap (without name) (sym (joined_more v rs i r is lt))
+
+-- ---- places
+
+-- a place in one of two lists
+got_first : {X : Type 0} (xs ys : List X) (i : ℕ) → i < length xs → slice_get (xs ++ ys) i ≡ slice_get xs i
+got_first [] ys i h = absurd (omega (arith, h))
+got_first (x ∷ xs) ys zero h = refl
+got_first (x ∷ xs) ys (suc i) h = got_first xs ys i (omega (arith, h))
+
+got_behind : {X : Type 0} (xs ys : List X) (i k : ℕ) → i ≡ length xs + k → slice_get (xs ++ ys) i ≡ slice_get ys k
+got_behind [] ys i k e = ap (slice_get ys) (omega (arith, e))
+got_behind (x ∷ xs) ys zero k e = absurd (omega (arith, e))
+got_behind (x ∷ xs) ys (suc i) k e = got_behind xs ys i k (omega (arith, e))
+
+next_layer : {R X : Type 0} (v : R → List X) (rs : List R) (i : ℕ) (r : R) → r ≡ get_or rs i r → i < length rs
+    → join_layers (map v (drop i rs)) ≡ v r ++ join_layers (map v (drop (i + 1) rs))
+next_layer v rs i r is lt =
+    ap (λ es. join_layers (map v es)) (drop_more rs i r lt)
+    ∙ ap (λ x. v x ++ join_layers (map v (drop (i + 1) rs))) (sym is)
+
+-- the place is in the next layer
+pub got_here : {R X : Type 0} (v : R → List X) (rs : List R) (last : List X) (i n : ℕ) (r : R)
+    → r ≡ get_or rs i r → i < length rs → n < length (v r)
+    → slice_get (join_layers (map v (drop i rs)) ++ last) n ≡ slice_get (v r) n
+got_here v rs last i n r is lt h =
+    ap (λ es. slice_get (es ++ last) n) (next_layer v rs i r is lt)
+    ∙ ap (λ es. slice_get es n) (append_assoc (v r) (join_layers (map v (drop (i + 1) rs))) last)
+    ∙ got_first (v r) (join_layers (map v (drop (i + 1) rs)) ++ last) n h
+
+-- or in a further one
+pub got_further : {R X : Type 0} (v : R → List X) (rs : List R) (last : List X) (i n : ℕ) (r : R)
+    → r ≡ get_or rs i r → i < length rs → length (v r) ≤ n
+    → slice_get (join_layers (map v (drop i rs)) ++ last) n
+    ≡ slice_get (join_layers (map v (drop (i + 1) rs)) ++ last) (n - length (v r))
+got_further v rs last i n r is lt h =
+    ap (λ es. slice_get (es ++ last) n) (next_layer v rs i r is lt)
+    ∙ ap (λ es. slice_get es n) (append_assoc (v r) (join_layers (map v (drop (i + 1) rs))) last)
+    ∙ got_behind (v r) (join_layers (map v (drop (i + 1) rs)) ++ last) n (n - length (v r)) (omega (arith, h))

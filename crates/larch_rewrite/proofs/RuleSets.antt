@@ -47,6 +47,12 @@ pub serves_with : (s u : List Numbered) (b : Builder) (old new : RuleSet) (r : P
 serves_with s u b old new r e q h k =
     serves_alone u b new e (subst (AreSaid b) (sym q) (All-push (IsSaid b) old.rules r h.said k))
 
+-- a rule of others behind these
+pub serves_shared : (s : List Numbered) (b : Builder) (old new : RuleSet) (r : PlainRule) → new.kept ≡ []
+    → new.rules ≡ old.rules ++ r ∷ [] → AreSaid b old.rules → IsSaid b r → Serves s b new
+serves_shared s b old new r e q h k =
+    serves_alone s b new e (subst (AreSaid b) (sym q) (All-push (IsSaid b) old.rules r h k))
+
 serves_others : (s : List Numbered) (b : Builder) (old new : RuleSet) (name : FactName) → new.kept ≡ []
     → new.rules ≡ without name old.rules → Serves s b old → Serves s b new
 serves_others s b old new name e q h =

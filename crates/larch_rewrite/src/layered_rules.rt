@@ -1,4 +1,5 @@
-ghost use Rattle.std.specs.Prelude.{◌≡◌, ◌≤◌, ◌++◌, ◌∷◌, [], length, map, IfOk, IfSome, OnOk, OnErr};
+ghost use Rattle.std.specs.Prelude.{◌≡◌, ◌≤◌, ◌++◌, ◌∷◌, [], length, map, option_copied, slice_get, IfOk, IfSome};
+ghost use Rattle.std.specs.Prelude.{OnOk, OnErr};
 ghost use Rattle.std.specs.List.{list_any};
 ghost use Rattle.larch_rewrite.specs.RuleSet.{has_name, rule_of, without};
 ghost use Rattle.larch_rewrite_match.specs.Search.{IsFirst, IsFoundIn};
@@ -88,6 +89,13 @@ impl LayeredRules {
         push_behind(self.alloc, &mut self.earlier, &mut self.last, rule)
     }
 
+    // The rule at a place, if there is one. It takes a step for each layer.
+    pub(crate) fn get(&self, index: usize) -> Option<&NamedRule>
+        ensures { option_copied result ≡ slice_get self.now index }
+    {
+        get_among(self.earlier.as_slice(), self.last.as_ref(), index)
+    }
+
     // Whether a rule has a name.
     pub(crate) fn has_name(&self, name: &FactName) -> bool
         ensures { result ≡ list_any (has_name name.now) self.now }
@@ -125,6 +133,27 @@ impl LayeredRules {
         let last = self.last.as_ref();
         first_among(self.alloc, store, self.earlier.as_slice(), last, term)
     }
+}
+
+// The rule at a place among those of earlier layers and of the last one, if there is one.
+fn get_among<'a>(
+    earlier: &'a [Rc<NamedRules>],
+    last: &'a NamedRules,
+    index: usize,
+) -> Option<&'a NamedRule>
+    ensures { option_copied result
+        ≡ slice_get (join_layers (map (λ layer. layer.value) earlier.now) ++ last.now) index }
+{
+    let mut place = index;
+    for layer in earlier {
+        let layer = layer.as_ref();
+        let count = layer.len();
+        if place < count {
+            return layer.get(place);
+        }
+        place -= count;
+    }
+    last.get(place)
 }
 
 // Whether a rule of the last layer or of an earlier one has a name.

@@ -17,5 +17,6 @@ mod turning;
 
 pub use kept::KeptForm;
 pub use machine::Normal;
+pub use named_rule::NamedRule;
 pub use refusal::RewriteRefusal;
 pub use rules::Rules;

@@ -9,7 +9,7 @@ use std::marker::Model;
 
 /// A rule under a name, said by a line. Its copies share it. Contracts see its name, its sides and its line.
 #[derive(Drop)]
-pub(crate) struct NamedRule {
+pub struct NamedRule {
     name: FactName,
     rule: SharedRule,
 }
@@ -65,9 +65,33 @@ impl NamedRule {
         &self.rule
     }
 
-    // Whether it has a name.
+    /// Its left side.
+    pub fn left(&self) -> &Term
+        ensures { result.now ≡ self.now.left }
+    {
+        self.rule.rule().left()
+    }
+
+    /// Its right side.
+    pub fn right(&self) -> &Term
+        ensures { result.now ≡ self.now.right }
+    {
+        self.rule.rule().right()
+    }
+
+    /// The number of the line that says it.
+    pub fn line(&self) -> u64
+        ensures { result ≡ self.now.line }
+    {
+        match self.rule.rule().reason() {
+            Reason::Line(line) => *line,
+            Reason::Row(_, _) => unreachable!(),
+        }
+    }
+
+    /// Whether it has a name.
     #[tactic(auto, using(crate::proofs::PlainRules::name_told))]
-    pub(crate) fn has_name(&self, name: &FactName) -> bool
+    pub fn has_name(&self, name: &FactName) -> bool
         ensures { result ≡ has_name name.now self.now }
     {
         self.name == *name

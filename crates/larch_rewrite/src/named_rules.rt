@@ -1,4 +1,5 @@
-ghost use Rattle.std.specs.Prelude.{◌≡◌, ◌++◌, ◌∷◌, [], cond, length, not, map, IfOk, OnOk, OnErr};
+ghost use Rattle.std.specs.Prelude.{◌≡◌, ◌++◌, ◌∷◌, [], cond, length, not, map, option_copied, slice_get, IfOk};
+ghost use Rattle.std.specs.Prelude.{OnOk, OnErr};
 ghost use Rattle.std.specs.List.{list_any};
 ghost use Rattle.larch_rewrite.specs.RuleSet.{has_name, rule_of, without};
 
@@ -54,6 +55,13 @@ impl NamedRules {
         ensures { result ≡ length self.now }
     {
         self.rules.len()
+    }
+
+    // The rule at a place, if there is one.
+    pub(crate) fn get(&self, index: usize) -> Option<&NamedRule>
+        ensures { option_copied result ≡ slice_get self.now index }
+    {
+        self.rules.get(index)
     }
 
     // Puts a rule behind the others. Where memory runs out nothing changes.

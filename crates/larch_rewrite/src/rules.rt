@@ -1,10 +1,11 @@
-ghost use Rattle.std.specs.Prelude.{◌≡◌, ◌≤◌, ◌++◌, ◌∷◌, [], false, List, IfOk, IfErr, OnOk, OnErr};
+ghost use Rattle.std.specs.Prelude.{◌≡◌, ◌≤◌, ◌++◌, ◌∷◌, [], false, List, option_copied, slice_get, IfOk, IfErr};
+ghost use Rattle.std.specs.Prelude.{OnOk, OnErr};
 ghost use Rattle.std.specs.List.{list_any};
 ghost use Rattle.larch_derive.specs.Predicates.{Extends, HasEquation, Known};
 ghost use Rattle.larch_derive.specs.declared.builder.Builder.{Builder as is_builder};
 ghost use Rattle.larch_rewrite_meaning.specs.NormalForm.{normal};
 ghost use Rattle.larch_rewrite.specs.Refusal.{IsMade, MayRefuse, TellsEvent};
-ghost use Rattle.larch_rewrite.specs.RuleSet.{AreSaid, BelongsTo, Serves, has_name, rule_by, sides_in, without};
+ghost use Rattle.larch_rewrite.specs.RuleSet.{AreSaid, BelongsTo, IsSaid, Serves, has_name, rule_by, sides_in, without};
 ghost use Rattle.larch_store.specs.Numbered.{Numbered, term_of};
 ghost use Rattle.larch_store.specs.Stored.{Belongs, Grows, most_nodes};
 ghost use Rattle.larch_term.specs.Tree.{nodes};
@@ -72,6 +73,13 @@ impl Rules {
         Ok(Rules { rules, kept })
     }
 
+    /// The rule at a place, counted from 0, if there is one. Of n rules it takes as many steps as n has digits.
+    pub fn get(&self, index: usize) -> Option<&NamedRule>
+        ensures { option_copied result ≡ slice_get self.now.rules index }
+    {
+        self.rules.get(index)
+    }
+
     /// Puts a rule behind the others, with the line that says it; what was kept is forgotten. It is refused as too
     /// large exactly if one of its sides has more than 5,000 nodes, and a refused rule changes nothing.
     #[tactic(auto, using(larch_store::proofs::Growth::grows_trans, larch_store::proofs::Growth::grows_refl, crate::proofs::RuleSets::serves_with, crate::proofs::RuleSets::belongs_alone))]
@@ -96,6 +104,21 @@ impl Rules {
         let _ = store.intern(left)?;
         let _ = store.intern(right)?;
         let rule = NamedRule::new(alloc, name, left, right, line)?;
+        self.put(rule)?;
+        Ok(())
+    }
+
+    /// Puts a rule of others behind these; both share it. Nothing is kept then, so they serve wherever their lines say
+    /// them. Where memory runs out nothing changes.
+    #[tactic(auto, using(crate::proofs::RuleSets::serves_shared, crate::proofs::RuleSets::belongs_alone))]
+    pub fn share(&mut self, rule: &NamedRule) -> Result<(), Memory>
+        ensures rules { OnOk result (self.new.rules ≡ self.old.rules ++ rule.now ∷ []) }
+        ensures err { OnErr result (self.new ≡ self.old) }
+        ensures belongs { OnOk result ((s : List Numbered) → BelongsTo s self.new) }
+        ensures serves { OnOk result ((s : List Numbered) (b : is_builder) → AreSaid b self.old.rules
+            → IsSaid b rule.now → Serves s b self.new) }
+    {
+        let rule = rule.copy()?;
         self.put(rule)?;
         Ok(())
     }

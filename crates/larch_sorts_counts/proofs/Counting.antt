@@ -137,6 +137,11 @@ times_never Never = refl
 times_never Once = refl
 times_never Often = refl
 
+pub times_same : (c : Count) → times c c ≡ c
+times_same Never = refl
+times_same Once = refl
+times_same Often = refl
+
 pub times_times : (a b c : Count) → times (times a b) c ≡ times a (times b c)
 times_times Never b c = refl
 times_times Once b c = refl

@@ -204,15 +204,7 @@ pub fn product(arguments: &[Counted], numbers: &[usize]) -> Count
 pub fn total(size: usize, counts: &SortCounts) -> Count
     ensures { result ≡ sum_to (count_at counts.now) (suc size) }
 {
-    let (first, end) = span(counts, size);
-    let mut total = Count::Never;
-    for i in first..end {
-        total = total.plus(count_at(counts, i));
-        if let Count::Often = total {
-            return Count::Often;
-        }
-    }
-    total.plus(count_at(counts, size))
+    common(size, counts, counts).plus(count_at(counts, size))
 }
 
 /// How often two terms have one of so many sorts in common, where they have none in common that is none of them. It
@@ -227,7 +219,7 @@ pub fn meeting(size: usize, left: &SortCounts, right: &SortCounts) -> Option<Cou
     Some(common(size, left, right))
 }
 
-// How often two terms have one of so many sorts in common.
+// How often two terms have one of so many sorts in common: a term with itself, as often as it reads at one.
 fn common(size: usize, left: &SortCounts, right: &SortCounts) -> Count
     ensures { result ≡ sum_to (together left.now right.now) size }
 {

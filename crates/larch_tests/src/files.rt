@@ -17,6 +17,10 @@ const BOTH: &[u8] = b"trait One\ntrait Two error 3:7 SYNTAX\n\
 
 const REFLEXIVE: &[u8] = b"certificate 1\n1 refl #1\n";
 
+const MODEL: &[u8] = b"model\nsort S 2\nop 1 1\n";
+
+const HOLDS: &[u8] = b"model\nimply.1 holds\nend\n";
+
 const LISTED: &[u8] = b"trait One\nop c: -> S\nimply.1 c == c\ntrait Two error 3:7 SYNTAX\nend\n";
 
 const ONE_ALONE: &[u8] =
@@ -65,7 +69,8 @@ fn put(alloc: Global, folder: &mut MemoryFolder, name: &[u8], text: &[u8]) -> Re
     folder.insert(Name::new(alloc, name)?, bytes)
 }
 
-// A folder with two traits, of which the second is wrong, a script, and a certificate of what the first one implies.
+// A folder with two traits, of which the second is wrong, a script, a certificate of what the first one implies, and a
+// model of it.
 fn two_traits(alloc: Global, failing: &[u64]) -> Result<MemoryFolder, Memory> {
     let mut folder = MemoryFolder::new(alloc, failing)?;
     put_all(alloc, &mut folder)?;
@@ -76,7 +81,8 @@ fn put_all(alloc: Global, folder: &mut MemoryFolder) -> Result<(), Memory> {
     put(alloc, folder, b"One.lsl", ONE)?;
     put(alloc, folder, b"Two.lsl", WRONG)?;
     put(alloc, folder, b"One.lp", b"not looked at")?;
-    put(alloc, folder, b"One.cert", REFLEXIVE)
+    put(alloc, folder, b"One.cert", REFLEXIVE)?;
+    put(alloc, folder, b"One.mod", MODEL)
 }
 
 // What a call with these words writes, one byte at a time, where the listed looks at the folder and writes fail.
@@ -162,6 +168,8 @@ fn writes_nothing_after_a_fault(rt: HostRuntime) -> Result<(), Fail> {
     assert_eq!(rt; wrong, None);
     let wrong = first_wrong_look(&rt, &["verify", "One", "imply.1", "One.cert", "One.lsl"], 3)?;
     assert_eq!(rt; wrong, None);
+    let wrong = first_wrong_look(&rt, &["model", "One", "One.mod", "One.lsl"], 3)?;
+    assert_eq!(rt; wrong, None);
     Ok(())
 }
 
@@ -174,6 +182,27 @@ fn keeps_a_front_where_a_write_fails(rt: HostRuntime) -> Result<(), Fail> {
     let words = ["verify", "One", "imply.1", "One.cert", "One.lsl"];
     let wrong = first_wrong_write(&rt, &words, b"accepted\n")?;
     assert_eq!(rt; wrong, None);
+    Ok(())
+}
+
+// Where a write fails, a front of the answer was written.
+#[test]
+fn tries_a_model(rt: HostRuntime) -> Result<(), Fail> {
+    let words = ["model", "One", "One.mod", "One.lsl"];
+    let (status, sink) = call_status(&rt, &words, &[])?;
+    assert_eq!(rt; status, Status::Good);
+    assert_eq!(rt; sink.bytes(), HOLDS);
+    let wrong = first_wrong_write(&rt, &words, HOLDS)?;
+    assert_eq!(rt; wrong, None);
+    Ok(())
+}
+
+// That there is no such trait comes before what the text is.
+#[test]
+fn tries_no_wrong_trait(rt: HostRuntime) -> Result<(), Fail> {
+    let (status, sink) = call_status(&rt, &["model", "Two", "One.mod", "Two.lsl"], &[])?;
+    assert_eq!(rt; status, Status::Remains);
+    assert_eq!(rt; sink.bytes(), b"no trait\n".as_slice());
     Ok(())
 }
 

@@ -11,13 +11,14 @@ use Rattle.larch_base.specs.FileName.{is_file_name, is_stem}
 use Rattle.larch_base.specs.declared.label.Label.{Label}
 use Rattle.larch_base.proofs.Bools.{and_right}
 use Rattle.larch_words.specs.Call.{are_files, asked, call_of, call_from, files_named, has_option, is_certificate}
-use Rattle.larch_words.specs.Call.{on_files, verification_call, verified_by}
+use Rattle.larch_words.specs.Call.{is_model, on_files, trial_call, verification_call, verified_by}
 use Rattle.larch_words.specs.CommandLine.{Request, request_of}
 use Rattle.larch_base.specs.Label.{read_label}
 use Rattle.larch_words.specs.declared.call.Call.{Call}
 use Rattle.larch_words.specs.declared.call.Call.TheVariants.{Session, OnFiles, Nothing}
 use Rattle.larch_words.specs.declared.call.Question.{Question}
-use Rattle.larch_words.specs.declared.call.Question.TheVariants.{Check, Obligations, Verify}
+use Rattle.larch_words.specs.declared.call.Question.TheVariants.{Check, Model, Obligations, Verify}
+use Rattle.larch_words.specs.declared.call.Trial.{Trial}
 use Rattle.larch_words.specs.declared.call.Verification.{Verification}
 
 -- the files that a call names have names of files
@@ -49,12 +50,20 @@ verified_named (stem ∷ []) = refl
 verified_named (stem ∷ label ∷ []) = refl
 verified_named (stem ∷ label ∷ certificate ∷ files) = verified_by_named stem (read_label label) certificate files
 
+tried_named : (words : List (List ℕ)) → AreNamed (trial_call words)
+tried_named [] = refl
+tried_named (stem ∷ []) = refl
+tried_named (stem ∷ model ∷ files) =
+    either (is_stem stem && is_model model) _ _
+    (on_files_named (Model (record { stem = stem; model = model })) files) refl
+
 called_named : (command : List ℕ) (words : List (List ℕ)) → AreNamed (call_from command words)
 called_named command words =
     either (bytes_eq command (codes "session")) _ _ (either (is_empty words) _ _ refl refl)
     (either (bytes_eq command (codes "check")) _ _ (on_files_named Check words)
     (either (bytes_eq command (codes "obligations")) _ _ (on_files_named Obligations words)
-    (either (bytes_eq command (codes "verify")) _ _ (verified_named words) refl)))
+    (either (bytes_eq command (codes "verify")) _ _ (verified_named words)
+    (either (bytes_eq command (codes "model")) _ _ (tried_named words) refl))))
 
 found_named : (request : Option Request) → AreNamed (option_map_or asked request Nothing)
 found_named None = refl
@@ -63,76 +72,87 @@ found_named (Some request) = either (has_option request) _ _ refl (called_named 
 pub names_files : (words : List (List ℕ)) → AreNamed (call_of words)
 names_files words = found_named (request_of words)
 
--- the certificate that a call names has the name of one
-abbrev IsCertified : Call → Type 0
-IsCertified call =
-    (names : List (List ℕ)) (asked : Verification) → call ≡ OnFiles (Verify asked) names
-    → is_certificate asked.certificate ≡ true
+-- beside its files a question names what has the name of a certificate, or of a model
+abbrev HasEvidence : Question → Type 0
+HasEvidence Check = Unit {0}
+HasEvidence Obligations = Unit {0}
+HasEvidence (Verify asked) = is_certificate asked.certificate ≡ true
+HasEvidence (Model tried) = is_model tried.model ≡ true
 
-either_certified : (b : Bool) (x y : Call) → IsCertified x → IsCertified y → IsCertified (cond b x y)
-either_certified true x y p q = p
-either_certified false x y p q = q
+-- so does a call
+abbrev pub IsEvidenced : Call → Type 0
+IsEvidenced Session = Unit {0}
+IsEvidenced (OnFiles question names) = HasEvidence question
+IsEvidenced Nothing = Unit {0}
 
-nothing_certified : IsCertified Nothing
-nothing_certified names asked e = cc
+either_evidenced : (b : Bool) (x y : Call) → IsEvidenced x → IsEvidenced y → IsEvidenced (cond b x y)
+either_evidenced true x y p q = p
+either_evidenced false x y p q = q
 
-session_certified : (b : Bool) → IsCertified (cond b Session Nothing)
-session_certified true names asked e = cc
-session_certified false names asked e = cc
+on_files_evidenced : (question : Question) (these : List (List ℕ)) → HasEvidence question
+    → IsEvidenced (on_files question these)
+on_files_evidenced question these has = either_evidenced (are_files these) _ _ has tt
 
--- a question about whichever files
-abbrev IsAskedCertified : Question → Type 0
-IsAskedCertified question =
-    (asked : Verification) → question ≡ Verify asked → is_certificate asked.certificate ≡ true
-
-on_files_certified : (question : Question) (these : List (List ℕ)) (b : Bool) → IsAskedCertified question
-    → IsCertified (cond b (OnFiles question these) Nothing)
-on_files_certified question these true is names asked e = is asked cc
-on_files_certified question these false is names asked e = cc
-
-verify_certified : (one : Verification) → is_certificate one.certificate ≡ true → IsAskedCertified (Verify one)
-verify_certified one is asked e = let same : one ≡ asked = cc in
-    subst (λ x. is_certificate x.certificate ≡ true) same is
-
-named_certified : (stem : List ℕ) (label : Label) (certificate : List ℕ) (files : List (List ℕ)) (b : Bool)
+verify_evidenced : (stem : List ℕ) (label : Label) (certificate : List ℕ) (files : List (List ℕ)) (b : Bool)
     → (is_stem stem && is_certificate certificate) ≡ b
-    → IsCertified
+    → IsEvidenced
     (cond b (on_files (Verify (record { stem = stem; label = label; certificate = certificate })) files) Nothing)
-named_certified stem label certificate files true e =
-    let one : Verification = record { stem = stem; label = label; certificate = certificate } in
-    on_files_certified (Verify one) files (are_files files)
-    (verify_certified one (and_right (is_stem stem) (is_certificate certificate) e))
-named_certified stem label certificate files false e = nothing_certified
+verify_evidenced stem label certificate files true e =
+    on_files_evidenced (Verify (record { stem = stem; label = label; certificate = certificate })) files
+    (and_right (is_stem stem) (is_certificate certificate) e)
+verify_evidenced stem label certificate files false e = tt
 
-verified_by_certified : (stem : List ℕ) (label : Option Label) (certificate : List ℕ) (files : List (List ℕ))
-    → IsCertified (verified_by stem label certificate files)
-verified_by_certified stem None certificate files = nothing_certified
-verified_by_certified stem (Some label) certificate files =
-    named_certified stem label certificate files (is_stem stem && is_certificate certificate) refl
+verified_by_evidenced : (stem : List ℕ) (label : Option Label) (certificate : List ℕ) (files : List (List ℕ))
+    → IsEvidenced (verified_by stem label certificate files)
+verified_by_evidenced stem None certificate files = tt
+verified_by_evidenced stem (Some label) certificate files =
+    verify_evidenced stem label certificate files (is_stem stem && is_certificate certificate) refl
 
-verified_certified : (words : List (List ℕ)) → IsCertified (verification_call words)
-verified_certified [] = nothing_certified
-verified_certified (stem ∷ []) = nothing_certified
-verified_certified (stem ∷ label ∷ []) = nothing_certified
-verified_certified (stem ∷ label ∷ certificate ∷ files) =
-    verified_by_certified stem (read_label label) certificate files
+verified_evidenced : (words : List (List ℕ)) → IsEvidenced (verification_call words)
+verified_evidenced [] = tt
+verified_evidenced (stem ∷ []) = tt
+verified_evidenced (stem ∷ label ∷ []) = tt
+verified_evidenced (stem ∷ label ∷ certificate ∷ files) =
+    verified_by_evidenced stem (read_label label) certificate files
 
-called_certified : (command : List ℕ) (words : List (List ℕ)) → IsCertified (call_from command words)
-called_certified command words =
-    either_certified (bytes_eq command (codes "session")) _ _ (session_certified (is_empty words))
-    (either_certified (bytes_eq command (codes "check")) _ _
-    (on_files_certified Check words (are_files words) (λ asked e. cc))
-    (either_certified (bytes_eq command (codes "obligations")) _ _
-    (on_files_certified Obligations words (are_files words) (λ asked e. cc))
-    (either_certified (bytes_eq command (codes "verify")) _ _ (verified_certified words) nothing_certified)))
+tried_by_evidenced : (stem model : List ℕ) (files : List (List ℕ)) (b : Bool) → (is_stem stem && is_model model) ≡ b
+    → IsEvidenced (cond b (on_files (Model (record { stem = stem; model = model })) files) Nothing)
+tried_by_evidenced stem model files true e =
+    on_files_evidenced (Model (record { stem = stem; model = model })) files
+    (and_right (is_stem stem) (is_model model) e)
+tried_by_evidenced stem model files false e = tt
 
-found_certified : (request : Option Request) → IsCertified (option_map_or asked request Nothing)
-found_certified None = nothing_certified
-found_certified (Some request) =
-    either_certified (has_option request) _ _ nothing_certified (called_certified request.command request.words)
+tried_evidenced : (words : List (List ℕ)) → IsEvidenced (trial_call words)
+tried_evidenced [] = tt
+tried_evidenced (stem ∷ []) = tt
+tried_evidenced (stem ∷ model ∷ files) =
+    tried_by_evidenced stem model files (is_stem stem && is_model model) refl
 
-pub names_certificates : (words : List (List ℕ)) → IsCertified (call_of words)
-names_certificates words = found_certified (request_of words)
+called_evidenced : (command : List ℕ) (words : List (List ℕ)) → IsEvidenced (call_from command words)
+called_evidenced command words =
+    either_evidenced (bytes_eq command (codes "session")) _ _ (either_evidenced (is_empty words) _ _ tt tt)
+    (either_evidenced (bytes_eq command (codes "check")) _ _ (on_files_evidenced Check words tt)
+    (either_evidenced (bytes_eq command (codes "obligations")) _ _ (on_files_evidenced Obligations words tt)
+    (either_evidenced (bytes_eq command (codes "verify")) _ _ (verified_evidenced words)
+    (either_evidenced (bytes_eq command (codes "model")) _ _ (tried_evidenced words) tt))))
+
+found_evidenced : (request : Option Request) → IsEvidenced (option_map_or asked request Nothing)
+found_evidenced None = tt
+found_evidenced (Some request) =
+    either_evidenced (has_option request) _ _ tt (called_evidenced request.command request.words)
+
+names_evidence : (words : List (List ℕ)) → IsEvidenced (call_of words)
+names_evidence words = found_evidenced (request_of words)
+
+-- the certificate that a call names has the name of one
+pub names_certificates : (words names : List (List ℕ)) (asked : Verification)
+    → call_of words ≡ OnFiles (Verify asked) names → is_certificate asked.certificate ≡ true
+names_certificates words names asked e = subst IsEvidenced e (names_evidence words)
+
+-- and so has the model
+pub names_models : (words names : List (List ℕ)) (tried : Trial) → call_of words ≡ OnFiles (Model tried) names
+    → is_model tried.model ≡ true
+names_models words names tried e = subst IsEvidenced e (names_evidence words)
 
 -- fewer than three words don't say what is to be verified
 pub too_few : (words : List (List ℕ)) → length words < 3 → Nothing ≡ verification_call words
@@ -140,3 +160,9 @@ too_few [] few = refl
 too_few (stem ∷ []) few = refl
 too_few (stem ∷ label ∷ []) few = refl
 too_few (stem ∷ label ∷ certificate ∷ files) few = absurd (omega (arith, few))
+
+-- fewer than two don't say what is to be tried
+pub too_few_tried : (words : List (List ℕ)) → length words < 2 → Nothing ≡ trial_call words
+too_few_tried [] few = refl
+too_few_tried (stem ∷ []) few = refl
+too_few_tried (stem ∷ model ∷ files) few = absurd (omega (arith, few))

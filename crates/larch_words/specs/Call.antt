@@ -1,6 +1,6 @@
 -- What the words of the command line ask for.
 use Rattle.std.specs.Prelude.{ℕ, nat_le, if◌then◌else◌, ◌-◌, ◌&&◌, ◌||◌, not, Bool, List, [], ◌∷◌, drop, length, codes}
-use Rattle.std.specs.Prelude.{Option, Some, None, is_some}
+use Rattle.std.specs.Prelude.{Option, Some, None, is_some, take}
 use Rattle.std.specs.List.{list_all}
 use Rattle.std.specs.Option.{option_map_or}
 use Rattle.std.specs.Str.{bytes_eq}
@@ -12,7 +12,7 @@ use Rattle.larch_base.specs.Label.{read_label}
 use Rattle.larch_words.specs.declared.call.Call.{Call}
 use Rattle.larch_words.specs.declared.call.Call.TheVariants.{Session, OnFiles, Nothing}
 use Rattle.larch_words.specs.declared.call.Question.{Question}
-use Rattle.larch_words.specs.declared.call.Question.TheVariants.{Check, Obligations, Verify}
+use Rattle.larch_words.specs.declared.call.Question.TheVariants.{Check, Model, Obligations, Verify}
 
 -- whether an option was given
 abbrev pub has_option : Request → Bool
@@ -42,6 +42,22 @@ abbrev pub verification_call : List (List ℕ) → Call
 verification_call (stem ∷ label ∷ certificate ∷ files) = verified_by stem (read_label label) certificate files
 verification_call _ = Nothing
 
+-- whether a word is a stem with `.mod` behind it
+abbrev pub is_model : List ℕ → Bool
+is_model word =
+    nat_le 4 (length word)
+    && (bytes_eq (drop (length word - 4) word) (codes ".mod") && is_stem (take (length word - 4) word))
+
+-- a text is to be tried as a model of a trait, over these files
+abbrev pub tried_by : List ℕ → List ℕ → List (List ℕ) → Call
+tried_by stem model files =
+    if is_stem stem && is_model model then on_files (Model (record { stem = stem; model = model })) files else Nothing
+
+-- a trait, a model and files
+abbrev pub trial_call : List (List ℕ) → Call
+trial_call (stem ∷ model ∷ files) = tried_by stem model files
+trial_call _ = Nothing
+
 -- a session takes no words, the other commands take files
 abbrev pub call_from : List ℕ → List (List ℕ) → Call
 call_from command words =
@@ -49,6 +65,7 @@ call_from command words =
     else if bytes_eq command (codes "check") then on_files Check words
     else if bytes_eq command (codes "obligations") then on_files Obligations words
     else if bytes_eq command (codes "verify") then verification_call words
+    else if bytes_eq command (codes "model") then trial_call words
     else Nothing
 
 -- no command takes an option yet

@@ -2,12 +2,12 @@ ghost use Rattle.std.specs.Prelude.{◌≡◌, if◌then◌else◌, IfOk, IsErrO
 ghost use Rattle.std.specs.List.{list_all};
 ghost use Rattle.clap.specs.Words.{first_of, found_of, rows_of};
 ghost use Rattle.larch_base.specs.FileName.{is_file_name};
-ghost use Rattle.larch_words.specs.Call.{are_files, asked, call_of, call_from, has_option, is_certificate, on_files};
-ghost use Rattle.larch_words.specs.Call.{verification_call, verified_by};
+ghost use Rattle.larch_words.specs.Call.{are_files, asked, call_of, call_from, has_option, is_certificate, is_model};
+ghost use Rattle.larch_words.specs.Call.{on_files, tried_by, trial_call, verification_call, verified_by};
 ghost use Rattle.larch_words.specs.CommandLine.{request_in};
 
-use crate::certificate_name::CertificateName;
 use crate::command_line::command_line;
+use crate::evidence_name::EvidenceName;
 use clap::ArgMatches;
 use clap::error::ErrorKind;
 use larch_base::{FileName, Label, Memory, Name, NameRefusal, Sequence, is_stem, read_label};
@@ -24,7 +24,16 @@ pub struct Verification {
     /// The label of its duty.
     pub label: Label,
     /// The file of the certificate.
-    pub certificate: CertificateName,
+    pub certificate: EvidenceName,
+}
+
+/// What is to be tried as a model, and of what.
+#[derive(Drop)]
+pub struct Trial {
+    /// The name of the trait.
+    pub stem: Name,
+    /// The file of the model.
+    pub model: EvidenceName,
 }
 
 /// What is asked about files.
@@ -36,6 +45,8 @@ pub enum Question {
     Obligations,
     /// Whether a certificate shows what a trait among them claims.
     Verify(Verification),
+    /// Whether a text is a model of a trait among them, and which of its claims hold in it.
+    Model(Trial),
 }
 
 /// What the words of the command line ask for.
@@ -133,6 +144,7 @@ fn call_with_words(alloc: Global, command: &str, words: &[&str]) -> Result<Call,
         "check" => on_files(alloc, Question::Check, words),
         "obligations" => on_files(alloc, Question::Obligations, words),
         "verify" => verify_call(alloc, words),
+        "model" => model_call(alloc, words),
         _ => Ok(Call::Nothing),
     }
 }
@@ -197,13 +209,52 @@ fn verification_of(
     ensures { IfOk result (λ asked. asked
         ≡ record { stem = stem.now; label = label; certificate = certificate.now }) }
 {
-    let certificate = CertificateName::new(alloc, certificate)?;
+    let certificate = EvidenceName::new(alloc, certificate)?;
     let stem = Name::new(alloc, stem.as_bytes())?;
     Ok(Verification {
         stem,
         label,
         certificate,
     })
+}
+
+// What these words ask for, where they say what is to be tried as a model.
+fn model_call(alloc: Global, words: &[&str]) -> Result<Call, Memory>
+    ensures { IfOk result (λ call. call ≡ trial_call (map (λ word. word.now) words.now)) }
+{
+    match words {
+        [stem, model, files @ ..] => trial_on(alloc, stem, model, files),
+        _ => Ok(Call::Nothing),
+    }
+}
+
+// A text is to be tried as a model of a trait, over these files.
+fn trial_on(alloc: Global, stem: &str, model: &str, words: &[&str]) -> Result<Call, Memory>
+    ensures { IfOk result (λ call. call ≡ tried_by stem.now model.now (map (λ word. word.now) words.now)) }
+{
+    if !is_stem(stem.as_bytes()) || !is_model(model.as_bytes()) {
+        return Ok(Call::Nothing);
+    }
+    let tried = trial_of(alloc, stem, model)?;
+    on_files(alloc, Question::Model(tried), words)
+}
+
+// What is to be tried.
+fn trial_of(alloc: Global, stem: &str, model: &str) -> Result<Trial, Memory>
+    ensures { IfOk result (λ tried. tried ≡ record { stem = stem.now; model = model.now }) }
+{
+    let model = EvidenceName::new(alloc, model)?;
+    let stem = Name::new(alloc, stem.as_bytes())?;
+    Ok(Trial { stem, model })
+}
+
+// Whether the word is a stem with `.mod` behind it.
+fn is_model(word: &[u8]) -> bool
+    ensures { result ≡ is_model word.now }
+{
+    4 <= word.len()
+        && &word[word.len() - 4..] == b".mod".as_slice()
+        && is_stem(&word[..word.len() - 4])
 }
 
 // Whether the word ends in `.cert`.

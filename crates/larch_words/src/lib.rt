@@ -2,10 +2,10 @@
 #![tactic(auto)]
 
 mod call;
-mod certificate_name;
 mod command_line;
+mod evidence_name;
 mod laws;
 
-pub use call::{Call, FileNames, Question, Verification, read_words};
-pub use certificate_name::CertificateName;
-pub use laws::{calls_name_files, certificates_are_named};
+pub use call::{Call, FileNames, Question, Trial, Verification, read_words};
+pub use evidence_name::EvidenceName;
+pub use laws::{calls_name_files, certificates_are_named, models_are_named};

@@ -1,4 +1,4 @@
--- What the folder gave under the name of a certificate.
+-- What the folder gave under the name of a certificate or a model.
 use Rattle.std.proofs.Common.{rules, ◌≤◌, length, subst, sym}
 use Rattle.larch_base.specs.declared.limits.TheConstants.{MAX_FILE_BYTES}
 use Rattle.larch_io.specs.Folder.{IsFile}

@@ -2,7 +2,7 @@
 use Rattle.std.proofs.Common.{◌∙◌, ap, map, refl, string_bytes, sym}
 use Rattle.larch_words.specs.declared.call.Call.TheVariants as call_
 use Rattle.larch_main.proofs.Turns.{looks_as, no_look}
-use Rattle.larch_main.proofs.Whole.{asked_certificate, completes_as, folder_kept, memory_input}
+use Rattle.larch_main.proofs.Whole.{asked_certificate, asked_model, completes_as, folder_kept, memory_input}
 use Rattle.larch_main.proofs.Whole.{nothing_written, shows, source_kept, unlooked, unread, usage_sink, usage_writes}
 use Rattle.larch_main.proofs.Whole.{writes_as}
 use Rattle.larch_main.proofs.running.run.Goals as goal
@@ -49,6 +49,10 @@ pub run_on_files-requires-clause-certificate : goal.run_on_files-requires-clause
 run_on_files-requires-clause-certificate g c =
     asked_certificate _ (map string_bytes c.args.words.now) _ _ c.in-Ok.ensures c.in-OnFiles.is
     c.certificates_are_named.ensures
+
+pub run_on_files-requires-clause-model : goal.run_on_files-requires-clause-model
+run_on_files-requires-clause-model g c =
+    asked_model _ (map string_bytes c.args.words.now) _ _ c.in-Ok.ensures c.in-OnFiles.is c.models_are_named.ensures
 
 pub returns-clause-output : goal.returns-clause-output
 returns-clause-output g c =

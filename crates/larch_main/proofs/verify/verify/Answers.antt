@@ -4,6 +4,7 @@ use Rattle.larch_main.specs.Answer.{IsAnswer}
 use Rattle.larch_main.specs.Gather.{Whole}
 use Rattle.larch_main.specs.Verify.{verification_answer}
 use Rattle.larch_main.proofs.Answering.{evidence_answered, evidence_refused, is_answer}
+use Rattle.larch_main.proofs.NameTexts.{certificate_is_no_file}
 use Rattle.larch_main.proofs.verify.verify.Goals as goal
 
 pub returns-in_err-evidence-clause-answer : goal.returns-in_err-evidence-clause-answer
@@ -31,3 +32,6 @@ returns-in_err-answer-clause-looks g c = c.gather_evidence.ensures.looks
 
 pub returns-clause-looks : goal.returns-clause-looks
 returns-clause-looks g c = c.gather_evidence.ensures.looks
+
+pub gather_evidence-requires-clause-other : goal.gather_evidence-requires-clause-other
+gather_evidence-requires-clause-other g c = certificate_is_no_file c.args.asked.now.certificate c.requires.other

@@ -4,13 +4,13 @@ use larch_base::Memory;
 use std::alloc::Global;
 use std::marker::Model;
 
-/// The name of a file with a certificate. Contracts see it as its bytes.
+/// The name of a file with a certificate or a model. Contracts see it as its bytes.
 #[derive(Drop)]
-pub struct CertificateName {
+pub struct EvidenceName {
     text: String,
 }
 
-impl Model for CertificateName {
+impl Model for EvidenceName {
     ghost use Rattle.std.specs.Prelude.{List, ℕ, string_bytes};
 
     ghost Value = { List ℕ };
@@ -18,13 +18,13 @@ impl Model for CertificateName {
     ghost view = { λ name. string_bytes name.text };
 }
 
-impl CertificateName {
+impl EvidenceName {
     // The name that a word is.
-    pub(crate) fn new(alloc: Global, word: &str) -> Result<CertificateName, Memory>
+    pub(crate) fn new(alloc: Global, word: &str) -> Result<EvidenceName, Memory>
         ensures { IfOk result (λ name. name ≡ word.now) }
     {
         let text = String::from_str(alloc, word)?;
-        Ok(CertificateName { text })
+        Ok(EvidenceName { text })
     }
 
     /// The name as a text. It takes no memory.

@@ -1,0 +1,4 @@
+pub mod Certified
+pub mod Halt
+pub mod Ready
+pub mod Task

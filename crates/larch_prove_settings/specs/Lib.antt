@@ -1,0 +1,5 @@
+pub mod Changing
+pub mod References
+pub mod Scope
+pub mod Settings
+pub mod Telling

@@ -1,0 +1,11 @@
+pub mod EntersUpon
+pub mod Following
+pub mod Hypotheses
+pub mod Leading
+pub mod Leaving
+pub mod Measures
+pub mod MethodEnds
+pub mod Next
+pub mod Noting
+pub mod Popping
+pub mod Proved

@@ -1,0 +1,83 @@
+-- The next subgoal is open on a level of its own, upon the one below.
+use Rattle.std.proofs.Common.{IsSome, ap, arith, map, refl, reverse, subst, sym, ◌∙◌, ◌∷◌, []}
+use Rattle.std.proofs.lemmas.List.{reverse-append}
+use Rattle.std.proofs.lemmas.Result.{err_from_is_err_and}
+use Rattle.larch_prove_draft.specs.Draft.{below_in}
+use Rattle.larch_prove_invariant.specs.Book.{levels_of}
+use Rattle.larch_prove_settling.proofs.Leading.{lead_by}
+use Rattle.larch_prove_settling.proofs.Leaving.{if_any}
+use Rattle.larch_prove_settling.proofs.Measures.{falls_by, fewer_left}
+use Rattle.larch_prove_settling.proofs.Next.{next_alike, next_proof, next_rises, next_stands, next_stays, next_tells}
+use Rattle.larch_prove_settling.proofs.Next.{opened_same}
+use Rattle.larch_prove_settling.proofs.Noting.{awaits_next, goes_on}
+use Rattle.larch_prove_settling.specs.Entered.{IsUpon}
+use Rattle.larch_prove_settling.proofs.rising.open_next.Goals as goal
+use Rattle.larch_prove_levels.specs.Level.{IsReady, IsStored}
+
+pub open_subgoal-requires : goal.open_subgoal-requires
+open_subgoal-requires c =
+    let r = c.requires.follows in let w = r.1.1.1.1 in record {
+      theory = c.args.proving.now.theory.now;
+      statement = c.args.proving.now.statement.now;
+      constants = r.0.constants;
+      levels = levels_of (goes_on _ _ _ _ _ _ _ _ _ _ w ∷ w.follows.others);
+      top = goes_on _ _ _ _ _ _ _ _ _ _ w;
+      others = w.follows.others;
+      running = _;
+      awaits = awaits_next _ _ _ _ _ _ _ _ _ _ w c.note_left.new.running c.in_ok-note_left.ensures;
+    }
+
+pub returns-in_err-level-clause-refused : goal.returns-in_err-level-clause-refused
+returns-in_err-level-clause-refused c =
+    let q = err_from_is_err_and c.from_residual-in_err-level.result c.from_residual-in_err-level.ensures.1 in
+    rw (q.1, q.2) (λ p below parent over w.
+    next_tells _ _ _ _ p below parent _ _ _ w _ _ c.in_err-level.field-0.0 over
+    (c.in_err-level.ensures.refused w.next w.subgoal_is))
+
+pub line_of_goal-requires-clause-ready : goal.line_of_goal-requires-clause-ready
+line_of_goal-requires-clause-ready c =
+    let w = c.requires.follows.1.1.1.1 in
+    subst (IsReady _ _) (sym c.in_ok-push_level.ensures.current)
+    (c.in_ok-level.ensures.entered _ _ _ _ _ _ _
+    (awaits_next _ _ _ _ _ _ _ _ _ _ w c.note_left.new.running c.in_ok-note_left.ensures)).ready
+
+pub line_of_goal-requires-clause-stored : goal.line_of_goal-requires-clause-stored
+line_of_goal-requires-clause-stored c =
+    let w = c.requires.follows.1.1.1.1 in
+    subst (IsStored _) (sym c.in_ok-push_level.ensures.current)
+    (c.in_ok-level.ensures.entered _ _ _ _ _ _ _
+    (awaits_next _ _ _ _ _ _ _ _ _ _ w c.note_left.new.running c.in_ok-note_left.ensures)).stored
+
+pub returns-clause-leads : goal.returns-clause-leads
+returns-clause-leads c = λ p below parent over w.
+    let t = c.args.proving.now.theory.now in let s = c.args.proving.now.statement.now in
+    let d = c.args.draft.now in let store = c.args.store.now in let more = c.open_subgoal.new.store in
+    let n = c.note_left.new.running in let i = c.in_ok-note_left.ensures in
+    let e = record d {
+      builder = c.open_subgoal.new.builder;
+      current = c.push_level.new.current;
+      below = c.push_level.new.below;
+      waiting = c.mark.new.waiting;
+      next_hypothesis = c.open_subgoal.new.next;
+    } in
+    let same = c.in_ok-push_level.ensures.current in
+    let upon = c.in_ok-level.ensures.entered t s p.constants _ _ _ _
+    (awaits_next t s store d p below parent _ _ _ w n i) in
+    let here = subst (IsUpon t s p.constants _ _ _ e.builder more) (sym same) upon in
+    let opened = opened_same t s store more d e p below parent _ _ _ w n i _ _ c.in_ok-level.level over same
+    (c.in_ok-level.ensures.opened w.next w.subgoal_is) in
+    lead_by t s more e c.line_of_goal.new.builder here.entered
+    (goes_on t s store d p below parent _ _ _ w ∷ w.follows.others) p
+    (next_proof t s store more d e p below parent _ _ _ w n i) c.in_ok-shown.shown _
+    (next_alike t s store more d e p below parent _ _ _ w n i)
+    (next_stays t s store more d e p below parent _ _ _ w n i opened)
+    (next_rises t s store more d e p below parent _ _ _ w n i opened)
+    (next_stands t s store more d e p below parent _ _ _ w n i c.in_ok-level.ensures.grows refl c.in_ok-mark.ensures
+    refl refl c.in_ok-push_level.ensures.below here)
+    c.in_ok-shown.ensures.extends c.in_ok-shown.ensures.proved c.in_ok-shown.ensures.says c.in_ok-shown.ensures.open
+
+pub returns-clause-falls : goal.returns-clause-falls
+returns-clause-falls c =
+    if_any _ _ (falls_by (below_in c.args.draft.now) _ c.args.draft.now.current _
+    (ap reverse c.in_ok-push_level.ensures.below ∙ reverse-append (map (λ l. l.value) c.args.draft.now.below.items) _)
+    (fewer_left c.args.left _ c.note_left.new.running c.in_ok-note_left.ensures c.requires.room))
