@@ -16,7 +16,7 @@ use Rattle.larch_derive.specs.OpenBox.{constant_of}
 use Rattle.larch_derive.specs.Predicates.{Extends, HasEquation}
 use Rattle.larch_derive.specs.declared.builder.Builder.{Builder}
 use Rattle.larch_prove_adding.proofs.FactLists.{named_said}
-use Rattle.larch_prove_adding.specs.KeptFacts.{AreSaid, KeptFacts, SaysAbsurd, facts_of, lines_of}
+use Rattle.larch_prove_adding.specs.KeptFacts.{SaysAbsurd, facts_of, lines_of}
 use Rattle.larch_prove_boxes.specs.BoxLists.{box_list}
 use Rattle.larch_prove_boxes.specs.Entering.{IsEntrance}
 use Rattle.larch_prove_boxes.specs.declared.entering.Entrance.{Entrance}
@@ -25,7 +25,7 @@ use Rattle.larch_prove_invariant.proofs.Boxes.{through_grows}
 use Rattle.larch_prove_invariant.proofs.Held.{running_is}
 use Rattle.larch_prove_invariant.proofs.LevelConstants.{levels_entered}
 use Rattle.larch_prove_invariant.specs.Book.{Book, Done, Kept, Running, SupposingBox, made_in}
-use Rattle.larch_prove_invariant.specs.Holding.{AreOwn, HasAbsurd, HasFacts, HoldsLevels, IsEntered, IsForSubgoal, Runs}
+use Rattle.larch_prove_invariant.specs.Holding.{AreOwn, HasAbsurd, HasFacts, IsForSubgoal, Runs}
 use Rattle.larch_prove_invariant.specs.Holding.{Says, Shape}
 use Rattle.larch_prove_invariant.specs.Holding.{Through, entrances, own_shape, shape_of}
 use Rattle.larch_prove_levels.specs.Level.{IsReady, IsStored, RunsLikeAny, purpose_of}

@@ -1,36 +1,31 @@
 -- A subgoal is proved: which method it is of, its place among the subgoals, and that it is left.
-use Rattle.std.specs.Prelude.{◌≡◌, ◌+◌, ◌-◌, ◌<◌, ℕ, zero, suc, Bool, true, List, [], ◌∷◌, ◌++◌, map, length, Vec}
+use Rattle.std.specs.Prelude.{◌≡◌, ◌+◌, ◌-◌, ◌<◌, ℕ, suc, List, [], ◌∷◌, ◌++◌, map, length}
 use Rattle.std.specs.Prelude.{IsSome, Option, None, Some, refl}
 use Rattle.std.specs.List.{slice_get}
 use Rattle.std.proofs.Common.{add-one, ap, ap₂, arith, subst, sym, ◌∙◌}
 use Rattle.std.proofs.lemmas.List.{length-append, length-map, map-append}
 use Rattle.larch_base.proofs.Options.{some_inj}
-use Rattle.larch_derive.specs.Predicates.{HasEquation}
 use Rattle.larch_derive.specs.declared.builder.Builder.{Builder}
-use Rattle.larch_prove_boxes.specs.BoxLists.{box_list, boxes_with}
 use Rattle.larch_prove_boxes.specs.Leave.{left_of}
 use Rattle.larch_prove_boxes.specs.Saying.{ShowsSubgoal}
 use Rattle.larch_prove_boxes.specs.declared.leave.Leave.{Leave}
 use Rattle.larch_prove_draft.specs.declared.draft.Draft.{Draft}
 use Rattle.larch_prove_invariant.proofs.Held.{running_is}
 use Rattle.larch_prove_invariant.proofs.LevelConstants.{levels_left}
-use Rattle.larch_prove_invariant.specs.Book as kept
 use Rattle.larch_prove_invariant.specs.Book.{Book, Done, Kept, Running}
-use Rattle.larch_prove_invariant.specs.Holding.{Enters, EntersSubgoal, HasLeft, HoldsLevels, IsForSubgoal, Runs}
+use Rattle.larch_prove_invariant.specs.Holding.{Enters, EntersSubgoal, HasLeft, HoldsLevels, IsForSubgoal}
 use Rattle.larch_prove_invariant.specs.Leaving.{Leaving}
-use Rattle.larch_prove_levels.specs.Level.{IsKept, RunsLike, RunsLikeAny, purpose_of}
-use Rattle.larch_prove_levels.specs.declared.level.Level.{Level}
-use Rattle.larch_prove_levels.specs.declared.level.Purpose.TheVariants.{OfSubgoal}
+use Rattle.larch_prove_levels.specs.Level.{RunsLike, RunsLikeAny}
 use Rattle.larch_prove_levels.specs.declared.level.Planned.{Planned}
 use Rattle.larch_prove_levels.specs.declared.level.Running.{Running as RunningHere}
 use Rattle.larch_prove_meaning.specs.Levels as defined
 use Rattle.larch_prove_meaning.specs.Levels.{Proof}
 use Rattle.larch_prove_meaning.specs.Plans as planned
-use Rattle.larch_prove_plans.specs.Planning.{method_of, plan_of, subgoal_of}
+use Rattle.larch_prove_plans.specs.Planning.{method_of, subgoal_of}
 use Rattle.larch_prove_plans.specs.declared.subgoals.Method.{Method}
 use Rattle.larch_prove_plans.specs.declared.subgoals.Subgoal.{Subgoal}
 use Rattle.larch_prove_settling.specs.Rising.{EndsWith, Follows, FollowsWith, IsRunning, Rises, unleft}
-use Rattle.larch_store.specs.Numbered.{Numbered, term_of}
+use Rattle.larch_store.specs.Numbered.{Numbered}
 use Rattle.larch_term.specs.declared.statement.Statement.{Statement}
 use Rattle.larch_term.specs.declared.statement.Theory.{Theory}
 

@@ -1,6 +1,6 @@
 -- Where a line says that the current goal is proved, or none does: what that leads to.
-use Rattle.std.specs.Prelude.{◌≡◌, ℕ, Bool, true, false, IfNone, IfSome, Option, None, Some, Result, Ok, refl}
-use Rattle.std.proofs.Common.{sym, ◌∙◌}
+use Rattle.std.specs.Prelude.{◌≡◌, ℕ, Bool, true, false, IfNone, IfSome, Option, None, Some, Result, Ok}
+use Rattle.std.proofs.Common.{◌∙◌}
 use Rattle.larch_base.specs.declared.code.Code.{Code}
 use Rattle.larch_derive.specs.Predicates.{Extends, HasEquation}
 use Rattle.larch_derive.specs.declared.builder.Builder.{Builder}

@@ -1,24 +1,22 @@
 -- A level that is proved: its boxes for constants are closed, and the level below is taken.
-use Rattle.std.specs.Prelude.{◌≡◌, ◌+◌, ◌*◌, ◌<◌, ℕ, Bool, true, List, [], ◌∷◌, ◌++◌, map, reverse, All, None, Some}
+use Rattle.std.specs.Prelude.{◌≡◌, ◌<◌, ℕ, Bool, true, List, [], ◌∷◌, ◌++◌, map, reverse, None, Some}
 use Rattle.std.specs.Prelude.{Option}
 use Rattle.std.specs.Prelude.{if◌then◌else◌, Err, IfErr, IfOk, IfSome, Ok, Result, Vec, length, refl}
 use Rattle.std.specs.declared.alloc.Global.{Global}
 use Rattle.std.specs.List.{AllZip}
-use Rattle.std.proofs.Common.{ap, ap₂, arith, subst, sym, ◌∙◌, slice_get, option_map, MatchOption, HoldsAt, Bor, ◌≤◌}
+use Rattle.std.proofs.Common.{ap, subst, sym, ◌∙◌, slice_get, option_map, MatchOption, HoldsAt, Bor, ◌≤◌}
 use Rattle.std.proofs.lemmas.Option.{slice_get_past, slice_get-get_or}
-use Rattle.std.proofs.lemmas.List.{append-nil, map-append, reverse-append}
-use Rattle.std.proofs.lemmas.List.Elements.{All-cons, All-head, All-tail}
 use Rattle.larch_derive.specs.Builder.{lines_in}
 use Rattle.larch_derive.specs.Finished.{IsFinished}
 use Rattle.larch_derive.specs.Predicates.{HasEquation}
 use Rattle.larch_derive.specs.declared.builder.Builder.{Builder}
 use Rattle.larch_prove_draft.proofs.Alike.{marks_wait}
-use Rattle.larch_prove_draft.specs.Draft.{AreBelow, IsShown, IsShownIn, Leads, below_in}
+use Rattle.larch_prove_draft.specs.Draft.{IsShown, IsShownIn, Leads, below_in}
 use Rattle.larch_prove_draft.specs.declared.draft.Draft.{Draft}
 use Rattle.larch_prove_invariant.specs.Book.{Book, Kept, SupposingBox, levels_of}
-use Rattle.larch_prove_invariant.specs.Holding.{IsEntered, Says}
+use Rattle.larch_prove_invariant.specs.Holding.{IsEntered}
 use Rattle.larch_prove_invariant.specs.Leaving.{Leaving}
-use Rattle.larch_prove_levels.specs.Level.{IsKept, IsReady, IsStored}
+use Rattle.larch_prove_levels.specs.Level.{IsKept}
 use Rattle.larch_prove_levels.specs.declared.level.Level.{Level}
 use Rattle.larch_prove_meaning.specs.Levels as defined
 use Rattle.larch_prove_meaning.specs.Levels.{Proof, with_mark}

@@ -1,5 +1,5 @@
 -- Fewer subgoals are left with each turn.
-use Rattle.std.specs.Prelude.{◌≡◌, ◌+◌, ◌*◌, ◌-◌, ◌<◌, ℕ, List, [], ◌∷◌, ◌++◌, Option, None, Some, length, refl}
+use Rattle.std.specs.Prelude.{◌≡◌, ◌+◌, ◌*◌, ◌-◌, ◌<◌, ℕ, List, [], ◌∷◌, Option, None, Some, length, refl}
 use Rattle.std.specs.Prelude.{reverse}
 use Rattle.std.proofs.Common.{ap, ap₂, arith, ◌∙◌}
 use Rattle.std.proofs.lemmas.List.{length-append, reverse-append}

@@ -12,13 +12,12 @@ use Rattle.larch_prove_boxes.specs.Ends.{AreLeft}
 use Rattle.larch_prove_boxes.specs.Leave.{left_of}
 use Rattle.larch_prove_boxes.specs.declared.leave.Leave.{Leave}
 use Rattle.larch_prove_draft.proofs.Alike.{alike_same}
-use Rattle.larch_prove_draft.specs.Draft.{AreBelow, ArePlannedAmong, IsShown, Leads, below_in}
+use Rattle.larch_prove_draft.specs.Draft.{AreBelow, Leads, below_in}
 use Rattle.larch_prove_draft.specs.declared.draft.Draft.{Draft}
 use Rattle.larch_prove_invariant.proofs.Left.{leaving_grows, method_left}
-use Rattle.larch_prove_invariant.specs.Book as kept
-use Rattle.larch_prove_invariant.specs.Book.{Done, Kept, Running, all_left, own_boxes}
+use Rattle.larch_prove_invariant.specs.Book.{Kept, Running, all_left, own_boxes}
 use Rattle.larch_prove_invariant.specs.Ending.{HasAllLeft, StandsAt}
-use Rattle.larch_prove_levels.specs.Level.{IsKept, IsLevel, IsStored, RunsLike, RunsLikeAny}
+use Rattle.larch_prove_levels.specs.Level.{IsStored, RunsLikeAny}
 use Rattle.larch_prove_levels.specs.declared.level.Level.{Level}
 use Rattle.larch_prove_levels.specs.declared.level.Running.{Running as RunningHere}
 use Rattle.larch_prove_meaning.specs.Levels as defined
@@ -27,7 +26,7 @@ use Rattle.larch_prove_meaning.specs.Plans as planned
 use Rattle.larch_prove_plans.specs.Planning.{method_of}
 use Rattle.larch_prove_plans.specs.declared.subgoals.Method.{Method}
 use Rattle.larch_prove_settling.proofs.Noting.{level_running, stored_running}
-use Rattle.larch_prove_settling.specs.Rising.{EndsWith, IsNoted, IsNotedIn}
+use Rattle.larch_prove_settling.specs.Rising.{EndsWith, IsNoted}
 use Rattle.larch_store.specs.Numbered.{Numbered, term_of}
 use Rattle.larch_term.specs.Operator.{PlainOperator}
 use Rattle.larch_term.specs.Tree.{Tree}

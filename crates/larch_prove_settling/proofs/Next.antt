@@ -1,7 +1,6 @@
 -- The next subgoal of a method is open.
-use Rattle.std.specs.Prelude.{◌≡◌, ℕ, Bool, true, false, List, [], ◌∷◌, ◌++◌, map, reverse, All, Contains, IfSome}
-use Rattle.std.specs.Prelude.{drop, if◌then◌else◌, None, Some, Option, Result, Err, Ok, refl}
-use Rattle.std.specs.List.{AllZip}
+use Rattle.std.specs.Prelude.{◌≡◌, ℕ, true, false, List, [], ◌∷◌, ◌++◌, map, reverse, All, Contains, IfSome}
+use Rattle.std.specs.Prelude.{drop, if◌then◌else◌, Option, Result, Err, Ok, refl}
 use Rattle.std.proofs.Common.{ap, ap₂, subst, sym, ◌∙◌}
 use Rattle.std.proofs.lemmas.List.{reverse-append}
 use Rattle.std.proofs.lemmas.List.Elements.{All-cons, All-tail, All-weaker}
@@ -12,13 +11,13 @@ use Rattle.larch_prove_adding.specs.KeptFacts.{facts_of}
 use Rattle.larch_prove_boxes.specs.declared.leave.Leave.{Leave}
 use Rattle.larch_prove_draft.proofs.Alike.{marks_wait}
 use Rattle.larch_prove_draft.proofs.Standing.{stored_on}
-use Rattle.larch_prove_draft.specs.Draft.{AreBelow, ArePlannedAmong, IsAlike, Stands, below_in}
+use Rattle.larch_prove_draft.specs.Draft.{AreBelow, IsAlike, Stands, below_in}
 use Rattle.larch_prove_draft.specs.Proving.{IsOver}
 use Rattle.larch_prove_draft.specs.declared.draft.Draft.{Draft}
-use Rattle.larch_prove_invariant.specs.Book.{Kept, Running, levels_of}
+use Rattle.larch_prove_invariant.specs.Book.{Kept, levels_of}
 use Rattle.larch_prove_invariant.specs.Holding.{HoldsLevels}
 use Rattle.larch_prove_levels.proofs.Rises.{next_open, next_proved, next_refused}
-use Rattle.larch_prove_levels.specs.Level.{IsKept, IsStored}
+use Rattle.larch_prove_levels.specs.Level.{IsStored}
 use Rattle.larch_prove_levels.specs.Opened.{Opened, opened_by, with_next}
 use Rattle.larch_prove_levels.specs.Supposing.{TellsCode}
 use Rattle.larch_prove_levels.specs.declared.level.Level.{Level}
@@ -27,14 +26,13 @@ use Rattle.larch_prove_meaning.specs.Levels as defined
 use Rattle.larch_prove_meaning.specs.Levels.{Proof, all_constants, is_settled, opened_from, rise}
 use Rattle.larch_prove_plans.specs.declared.subgoals.Method.{Method}
 use Rattle.larch_prove_plans.specs.declared.subgoals.Subgoal.{Subgoal}
-use Rattle.larch_prove_settling.proofs.Noting.{awaits_next, goes_on, noted_kept, plan_among, stored_running}
+use Rattle.larch_prove_settling.proofs.Noting.{goes_on, noted_kept, plan_among, stored_running}
 use Rattle.larch_prove_settling.specs.Entered.{IsUpon}
 use Rattle.larch_prove_settling.specs.Rising.{FollowsWith, IsNoted}
 use Rattle.larch_rewrite.specs.declared.refusal.RewriteRefusal.{RewriteRefusal}
 use Rattle.larch_rewrite.specs.declared.refusal.RewriteRefusal.TheVariants.{Limit, TooLarge, Memory}
 use Rattle.larch_store.specs.Numbered.{Numbered, term_of}
 use Rattle.larch_store.specs.Stored.{Grows}
-use Rattle.larch_term.specs.Operator.{PlainOperator}
 use Rattle.larch_term.specs.declared.statement.Statement.{Statement}
 use Rattle.larch_term.specs.declared.statement.Theory.{Theory}
 

@@ -3,14 +3,12 @@ use Rattle.std.specs.Prelude.{◌≡◌, List, [], ◌∷◌, ◌++◌, map, All
 use Rattle.std.proofs.Common.{ap, subst, sym, ◌∙◌}
 use Rattle.std.proofs.lemmas.List.{map-append}
 use Rattle.std.proofs.lemmas.List.Elements.{All-head}
-use Rattle.larch_derive.specs.declared.builder.Builder.{Builder}
 use Rattle.larch_prove_boxes.specs.BoxLists.{box_list}
 use Rattle.larch_prove_boxes.specs.Leave.{left_of}
 use Rattle.larch_prove_boxes.specs.declared.leave.Leave.{Leave}
 use Rattle.larch_prove_draft.specs.Draft.{ArePlannedAmong}
 use Rattle.larch_prove_draft.specs.declared.draft.Draft.{Draft}
 use Rattle.larch_prove_invariant.proofs.LevelConstants.{levels_follow}
-use Rattle.larch_prove_invariant.specs.Book as kept
 use Rattle.larch_prove_invariant.specs.Book.{Done, Kept, Running, levels_of, next_running, with_running}
 use Rattle.larch_prove_levels.specs.Level.{IsKept, IsLevel, IsStored, RunsLikeAny}
 use Rattle.larch_prove_levels.specs.declared.level.Level.{Level}

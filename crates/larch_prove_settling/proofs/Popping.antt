@@ -1,5 +1,5 @@
 -- The level below one that is proved is the current one again.
-use Rattle.std.specs.Prelude.{◌≡◌, ℕ, IsTrue, List, [], ◌∷◌, ◌++◌, map, reverse, All, Vec, Bool, true, if◌then◌else◌}
+use Rattle.std.specs.Prelude.{◌≡◌, ℕ, List, [], ◌∷◌, ◌++◌, map, reverse, All, Vec, Bool, true, if◌then◌else◌}
 use Rattle.std.specs.Prelude.{IfNone, IfSome, None, Option, Some}
 use Rattle.std.specs.List.{AllZip}
 use Rattle.std.specs.declared.rc.Rc.{Rc}
@@ -219,6 +219,3 @@ module _ (t : Theory) (s : Statement) (store : List Numbered) (d : Draft) (b : B
         ∙ rise_proof popped_so.parent popped_so.rest level (term_of upper.first) p
         (ap (λ (l : defined.Level). l.purpose) (sym popped_so.rises.level_is) ∙ upper_is.purpose
         ∙ ap (λ u. purpose_of u (term_of upper.first)) e)
-
-    pub old_running : below_in d ≡ i.last ∷ reverse (map (λ level. level.value) v.items)
-    old_running = ap reverse i.levels_are ∙ reverse-append (map (λ level. level.value) v.items) (i.last ∷ [])

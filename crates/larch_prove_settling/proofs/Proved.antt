@@ -1,5 +1,5 @@
 -- A formula that a command proved is added to the level beloz.rises.
-use Rattle.std.specs.Prelude.{◌≡◌, ℕ, Bool, true, false, List, [], ◌∷◌, ◌++◌, None, Some, Option, if◌then◌else◌}
+use Rattle.std.specs.Prelude.{◌≡◌, ℕ, true, false, List, [], ◌∷◌, None}
 use Rattle.std.specs.Prelude.{◌+◌, Result, Ok, drop, refl}
 use Rattle.std.proofs.Common.{ap, ap₂, subst, sym, ◌∙◌}
 use Rattle.larch_base.specs.declared.code.Code.{Code}
@@ -14,7 +14,7 @@ use Rattle.larch_prove_draft.specs.Proving.{IsOver}
 use Rattle.larch_prove_draft.specs.declared.draft.Draft.{Draft}
 use Rattle.larch_prove_invariant.proofs.Held.{current_said}
 use Rattle.larch_prove_invariant.proofs.LevelConstants.{levels_left, levels_worked}
-use Rattle.larch_prove_invariant.specs.Book.{IsWorkedOn, Kept, levels_of}
+use Rattle.larch_prove_invariant.specs.Book.{IsWorkedOn, Kept}
 use Rattle.larch_prove_invariant.specs.Holding.{Enters, EntersProof, HoldsLevels, RunsIfAny, Says}
 use Rattle.larch_prove_invariant.specs.Leaving.{Leaving}
 use Rattle.larch_prove_levels.proofs.Rises.{derive_by}
@@ -34,8 +34,6 @@ use Rattle.larch_rewrite.specs.declared.refusal.RewriteRefusal.{RewriteRefusal}
 use Rattle.larch_rewrite_meaning.specs.Sides.{Sides}
 use Rattle.larch_store.specs.Numbered.{Numbered, term_of}
 use Rattle.larch_store.specs.Stored.{Belongs, Grows}
-use Rattle.larch_term.specs.Operator.{PlainOperator}
-use Rattle.larch_term.specs.BuiltIn.{bool_sort}
 use Rattle.larch_term.specs.Sorts.{sort_of}
 use Rattle.larch_term.specs.Tree.{Tree}
 use Rattle.larch_term.specs.Truth.{truth}

@@ -1,5 +1,5 @@
 -- A box is entered, hypotheses are supposed in it, and the goal gets its normal form there.
-use Rattle.std.proofs.Common.{All, ap, length, map, refl, subst, sym, ◌∙◌}
+use Rattle.std.proofs.Common.{All, ap, length, map, subst, sym, ◌∙◌}
 use Rattle.std.proofs.lemmas.List.{length-map}
 use Rattle.std.proofs.lemmas.Result.{err_from_is_err_and}
 use Rattle.larch_derive.proofs.Growth.{extends_trans, stays_said}

@@ -1,7 +1,5 @@
 -- The boxes are closed by the level's own first goal.
-use Rattle.std.specs.Prelude.{IfOk}
-use Rattle.std.proofs.Common.{subst, sym, ◌∙◌}
-use Rattle.larch_derive.specs.Predicates.{HasEquation}
+use Rattle.std.proofs.Common.{sym, ◌∙◌}
 use Rattle.larch_prove_settling.proofs.Leaving.{if_answered, said_as}
 use Rattle.larch_prove_settling.proofs.parts.leave_extras.Goals as goal
 

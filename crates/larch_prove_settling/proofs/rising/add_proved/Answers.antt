@@ -1,9 +1,8 @@
 -- The formula is added to a level that is ready, which is one of the proof that the definition has then.
-use Rattle.std.proofs.Common.{refl, sym, ◌∙◌}
+use Rattle.std.proofs.Common.{refl}
 use Rattle.std.proofs.lemmas.Result.{err_from_is_err_and}
 use Rattle.larch_prove_settling.proofs.Leading.{lead_by}
-use Rattle.larch_prove_settling.proofs.Leaving.{said_as}
-use Rattle.larch_prove_settling.proofs.Proved.{derived_as, derived_refused, formula_said, made_alike, made_proof}
+use Rattle.larch_prove_settling.proofs.Proved.{derived_as, derived_refused, made_alike, made_proof}
 use Rattle.larch_prove_settling.proofs.Proved.{tells_as}
 use Rattle.larch_prove_settling.proofs.Proved.{made_rises, made_stands, made_stays, ready_below, worked_on}
 use Rattle.larch_prove_settling.proofs.Proved.{worked_stored}

@@ -1,5 +1,5 @@
 -- What runs on the level is planned so.
-use Rattle.std.proofs.Common.{ap, subst, sym, ◌∙◌}
+use Rattle.std.proofs.Common.{subst, sym, ◌∙◌}
 use Rattle.larch_prove_settling.proofs.Following.{runs_below, runs_some}
 use Rattle.larch_prove_settling.proofs.rising.follow.Goals as goal
 use Rattle.larch_prove_settling.specs.Rising.{IsRunning}

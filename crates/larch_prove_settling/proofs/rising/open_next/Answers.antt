@@ -1,5 +1,5 @@
 -- The next subgoal is open on a level of its own, upon the one below.
-use Rattle.std.proofs.Common.{IsSome, ap, arith, map, refl, reverse, subst, sym, ◌∙◌, ◌∷◌, []}
+use Rattle.std.proofs.Common.{ap, map, refl, reverse, subst, sym, ◌∙◌, ◌∷◌}
 use Rattle.std.proofs.lemmas.List.{reverse-append}
 use Rattle.std.proofs.lemmas.Result.{err_from_is_err_and}
 use Rattle.larch_prove_draft.specs.Draft.{below_in}

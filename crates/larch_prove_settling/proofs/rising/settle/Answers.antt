@@ -1,7 +1,6 @@
 -- One turn after the other.
-use Rattle.std.proofs.Common.{ap, refl, subst, sym, ◌∙◌}
+use Rattle.std.proofs.Common.{subst}
 use Rattle.std.proofs.lemmas.Result.{err_from_is_err_and}
-use Rattle.std.specs.Prelude.{None, Some}
 use Rattle.larch_prove_draft.proofs.Alike.{leads_on, over_alike}
 use Rattle.larch_prove_draft.specs.Draft.{Leads}
 use Rattle.larch_prove_levels.proofs.Telling.{tells_same}

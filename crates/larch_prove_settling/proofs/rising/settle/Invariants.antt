@@ -1,4 +1,4 @@
-use Rattle.std.proofs.Common.{◌+◌, ℕ, List, is_some, if◌then◌else◌}
+use Rattle.std.proofs.Common.{◌+◌, List, is_some, if◌then◌else◌}
 use Rattle.larch_prove_draft.specs.Draft.{Leads, Stands, below_in}
 use Rattle.larch_prove_draft.specs.Proving.{IsOver}
 use Rattle.larch_prove_invariant.specs.Book.{Kept}
