@@ -16,13 +16,14 @@ from companions.program import FILE_NAME, MOST_BYTES, MOST_FILES
 from companions.scope import reached
 from companions.spelling import nearest
 
-COMMANDS = ("session", "check", "obligations", "verify", "model")
+COMMANDS = ("session", "check", "obligations", "verify", "model", "trim")
 AROUND = ("help", "explain", "watch")
 OPTIONS = ("--build", "--help", "--install", "--program", "--uninstall", "--unproved", "--version")
 # What people type that isn't there, and what there is.
 NOT_THERE = {
     **dict.fromkeys(("show", "print", "list", "duties"), "`larch obligations FILE..` lists what a trait consists of"),
     **dict.fromkeys(("prove", "proof"), "nothing looks for proofs yet; `larch verify` looks at certificates"),
+    **dict.fromkeys(("shorten", "minimize", "prune"), "`larch trim` leaves out of a certificate what isn't needed"),
     **dict.fromkeys(("find", "find-model", "search"), "`tools/larch-find-model TRAIT FILE..` looks for a small model"),
     **dict.fromkeys(("eval", "run", "reduce", "rewrite"), "nothing computes the value of a term yet"),
     **dict.fromkeys(("lint", "parse", "typecheck", "compile"), "`larch check FILE..` says whether something is wrong"),
@@ -33,13 +34,14 @@ MODEL = re.compile(r"[A-Za-z0-9_]{1,64}\.mod")
 LABEL = re.compile(r"(?:assume|imply|convert)\.[1-9][0-9]{0,5}")
 WITH_INCLUDED = "--with-included"
 # The words before the files of a command.
-FRONTS = {"verify": ("TRAIT", "LABEL", "CERT"), "model": ("TRAIT", "MODEL")}
+FRONTS = {"verify": ("TRAIT", "LABEL", "CERT"), "model": ("TRAIT", "MODEL"), "trim": ("TRAIT", "LABEL", "CERT")}
 HELP = """\
 larch checks specifications in the Larch Shared Language.
 
   larch check FILE..                    is something wrong with these traits?
   larch obligations FILE..              what each consists of, and what is to be proved of it
   larch verify TRAIT LABEL CERT FILE..  does this certificate show that duty?
+  larch trim TRAIT LABEL CERT FILE..    the certificate without the lines that its end doesn't need
   larch model TRAIT MODEL FILE..        is this a finite model of the trait, and which claims hold in it?
   larch session                         the same for programs, over standard input
 
@@ -170,7 +172,7 @@ def why_no_command(word):
 
 
 def why_front(front):
-    """Why the words before the files of `verify` or of `model` are none."""
+    """Why the words before the files of a command are none."""
     if front:
         trait = front[0]
         yield "" if FILE.fullmatch(trait + ".lsl") else f"`{trait}` is no trait: its name without `.lsl` is wanted"

@@ -6,7 +6,7 @@
 PROGRAM is a command, in quotes where it has words of its own; it is started for each call. REFERENCE is the folder
 with a Python package `larchref`, whose module `main` has `run`, which is called in the processes of this tool;
 LARCHREF_STAGE in the environment tells it how far the program is built. With --all-rules it reads certificates with
-all rules of the first version, whatever that says.
+all rules of both versions, whatever that says.
 
 A quarter of the calls are over one folder of right and wrong traits, scripts, certificates and files at and above the
 limit of size. The others are over random sets of traits with claims (random_sets.py), a few calls over each set, with
@@ -195,7 +195,8 @@ class Reference:
         names = ("main", "tables", "traits", "duties", "base", "verify", "certificate")
         self.main, self.tables, self.traits, self.made, self.base, verify, certificate = (
             comparing.module_of(place, name) for name in names)
-        forms = [name for name, form in certificate.STAGES.items() if len(form["rules"]) == len(certificate.SCHEMA)]
+        forms = [name for name, form in certificate.STAGES.items()
+                 if len(form["rules"]) == len(certificate.SCHEMA) and len(form["versions"]) == 2]
         if all_rules:
             verify.stage_built = lambda: forms[0]
 

@@ -28,6 +28,9 @@ from tests import Tests  # noqa: E402
 BASH, ZSH = TOP / "completion/larch.bash", TOP / "completion/_larch"
 PUT = b"put One.lsl %d\n" % len(call_texts.TEXTS["One.lsl"]) + call_texts.TEXTS["One.lsl"]
 WRONG = b"put Two.lsl %d\n" % len(call_texts.TEXTS["Two.lsl"]) + call_texts.TEXTS["Two.lsl"]
+# The last line of the certificate of Nat in the second version, and a line that it doesn't need.
+LAST = "induct line=11 var=x:N goal=#3(#1,x:N)==x:N boxes=8,5"
+IDLE = call_texts.proof((12, b"12 refl #1\n13 induct 1 x:N #3(#1,x:N)==x:N 4,7"))
 # Calls for each status and command: the words, the input, and the last line, of which nothing is said by None.
 FILES = {0: [("One.lsl Nat.lsl", None)], 1: [("Two.lsl One.lsl", None)], 2: [("", "USAGE"), ("a/One.lsl", "USAGE")],
          7: [("Big.lsl", "too large"), (" ".join(f"F{number}.lsl" for number in range(257)), "too large")],
@@ -55,6 +58,15 @@ CALLS = {
               7: [("Nat Big.mod Nat.lsl", b"", "too large"), ("Near Sixteen.mod Near.lsl", b"", "too large")],
               8: [("Nat Nope.mod Nat.lsl", b"", "no file Nope.mod"),
                   ("Nat Nat.mod Nope.lsl", b"", "no file Nope.lsl")]},
+    "trim": {0: [("Nat imply.1 Nat.cert Nat.lsl", b"", LAST), ("Nat imply.1 Idle.cert Nat.lsl", b"", LAST),
+                 ("Nat -- imply.1 Left.cert Nat.lsl", b"", LAST)],
+             1: [("Nat imply.1 Place.cert Nat.lsl", b"", "refused 10"),
+                 ("Nat imply.2 Nat.cert Nat.lsl", b"", "refused 13"), ("Nat imply.9 Nat.cert Nat.lsl", b"", "no duty")],
+             2: [("Nat imply.1 Nat.cert", b"", "USAGE"), ("Nat imply.1 Nat.lsl Nat.lsl", b"", "USAGE")],
+             6: [("Nat imply.9 Form.cert Nat.lsl", b"", "malformed at line 2")],
+             7: [("Nat imply.1 Big.cert Nat.lsl", b"", "too large")],
+             8: [("Nat imply.1 Nope.cert Nat.lsl", b"", "no file Nope.cert"),
+                 ("Nat imply.1 Nat.cert Nope.lsl", b"", "no file Nope.lsl")]},
 }
 # Traits and models beside the texts that calls are compared on.
 NEAR = (b"Near: trait\n  introduces\n    c: -> S\n  implies\n    \\forall p, q, r, t, u: S\n"
@@ -63,12 +75,16 @@ MODELS = {"Nat.mod": b"model\nsort N 2\nop 1 0\nop 2 1 0\nop 3 0 1 1 0\n", "Near
           "Wrong.mod": b"model\nsort N 2\nop 1 0\nop 2 1 0\nop 3 0 0 1 1\n", "Form.mod": b"model\nsort N 2\nop 1 0\n\n",
           "Near.mod": b"model\nsort S 2\nop 1 0\n", "Sixteen.mod": b"model\nsort S 16\nop 1 0\n",
           "Point.mod": b"model\nop 1 0\n", "Big.mod": b"model\n".ljust(1048577, b" ")}
+TRIMMED = {"Idle.cert": IDLE, "Left.cert": b"".join(line + b"\n" for line in (
+    b"certificate 2", b"axiom statement=1", b"axiom statement=2", b"axiom statement=3", b"box sorts=- hyps=-",
+    b"inst line=3 by=x:N=#1", b"done", b"box sorts=N hyps=#3(#1,@0.1)==@0.1", b"inst line=5 by=x:N=#1;y:N=@1.1",
+    b"hyp box=2 number=1", b"repl line=2 at=1 with=1", b"done", LAST.encode()))}
 # What the script around the program has besides, and its options.
 AROUND = ["help", "explain", "watch"]
 OPTIONS = ["--build", "--help", "--install", "--program", "--uninstall", "--unproved", "--version"]
 # Words before the cursor, the last of which is begun, and what may stand there.
 COMPLETED = [
-    ([""], ["check", "explain", "help", "model", "obligations", "session", "verify", "watch"]),
+    ([""], ["check", "explain", "help", "model", "obligations", "session", "trim", "verify", "watch"]),
     (["ob"], ["obligations"]), (["Frob"], []), (["--"], OPTIONS), (["--un"], ["--uninstall", "--unproved"]),
     (["--unproved", "verify", "Na"], ["Nat"]), (["--install", ""], ["sub/"]), (["--build", ""], []),
     (["help", "v"], ["verify"]), (["help", "SYN"], ["SYNTAX"]), (["explain", "CY"], ["CYCLE"]),
@@ -82,6 +98,8 @@ COMPLETED = [
     (["verify", "Nat", "c"], ["convert.1"]), (["verify", "One", ""], []),
     (["model", "Na"], ["Nat"]), (["model", "Nat", ""], ["Nat.mod", "sub/"]),
     (["model", "Nat", "Nat.mod", "Na"], ["Nat.lsl"]), (["help", "mo"], ["model"]),
+    (["trim", "Na"], ["Nat"]), (["trim", "Nat", "i"], ["imply.1", "imply.2"]),
+    (["trim", "Nat", "imply.1", "sub/"], ["sub/Two.cert"]), (["trim", "Nat", "imply.1", "Nat.cert", "Na"], ["Nat.lsl"]),
     (["verify", "Nat", "imply.1", "F"], ["Form.cert"]), (["check", "a"], []),
     (["verify", "Nat", "imply.1", "Nat.cert", "Na"], ["Nat.lsl"])]
 WITHOUT = (["verify", "Nat", ""], ["assume.1", "convert.1", "imply.1"])
@@ -268,7 +286,7 @@ def main():
     tests = Tests()
     with tempfile.TemporaryDirectory() as place:
         folder = pathlib.Path(place)
-        for name, text in {**call_texts.fixed_folder(), **MODELS}.items():
+        for name, text in {**call_texts.fixed_folder(), **MODELS, **TRIMMED}.items():
             (folder / name).write_bytes(text)
         (folder / "a-b.lsl").write_text("")
         agreement(tests, program, folder)

@@ -41,6 +41,12 @@ CALLS = [
      "verify Natural imply.1 Natural.imply.1.cert Natural.lsl", "a", ""),
     ("verify Natural imply.1 b/Natural.imply.1.cert a/Natural.lsl",
      "verify Natural imply.1 ../b/Natural.imply.1.cert Natural.lsl", "a", ""),
+    ("trim Natural imply.1 b/Natural.imply.1.cert a/Natural.lsl",
+     "trim Natural imply.1 ../b/Natural.imply.1.cert Natural.lsl", "a", ""),
+    ("trim Natural imply.1 a/Form.cert a/Natural.lsl", "trim Natural imply.1 Form.cert Natural.lsl", "a",
+     "that is a line of the certificate Form.cert; "),
+    ("trim Natural imply.1 a/Form.cert", "trim Natural imply.1 Form.cert", ".",
+     "too few words: larch trim TRAIT LABEL CERT FILE.."),
     ("model Two a/Two.mod a/Two.lsl", "model Two Two.mod Two.lsl", "a", ""),
     ("model Two b/Two.mod a/Two.lsl", "model Two b/Two.mod a/Two.lsl", ".", "lie in one folder, and these in b and a"),
     ("model Two a/Two.lsl a/Two.lsl", "model Two Two.lsl Two.lsl", "a", "`Two.lsl` is no model: 1 to 64 letters"),
@@ -112,9 +118,9 @@ def around(tests, larch, folder):
     for word in ("help", "--help", "-h"):
         output, status, _ = run([larch, word], folder)
         tests.see(f"larch {word}: the status", status, 0)
-        for command in ("check", "obligations", "verify", "model", "session", "explain", "watch", "--install"):
+        for command in ("check", "obligations", "verify", "model", "trim", "session", "explain", "watch", "--install"):
             tests.has(f"larch {word}", output, f"larch {command}")
-    for command in ("check", "obligations", "verify", "model", "session", "explain", "watch"):
+    for command in ("check", "obligations", "verify", "model", "trim", "session", "explain", "watch"):
         output, status, _ = run([larch, "help", command], folder)
         tests.see(f"larch help {command}", (bool(output), status), (True, 0))
         tests.see(f"larch {command} --help", run([larch, command, "--help"], folder)[1], 0)

@@ -18,6 +18,14 @@ pub fn no_terms(alloc: Global) -> RawTerms
     RawTerms::from_vec(Vec::new(alloc))
 }
 
+// No terms, with room for so many.
+fn room_for(alloc: Global, count: usize) -> Result<RawTerms, Memory>
+    ensures { IfOk result (λ terms. terms ≡ []) }
+{
+    let items = Vec::with_capacity(alloc, count)?;
+    Ok(RawTerms::from_vec(items))
+}
+
 /// The terms with one more.
 pub fn with_term(terms: RawTerms, term: RawTerm) -> Result<RawTerms, Memory>
     ensures { IfOk result (λ more. more ≡ terms ++ term ∷ []) }
@@ -31,7 +39,8 @@ pub fn with_term(terms: RawTerms, term: RawTerm) -> Result<RawTerms, Memory>
 fn one(alloc: Global, name: Name, pos: Pos, operand: RawTerm) -> Result<RawTerm, Memory>
     ensures { IfOk result (λ term. term ≡ one name pos operand) }
 {
-    let operands = with_term(no_terms(alloc), operand)?;
+    let operands = room_for(alloc, 1)?;
+    let operands = with_term(operands, operand)?;
     Ok(RawTerm::apply(name, operands, pos))
 }
 
@@ -45,7 +54,8 @@ fn infix_tree(
     ensures { IfOk result (λ term. term ≡ infix_tree symbol left right) }
 {
     let name = infix_name(alloc, &symbol.name)?;
-    let operands = with_term(no_terms(alloc), left)?;
+    let operands = room_for(alloc, 2)?;
+    let operands = with_term(operands, left)?;
     let operands = with_term(operands, right)?;
     Ok(RawTerm::apply(name, operands, symbol.pos))
 }
@@ -144,7 +154,8 @@ pub fn if_tree(
     ensures { IfOk result (λ term. term ≡ if_tree pos condition first second) }
 {
     let name = if_name(alloc)?;
-    let parts = with_term(no_terms(alloc), condition)?;
+    let parts = room_for(alloc, 3)?;
+    let parts = with_term(parts, condition)?;
     let parts = with_term(parts, first)?;
     let parts = with_term(parts, second)?;
     Ok(RawTerm::apply(name, parts, pos))

@@ -1,5 +1,5 @@
 -- What is accepted is derivable.
-use Rattle.std.proofs.Common.{◌≡◌, ◌≢◌, refl, sym, ap, subst, ◌∙◌, ℕ, Bool, false, List, [], Option, Some, None}
+use Rattle.std.proofs.Common.{◌≡◌, ◌≢◌, refl, sym, ap, subst, ◌∙◌, ℕ, Bool, true, List, [], Option, Some, None}
 use Rattle.std.proofs.Common.{Result, Ok, Err}
 use Rattle.std.specs.Prelude.{bytes_eq, codes, length}
 use Rattle.std.proofs.lemmas.List.Elements.{All-contains}
@@ -39,20 +39,20 @@ use Rattle.larch_main.specs.declared.status.Status.TheVariants.{Good, NoFile, Si
 use Rattle.larch_main.proofs.Fails.{duty_from, fails_in_none}
 
 -- a good answer is that to something whole
-answer_good : {A : Type 0} (told : A → Answer) (found : Gathered A) (output : List ℕ)
+pub answer_good : {A : Type 0} (told : A → Answer) (found : Gathered A) (output : List ℕ)
     → AnswersBy (λ a. IsAnswer (told a)) found output Good
-    → (whole : A) × (found ≡ Whole whole) × ((told whole).status ≡ Good)
-answer_good told (Whole whole) output is = (whole, refl, sym is.1)
+    → (whole : A) × (found ≡ Whole whole) × ((told whole).status ≡ Good) × (output ≡ (told whole).text)
+answer_good told (Whole whole) output is = (whole, refl, sym is.1, is.0)
 answer_good told (Absent name) output is = let other : Good ≡ NoFile = is.1 in cc
 answer_good told TooLarge output is = let other : Good ≡ Size = is.1 in cc
 
-then_whole : {A B : Type 0} (found : Gathered A) (next : A → Gathered B) (b : B) → and_then found next ≡ Whole b
+pub then_whole : {A B : Type 0} (found : Gathered A) (next : A → Gathered B) (b : B) → and_then found next ≡ Whole b
     → (a : A) × (found ≡ Whole a) × (next a ≡ Whole b)
 then_whole (Whole a) next b e = (a, refl, e)
 then_whole (Absent name) next b e = cc
 then_whole TooLarge next b e = cc
 
-abbrev SameFound : Gathered Evidence → Gathered Evidence → Type 0
+abbrev pub SameFound : Gathered Evidence → Gathered Evidence → Type 0
 SameFound found other = found ≡ other
 
 abbrev SameTables : Gathered Table → Gathered Table → Type 0
@@ -65,7 +65,7 @@ whole_same : (one e : Evidence) → SameFound (Whole one) (Whole e) → one.file
 whole_same one e is = let same : one ≡ e = cc in ap (λ x. x.files) same
 
 -- the files of the evidence are those that were gathered
-evidence_files : (folder : FileMap) (certificate : List ℕ) (names : List (List ℕ)) (e : Evidence)
+pub evidence_files : (folder : FileMap) (certificate : List ℕ) (names : List (List ℕ)) (e : Evidence)
     → evidence_in folder certificate names ≡ Whole e
     → gather_names folder [] names ≡ Whole e.files
 evidence_files folder certificate names e is =
@@ -80,10 +80,16 @@ told_good : (o : Option ℕ) → (verdict_told o).status ≡ Good → o ≡ None
 told_good None e = refl
 told_good (Some number) e = cc
 
-judged_good : (duty : Option Duty) (read : Result (Bool × List Line) ℕ) → (judged_by duty read).status ≡ Good
-    → (d : Duty) × (duty ≡ Some d) × (lines : List Line) × (verdict d.theory d.statement lines ≡ None)
+-- a text is read as a certificate that is accepted for a duty
+abbrev pub IsAcceptedFor : Option Duty → Result (Bool × List Line) ℕ → Type 0
+IsAcceptedFor duty read =
+    (d : Duty) × (duty ≡ Some d) × (p : Bool × List Line) × (read ≡ Ok p)
+    × (verdict d.theory d.statement p.1 ≡ None)
+
+pub judged_good : (duty : Option Duty) (read : Result (Bool × List Line) ℕ) → (judged_by duty read).status ≡ Good
+    → IsAcceptedFor duty read
 judged_good None (Ok read) e = cc
-judged_good (Some d) (Ok read) e = (d, refl, read.1, told_good (verdict d.theory d.statement read.1) e)
+judged_good (Some d) (Ok read) e = (d, refl, read, refl, told_good (verdict d.theory d.statement read.1) e)
 judged_good duty (Err number) e = cc
 
 -- what is answered about a text as a model of a trait among files has a line that says that a claim fails
@@ -91,22 +97,38 @@ abbrev SaysFails : Label → List ℕ → List ℕ → Table → Type 0
 SaysFails label stem text files =
     HasLine (trial_answer stem (record { text = text; files = files })).text (failing_line label)
 
+-- the theory of a duty of a trait is well sorted, and its operators have plain names
+pub duty_worded : (files : Table) (stem : List ℕ) (label : Label) (d : Duty) → duty_in files stem label ≡ Some d
+    → IsWellSortedTheory d.theory × HasPlainNames d.theory
+duty_worded files stem label d found =
+    let sources : Sources = read_files files in
+    let a = duty_from (label_text label) (trait_duties sources stem) d found in
+    let b = after_was (flat_trait sources stem) (claims_of sources) a.0 a.1 in
+    let c = found_is (λ x. bytes_eq (label_text label) (label_text x.label)) (all_duties a.0) d a.2 in
+    let sound = All-contains IsSoundDuty (all_duties a.0) d
+    (duties_sound (files_in sources) (read_worded files) (length sources) stem b.0 a.0 b.1 b.2) c.0 in
+    let plain = All-contains (λ x. HasPlainNames x.theory) (all_duties a.0) d
+    (duties_plain (files_in sources) (length sources) stem b.0 a.0 b.1 b.2) c.0 in
+    (sound.0.0.well_sorted, plain)
+
 module _ (law : (t : Theory) (s : Statement) (lines : List Line) → IsWellSortedTheory t → HasPlainNames t
     → verdict t s lines ≡ None → Derivable t s) where
-  -- a duty of a trait for which a certificate is accepted; its theory is well sorted
-  duty_derivable : (files : Table) (stem : List ℕ) (label : Label) (d : Duty) (lines : List Line)
-      → duty_in files stem label ≡ Some d → verdict d.theory d.statement lines ≡ None
-      → IsWellSortedTheory d.theory × Derivable d.theory d.statement
-  duty_derivable files stem label d lines found accepted =
-      let sources : Sources = read_files files in
-      let a = duty_from (label_text label) (trait_duties sources stem) d found in
-      let b = after_was (flat_trait sources stem) (claims_of sources) a.0 a.1 in
-      let c = found_is (λ x. bytes_eq (label_text label) (label_text x.label)) (all_duties a.0) d a.2 in
-      let sound = All-contains IsSoundDuty (all_duties a.0) d
-      (duties_sound (files_in sources) (read_worded files) (length sources) stem b.0 a.0 b.1 b.2) c.0 in
-      let plain = All-contains (λ x. HasPlainNames x.theory) (all_duties a.0) d
-      (duties_plain (files_in sources) (length sources) stem b.0 a.0 b.1 b.2) c.0 in
-      (sound.0.0.well_sorted, law d.theory d.statement lines sound.0.0.well_sorted plain accepted)
+  -- a duty for which the certificate among these is accepted is so
+  pub shown_by : (asked : Verification) (names : List (List ℕ)) (folder : FileMap) (e : Evidence)
+      → evidence_in folder asked.certificate names ≡ Whole e
+      → (verification_answer asked.stem asked.label e).status ≡ Good → IsShown folder asked names
+  shown_by asked names folder e from good =
+      let j = judged_good (duty_in e.files asked.stem asked.label) (read_certificate true e.text) good in
+      let w = duty_worded e.files asked.stem asked.label j.0 j.1 in
+      let so = law j.0.theory j.0.statement j.2.1 w.0 w.1 j.4 in
+      record {
+        files = e.files;
+        are_files = evidence_files folder asked.certificate names e from;
+        duty = j.0;
+        is_duty = j.1;
+        derivable = so;
+        fails_nowhere = fails_in_none e.files asked.stem asked.label j.0 j.1 w.0 so;
+      }
 
   pub shown : (asked : Verification) (names : List (List ℕ)) (folder : FileMap) (output : List ℕ)
       → AnswersBy (λ evidence. IsAnswer (verification_answer asked.stem asked.label evidence))
@@ -114,17 +136,7 @@ module _ (law : (t : Theory) (s : Statement) (lines : List Line) → IsWellSorte
   shown asked names folder output is =
       let a = answer_good (verification_answer asked.stem asked.label)
       (evidence_in folder asked.certificate names) output is in
-      let e : Evidence = a.0 in
-      let j = judged_good (duty_in e.files asked.stem asked.label) (read_certificate false e.text) a.2 in
-      let so = duty_derivable e.files asked.stem asked.label j.0 j.2 j.1 j.3 in
-      record {
-        files = e.files;
-        are_files = evidence_files folder asked.certificate names e a.1;
-        duty = j.0;
-        is_duty = j.1;
-        derivable = so.1;
-        fails_nowhere = fails_in_none e.files asked.stem asked.label j.0 j.1 so.0 so.1;
-      }
+      shown_by asked names folder a.0 a.1 a.2
 
   -- nothing that is answered about a model of the trait has a line that says that the duty fails
   pub never_fails : (asked : Verification) (names : List (List ℕ)) (folder : FileMap) (output : List ℕ)

@@ -13,7 +13,6 @@ use Rattle.std.proofs.lemmas.List.Elements.{All-head, All-tail}
 use Rattle.larch_base.proofs.Bools.{and_not_right}
 use Rattle.larch_base.specs.declared.limits.TheConstants.{MAX_FILES, MAX_FILE_BYTES}
 use Rattle.larch_certificate.specs.declared.line.Line.{Line}
-use Rattle.larch_certificate_text.specs.CertificateText.{IsTextOf}
 use Rattle.larch_duties_meaning.specs.Duties.{Duty}
 use Rattle.larch_duties.specs.Own.{trait_own_claims}
 use Rattle.larch_duties.specs.declared.own.OwnClaims.{OwnClaims}
@@ -32,19 +31,22 @@ use Rattle.larch_traits.specs.Files.{Table, has_file, put_file}
 use Rattle.larch_traits.specs.Reading.{read_files}
 use Rattle.larch_verify_meaning.specs.Acceptance.{verdict}
 use Rattle.larch_words.specs.declared.call.Question.{Question}
-use Rattle.larch_words.specs.declared.call.Question.TheVariants.{Check, Model, Obligations, Verify}
+use Rattle.larch_words.specs.declared.call.Question.TheVariants.{Check, Model, Obligations, Trim, Verify}
 use Rattle.larch_main.specs.Answer.{AnswersBy, IsAnswer, good_or_remains}
 use Rattle.larch_main.specs.Check.{check_answer}
-use Rattle.larch_main.specs.Complete.{AreSmall, HasAll, HasFiles, HasShort, IsDone, IsThere, Suits}
+use Rattle.larch_main.specs.Complete.{AreSmall, HasAll, HasCertificate, HasFiles, HasShort, IsCertificate}
+use Rattle.larch_main.specs.Complete.{IsCertificateThere, IsDone, IsThere, Suits}
 use Rattle.larch_main.specs.Gather.{Gathered, Whole, TooLarge, and_then, evidence_in, fetching, gather_names, putting}
 use Rattle.larch_main.specs.Model.{ending_status, trial_answer, tried_over}
 use Rattle.larch_main.specs.Obligations.{obligations_answer}
 use Rattle.larch_main.specs.Questions.{MayAnswer}
 use Rattle.larch_main.specs.Report.{check_of}
 use Rattle.larch_main.specs.Session.{put_is_refused}
+use Rattle.larch_main.specs.Trim.{left_read, trimming_answer}
 use Rattle.larch_main.specs.Verify.{duty_in, judged_by, verdict_told, verification_answer}
 use Rattle.larch_main.specs.declared.answer.Answer.{Answer}
 use Rattle.larch_main.specs.declared.status.Status.{Status}
+use Rattle.larch_main.proofs.Left.{left_keeps}
 use Rattle.larch_main.proofs.Verdicts.{text_read}
 
 either_done : (b : Bool) → IsDone (good_or_remains b)
@@ -105,12 +107,20 @@ there_is_done Check names folder text status there is =
 there_is_done Obligations names folder text status there is =
     whole_answer obligations_answer (gather_names folder [] names) there.0 text status there.1 is
     (either_done (is_good (counts_of (check_of there.0))))
-there_is_done (Verify asked) names folder text status (evidence, lines, whole, is_text) is =
+there_is_done (Verify asked) names folder text status (evidence, whole, (second, lines, is_text)) is =
     let duty = duty_in evidence.files asked.stem asked.label in
     whole_answer (verification_answer asked.stem asked.label) (evidence_in folder asked.certificate names) evidence text
     status whole is
-    (subst (λ read. IsDone (judged_by duty read).status) (sym (text_read evidence.text lines is_text))
-    (judged_done duty (false, lines)))
+    (subst (λ read. IsDone (judged_by duty read).status) (sym (text_read evidence.text second lines is_text))
+    (judged_done duty (second, lines)))
+there_is_done (Trim asked) names folder text status (evidence, whole, (second, lines, is_text)) is =
+    let duty = duty_in evidence.files asked.stem asked.label in
+    whole_answer (trimming_answer asked.stem asked.label) (evidence_in folder asked.certificate names) evidence text
+    status whole is
+    (subst (λ read. IsDone (left_read (judged_by duty read) read).status)
+    (sym (text_read evidence.text second lines is_text))
+    (left_keeps IsDone tt (judged_by duty (Ok (second, lines))) (Ok (second, lines))
+    (judged_done duty (second, lines))))
 there_is_done (Model tried) names folder text status (evidence, whole, suits) is =
     whole_answer (trial_answer tried.stem) (evidence_in folder tried.model names) evidence text status whole is
     (tried_done evidence.text (trait_own_claims (read_files evidence.files) tried.stem) suits)
@@ -168,40 +178,36 @@ files_whole : (folder : FileMap) (names : List (List ℕ)) → HasFiles folder n
 files_whole folder names there =
     let few = there.1 in gathered_whole folder names [] there.0 (omega (arith, few))
 
--- a certificate that is there is fetched
-fetched_whole : (name : List ℕ) (seen : Option (List ℕ))
-    → IsSomeAnd seen (λ text. (length text ≤ MAX_FILE_BYTES) × (lines : List Line) × IsTextOf text false lines)
-    → (text : List ℕ) × (lines : List Line) × (fetching name seen ≡ Whole text) × IsTextOf text false lines
-fetched_whole name None there = absurd there
-fetched_whole name (Some text) (short, lines, is) =
-    let small : nat_lt MAX_FILE_BYTES (length text) ≡ false = grind (arith, nat_tests, short) in
-    (text, lines, else_whole _ text small, is)
-
--- a model that is there is fetched
-model_whole : (name : List ℕ) (seen : Option (List ℕ)) (P : List ℕ → Type 0)
+-- a certificate or a model that is there is fetched
+fetched_whole : (name : List ℕ) (seen : Option (List ℕ)) (P : List ℕ → Type 0)
     → IsSomeAnd seen (λ text. (length text ≤ MAX_FILE_BYTES) × P text)
     → (text : List ℕ) × (fetching name seen ≡ Whole text) × P text
-model_whole name None P there = absurd there
-model_whole name (Some text) P (short, suits) =
+fetched_whole name None P there = absurd there
+fetched_whole name (Some text) P (short, suits) =
     let small : nat_lt MAX_FILE_BYTES (length text) ≡ false = grind (arith, nat_tests, short) in
     (text, else_whole _ text small, suits)
+
+-- a certificate and files that are there are gathered
+certificate_whole : (certificate : List ℕ) (names : List (List ℕ)) (folder : FileMap)
+    → HasCertificate folder certificate → HasFiles folder names → IsCertificateThere certificate names folder
+certificate_whole certificate names folder here there =
+    let c = fetched_whole certificate (file_of folder certificate) IsCertificate here in
+    let f = files_whole folder names there in (
+      record { text = c.0; files = f.0 },
+      ap (λ found. and_then found (λ text.
+          and_then (gather_names folder [] names) (λ files. Whole (record { text = text; files = files })))) c.1
+          ∙ ap (λ found. and_then found (λ files. Whole (record { text = c.0; files = files }))) f.1,
+      c.2,
+    )
 
 pub all_is_there : (question : Question) (names : List (List ℕ)) (folder : FileMap) → HasAll question names folder
     → IsThere question names folder
 all_is_there Check names folder has = files_whole folder names has
 all_is_there Obligations names folder has = files_whole folder names has
-all_is_there (Verify asked) names folder has =
-    let c = fetched_whole asked.certificate (file_of folder asked.certificate) has.0 in
-    let f = files_whole folder names has.1 in (
-      record { text = c.0; files = f.0 },
-      c.1,
-      ap (λ found. and_then found (λ text.
-          and_then (gather_names folder [] names) (λ files. Whole (record { text = text; files = files })))) c.2
-          ∙ ap (λ found. and_then found (λ files. Whole (record { text = c.0; files = files }))) f.1,
-      c.3,
-    )
+all_is_there (Verify asked) names folder has = certificate_whole asked.certificate names folder has.0 has.1
+all_is_there (Trim asked) names folder has = certificate_whole asked.certificate names folder has.0 has.1
 all_is_there (Model tried) names folder has =
-    let c = model_whole tried.model (file_of folder tried.model)
+    let c = fetched_whole tried.model (file_of folder tried.model)
     (λ text. (files : Table) → gather_names folder [] names ≡ Whole files
     → Suits (trait_own_claims (read_files files) tried.stem) text) has.0 in
     let f = files_whole folder names has.1 in (

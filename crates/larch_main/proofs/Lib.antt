@@ -6,8 +6,10 @@ pub mod Endings
 pub mod Entries
 pub mod Evidence
 pub mod Fails
+pub mod Fitting
 pub mod Found
 pub mod Gathers
+pub mod Left
 pub mod Looking
 pub mod NameTexts
 pub mod Once
@@ -18,6 +20,7 @@ pub mod Spelled
 pub mod Steps
 pub mod Tables
 pub mod Trials
+pub mod Trimmed
 pub mod Turns
 pub mod Verdicts
 pub mod Whole

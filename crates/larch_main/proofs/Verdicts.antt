@@ -1,6 +1,6 @@
 -- The verdict on a certificate for a duty.
-use Rattle.std.proofs.Common.{◌≡◌, refl, subst, sym, ap, ◌∙◌, ℕ, false, List, Option, Some, None, option_map, Result}
-use Rattle.std.proofs.Common.{Ok, Err, IfOk}
+use Rattle.std.proofs.Common.{◌≡◌, refl, subst, sym, ap, ◌∙◌, ℕ, Bool, true, false, List, Option, Some, None}
+use Rattle.std.proofs.Common.{option_map, Result, Ok, Err, IfOk}
 use Rattle.std.specs.Prelude.{suc, is_some, length}
 use Rattle.larch_base.specs.Answering.{Answers}
 use Rattle.larch_base.proofs.Options.{some_inj}
@@ -32,10 +32,10 @@ use Rattle.larch_main.specs.Verify.{duty_among, duty_in, verdict_of, judged_by, 
 use Rattle.larch_main.specs.declared.answer.Answer.{Answer}
 use Rattle.larch_main.proofs.Answering.{same_ok}
 
--- the text of a certificate is read as it
-pub text_read : (text : List ℕ) (lines : List Line) → IsTextOf text false lines
-    → read_certificate false text ≡ Ok (false, lines)
-text_read text lines is = ap (read_certificate false) is.0 ∙ certificate_again false false lines refl is.1
+-- the text of a certificate is read as it, in either version
+pub text_read : (text : List ℕ) (second : Bool) (lines : List Line) → IsTextOf text second lines
+    → read_certificate true text ≡ Ok (second, lines)
+text_read text second lines is = ap (read_certificate true) is.0 ∙ certificate_again true second lines refl is.1
 
 -- what is told where a theory and a statement are found
 abbrev pair_told : List Line → Theory × Statement → Answer
@@ -135,11 +135,10 @@ told_none duty found lines result by is told =
     same_ok (verdict_of None lines) (verdict_of duty lines) result (sym (none_judged duty lines (sym by ∙ is))) told
 
 -- what is answered to the lines that a text is read as
-pub told_text : {E : Type 0} (duty : Option Duty) (seen text : List ℕ) (lines shown : List Line)
-    (result : Result Answer E) → seen ≡ text → IsTextOf seen false lines
+pub told_text : {E : Type 0} (duty : Option Duty) (seen text : List ℕ) (second : Bool) (lines shown : List Line)
+    (result : Result Answer E) → seen ≡ text → read_certificate true seen ≡ Ok (second, lines)
     → shown ≡ lines → IfOk result (λ answer. answer ≡ verdict_of duty shown)
-    → IfOk result (λ answer. answer ≡ judged_by duty (read_certificate false text))
-told_text duty seen text lines shown result same is all told =
-    same_ok (verdict_of duty shown) (judged_by duty (read_certificate false text)) result
-    (ap (verdict_of duty) all ∙ sym
-    (ap (judged_by duty) (text_read text lines (subst (λ t. IsTextOf t false lines) same is)))) told
+    → IfOk result (λ answer. answer ≡ judged_by duty (read_certificate true text))
+told_text duty seen text second lines shown result same read all told =
+    same_ok (verdict_of duty shown) (judged_by duty (read_certificate true text)) result
+    (ap (verdict_of duty) all ∙ sym (ap (judged_by duty) (ap (read_certificate true) (sym same) ∙ read))) told

@@ -17,7 +17,7 @@ use Rattle.larch_words.specs.declared.call.Trial.{Trial}
 use Rattle.larch_words.specs.declared.call.Verification.{Verification}
 use Rattle.larch_words.specs.declared.call.Call.TheVariants as call_
 use Rattle.larch_words.specs.declared.call.Question.{Question}
-use Rattle.larch_words.specs.declared.call.Question.TheVariants.{Check, Model, Obligations, Verify}
+use Rattle.larch_words.specs.declared.call.Question.TheVariants.{Check, Model, Obligations, Trim, Verify}
 use Rattle.larch_main.specs.Answer.{AnswersBy, IsAnswer, TellsAnswer, good_or_remains, no_file, said, size_passed}
 use Rattle.larch_main.specs.declared.answer.Answer.{Answer}
 use Rattle.larch_main.specs.declared.progress.Halt.{Halt}
@@ -28,7 +28,7 @@ use Rattle.larch_main.specs.declared.status.Status.TheVariants.{Malformed, Size,
 use Rattle.larch_main.specs.Check.{check_answer}
 use Rattle.larch_main.specs.Gather.{Gathered, Whole, Absent, TooLarge, IsFolder, evidence_in, gather_names}
 use Rattle.larch_main.specs.Obligations.{obligations_answer}
-use Rattle.larch_main.specs.Questions.{Answered, IsCertified, MayAnswer, NamesModel}
+use Rattle.larch_main.specs.Questions.{Answered, IsCertified, MayAnswer, NamesModel, TrimsCertificate}
 use Rattle.larch_main.specs.Running.{usage_text, Output, Answers, WritesBefore, WritesFront, Writes}
 use Rattle.larch_main.specs.Running.{CallTakes, Counts, KeepsFolder, KeepsSource, folder_failed, source_failed}
 use Rattle.larch_main.specs.Running.{Shows, sink_failed, reads_folder, reads_source}
@@ -44,8 +44,10 @@ use Rattle.larch_main.specs.Progress.{HaltFaults}
 use Rattle.larch_main.specs.Report.{check_of}
 use Rattle.larch_report.specs.Counts.{counts_of, is_good}
 use Rattle.larch_main.specs.Say.{Says}
+use Rattle.larch_main.specs.Trim.{IsTrimmed, trimming_answer}
 use Rattle.larch_main.specs.Verify.{IsShown, duty_in, judged_by, verdict_told, verification_answer}
 use Rattle.larch_main.proofs.Endings.{known_rest, input_is, known_files, folder_is, nothing_yet}
+use Rattle.larch_main.proofs.Left.{left_keeps}
 
 -- a status that stands beside a text
 abbrev pub IsSaid : Status → Type 0
@@ -98,13 +100,19 @@ may_said Obligations names folder text status is =
 may_said (Verify asked) names folder text status is =
     by_said (λ e. IsAnswer (verification_answer asked.stem asked.label e))
     (λ e text status is. subst IsSaid (sym is.1)
-    (judged_said (duty_in e.files asked.stem asked.label) (read_certificate false e.text)))
+    (judged_said (duty_in e.files asked.stem asked.label) (read_certificate true e.text)))
     (evidence_in folder asked.certificate names) text status is
 may_said (Model tried) names folder text status is =
     by_said (λ e. IsAnswer (trial_answer tried.stem e))
     (λ e text status is. subst IsSaid (sym is.1)
     (tried_said e.text (trait_own_claims (read_files e.files) tried.stem)))
     (evidence_in folder tried.model names) text status is
+may_said (Trim asked) names folder text status is =
+    by_said (λ e. IsAnswer (trimming_answer asked.stem asked.label e))
+    (λ e text status is. subst IsSaid (sym is.1)
+    (left_keeps IsSaid tt (verification_answer asked.stem asked.label e) (read_certificate true e.text)
+    (judged_said (duty_in e.files asked.stem asked.label) (read_certificate true e.text))))
+    (evidence_in folder asked.certificate names) text status is
 
 -- whatever was found, something may be answered
 by_some : {A : Type 0} (Told : A → List ℕ → Status → Type 0)
@@ -129,6 +137,10 @@ some_answer (Verify asked) names folder =
 some_answer (Model tried) names folder =
     by_some (λ e. IsAnswer (trial_answer tried.stem e)) (λ e. (trial_answer tried.stem e, (refl, refl)))
     (evidence_in folder tried.model names)
+some_answer (Trim asked) names folder =
+    by_some (λ e. IsAnswer (trimming_answer asked.stem asked.label e))
+    (λ e. (trimming_answer asked.stem asked.label e, (refl, refl)))
+    (evidence_in folder asked.certificate names)
 
 writes_said : (call : Call) (told : Option FileMap) (left leaves held holds : Option (List ℕ)) (status : Status)
     → IsSaid status
@@ -355,6 +367,12 @@ module _ (call : Call) (words : List (List ℕ)) (question : Question) (names : 
   asked_certificate certified asked e =
       certified words names asked (sym read ∙ is ∙ ap (λ q. call_.OnFiles q names) e)
 
+  pub asked_trimmed : ((others these : List (List ℕ)) (asked : Verification)
+      → call_of others ≡ call_.OnFiles (Trim asked) these → is_certificate asked.certificate ≡ true)
+      → TrimsCertificate question
+  asked_trimmed certified asked e =
+      certified words names asked (sym read ∙ is ∙ ap (λ q. call_.OnFiles q names) e)
+
   pub asked_model : ((others these : List (List ℕ)) (tried : Trial)
       → call_of others ≡ call_.OnFiles (Model tried) these → is_model tried.model ≡ true)
       → NamesModel question
@@ -362,7 +380,9 @@ module _ (call : Call) (words : List (List ℕ)) (question : Question) (names : 
 
 -- what a call shows, by what was written
 module _ (law : (asked : Verification) (names : List (List ℕ)) (folder : FileMap) (input output : List ℕ)
-    → Output (call_.OnFiles (Verify asked) names) folder input output Good → IsShown folder asked names) where
+    → Output (call_.OnFiles (Verify asked) names) folder input output Good → IsShown folder asked names)
+    (trim_law : (asked : Verification) (names : List (List ℕ)) (folder : FileMap) (input output : List ℕ)
+    → Output (call_.OnFiles (Trim asked) names) folder input output Good → IsTrimmed folder asked names output) where
   pub shows : (call : Call) (told : Option FileMap) (left leaves held holds : Option (List ℕ)) (status : Status)
       → Writes call told left leaves held holds status → Shows call told status
   shows call_.Session told left leaves held holds status w = tt
@@ -380,6 +400,16 @@ module _ (law : (asked : Verification) (names : List (List ℕ)) (folder : FileM
   shows (call_.OnFiles (Verify asked) names) told left leaves held holds Malformed w = tt
   shows (call_.OnFiles (Verify asked) names) told left leaves held holds Size w = tt
   shows (call_.OnFiles (Verify asked) names) told left leaves held holds NoFile w = tt
+  shows (call_.OnFiles (Trim asked) names) told left leaves held holds Good w =
+      (w.folder, w.is_folder, (trim_law asked names w.folder w.input w.output w.defined).shown)
+  shows (call_.OnFiles (Trim asked) names) told left leaves held holds Remains w = tt
+  shows (call_.OnFiles (Trim asked) names) told left leaves held holds Words w = tt
+  shows (call_.OnFiles (Trim asked) names) told left leaves held holds ReadFault w = tt
+  shows (call_.OnFiles (Trim asked) names) told left leaves held holds WriteFault w = tt
+  shows (call_.OnFiles (Trim asked) names) told left leaves held holds Memory w = tt
+  shows (call_.OnFiles (Trim asked) names) told left leaves held holds Malformed w = tt
+  shows (call_.OnFiles (Trim asked) names) told left leaves held holds Size w = tt
+  shows (call_.OnFiles (Trim asked) names) told left leaves held holds NoFile w = tt
 
 kept_by : {A : Type 0} (b : Bool) (x : A) → MatchBool b (Unit {0}) (x ≡ x)
 kept_by true x = tt

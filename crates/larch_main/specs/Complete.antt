@@ -1,5 +1,5 @@
 -- When all that a call needs is there, and what it then comes to.
-use Rattle.std.specs.Prelude.{◌≡◌, ◌≤◌, ℕ, true, false, List, [], length, All, IsSomeAnd, Result, Ok, Err}
+use Rattle.std.specs.Prelude.{◌≡◌, ◌≤◌, ℕ, Bool, true, List, [], length, All, IsSomeAnd, Result, Ok, Err}
 use Rattle.std.specs.List.{list_all}
 use Rattle.larch_base.specs.declared.limits.TheConstants.{MAX_FILES, MAX_FILE_BYTES}
 use Rattle.larch_certificate.specs.declared.line.Line.{Line}
@@ -15,7 +15,7 @@ use Rattle.larch_term.specs.declared.statement.Statement.{Statement}
 use Rattle.larch_traits.specs.Files.{Table}
 use Rattle.larch_traits.specs.Reading.{read_files}
 use Rattle.larch_words.specs.declared.call.Question.{Question}
-use Rattle.larch_words.specs.declared.call.Question.TheVariants.{Check, Model, Obligations, Verify}
+use Rattle.larch_words.specs.declared.call.Question.TheVariants.{Check, Model, Obligations, Trim, Verify}
 use Rattle.larch_main.specs.Gather.{Whole, evidence_in, gather_names}
 use Rattle.larch_main.specs.declared.gather.Evidence.{Evidence}
 use Rattle.larch_main.specs.declared.status.Status.{Status}
@@ -35,11 +35,19 @@ HasShort folder name = IsSomeAnd (file_of folder name) (λ bytes. length bytes �
 abbrev pub HasFiles : FileMap → List (List ℕ) → Type 0
 HasFiles folder names = All (HasShort folder) names × (length names ≤ MAX_FILES)
 
+-- a text is that of a certificate, in either version
+abbrev pub IsCertificate : List ℕ → Type 0
+IsCertificate text = (second : Bool) × (lines : List Line) × IsTextOf text second lines
+
 -- a folder has a certificate of this name, and it isn't too long
 abbrev pub HasCertificate : FileMap → List ℕ → Type 0
 HasCertificate folder name =
-    IsSomeAnd (file_of folder name)
-    (λ text. (length text ≤ MAX_FILE_BYTES) × (lines : List Line) × IsTextOf text false lines)
+    IsSomeAnd (file_of folder name) (λ text. (length text ≤ MAX_FILE_BYTES) × IsCertificate text)
+
+-- the certificate of this name and the files of these are all there, within the limits
+abbrev pub IsCertificateThere : List ℕ → List (List ℕ) → FileMap → Type 0
+IsCertificateThere certificate names folder =
+    (evidence : Evidence) × (evidence_in folder certificate names ≡ Whole evidence) × IsCertificate evidence.text
 
 -- each statement has few enough assignments to be tried
 abbrev pub AreSmall : FiniteModel → List Statement → Type 0
@@ -64,9 +72,8 @@ HasModel folder name stem names =
 abbrev pub IsThere : Question → List (List ℕ) → FileMap → Type 0
 IsThere Check names folder = (files : Table) × (gather_names folder [] names ≡ Whole files)
 IsThere Obligations names folder = (files : Table) × (gather_names folder [] names ≡ Whole files)
-IsThere (Verify asked) names folder =
-    (evidence : Evidence) × (lines : List Line) × (evidence_in folder asked.certificate names ≡ Whole evidence)
-    × IsTextOf evidence.text false lines
+IsThere (Verify asked) names folder = IsCertificateThere asked.certificate names folder
+IsThere (Trim asked) names folder = IsCertificateThere asked.certificate names folder
 IsThere (Model tried) names folder =
     (evidence : Evidence) × (evidence_in folder tried.model names ≡ Whole evidence)
     × Suits (trait_own_claims (read_files evidence.files) tried.stem) evidence.text
@@ -76,4 +83,5 @@ abbrev pub HasAll : Question → List (List ℕ) → FileMap → Type 0
 HasAll Check names folder = HasFiles folder names
 HasAll Obligations names folder = HasFiles folder names
 HasAll (Verify asked) names folder = HasCertificate folder asked.certificate × HasFiles folder names
+HasAll (Trim asked) names folder = HasCertificate folder asked.certificate × HasFiles folder names
 HasAll (Model tried) names folder = HasModel folder tried.model tried.stem names × HasFiles folder names

@@ -8,7 +8,7 @@ use Rattle.larch_io.specs.Folder.{FileMap}
 use Rattle.larch_lexer.specs.Lexing.{lexing_of}
 use Rattle.larch_words.specs.declared.call.Question.{Question}
 use Rattle.larch_models_meaning.specs.ModelText.{read_model}
-use Rattle.larch_words.specs.declared.call.Question.TheVariants.{Model, Verify}
+use Rattle.larch_words.specs.declared.call.Question.TheVariants.{Model, Trim, Verify}
 
 -- all words that an example unfolds
 unfoldable pub answering : Unit {0}
@@ -30,6 +30,10 @@ one_folder = (one_file, one_text) ∷ []
 -- the question whether c.cert shows the duty of that trait with a label
 abbrev pub asked_of_one : Label → Question
 asked_of_one label = Verify (record { stem = codes "One"; label = label; certificate = codes "c.cert" })
+
+-- the same question with the lines left out that aren't needed
+abbrev pub trimmed_of_one : Label → Question
+trimmed_of_one label = Trim (record { stem = codes "One"; label = label; certificate = codes "c.cert" })
 
 -- a folder of a trait of two constants that implies that they are the same
 abbrev pub differing : FileMap

@@ -18,5 +18,6 @@ pub mod Say
 pub mod Session
 pub mod SoFar
 pub mod Status
+pub mod Trim
 pub mod Turns
 pub mod Verify

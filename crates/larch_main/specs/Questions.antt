@@ -3,7 +3,7 @@ use Rattle.std.specs.Prelude.{◌≡◌, ℕ, true, List, [], Option}
 use Rattle.larch_io.specs.Folder.{FileMap}
 use Rattle.larch_words.specs.Call.{is_certificate, is_model}
 use Rattle.larch_words.specs.declared.call.Question.{Question}
-use Rattle.larch_words.specs.declared.call.Question.TheVariants.{Check, Model, Obligations, Verify}
+use Rattle.larch_words.specs.declared.call.Question.TheVariants.{Check, Model, Obligations, Trim, Verify}
 use Rattle.larch_words.specs.declared.call.Trial.{Trial}
 use Rattle.larch_words.specs.declared.call.Verification.{Verification}
 use Rattle.larch_main.specs.Answer.{AnswersBy, IsAnswer}
@@ -11,6 +11,7 @@ use Rattle.larch_main.specs.Check.{check_answer}
 use Rattle.larch_main.specs.Gather.{IsFolder, evidence_in, gather_names}
 use Rattle.larch_main.specs.Model.{trial_answer}
 use Rattle.larch_main.specs.Obligations.{obligations_answer}
+use Rattle.larch_main.specs.Trim.{trimming_answer}
 use Rattle.larch_main.specs.Verify.{verification_answer}
 use Rattle.larch_main.specs.declared.answer.Answer.{Answer}
 use Rattle.larch_main.specs.declared.status.Status.{Status}
@@ -25,11 +26,19 @@ MayAnswer (Verify asked) names folder =
     (evidence_in folder asked.certificate names)
 MayAnswer (Model tried) names folder =
     AnswersBy (λ evidence. IsAnswer (trial_answer tried.stem evidence)) (evidence_in folder tried.model names)
+MayAnswer (Trim asked) names folder =
+    AnswersBy (λ evidence. IsAnswer (trimming_answer asked.stem asked.label evidence))
+    (evidence_in folder asked.certificate names)
 
 -- the certificate that a question names has the name of one
 abbrev pub IsCertified : Question → Type 0
 IsCertified question =
     (asked : Verification) → question ≡ Verify asked → is_certificate asked.certificate ≡ true
+
+-- also where it is to be trimmed
+abbrev pub TrimsCertificate : Question → Type 0
+TrimsCertificate question =
+    (asked : Verification) → question ≡ Trim asked → is_certificate asked.certificate ≡ true
 
 -- and so has the model
 abbrev pub NamesModel : Question → Type 0

@@ -5,7 +5,7 @@ use Rattle.larch_io.specs.Faults.{Rose}
 use Rattle.larch_io.specs.Folder.{FileMap}
 use Rattle.larch_words.specs.declared.call.Call.{Call}
 use Rattle.larch_words.specs.declared.call.Call.TheVariants as call_
-use Rattle.larch_words.specs.declared.call.Question.TheVariants.{Verify}
+use Rattle.larch_words.specs.declared.call.Question.TheVariants.{Trim, Verify}
 use Rattle.larch_main.specs.declared.status.Status.{Status}
 use Rattle.larch_main.specs.declared.status.Status.TheVariants.{Good, Remains, Words, ReadFault, WriteFault, Memory}
 use Rattle.larch_main.specs.declared.status.Status.TheVariants.{Malformed, Size, NoFile}
@@ -105,10 +105,12 @@ pub record TakesWhole (left leaves held holds : Option (List ℕ)) (status : Sta
       ⊎ Session false start given output (with_status status) last
   pub written : Appends held holds output
 
--- What a call shows by its status, on some folder, the told one where it is told: `verify` that ends well shows that
--- what was to be verified is so.
+-- What a call shows by its status, on some folder, the told one where it is told: `verify` or `trim` that ends well
+-- shows that what was to be verified is so.
 abbrev pub Shows : Call → Option FileMap → Status → Type 0
 Shows (call_.OnFiles (Verify asked) names) told Good =
+    (folder : FileMap) × IsFolder told folder × IsShown folder asked names
+Shows (call_.OnFiles (Trim asked) names) told Good =
     (folder : FileMap) × IsFolder told folder × IsShown folder asked names
 Shows _ told status = Unit {0}
 

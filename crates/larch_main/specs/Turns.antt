@@ -7,7 +7,7 @@ use Rattle.larch_io.specs.Folder.{FileMap, IsFile, with_look}
 use Rattle.larch_words.specs.declared.call.Call.{Call}
 use Rattle.larch_words.specs.declared.call.Call.TheVariants as call_
 use Rattle.larch_words.specs.declared.call.Question.{Question}
-use Rattle.larch_words.specs.declared.call.Question.TheVariants.{Check, Model, Obligations, Verify}
+use Rattle.larch_words.specs.declared.call.Question.TheVariants.{Check, Model, Obligations, Trim, Verify}
 
 -- the looks with one more for a name that wasn't looked for
 abbrev pub next_look : List (List ℕ) → List ℕ → List (List ℕ)
@@ -23,6 +23,7 @@ looks_of Check names = looks_for names
 looks_of Obligations names = looks_for names
 looks_of (Verify asked) names = asked.certificate ∷ looks_for names
 looks_of (Model tried) names = tried.model ∷ looks_for names
+looks_of (Trim asked) names = asked.certificate ∷ looks_for names
 
 -- there is a file of this name, where the folder tells
 abbrev pub IsThere : Option FileMap → List ℕ → Type 0

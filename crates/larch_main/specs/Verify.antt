@@ -1,5 +1,5 @@
 -- What is answered where a certificate is to be verified.
-use Rattle.std.specs.Prelude.{◌≡◌, ℕ, Bool, false, List, [], ◌++◌, bytes_eq, find, decimal, codes, Option, Some, None}
+use Rattle.std.specs.Prelude.{◌≡◌, ℕ, Bool, true, List, [], ◌++◌, bytes_eq, find, decimal, codes, Option, Some, None}
 use Rattle.std.specs.Prelude.{Result, Ok, Err}
 use Rattle.larch_base.specs.Label.{label_text}
 use Rattle.larch_base.specs.declared.label.Label.{Label}
@@ -54,9 +54,9 @@ abbrev pub judged_by : Option Duty → Result (Bool × List Line) ℕ → Answer
 judged_by duty (Ok read) = verdict_of duty read.1
 judged_by duty (Err number) = malformed_answer number
 
--- the verdict on a certificate and files
+-- the verdict on a certificate, in either version, and files
 abbrev pub verification_answer : List ℕ → Label → Evidence → Answer
-verification_answer stem label e = judged_by (duty_in e.files stem label) (read_certificate false e.text)
+verification_answer stem label e = judged_by (duty_in e.files stem label) (read_certificate true e.text)
 
 -- what was to be verified is so: among these files of the folder the trait has a duty with the label, its statement is
 -- derivable from its theory, and whichever text is tried as a model of the trait, no line says that the duty fails

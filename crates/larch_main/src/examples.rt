@@ -5,7 +5,7 @@ ghost use Rattle.larch_base.specs.declared.limits.TheConstants.{MAX_FILE_BYTES};
 ghost use Rattle.larch_io.specs.Folder.{FileMap, file_of};
 ghost use Rattle.larch_words.specs.declared.call.Question.TheVariants.{Check, Obligations};
 ghost use Rattle.larch_main.specs.Examples.{asked_of_one, differing, model_of, one_file, one_folder, with_certificate};
-ghost use Rattle.larch_main.specs.Examples.{with_model};
+ghost use Rattle.larch_main.specs.Examples.{trimmed_of_one, with_model};
 ghost use Rattle.larch_main.specs.Questions.{MayAnswer};
 ghost use Rattle.larch_main.specs.declared.status.Status.TheVariants.{Good, Malformed, NoFile, Remains, Size};
 
@@ -38,6 +38,22 @@ pub fn certificates_are_told()
     ensures malformed { MayAnswer (asked_of_one (Imply 2)) (one_file ∷ []) (with_certificate (codes "1 refl\n"))
         (codes "malformed at line 2\n") Malformed }
     ensures no_duty { MayAnswer (asked_of_one (Imply 2)) (one_file ∷ []) (with_certificate (codes "1 refl #1\n"))
+        (codes "no duty\n") Remains }
+{}
+
+/// Of an accepted certificate the needed lines are left, in the second version; to another what `verify` answers is
+/// answered.
+pub fn certificates_are_trimmed()
+    ensures idle { MayAnswer (trimmed_of_one (Imply 1)) (one_file ∷ []) (with_certificate (codes "1 refl true\n2 refl #1\n"))
+        (codes "certificate 2\n" ++ codes "refl term=#1\n") Good }
+    ensures again { MayAnswer (trimmed_of_one (Imply 1)) (one_file ∷ [])
+        ((codes "c.cert", codes "certificate 2\n" ++ codes "refl term=#1\n") ∷ one_folder)
+        (codes "certificate 2\n" ++ codes "refl term=#1\n") Good }
+    ensures refused { MayAnswer (trimmed_of_one (Imply 1)) (one_file ∷ [])
+        (with_certificate (codes "1 refl #1\n2 sym 7\n")) (codes "refused 2\n") Remains }
+    ensures malformed { MayAnswer (trimmed_of_one (Imply 2)) (one_file ∷ []) (with_certificate (codes "1 refl\n"))
+        (codes "malformed at line 2\n") Malformed }
+    ensures no_duty { MayAnswer (trimmed_of_one (Imply 2)) (one_file ∷ []) (with_certificate (codes "1 refl #1\n"))
         (codes "no duty\n") Remains }
 {}
 

@@ -7,7 +7,7 @@ ghost use Rattle.larch_io.specs.Folder.{FileMap};
 ghost use Rattle.larch_models_answer.specs.Failing.{HasLine, failing_line};
 ghost use Rattle.larch_words.specs.declared.call.Call.TheVariants.{OnFiles};
 ghost use Rattle.larch_words.specs.declared.call.Question.{Question};
-ghost use Rattle.larch_words.specs.declared.call.Question.TheVariants.{Model, Verify};
+ghost use Rattle.larch_words.specs.declared.call.Question.TheVariants.{Model, Trim, Verify};
 ghost use Rattle.larch_words.specs.declared.call.Trial.{Trial};
 ghost use Rattle.larch_words.specs.declared.call.Verification.{Verification};
 ghost use Rattle.larch_main.specs.Complete.{HasAll, IsDone, IsThere};
@@ -17,6 +17,7 @@ ghost use Rattle.larch_main.specs.Questions.{MayAnswer};
 ghost use Rattle.larch_main.specs.Running.{Output};
 ghost use Rattle.larch_main.specs.Report.{check_of};
 ghost use Rattle.larch_main.specs.Session.{State, Ending, Session, start, with_status};
+ghost use Rattle.larch_main.specs.Trim.{IsTrimmed};
 ghost use Rattle.larch_main.specs.Verify.{IsShown};
 ghost use Rattle.larch_main.specs.declared.status.Status.{Status};
 ghost use Rattle.larch_main.specs.declared.status.Status.TheVariants.{Good, NoFile};
@@ -75,6 +76,15 @@ pub fn what_is_in_the_grammar_is_done()
 pub fn what_is_verified_is_derivable()
     ensures { (asked : Verification) (names : List (List ℕ)) (folder : FileMap) (input output : List ℕ)
         → Output (OnFiles (Verify asked) names) folder input output Good → IsShown folder asked names }
+{
+    accepted_is_derivable()
+}
+
+/// Where `trim` ends well, the duty that was named is derivable, `verify` over the same files accepts what was written,
+/// each line of it is needed, and trimming it writes the same again.
+pub fn what_is_trimmed_is_accepted()
+    ensures { (asked : Verification) (names : List (List ℕ)) (folder : FileMap) (input output : List ℕ)
+        → Output (OnFiles (Trim asked) names) folder input output Good → IsTrimmed folder asked names output }
 {
     accepted_is_derivable()
 }

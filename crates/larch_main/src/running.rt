@@ -4,7 +4,7 @@ ghost use Rattle.larch_base.specs.FileName.{is_file_name};
 ghost use Rattle.larch_io.specs.Faults.{Rose};
 ghost use Rattle.larch_words.specs.Call.{call_of};
 ghost use Rattle.larch_words.specs.declared.call.Call.TheVariants.{OnFiles as call_on_files};
-ghost use Rattle.larch_main.specs.Questions.{Answered, IsCertified, NamesModel};
+ghost use Rattle.larch_main.specs.Questions.{Answered, IsCertified, NamesModel, TrimsCertificate};
 ghost use Rattle.larch_main.specs.Running.{Answers, Writes, CallTakes, KeepsFolder, KeepsSource};
 ghost use Rattle.larch_main.specs.Running.{Counts, Shows, folder_failed, sink_failed, source_failed};
 ghost use Rattle.larch_main.specs.Answer.{answer_of};
@@ -15,13 +15,14 @@ ghost use Rattle.larch_main.specs.Progress.{HaltFaults};
 use crate::answer::{Answer, answer_to, tell};
 use crate::check::check;
 use crate::gather::GatherRefusal;
-use crate::laws::what_is_verified_is_derivable;
+use crate::laws::{what_is_trimmed_is_accepted, what_is_verified_is_derivable};
 use crate::model::model;
 use crate::obligations::obligations;
 use crate::progress::Halt;
 use crate::say::say;
 use crate::session::session;
 use crate::status::Status;
+use crate::trim::trim;
 use crate::verify::verify;
 use larch_base::{FileName, Steps};
 use larch_io::{Folder, Sink, Source};
@@ -49,7 +50,8 @@ pub fn run<F: Folder, S: Source, K: Sink, L: Ledger>(
     // A session that ends by itself has taken its input to the end or through `quit`.
     ensures input { CallTakes (call_of (map string_bytes words.now))
         (S.left source.old) (S.left source.new) (K.held sink.old) (K.held sink.new) result }
-    // Where `verify` ends well, the duty that it was asked for is derivable from its theory, and fails in no model.
+    // Where `verify` or `trim` ends well, the duty that it was asked for is derivable from its theory, and fails in no
+    // model.
     ensures shown { Shows (call_of (map string_bytes words.now)) (F.files folder.old) result }
     ensures steps { steps.new ≡ steps.old }
 
@@ -82,6 +84,7 @@ pub fn run<F: Folder, S: Source, K: Sink, L: Ledger>(
     certificates_are_named();
     models_are_named();
     what_is_verified_is_derivable();
+    what_is_trimmed_is_accepted();
     let call = match read_words(alloc, words) {
         Ok(call) => call,
         Err(_) => return Status::Memory,
@@ -106,6 +109,7 @@ fn run_on_files<F: Folder, K: Sink>(
     requires names { list_all is_file_name names.now ≡ true }
     requires certificate { IsCertified question.now }
     requires model { NamesModel question.now }
+    requires trimmed { TrimsCertificate question.now }
     // The source, of which nothing is taken, may have left anything.
     ensures output { (left : Option (List ℕ)) → Writes (call_on_files question.now names.now) (F.files folder.old)
         left left (K.held sink.old) (K.held sink.new) result }
@@ -132,6 +136,7 @@ fn answer<F: Folder>(
     requires names { list_all is_file_name names.now ≡ true }
     requires certificate { IsCertified question.now }
     requires model { NamesModel question.now }
+    requires trimmed { TrimsCertificate question.now }
     ensures answer { IfOk result (λ answer. Answered question.now names.now (F.files folder.old) answer) }
     ensures same { F.files folder.new ≡ F.files folder.old }
     ensures fine { OnOk result (F.faults folder.new ≡ F.faults folder.old) }
@@ -155,6 +160,7 @@ fn answer_of<F: Folder>(
     requires names { list_all is_file_name names.now ≡ true }
     requires certificate { IsCertified question.now }
     requires model { NamesModel question.now }
+    requires trimmed { TrimsCertificate question.now }
     ensures answer { IfSome (answer_of result) (λ answer.
         Answered question.now names.now (F.files folder.old) answer) }
     ensures same { F.files folder.new ≡ F.files folder.old }
@@ -168,5 +174,6 @@ fn answer_of<F: Folder>(
         Question::Obligations => obligations(alloc, names, folder),
         Question::Verify(asked) => verify(alloc, asked, names, folder),
         Question::Model(tried) => model(alloc, tried, names, folder),
+        Question::Trim(asked) => trim(alloc, asked, names, folder),
     }
 }

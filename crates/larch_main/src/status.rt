@@ -3,8 +3,8 @@ ghost use Rattle.std.specs.Prelude.{◌≡◌};
 /// How a call of the program ended.
 #[derive(Clone, Copy, Debug, PartialEq, Eq)]
 pub enum Status {
-    /// Nothing is wrong in the last report, or the listing; or a certificate was accepted, or all claims hold in a
-    /// model.
+    /// Nothing is wrong in the last report, or the listing; or a certificate was accepted, or trimmed; or all claims
+    /// hold in a model.
     Good,
     /// Something is wrong in the last report, or the listing; or a certificate was refused, or there is no such duty;
     /// or a text is no model of a trait, a claim fails in it, or there is no such trait.

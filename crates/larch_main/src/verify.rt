@@ -18,7 +18,7 @@ use crate::gather::{Evidence, GatherRefusal, gather_evidence};
 use crate::status::Status;
 use larch_base::{FileName, Label, Memory, Name};
 use larch_certificate::Line;
-use larch_certificate_reader::{FormRefusal, read_certificate};
+use larch_certificate_reader::{FormRefusal, read_either};
 use larch_duties::{Duties, duties_of, find_duty};
 use larch_flat::flatten;
 use larch_io::Folder;
@@ -60,15 +60,15 @@ fn verification_answer(
 ) -> Result<Answer, Memory>
     ensures { IfOk result (λ answer. answer ≡ verification_answer stem.now label evidence.now) }
 {
-    match read_certificate(alloc, evidence.text.bytes()) {
-        Ok(lines) => verdict_of(alloc, &evidence.files, stem, label, lines.as_slice()),
+    match read_either(alloc, evidence.text.bytes()) {
+        Ok(read) => verdict_of(alloc, &evidence.files, stem, label, read.lines.as_slice()),
         Err(FormRefusal::Form(number)) => malformed_answer(alloc, number),
         Err(FormRefusal::Memory) => Err(Memory),
     }
 }
 
-// The verdict on the lines of a certificate, for the duty of a trait with a label.
-fn verdict_of(
+/// The verdict on the lines of a certificate, for the duty of a trait with a label.
+pub(crate) fn verdict_of(
     alloc: Global,
     files: &Files,
     stem: &Name,
@@ -147,8 +147,8 @@ fn refusal_answer(alloc: Global, number: u64) -> Result<Answer, Memory>
     said(alloc, text.as_bytes(), Status::Remains)
 }
 
-// A text is no certificate from this line on.
-fn malformed_answer(alloc: Global, number: u64) -> Result<Answer, Memory>
+/// A text is no certificate from this line on.
+pub(crate) fn malformed_answer(alloc: Global, number: u64) -> Result<Answer, Memory>
     ensures { IfOk result (λ answer. answer ≡ malformed_answer number) }
 {
     let text = format!(in alloc; "malformed at line {number}\n")?;

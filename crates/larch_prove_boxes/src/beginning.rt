@@ -63,6 +63,7 @@ pub fn begin_clause(
     builder: &mut Builder,
     subgoal: &Subgoal,
 ) -> Result<Beginning, Memory>
+    ensures first { IfOk result (λ m. m.first ≡ subgoal.now.goal) }
     ensures generation { IfOk result (λ m. (t : IsTheory) (n z : List ℕ) (fs : List PlainOperator)
         → IsStart t builder.old → subgoal.now ≡ generation_goal n z fs → AreNew t subgoal.now.constants
         → IsStatementOver t.operators (Generated z fs) → IsWordedStatement (Generated z fs)

@@ -17,6 +17,11 @@ const BOTH: &[u8] = b"trait One\ntrait Two error 3:7 SYNTAX\n\
 
 const REFLEXIVE: &[u8] = b"certificate 1\n1 refl #1\n";
 
+// The same with a line that its end doesn't need.
+const IDLE: &[u8] = b"certificate 1\n1 row 1\n2 refl #1\n";
+
+const TRIMMED: &[u8] = b"certificate 2\nrefl term=#1\n";
+
 const MODEL: &[u8] = b"model\nsort S 2\nop 1 1\n";
 
 const HOLDS: &[u8] = b"model\nimply.1 holds\nend\n";
@@ -69,8 +74,8 @@ fn put(alloc: Global, folder: &mut MemoryFolder, name: &[u8], text: &[u8]) -> Re
     folder.insert(Name::new(alloc, name)?, bytes)
 }
 
-// A folder with two traits, of which the second is wrong, a script, a certificate of what the first one implies, and a
-// model of it.
+// A folder with two traits, of which the second is wrong, a script, two certificates of what the first one implies, and
+// a model of it.
 fn two_traits(alloc: Global, failing: &[u64]) -> Result<MemoryFolder, Memory> {
     let mut folder = MemoryFolder::new(alloc, failing)?;
     put_all(alloc, &mut folder)?;
@@ -82,6 +87,7 @@ fn put_all(alloc: Global, folder: &mut MemoryFolder) -> Result<(), Memory> {
     put(alloc, folder, b"Two.lsl", WRONG)?;
     put(alloc, folder, b"One.lp", b"not looked at")?;
     put(alloc, folder, b"One.cert", REFLEXIVE)?;
+    put(alloc, folder, b"Idle.cert", IDLE)?;
     put(alloc, folder, b"One.mod", MODEL)
 }
 
@@ -174,6 +180,13 @@ fn writes_nothing_after_a_fault(rt: HostRuntime) -> Result<(), Fail> {
 }
 
 #[test]
+fn trims_nothing_after_a_fault(rt: HostRuntime) -> Result<(), Fail> {
+    let wrong = first_wrong_look(&rt, &["trim", "One", "imply.1", "Idle.cert", "One.lsl"], 3)?;
+    assert_eq!(rt; wrong, None);
+    Ok(())
+}
+
+#[test]
 fn keeps_a_front_where_a_write_fails(rt: HostRuntime) -> Result<(), Fail> {
     let wrong = first_wrong_write(&rt, &["check", "Two.lsl", "One.lsl"], BOTH)?;
     assert_eq!(rt; wrong, None);
@@ -212,6 +225,18 @@ fn verifies(rt: HostRuntime) -> Result<(), Fail> {
     let (status, sink) = call_status(&rt, &words, &[])?;
     assert_eq!(rt; status, Status::Good);
     assert_eq!(rt; sink.bytes(), b"accepted\n".as_slice());
+    Ok(())
+}
+
+// Where a write fails, a front of what is left was written.
+#[test]
+fn trims(rt: HostRuntime) -> Result<(), Fail> {
+    let words = ["trim", "One", "imply.1", "Idle.cert", "One.lsl"];
+    let (status, sink) = call_status(&rt, &words, &[])?;
+    assert_eq!(rt; status, Status::Good);
+    assert_eq!(rt; sink.bytes(), TRIMMED);
+    let wrong = first_wrong_write(&rt, &words, TRIMMED)?;
+    assert_eq!(rt; wrong, None);
     Ok(())
 }
 

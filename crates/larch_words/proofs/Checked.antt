@@ -11,13 +11,13 @@ use Rattle.larch_base.specs.FileName.{is_file_name, is_stem}
 use Rattle.larch_base.specs.declared.label.Label.{Label}
 use Rattle.larch_base.proofs.Bools.{and_right}
 use Rattle.larch_words.specs.Call.{are_files, asked, call_of, call_from, files_named, has_option, is_certificate}
-use Rattle.larch_words.specs.Call.{is_model, on_files, trial_call, verification_call, verified_by}
+use Rattle.larch_words.specs.Call.{certificate_call, certified_by, is_model, on_files, trial_call}
 use Rattle.larch_words.specs.CommandLine.{Request, request_of}
 use Rattle.larch_base.specs.Label.{read_label}
 use Rattle.larch_words.specs.declared.call.Call.{Call}
 use Rattle.larch_words.specs.declared.call.Call.TheVariants.{Session, OnFiles, Nothing}
 use Rattle.larch_words.specs.declared.call.Question.{Question}
-use Rattle.larch_words.specs.declared.call.Question.TheVariants.{Check, Model, Obligations, Verify}
+use Rattle.larch_words.specs.declared.call.Question.TheVariants.{Check, Model, Obligations, Trim, Verify}
 use Rattle.larch_words.specs.declared.call.Trial.{Trial}
 use Rattle.larch_words.specs.declared.call.Verification.{Verification}
 
@@ -37,18 +37,19 @@ asked_of question these false e = refl
 on_files_named : (question : Question) (these : List (List ℕ)) → AreNamed (on_files question these)
 on_files_named question these = asked_of question these (are_files these) refl
 
-verified_by_named : (stem : List ℕ) (label : Option Label) (certificate : List ℕ) (files : List (List ℕ))
-    → AreNamed (verified_by stem label certificate files)
-verified_by_named stem None certificate files = refl
-verified_by_named stem (Some label) certificate files =
+certified_by_named : (ask : Verification → Question) (stem : List ℕ) (label : Option Label) (certificate : List ℕ)
+    (files : List (List ℕ)) → AreNamed (certified_by ask stem label certificate files)
+certified_by_named ask stem None certificate files = refl
+certified_by_named ask stem (Some label) certificate files =
     either (is_stem stem && is_certificate certificate) _ _
-    (on_files_named (Verify (record { stem = stem; label = label; certificate = certificate })) files) refl
+    (on_files_named (ask (record { stem = stem; label = label; certificate = certificate })) files) refl
 
-verified_named : (words : List (List ℕ)) → AreNamed (verification_call words)
-verified_named [] = refl
-verified_named (stem ∷ []) = refl
-verified_named (stem ∷ label ∷ []) = refl
-verified_named (stem ∷ label ∷ certificate ∷ files) = verified_by_named stem (read_label label) certificate files
+certified_named : (ask : Verification → Question) (words : List (List ℕ)) → AreNamed (certificate_call ask words)
+certified_named ask [] = refl
+certified_named ask (stem ∷ []) = refl
+certified_named ask (stem ∷ label ∷ []) = refl
+certified_named ask (stem ∷ label ∷ certificate ∷ files) =
+    certified_by_named ask stem (read_label label) certificate files
 
 tried_named : (words : List (List ℕ)) → AreNamed (trial_call words)
 tried_named [] = refl
@@ -62,8 +63,9 @@ called_named command words =
     either (bytes_eq command (codes "session")) _ _ (either (is_empty words) _ _ refl refl)
     (either (bytes_eq command (codes "check")) _ _ (on_files_named Check words)
     (either (bytes_eq command (codes "obligations")) _ _ (on_files_named Obligations words)
-    (either (bytes_eq command (codes "verify")) _ _ (verified_named words)
-    (either (bytes_eq command (codes "model")) _ _ (tried_named words) refl))))
+    (either (bytes_eq command (codes "verify")) _ _ (certified_named Verify words)
+    (either (bytes_eq command (codes "model")) _ _ (tried_named words)
+    (either (bytes_eq command (codes "trim")) _ _ (certified_named Trim words) refl)))))
 
 found_named : (request : Option Request) → AreNamed (option_map_or asked request Nothing)
 found_named None = refl
@@ -78,6 +80,7 @@ HasEvidence Check = Unit {0}
 HasEvidence Obligations = Unit {0}
 HasEvidence (Verify asked) = is_certificate asked.certificate ≡ true
 HasEvidence (Model tried) = is_model tried.model ≡ true
+HasEvidence (Trim asked) = is_certificate asked.certificate ≡ true
 
 -- so does a call
 abbrev pub IsEvidenced : Call → Type 0
@@ -93,27 +96,30 @@ on_files_evidenced : (question : Question) (these : List (List ℕ)) → HasEvid
     → IsEvidenced (on_files question these)
 on_files_evidenced question these has = either_evidenced (are_files these) _ _ has tt
 
-verify_evidenced : (stem : List ℕ) (label : Label) (certificate : List ℕ) (files : List (List ℕ)) (b : Bool)
-    → (is_stem stem && is_certificate certificate) ≡ b
-    → IsEvidenced
-    (cond b (on_files (Verify (record { stem = stem; label = label; certificate = certificate })) files) Nothing)
-verify_evidenced stem label certificate files true e =
-    on_files_evidenced (Verify (record { stem = stem; label = label; certificate = certificate })) files
-    (and_right (is_stem stem) (is_certificate certificate) e)
-verify_evidenced stem label certificate files false e = tt
+-- what is asked of a certificate names it
+module _ (ask : Verification → Question)
+    (has : (asked : Verification) → is_certificate asked.certificate ≡ true → HasEvidence (ask asked)) where
+  certified_evidenced : (stem : List ℕ) (label : Label) (certificate : List ℕ) (files : List (List ℕ)) (b : Bool)
+      → (is_stem stem && is_certificate certificate) ≡ b
+      → IsEvidenced
+      (cond b (on_files (ask (record { stem = stem; label = label; certificate = certificate })) files) Nothing)
+  certified_evidenced stem label certificate files true e =
+      let asked : Verification = record { stem = stem; label = label; certificate = certificate } in
+      on_files_evidenced (ask asked) files (has asked (and_right (is_stem stem) (is_certificate certificate) e))
+  certified_evidenced stem label certificate files false e = tt
 
-verified_by_evidenced : (stem : List ℕ) (label : Option Label) (certificate : List ℕ) (files : List (List ℕ))
-    → IsEvidenced (verified_by stem label certificate files)
-verified_by_evidenced stem None certificate files = tt
-verified_by_evidenced stem (Some label) certificate files =
-    verify_evidenced stem label certificate files (is_stem stem && is_certificate certificate) refl
+  certified_by_evidenced : (stem : List ℕ) (label : Option Label) (certificate : List ℕ) (files : List (List ℕ))
+      → IsEvidenced (certified_by ask stem label certificate files)
+  certified_by_evidenced stem None certificate files = tt
+  certified_by_evidenced stem (Some label) certificate files =
+      certified_evidenced stem label certificate files (is_stem stem && is_certificate certificate) refl
 
-verified_evidenced : (words : List (List ℕ)) → IsEvidenced (verification_call words)
-verified_evidenced [] = tt
-verified_evidenced (stem ∷ []) = tt
-verified_evidenced (stem ∷ label ∷ []) = tt
-verified_evidenced (stem ∷ label ∷ certificate ∷ files) =
-    verified_by_evidenced stem (read_label label) certificate files
+  certificate_evidenced : (words : List (List ℕ)) → IsEvidenced (certificate_call ask words)
+  certificate_evidenced [] = tt
+  certificate_evidenced (stem ∷ []) = tt
+  certificate_evidenced (stem ∷ label ∷ []) = tt
+  certificate_evidenced (stem ∷ label ∷ certificate ∷ files) =
+      certified_by_evidenced stem (read_label label) certificate files
 
 tried_by_evidenced : (stem model : List ℕ) (files : List (List ℕ)) (b : Bool) → (is_stem stem && is_model model) ≡ b
     → IsEvidenced (cond b (on_files (Model (record { stem = stem; model = model })) files) Nothing)
@@ -133,8 +139,9 @@ called_evidenced command words =
     either_evidenced (bytes_eq command (codes "session")) _ _ (either_evidenced (is_empty words) _ _ tt tt)
     (either_evidenced (bytes_eq command (codes "check")) _ _ (on_files_evidenced Check words tt)
     (either_evidenced (bytes_eq command (codes "obligations")) _ _ (on_files_evidenced Obligations words tt)
-    (either_evidenced (bytes_eq command (codes "verify")) _ _ (verified_evidenced words)
-    (either_evidenced (bytes_eq command (codes "model")) _ _ (tried_evidenced words) tt))))
+    (either_evidenced (bytes_eq command (codes "verify")) _ _ (certificate_evidenced Verify (λ asked is. is) words)
+    (either_evidenced (bytes_eq command (codes "model")) _ _ (tried_evidenced words)
+    (either_evidenced (bytes_eq command (codes "trim")) _ _ (certificate_evidenced Trim (λ asked is. is) words) tt)))))
 
 found_evidenced : (request : Option Request) → IsEvidenced (option_map_or asked request Nothing)
 found_evidenced None = tt
@@ -149,17 +156,22 @@ pub names_certificates : (words names : List (List ℕ)) (asked : Verification)
     → call_of words ≡ OnFiles (Verify asked) names → is_certificate asked.certificate ≡ true
 names_certificates words names asked e = subst IsEvidenced e (names_evidence words)
 
+pub names_trimmed : (words names : List (List ℕ)) (asked : Verification)
+    → call_of words ≡ OnFiles (Trim asked) names → is_certificate asked.certificate ≡ true
+names_trimmed words names asked e = subst IsEvidenced e (names_evidence words)
+
 -- and so has the model
 pub names_models : (words names : List (List ℕ)) (tried : Trial) → call_of words ≡ OnFiles (Model tried) names
     → is_model tried.model ≡ true
 names_models words names tried e = subst IsEvidenced e (names_evidence words)
 
--- fewer than three words don't say what is to be verified
-pub too_few : (words : List (List ℕ)) → length words < 3 → Nothing ≡ verification_call words
-too_few [] few = refl
-too_few (stem ∷ []) few = refl
-too_few (stem ∷ label ∷ []) few = refl
-too_few (stem ∷ label ∷ certificate ∷ files) few = absurd (omega (arith, few))
+-- fewer than three words don't say what a certificate is to show
+pub too_few : (ask : Verification → Question) (words : List (List ℕ)) → length words < 3
+    → Nothing ≡ certificate_call ask words
+too_few ask [] few = refl
+too_few ask (stem ∷ []) few = refl
+too_few ask (stem ∷ label ∷ []) few = refl
+too_few ask (stem ∷ label ∷ certificate ∷ files) few = absurd (omega (arith, few))
 
 -- fewer than two don't say what is to be tried
 pub too_few_tried : (words : List (List ℕ)) → length words < 2 → Nothing ≡ trial_call words

@@ -12,7 +12,8 @@ use Rattle.larch_base.specs.Label.{read_label}
 use Rattle.larch_words.specs.declared.call.Call.{Call}
 use Rattle.larch_words.specs.declared.call.Call.TheVariants.{Session, OnFiles, Nothing}
 use Rattle.larch_words.specs.declared.call.Question.{Question}
-use Rattle.larch_words.specs.declared.call.Question.TheVariants.{Check, Model, Obligations, Verify}
+use Rattle.larch_words.specs.declared.call.Question.TheVariants.{Check, Model, Obligations, Trim, Verify}
+use Rattle.larch_words.specs.declared.call.Verification.{Verification}
 
 -- whether an option was given
 abbrev pub has_option : Request → Bool
@@ -30,17 +31,17 @@ on_files question words = if are_files words then OnFiles question words else No
 abbrev pub is_certificate : List ℕ → Bool
 is_certificate word = nat_le 5 (length word) && bytes_eq (drop (length word - 5) word) (codes ".cert")
 
--- the certificate of a trait's duty is to be verified, over these files
-abbrev pub verified_by : List ℕ → Option Label → List ℕ → List (List ℕ) → Call
-verified_by stem None certificate files = Nothing
-verified_by stem (Some label) certificate files =
+-- this is asked of the certificate of a trait's duty, over these files
+abbrev pub certified_by : (Verification → Question) → List ℕ → Option Label → List ℕ → List (List ℕ) → Call
+certified_by ask stem None certificate files = Nothing
+certified_by ask stem (Some label) certificate files =
     if is_stem stem && is_certificate certificate
-    then on_files (Verify (record { stem = stem; label = label; certificate = certificate })) files else Nothing
+    then on_files (ask (record { stem = stem; label = label; certificate = certificate })) files else Nothing
 
 -- a trait, a label, a certificate and files
-abbrev pub verification_call : List (List ℕ) → Call
-verification_call (stem ∷ label ∷ certificate ∷ files) = verified_by stem (read_label label) certificate files
-verification_call _ = Nothing
+abbrev pub certificate_call : (Verification → Question) → List (List ℕ) → Call
+certificate_call ask (stem ∷ label ∷ certificate ∷ files) = certified_by ask stem (read_label label) certificate files
+certificate_call ask _ = Nothing
 
 -- whether a word is a stem with `.mod` behind it
 abbrev pub is_model : List ℕ → Bool
@@ -64,8 +65,9 @@ call_from command words =
     if bytes_eq command (codes "session") then (if is_empty words then Session else Nothing)
     else if bytes_eq command (codes "check") then on_files Check words
     else if bytes_eq command (codes "obligations") then on_files Obligations words
-    else if bytes_eq command (codes "verify") then verification_call words
+    else if bytes_eq command (codes "verify") then certificate_call Verify words
     else if bytes_eq command (codes "model") then trial_call words
+    else if bytes_eq command (codes "trim") then certificate_call Trim words
     else Nothing
 
 -- no command takes an option yet

@@ -3,8 +3,9 @@ ghost use Rattle.std.specs.List.{list_all};
 ghost use Rattle.clap.specs.Words.{first_of, found_of, rows_of};
 ghost use Rattle.larch_base.specs.FileName.{is_file_name};
 ghost use Rattle.larch_words.specs.Call.{are_files, asked, call_of, call_from, has_option, is_certificate, is_model};
-ghost use Rattle.larch_words.specs.Call.{on_files, tried_by, trial_call, verification_call, verified_by};
+ghost use Rattle.larch_words.specs.Call.{certificate_call, certified_by, on_files, tried_by, trial_call};
 ghost use Rattle.larch_words.specs.CommandLine.{request_in};
+ghost use Rattle.larch_words.specs.Aims.{asking};
 
 use crate::command_line::command_line;
 use crate::evidence_name::EvidenceName;
@@ -47,6 +48,17 @@ pub enum Question {
     Verify(Verification),
     /// Whether a text is a model of a trait among them, and which of its claims hold in it.
     Model(Trial),
+    /// A certificate that shows what a trait among them claims, without the lines that it doesn't need.
+    Trim(Verification),
+}
+
+// What a certificate is wanted for.
+#[derive(Clone, Copy)]
+enum Aim {
+    // To say whether it shows something.
+    Verify,
+    // To leave out what it doesn't need.
+    Trim,
 }
 
 /// What the words of the command line ask for.
@@ -143,8 +155,9 @@ fn call_with_words(alloc: Global, command: &str, words: &[&str]) -> Result<Call,
         }
         "check" => on_files(alloc, Question::Check, words),
         "obligations" => on_files(alloc, Question::Obligations, words),
-        "verify" => verify_call(alloc, words),
+        "verify" => certificate_call(alloc, Aim::Verify, words),
         "model" => model_call(alloc, words),
+        "trim" => certificate_call(alloc, Aim::Trim, words),
         _ => Ok(Call::Nothing),
     }
 }
@@ -160,14 +173,15 @@ fn on_files(alloc: Global, question: Question, words: &[&str]) -> Result<Call, M
     }
 }
 
-// What these words ask for, where they say what is to be verified.
-fn verify_call(alloc: Global, words: &[&str]) -> Result<Call, Memory>
-    ensures { IfOk result (λ call. call ≡ verification_call (map (λ word. word.now) words.now)) }
+// What these words ask for, where they name a certificate and what it is to show.
+fn certificate_call(alloc: Global, aim: Aim, words: &[&str]) -> Result<Call, Memory>
+    ensures { IfOk result (λ call. call ≡ certificate_call (asking aim) (map (λ word. word.now) words.now)) }
 {
     match words {
         [stem, label, certificate, files @ ..] => {
-            certificate_call(
+            certified_call(
                 alloc,
+                aim,
                 stem,
                 read_label(label.as_bytes()),
                 certificate,
@@ -178,16 +192,17 @@ fn verify_call(alloc: Global, words: &[&str]) -> Result<Call, Memory>
     }
 }
 
-// The certificate of a trait's duty is to be verified, over these files.
-fn certificate_call(
+// The certificate of a trait's duty is wanted, over these files.
+fn certified_call(
     alloc: Global,
+    aim: Aim,
     stem: &str,
     label: Option<Label>,
     certificate: &str,
     words: &[&str],
 ) -> Result<Call, Memory>
     ensures { IfOk result (λ call. call
-        ≡ verified_by stem.now label certificate.now (map (λ word. word.now) words.now)) }
+        ≡ certified_by (asking aim) stem.now label certificate.now (map (λ word. word.now) words.now)) }
 {
     let Some(label) = label else {
         return Ok(Call::Nothing);
@@ -196,10 +211,20 @@ fn certificate_call(
         return Ok(Call::Nothing);
     }
     let asked = verification_of(alloc, stem, label, certificate)?;
-    on_files(alloc, Question::Verify(asked), words)
+    on_files(alloc, question_for(aim, asked), words)
 }
 
-// What is to be verified.
+// What is asked of a certificate.
+fn question_for(aim: Aim, asked: Verification) -> Question
+    ensures { result ≡ asking aim asked }
+{
+    match aim {
+        Aim::Verify => Question::Verify(asked),
+        Aim::Trim => Question::Trim(asked),
+    }
+}
+
+// What is to be shown by a certificate.
 fn verification_of(
     alloc: Global,
     stem: &str,

@@ -4,7 +4,7 @@ ghost use Rattle.std.specs.List.{list_all};
 ghost use Rattle.larch_base.specs.FileName.{is_file_name};
 ghost use Rattle.larch_words.specs.Call.{call_of, files_named, is_certificate, is_model};
 ghost use Rattle.larch_words.specs.declared.call.Call.TheVariants.{OnFiles};
-ghost use Rattle.larch_words.specs.declared.call.Question.TheVariants.{Model, Verify};
+ghost use Rattle.larch_words.specs.declared.call.Question.TheVariants.{Model, Trim, Verify};
 ghost use Rattle.larch_words.specs.declared.call.Trial.{Trial};
 ghost use Rattle.larch_words.specs.declared.call.Verification.{Verification};
 
@@ -15,7 +15,9 @@ pub fn calls_name_files()
 
 /// The certificate that a call names has the name of one.
 pub fn certificates_are_named()
-    ensures { (words names : List (List ℕ)) (asked : Verification) → call_of words ≡ OnFiles (Verify asked) names
+    ensures verify { (words names : List (List ℕ)) (asked : Verification) → call_of words ≡ OnFiles (Verify asked) names
+        → is_certificate asked.certificate ≡ true }
+    ensures trim { (words names : List (List ℕ)) (asked : Verification) → call_of words ≡ OnFiles (Trim asked) names
         → is_certificate asked.certificate ≡ true }
 {}
 

@@ -2,7 +2,8 @@
 use Rattle.std.proofs.Common.{◌∙◌, ap, map, refl, string_bytes, sym}
 use Rattle.larch_words.specs.declared.call.Call.TheVariants as call_
 use Rattle.larch_main.proofs.Turns.{looks_as, no_look}
-use Rattle.larch_main.proofs.Whole.{asked_certificate, asked_model, completes_as, folder_kept, memory_input}
+use Rattle.larch_main.proofs.Whole.{asked_certificate, asked_model, asked_trimmed, completes_as, folder_kept}
+use Rattle.larch_main.proofs.Whole.{memory_input}
 use Rattle.larch_main.proofs.Whole.{nothing_written, shows, source_kept, unlooked, unread, usage_sink, usage_writes}
 use Rattle.larch_main.proofs.Whole.{writes_as}
 use Rattle.larch_main.proofs.running.run.Goals as goal
@@ -14,7 +15,7 @@ returns-in-Session-clause-output g c =
 
 pub returns-in-Session-clause-shown : goal.returns-in-Session-clause-shown
 returns-in-Session-clause-shown g c =
-    shows c.what_is_verified_is_derivable.ensures _ _ _ _ _ _ c.session.result
+    shows c.what_is_verified_is_derivable.ensures c.what_is_trimmed_is_accepted.ensures _ _ _ _ _ _ c.session.result
     (writes_as call_.Session _ _ _ _ _ _ c.session.result (sym c.in-Session.is ∙ c.in-Ok.ensures)
     (c.session.ensures.output (g.F.Folder.files c.args.folder.now)))
 
@@ -31,7 +32,7 @@ returns-in-Nothing-clause-output g c =
 
 pub returns-in-Nothing-clause-shown : goal.returns-in-Nothing-clause-shown
 returns-in-Nothing-clause-shown g c =
-    shows c.what_is_verified_is_derivable.ensures _ _ _ _ _ _ c.say.result
+    shows c.what_is_verified_is_derivable.ensures c.what_is_trimmed_is_accepted.ensures _ _ _ _ _ _ c.say.result
     (writes_as call_.Nothing _ _ _ _ _ _ c.say.result (sym c.in-Nothing.is ∙ c.in-Ok.ensures)
     (usage_writes (g.F.Folder.files c.args.folder.now) (g.S.Source.left c.args.source.now) _ _ _ _ c.say.result
     c.say.ensures))
@@ -48,7 +49,12 @@ returns-in-Nothing-clause-complete g c =
 pub run_on_files-requires-clause-certificate : goal.run_on_files-requires-clause-certificate
 run_on_files-requires-clause-certificate g c =
     asked_certificate _ (map string_bytes c.args.words.now) _ _ c.in-Ok.ensures c.in-OnFiles.is
-    c.certificates_are_named.ensures
+    c.certificates_are_named.ensures.verify
+
+pub run_on_files-requires-clause-trimmed : goal.run_on_files-requires-clause-trimmed
+run_on_files-requires-clause-trimmed g c =
+    asked_trimmed _ (map string_bytes c.args.words.now) _ _ c.in-Ok.ensures c.in-OnFiles.is
+    c.certificates_are_named.ensures.trim
 
 pub run_on_files-requires-clause-model : goal.run_on_files-requires-clause-model
 run_on_files-requires-clause-model g c =
@@ -63,7 +69,8 @@ returns-clause-output g c =
 
 pub returns-clause-shown : goal.returns-clause-shown
 returns-clause-shown g c =
-    shows c.what_is_verified_is_derivable.ensures _ _ _ _ _ _ c.run_on_files.result
+    shows c.what_is_verified_is_derivable.ensures c.what_is_trimmed_is_accepted.ensures _ _ _ _ _ _
+    c.run_on_files.result
     (writes_as _ _ _ _ _ _ _ c.run_on_files.result
     (ap (λ names. call_.OnFiles c.in-OnFiles.question names) c.as_slice.ensures
     ∙ (sym c.in-OnFiles.is ∙ c.in-Ok.ensures))
@@ -83,7 +90,7 @@ returns-in-Err-clause-output g c = nothing_written _ _ _ _
 
 pub returns-in-Err-clause-shown : goal.returns-in-Err-clause-shown
 returns-in-Err-clause-shown g c =
-    shows c.what_is_verified_is_derivable.ensures _ _ _ _ _ _ _
+    shows c.what_is_verified_is_derivable.ensures c.what_is_trimmed_is_accepted.ensures _ _ _ _ _ _ _
     (nothing_written _ (g.F.Folder.files c.args.folder.now) (g.S.Source.left c.args.source.now)
     (g.K.Sink.held c.args.sink.now))
 

@@ -6,5 +6,5 @@ use Rattle.larch_main.proofs.verify.verification_answer.Goals as goal
 pub returns-in-Ok : goal.returns-in-Ok
 returns-in-Ok c =
     told_text (duty_in c.args.evidence.now.files c.args.stem.now c.args.label) c.bytes.result.now
-    c.args.evidence.now.text c.in-Ok.lines c.as_slice.result.now
-    c.verdict_of.result c.bytes.ensures c.in-Ok.ensures.text c.as_slice.ensures c.verdict_of.ensures
+    c.args.evidence.now.text c.in-Ok.read.second c.in-Ok.read.lines c.as_slice.result.now
+    c.verdict_of.result c.bytes.ensures c.in-Ok.ensures.read c.as_slice.ensures c.verdict_of.ensures

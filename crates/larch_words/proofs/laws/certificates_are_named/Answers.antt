@@ -1,5 +1,8 @@
-use Rattle.larch_words.proofs.Checked.{names_certificates}
+use Rattle.larch_words.proofs.Checked.{names_certificates, names_trimmed}
 use Rattle.larch_words.proofs.laws.certificates_are_named.Goals as goal
 
-pub returns : goal.returns
-returns c words names asked = names_certificates words names asked
+pub returns-clause-verify : goal.returns-clause-verify
+returns-clause-verify c words names asked = names_certificates words names asked
+
+pub returns-clause-trim : goal.returns-clause-trim
+returns-clause-trim c words names asked = names_trimmed words names asked

@@ -1,0 +1,13 @@
+//! How a duty opens behind its preamble: the facts, the first goal with its hypotheses, and whether it is proved at
+//! once.
+#![tactic(auto)]
+
+mod duty;
+mod goal;
+mod hypotheses;
+mod level;
+mod names;
+mod opening;
+
+pub use duty::{FirstDraft, Preamble, WholeDuty};
+pub use opening::open_duty;
