@@ -1,0 +1,4 @@
+pub mod Begun
+pub mod Kinds
+pub mod Prepared
+pub mod State
