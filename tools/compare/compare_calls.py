@@ -21,6 +21,7 @@ a folder that the output names. Ends with 'N passed, N failed', and status 1 whe
 """
 import argparse
 import collections
+import itertools
 import json
 import multiprocessing
 import os
@@ -258,13 +259,18 @@ def prepare(program, reference, seed, count, place):
     Work = argparse.Namespace(program=program, reference=Reference(*reference), seed=seed, count=count, fixed=place)
 
 
-def part(number):
-    """The calls over one folder: how often each ended how, and those on which both differ, with the folder."""
+def in_big_stack(reference, tried, number):
+    """What is found of a part where the reference has the stack that it needs."""
     found = []
-    Work.reference.main.in_big_stack(lambda: found.append(tried(number)))
+    reference.main.in_big_stack(lambda: found.append(tried(number)))
     if not found:
         raise RuntimeError(f"part {number} came to no end")
     return found[0]
+
+
+def part(number):
+    """The calls over one folder: how often each ended how, and those on which both differ, with the folder."""
+    return in_big_stack(Work.reference, tried, number)
 
 
 def tried(number):
@@ -284,6 +290,32 @@ def tried(number):
             if one != other:
                 differ.append((words, text, one, other, {**folder.texts, **folder.certificates}))
     return counted, differ
+
+
+def started(program):
+    """The words that start a program from any folder."""
+    words = shlex.split(program)
+    return [str(pathlib.Path(words[0]).resolve()), *words[1:]] if "/" in words[0] else words
+
+
+def write(place, files):
+    for name, text in files.items():
+        pathlib.Path(place, name).write_bytes(text)
+
+
+def in_parts(part, prepare, given, jobs, parts):
+    """How often each answer came in all parts, and how many calls differ, of which the first are shown and kept."""
+    counted, failed = collections.Counter(), 0
+    with multiprocessing.Pool(jobs, prepare, given) as pool:
+        for found, differ in pool.imap(part, range(parts)):
+            counted.update(found)
+            for asked, one, other, files in itertools.islice(differ, max(0, KEPT - failed)):
+                print(f"{ascii(asked)} in {keep(asked, b'', files)}")
+                print(f"  program   {shown(one)}\n  wanted    {shown(other)}", flush=True)
+            failed += len(differ)
+    for word, times in sorted(counted.items()):
+        print(f"  {word}: {times}")
+    return counted, failed
 
 
 def keep(words, text, files):
@@ -314,13 +346,10 @@ def main():
     seed = random.randrange(2 ** 31) if words.seed is None else words.seed
     print(f"seed {seed}", flush=True)
     comparing.module_of(words.reference, "main")
-    program = shlex.split(words.program)
-    if "/" in program[0]:
-        program[0] = str(pathlib.Path(program[0]).resolve())
+    program = started(words.program)
     counted, failed = collections.Counter(), 0
     with tempfile.TemporaryDirectory() as place:
-        for name, text in call_texts.fixed_folder().items():
-            pathlib.Path(place, name).write_bytes(text)
+        write(place, call_texts.fixed_folder())
         reference = str(pathlib.Path(words.reference).resolve()), words.all_rules
         given = (program, reference, seed, words.count, place)
         with multiprocessing.Pool(words.jobs, prepare, given) as pool:

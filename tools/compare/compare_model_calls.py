@@ -16,12 +16,9 @@ files and the words are kept in a folder that the output names. Ends with 'N pas
 failed."""
 import argparse
 import collections
-import itertools
 import math
-import multiprocessing
 import pathlib
 import random
-import shlex
 import sys
 import tempfile
 import time
@@ -34,7 +31,7 @@ sys.path.insert(0, str(pathlib.Path(__file__).resolve().parents[2]))
 from companions import finite, listed  # noqa: E402
 from compare_models import mutated  # noqa: E402
 
-TRAITS_PER_PART, KEPT, MOST_ENTRIES = 3, 5, 4096
+TRAITS_PER_PART, MOST_ENTRIES = 3, 4096
 SIGNS = {"~ __": "~", "__ /\\ __": "/\\", "__ \\/ __": "\\/", "__ => __": "=>", "__ <=> __": "<=>", "__ = __": "=",
          "__ ~= __": "~=", "if __ then __ else __": "if"}
 NO_TRAITS = ["Nope", "n" * 65, "a-b", "Ta.lsl", ""]
@@ -161,13 +158,9 @@ def prepare(program, reference, seed, count):
 
 
 def part(number):
-    """The calls over one set: how often each answer came, those on which both differ, with the files, and how many
-    traits there are."""
-    found = []
-    Work.reference.main.in_big_stack(lambda: found.append(tried(number)))
-    if not found:
-        raise RuntimeError(f"part {number} came to no end")
-    return found[0]
+    """The calls over one set: how often each answer came and how many traits there are, and the calls on which both
+    differ, with the files."""
+    return compare_calls.in_big_stack(Work.reference, tried, number)
 
 
 def tried(number):
@@ -179,24 +172,20 @@ def tried(number):
         files = compare_calls.without_wrong(files, Work.reference) or files
     theories, known = Work.reference.theories(files), dict(files)
     with tempfile.TemporaryDirectory() as place:
-        write(place, files)
+        compare_calls.write(place, files)
         for trait, theory in theories.items():
             theory = theory and Theory(Work.reference.base, theory)
             for text in models(pick, theory):
                 known["M.mod"] = text.encode("latin-1")
-                write(place, {"M.mod": known["M.mod"]})
+                compare_calls.write(place, {"M.mod": known["M.mod"]})
                 words = call(pick, trait, "M.mod", list(files))
                 one = compare_calls.answer(Work.program, words, b"", place)
                 other = Work.reference.answer(words, b"", place)
                 counted[answer_of(words, *one)] += 1
                 if one != other:
                     differ.append((words, one, other, dict(known)))
-    return counted, differ, len(theories)
-
-
-def write(place, files):
-    for name, text in files.items():
-        pathlib.Path(place, name).write_bytes(text)
+    counted["traits"] = len(theories)
+    return counted, differ
 
 
 def main():
@@ -205,22 +194,11 @@ def main():
     said = words.parse_args()
     seed = comparing.seed_of(said.seed)
     comparing.module_of(said.reference, "models")
-    program = shlex.split(said.program)
-    if "/" in program[0]:
-        program[0] = str(pathlib.Path(program[0]).resolve())
-    counted, failed, traits = collections.Counter(), 0, 0
-    given = (program, str(pathlib.Path(said.reference).resolve()), seed, said.count)
-    with multiprocessing.Pool(said.jobs, prepare, given) as pool:
-        for found, differ, number in pool.imap(part, range((said.count + TRAITS_PER_PART - 1) // TRAITS_PER_PART)):
-            counted.update(found)
-            traits += number
-            for asked, one, other, files in itertools.islice(differ, max(0, KEPT - failed)):
-                print(f"{ascii(asked)} in {compare_calls.keep(asked, b'', files)}")
-                print(f"  program   {compare_calls.shown(one)}\n  reference {compare_calls.shown(other)}", flush=True)
-            failed += len(differ)
-    for word, times in sorted(counted.items()):
-        print(f"  {word}: {times}")
-    calls = sum(counted.values())
+    given = (compare_calls.started(said.program), str(pathlib.Path(said.reference).resolve()), seed, said.count)
+    parts = (said.count + TRAITS_PER_PART - 1) // TRAITS_PER_PART
+    counted, failed = compare_calls.in_parts(part, prepare, given, said.jobs, parts)
+    traits = counted["traits"]
+    calls = sum(counted.values()) - traits
     print(f"{traits} traits: {calls - failed} passed, {failed} failed")
     sys.exit(1 if failed or not calls else 0)
 

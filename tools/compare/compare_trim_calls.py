@@ -19,11 +19,8 @@ were and how many are left. Of the first calls on which two differ the files and
 output names. Ends with 'N passed, N failed', and status 1 where one failed."""
 import argparse
 import collections
-import itertools
-import multiprocessing
 import pathlib
 import random
-import shlex
 import sys
 import tempfile
 
@@ -34,7 +31,7 @@ import random_sets
 from compare_trims import changed
 from random_certificates import FALSE, TRUE, Writer, in_second, lines_text, mutated, sort_in, variable
 
-PER_SET, KEPT = 12, 5
+PER_SET = 12
 ASKED = "Asked.cert"
 
 
@@ -169,11 +166,7 @@ def prepare(program, reference, seed, count):
 
 def part(number):
     """The calls over one set: how often each answer came, and those on which two differ, with the files."""
-    found = []
-    Work.reference.main.in_big_stack(lambda: found.append(tried(number)))
-    if not found:
-        raise RuntimeError(f"part {number} came to no end")
-    return found[0]
+    return compare_calls.in_big_stack(Work.reference, tried, number)
 
 
 def a_folder(pick):
@@ -193,11 +186,11 @@ def tried(number):
     counted, differ = collections.Counter(), []
     files, duties = a_folder(pick)
     with tempfile.TemporaryDirectory() as place:
-        write(place, files)
+        compare_calls.write(place, files)
         for _ in range(min(PER_SET, Work.count - number * PER_SET)):
             stem, label, lines = for_a_duty(pick, duties)
             text = text_of(pick, lines)
-            write(place, {ASKED: text})
+            compare_calls.write(place, {ASKED: text})
             words = call(pick, stem, label, list(files))
             one = compare_calls.answer(Work.program, words, b"", place)
             other = Work.reference.answer(words, b"", place)
@@ -214,7 +207,7 @@ def tried(number):
 
 def once_more(words, text, files, place):
     """The calls of what was trimmed that don't answer what they have to."""
-    write(place, {ASKED: text})
+    compare_calls.write(place, {ASKED: text})
     asked = ["verify", *words[words.index("trim") + 1:]]
     told = [("accepted\n".encode(), 0), (text, 0)]
     for again, answer, wanted in ((asked, compare_calls.answer(Work.program, asked, b"", place), told[0]),
@@ -224,31 +217,14 @@ def once_more(words, text, files, place):
             yield again, answer, wanted, {**files, ASKED: text}
 
 
-def write(place, files):
-    for name, text in files.items():
-        pathlib.Path(place, name).write_bytes(text)
-
-
 def main():
     words = comparing.words_of(__doc__, 2000, "program", "reference")
     words.add_argument("--jobs", type=int, default=4)
     said = words.parse_args()
     seed = comparing.seed_of(said.seed)
     comparing.module_of(said.reference, "trim")
-    program = shlex.split(said.program)
-    if "/" in program[0]:
-        program[0] = str(pathlib.Path(program[0]).resolve())
-    counted, failed = collections.Counter(), 0
-    given = (program, str(pathlib.Path(said.reference).resolve()), seed, said.count)
-    with multiprocessing.Pool(said.jobs, prepare, given) as pool:
-        for found, differ in pool.imap(part, range((said.count + PER_SET - 1) // PER_SET)):
-            counted.update(found)
-            for asked, one, other, files in itertools.islice(differ, max(0, KEPT - failed)):
-                print(f"{ascii(asked)} in {compare_calls.keep(asked, b'', files)}")
-                print(f"  program   {compare_calls.shown(one)}\n  wanted    {compare_calls.shown(other)}", flush=True)
-            failed += len(differ)
-    for word, times in sorted(counted.items()):
-        print(f"  {word}: {times}")
+    given = (compare_calls.started(said.program), str(pathlib.Path(said.reference).resolve()), seed, said.count)
+    counted, failed = compare_calls.in_parts(part, prepare, given, said.jobs, (said.count + PER_SET - 1) // PER_SET)
     calls = sum(times for word, times in counted.items() if word.startswith("status"))
     print(f"{calls - failed} passed, {failed} failed")
     sys.exit(1 if failed or not calls else 0)
