@@ -5,6 +5,7 @@ call.py words WORD..        the folder to go to for a call, and the call's words
 call.py why STATUS WORD..   says on standard error what the program's line for this status doesn't say
 call.py help [WORD]         what there is; of a command what docs/COMMANDS.md says, of a code what it means
 call.py --version           which sources the program is of, and where it lies"""
+import itertools
 import os
 import re
 import subprocess
@@ -16,34 +17,38 @@ from companions.program import FILE_NAME, MOST_BYTES, MOST_FILES
 from companions.scope import reached
 from companions.spelling import nearest
 
-COMMANDS = ("session", "check", "obligations", "verify", "model", "trim")
+COMMANDS = ("session", "replay", "check", "obligations", "verify", "model", "trim")
+# Those that take a rewriting limit.
+LIMITED = ("session", "replay")
 AROUND = ("help", "explain", "watch")
 OPTIONS = ("--build", "--help", "--install", "--program", "--uninstall", "--unproved", "--version")
 # What people type that isn't there, and what there is.
 NOT_THERE = {
     **dict.fromkeys(("show", "print", "list", "duties"), "`larch obligations FILE..` lists what a trait consists of"),
-    **dict.fromkeys(("prove", "proof"), "nothing looks for proofs yet; `larch verify` looks at certificates"),
+    **dict.fromkeys(("prove", "proof", "qed"), "`larch replay FILE..` carries out proof scripts; nothing finds proofs"),
     **dict.fromkeys(("shorten", "minimize", "prune"), "`larch trim` leaves out of a certificate what isn't needed"),
     **dict.fromkeys(("find", "find-model", "search"), "`tools/larch-find-model TRAIT FILE..` looks for a small model"),
-    **dict.fromkeys(("eval", "run", "reduce", "rewrite"), "nothing computes the value of a term yet"),
+    **dict.fromkeys(("eval", "reduce", "rewrite"), "nothing computes the value of a term yet"),
     **dict.fromkeys(("lint", "parse", "typecheck", "compile"), "`larch check FILE..` says whether something is wrong"),
     **dict.fromkeys(("fmt", "format"), "nothing lays traits out"),
     **dict.fromkeys(("-V", "-v", "-version"), "`larch --version` says which program it is")}
 FILE, CERT = re.compile(r"[A-Za-z0-9_]{1,64}\.(?:lsl|lp)"), re.compile(r"(?s).*\.cert")
 MODEL = re.compile(r"[A-Za-z0-9_]{1,64}\.mod")
 LABEL = re.compile(r"(?:assume|imply|convert)\.[1-9][0-9]{0,5}")
+LIMIT, LIMIT_OPTION = re.compile(r"[1-9][0-9]{0,4}|100000"), "--limit"
 WITH_INCLUDED = "--with-included"
 # The words before the files of a command.
 FRONTS = {"verify": ("TRAIT", "LABEL", "CERT"), "model": ("TRAIT", "MODEL"), "trim": ("TRAIT", "LABEL", "CERT")}
 HELP = """\
 larch checks specifications in the Larch Shared Language.
 
+  larch replay FILE.. [--limit N]       what is proved of these traits by the scripts among the files?
   larch check FILE..                    is something wrong with these traits?
   larch obligations FILE..              what each consists of, and what is to be proved of it
   larch verify TRAIT LABEL CERT FILE..  does this certificate show that duty?
   larch trim TRAIT LABEL CERT FILE..    the certificate without the lines that its end doesn't need
   larch model TRAIT MODEL FILE..        is this a finite model of the trait, and which claims hold in it?
-  larch session                         the same for programs, over standard input
+  larch session [--limit N]             reports for programs, over standard input
 
   larch explain FILE..                  why a trait is refused, and how to mend it
   larch explain CODE                    what a code means; without a word, all codes
@@ -51,8 +56,8 @@ larch checks specifications in the Larch Shared Language.
   larch help COMMAND                    more of a command
 
 FILE is NAME.lsl or NAME.lp; it may lie in another folder, all files of a call in one. A trait sees the files that are
-named; `--with-included` adds those of the folder that it refers to. Status 0: all is right; 1: something is wrong;
-above: the call came to nothing.
+named; `--with-included` adds those of the folder that it refers to. Status 0: all is right, and proved where proofs are
+asked for; 1: something isn't; above: the call came to nothing.
 
   larch --build                         builds the program and proves it
   larch --unproved WORD..               a try, compiled with no proof
@@ -65,10 +70,28 @@ def say(text):
     print(f"larch: {text}", file=sys.stderr)
 
 
+def without_limit(words):
+    """The words of a call without those for its rewriting limit, and these."""
+    rest, given = [], []
+    if words[0] not in LIMITED:
+        return list(words), given
+    words = iter(words)
+    for word in words:
+        if word == "--":
+            return [*rest, word, *words], given
+        if word == LIMIT_OPTION:
+            given += [word, *itertools.islice(words, 1)]
+        elif word.startswith(LIMIT_OPTION + "="):
+            given.append(word)
+        else:
+            rest.append(word)
+    return rest, given
+
+
 def cut(words):
     """A call's command, the words before its files, its files, and whether what they reach is to be added."""
-    rest, wants = list(words[1:]), False
-    if words[0] in ("check", "obligations") and WITH_INCLUDED in rest:
+    rest, wants = without_limit(words)[0][1:], False
+    if words[0] in ("check", "obligations", "replay") and WITH_INCLUDED in rest:
         rest, wants = [word for word in rest if word != WITH_INCLUDED], True
     if rest[:1] == ["--"]:
         rest = rest[1:]
@@ -132,8 +155,15 @@ def words_there(words):
     if wants:
         known = Files(folder)
         names += [name for trait in list(names) for name in reached(known, trait)]
+        names += scripts_of(folder, names) if command == "replay" else []
         names = list(dict.fromkeys(names))
-    return [folder, command, *front, *names]
+    return [folder, command, *without_limit(words)[1], *front, *names]
+
+
+def scripts_of(folder, names):
+    """The scripts of these traits that lie in their folder."""
+    scripts = [name[:-len(".lsl")] + ".lp" for name in names if name.endswith(".lsl")]
+    return [name for name in scripts if os.path.isfile(os.path.join(folder, name))]
 
 
 # What stands behind a status ---------------------------------------------------------------------
@@ -145,8 +175,11 @@ def why_usage(words):
     if words[0] not in COMMANDS:
         return why_no_command(words[0])
     command, front, files, _ = cut(words)
+    bad = why_limit(without_limit(words)[1])
+    if bad:
+        return bad
     if command == "session":
-        return "`session` takes no words; its files come over standard input"
+        return "`session` takes no words but --limit N; its files come over standard input"
     wanted = FRONTS.get(command, ())
     if len(front) + len(files) < len(wanted) + 1:
         return f"too few words: larch {' '.join([command, *wanted])} FILE.."
@@ -154,6 +187,16 @@ def why_usage(words):
         if bad:
             return bad
     return f"`larch help {command}` says what its words are"
+
+
+def why_limit(given):
+    """Why the words for a limit are none; empty where they are, or there are none."""
+    limit = given[0].partition("=")[2] if len(given) == 1 and "=" in given[0] else given[1] if len(given) == 2 else None
+    if not given or limit is not None and LIMIT.fullmatch(limit):
+        return ""
+    if limit is not None or given == [LIMIT_OPTION]:
+        return "behind --limit stands a number from 1 to 100,000, without leading zeros"
+    return "--limit stands more than once"
 
 
 def why_no_command(word):
@@ -190,6 +233,8 @@ def why_file(word):
     """Why a word is no name of a file; empty where it is one."""
     if FILE.fullmatch(word):
         return ""
+    if word.partition("=")[0] == LIMIT_OPTION:
+        return f"only {' and '.join(f'`{command}`' for command in LIMITED)} take {LIMIT_OPTION}"
     if word.startswith("-"):
         return f"no command takes the option {word}"
     if os.path.isdir(word):

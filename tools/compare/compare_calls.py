@@ -11,8 +11,8 @@ all rules of both versions, whatever that says.
 A quarter of the calls are over one folder of right and wrong traits, scripts, certificates and files at and above the
 limit of size. The others are over random sets of traits with claims (random_sets.py), a few calls over each set, with
 certificates for some of its duties: right ones (duty_proofs.py), tampered ones, and no certificates. The commands are
-`check`, `obligations`, `verify` and `session`, and words that mean none; names that are there, absent, twice, or no
-names; labels of duties that are there or not, and no labels; options in every place, doubled, without a value,
+`check`, `obligations`, `replay`, `verify` and `session`, and words that mean none; names that are there, absent, twice,
+or no names; labels of duties that are there or not, and no labels; options in every place, doubled, without a value,
 unknown; `--`; more files than one call takes. A session gets a few random lines.
 
 The seed is printed first, and at the end how often each command ended with each status. Of the first five calls on
@@ -40,6 +40,7 @@ import random_sets
 from call_texts import AT_LIMITS, CERTIFICATES, TEXTS
 
 CALLS_PER_SET, DUTIES_PER_SET, KEPT = 25, 8, 5
+NAMED = ("check", "obligations", "replay", "verify", "session")
 LABELS = ["imply.1", "imply.2", "imply.3", "assume.1", "convert.1", "convert.2", "imply.999999"]
 NO_LABELS = ["imply.0", "imply.01", "imply.1000000", "imply", "imply.", "imply.1 ", "Imply.1", "prove.1", "imply.1.1",
              ""]
@@ -48,7 +49,8 @@ NO_NAMES = ["x", NOT_UTF_8, "a.lsl.lsl", "One", ".lsl", "n" * 65 + ".lsl", "One.
             "-", "é.lsl", "One.lsl ", "One.cert", "../One.lsl", ""]
 OPTIONS = [["--limit", "5"], ["--limit=5"], ["--limit"], ["--seed", "1"], ["--size=3"], ["--size", "3", "--size", "4"],
            ["--help"], ["-h"], ["--version"], ["-V"], ["--"], ["-l"], ["--lim", "3"], ["--limit="], ["--limit", "-1"],
-           ["--limit", "--"], ["--", "--"], ["--limit", "x"], ["-x"], ["--unknown", "2"], ["--="]]
+           ["--limit", "--"], ["--", "--"], ["--limit", "x"], ["--limit", "0"], ["--limit=007"], ["-x"],
+           ["--unknown", "2"], ["--="]]
 
 
 class Folder:
@@ -156,7 +158,7 @@ def some_files(pick, folder):
 
 def call(pick, folder):
     """Random words."""
-    command = pick.choice(["check"] * 10 + ["obligations"] * 10 + ["verify"] * 14 + ["session"] * 4
+    command = pick.choice(["check"] * 8 + ["obligations"] * 8 + ["replay"] * 8 + ["verify"] * 14 + ["session"] * 4
                           + ["frobnicate", "Check", "", None])
     words = [] if command is None else [command]
     if command == "verify":
@@ -166,9 +168,9 @@ def call(pick, folder):
         words += some_files(pick, folder)
     elif pick.random() < 0.1:
         words.append(word(pick, folder))
-    if command in ("check", "obligations", "verify") and pick.random() < 0.85:
+    if command in ("check", "obligations", "replay", "verify") and pick.random() < 0.85:
         words = [one for one in words if one not in NO_NAMES or one == command]
-    if command in ("check", "obligations") and folder.limits and pick.random() < 0.02:
+    if command in ("check", "obligations", "replay") and folder.limits and pick.random() < 0.02:
         words += [f"F{i}.lsl" for i in range(pick.randint(250, 260))] + [word(pick, folder)]
     for _ in range(pick.choice([0] * 12 + [1, 1, 2])):
         place = pick.randint(0, len(words))
@@ -246,7 +248,7 @@ def answer(program, words, text, place):
 
 def said_of(words, output, status):
     """What is counted of a call: its command, the status, and of a verdict the first word."""
-    command = words[0] if words and words[0] in ("check", "obligations", "verify", "session") else "others"
+    command = words[0] if words and words[0] in NAMED else "others"
     verdict = output.decode("latin-1").split(" ")[0].strip() if command == "verify" and status in (0, 1) else ""
     return command, status, verdict
 

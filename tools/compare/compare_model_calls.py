@@ -29,7 +29,6 @@ import random_sets
 
 sys.path.insert(0, str(pathlib.Path(__file__).resolve().parents[2]))
 from companions import finite, listed  # noqa: E402
-from compare_models import mutated  # noqa: E402
 
 TRAITS_PER_PART, MOST_ENTRIES = 3, 4096
 SIGNS = {"~ __": "~", "__ /\\ __": "/\\", "__ \\/ __": "\\/", "__ => __": "=>", "__ <=> __": "<=>", "__ = __": "=",
@@ -54,6 +53,14 @@ class Reference(compare_calls.Reference):
             except self.base.Refused:
                 found[name] = None
         return found
+
+
+def mutated(pick, text):
+    """A text with a part left out, doubled or changed."""
+    for _ in range(pick.randint(1, 2)):
+        place = pick.randrange(len(text))
+        text = text[:place] + pick.choice(["", text[place] * 2, pick.choice("0123 \nSTopmdl")]) + text[place + 1:]
+    return text
 
 
 # Theories as companions have them ------------------------------------------------------------------

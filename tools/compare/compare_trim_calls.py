@@ -21,6 +21,7 @@ import argparse
 import collections
 import pathlib
 import random
+import re
 import sys
 import tempfile
 
@@ -28,8 +29,7 @@ import compare_calls
 import comparing
 import duty_proofs
 import random_sets
-from compare_trims import changed
-from random_certificates import FALSE, TRUE, Writer, in_second, lines_text, mutated, sort_in, variable
+from random_certificates import DISTANCES, FALSE, PARTS, TRUE, Writer, in_second, lines_text, mutated, sort_in, variable
 
 PER_SET = 12
 ASKED = "Asked.cert"
@@ -42,6 +42,25 @@ class Reference(compare_calls.Reference):
         super().__init__(place, False)
         verify, certificate = (comparing.module_of(place, name) for name in ("verify", "certificate"))
         verify.trim_command.__defaults__ = (certificate.STAGES[verify.stage_built()]["rows"], None)
+
+
+def changed(line, number):
+    """The line with other numbers of lines and boxes, and the numbers that it names."""
+    word, *parts = line.split(" ")
+    names = iter(PARTS[word])
+    made, named = [word], []
+
+    def other(found):
+        named.append(int(found.group()))
+        return str(number(named[-1]))
+
+    for part in parts:
+        if part != "|" and next(names) in DISTANCES:
+            part = re.sub(r"\d+", other, part)
+        elif "@" in part:
+            part = re.sub(r"(?<=@)\d+", other, part)
+        made.append(part)
+    return " ".join(made), named
 
 
 # Certificates --------------------------------------------------------------------------------------

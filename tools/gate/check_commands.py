@@ -26,19 +26,34 @@ import make_manual  # noqa: E402
 from tests import Tests  # noqa: E402
 
 BASH, ZSH = TOP / "completion/larch.bash", TOP / "completion/_larch"
-PUT = b"put One.lsl %d\n" % len(call_texts.TEXTS["One.lsl"]) + call_texts.TEXTS["One.lsl"]
-WRONG = b"put Two.lsl %d\n" % len(call_texts.TEXTS["Two.lsl"]) + call_texts.TEXTS["Two.lsl"]
+
+
+def put(name):
+    """The line of a session that puts a file, and the file."""
+    return b"put %s %d\n" % (name.encode(), len(call_texts.TEXTS[name])) + call_texts.TEXTS[name]
+
+
+PUT, WRONG = put("One.lsl"), put("Two.lsl")
 # The last line of the certificate of Nat in the second version, and a line that it doesn't need.
 LAST = "induct line=11 var=x:N goal=#3(#1,x:N)==x:N boxes=8,5"
 IDLE = call_texts.proof((12, b"12 refl #1\n13 induct 1 x:N #3(#1,x:N)==x:N 4,7"))
 # Calls for each status and command: the words, the input, and the last line, of which nothing is said by None.
-FILES = {0: [("One.lsl Nat.lsl", None)], 1: [("Two.lsl One.lsl", None)], 2: [("", "USAGE"), ("a/One.lsl", "USAGE")],
+FILES = {0: [("One.lsl Nat.lsl", None)], 1: [("Two.lsl One.lsl", None)],
+         2: [("", "USAGE"), ("a/One.lsl", "USAGE"), ("One.lsl --limit 5", "USAGE")],
          7: [("Big.lsl", "too large"), (" ".join(f"F{number}.lsl" for number in range(257)), "too large")],
          8: [("One.lsl Nope.lsl", "no file Nope.lsl")]}
 CALLS = {
-    "session": {0: [("", PUT + b"report\n", "end"), ("", b"", None)], 1: [("", WRONG + b"report\n", "end")],
-                2: [("One.lsl", b"", "USAGE")], 6: [("", b"\nbad\n", "malformed at byte 1")],
+    "session": {0: [("", PUT + b"report\n", "end"), ("", b"", None), ("--limit 5", PUT + b"report\n", "end")],
+                1: [("", WRONG + b"report\n", "end"), ("", put("Nat.lsl") + b"report\n", "end")],
+                2: [("One.lsl", b"", "USAGE"), ("--limit 0", b"", "USAGE")],
+                6: [("", b"\nbad\n", "malformed at byte 1")],
                 7: [("", b"put One.lsl 1048577\n", "too large")]},
+    "replay": {0: [("One.lsl Nat.lsl Nat.lp --limit 900", b"", "end")],
+               1: [("Two.lsl One.lsl", b"", "end"), ("Nat.lsl", b"", "end"), ("--limit=1 Nat.lsl Nat.lp", b"", "end"),
+                   ("One.lp", b"", "end")],
+               2: [("", b"", "USAGE"), ("One.lsl --limit 0", b"", "USAGE"), ("One.lsl --limit 100001", b"", "USAGE"),
+                   ("One.lsl --limit 010", b"", "USAGE"), ("One.lsl --seed 1", b"", "USAGE")],
+               **{status: [(words, b"", last) for words, last in FILES[status]] for status in (7, 8)}},
     "check": {status: [(words, b"", last) for words, last in calls] for status, calls in FILES.items()},
     "obligations": {status: [(words, b"", last) for words, last in calls] for status, calls in FILES.items()},
     "verify": {0: [("Nat imply.1 Nat.cert Nat.lsl", b"", "accepted")],
@@ -75,6 +90,8 @@ MODELS = {"Nat.mod": b"model\nsort N 2\nop 1 0\nop 2 1 0\nop 3 0 1 1 0\n", "Near
           "Wrong.mod": b"model\nsort N 2\nop 1 0\nop 2 1 0\nop 3 0 0 1 1\n", "Form.mod": b"model\nsort N 2\nop 1 0\n\n",
           "Near.mod": b"model\nsort S 2\nop 1 0\n", "Sixteen.mod": b"model\nsort S 16\nop 1 0\n",
           "Point.mod": b"model\nop 1 0\n", "Big.mod": b"model\n".ljust(1048577, b" ")}
+SCRIPTS = {"Nat.lp": b"duty imply.1\n  resume by induction on x\nduty imply.2\n  resume by induction on y\n"
+                     b"duty convert.1\n  resume by induction on x2\n"}
 TRIMMED = {"Idle.cert": IDLE, "Left.cert": b"".join(line + b"\n" for line in (
     b"certificate 2", b"axiom statement=1", b"axiom statement=2", b"axiom statement=3", b"box sorts=- hyps=-",
     b"inst line=3 by=x:N=#1", b"done", b"box sorts=N hyps=#3(#1,@0.1)==@0.1", b"inst line=5 by=x:N=#1;y:N=@1.1",
@@ -84,7 +101,7 @@ AROUND = ["help", "explain", "watch"]
 OPTIONS = ["--build", "--help", "--install", "--program", "--uninstall", "--unproved", "--version"]
 # Words before the cursor, the last of which is begun, and what may stand there.
 COMPLETED = [
-    ([""], ["check", "explain", "help", "model", "obligations", "session", "trim", "verify", "watch"]),
+    ([""], ["check", "explain", "help", "model", "obligations", "replay", "session", "trim", "verify", "watch"]),
     (["ob"], ["obligations"]), (["Frob"], []), (["--"], OPTIONS), (["--un"], ["--uninstall", "--unproved"]),
     (["--unproved", "verify", "Na"], ["Nat"]), (["--install", ""], ["sub/"]), (["--build", ""], []),
     (["help", "v"], ["verify"]), (["help", "SYN"], ["SYNTAX"]), (["explain", "CY"], ["CYCLE"]),
@@ -93,7 +110,10 @@ COMPLETED = [
     (["check", "s"], ["sub/"]), (["check", "sub/"], ["sub/Two.lsl"]), (["check", "--"], ["--with-included"]),
     (["verify", "Nat", "imply.1", "sub/"], ["sub/Two.cert"]),
     (["check", "On"], ["One.lp", "One.lsl"]), (["check", "One.lp", "On"], ["One.lsl"]),
-    (["--", "obligations", "Na"], ["Nat.lsl"]), (["session", ""], []), (["frobnicate", ""], []),
+    (["--", "obligations", "Na"], ["Nat.lsl"]), (["session", ""], []), (["session", "--"], ["--limit"]),
+    (["frobnicate", ""], []),
+    (["re"], ["replay"]), (["replay", "Nat.lsl", "On"], ["One.lp", "One.lsl"]), (["replay", "s"], ["sub/"]),
+    (["replay", "--"], ["--limit", "--with-included"]),
     (["verify", "Na"], ["Nat"]), (["verify", "Nat", "i"], ["imply.1", "imply.2"]),
     (["verify", "Nat", "c"], ["convert.1"]), (["verify", "One", ""], []),
     (["model", "Na"], ["Nat"]), (["model", "Nat", ""], ["Nat.mod", "sub/"]),
@@ -136,7 +156,7 @@ def agreement(tests, program, folder):
     documented = [words.split()[0] for words, _ in make_manual.commands()]
     definitions = (TOP / "crates/larch_words/specs/Call.antt").read_text()
     defined = re.findall(r'bytes_eq command \(codes "(\w+)"\)', definitions)
-    tests.see("commands in the definitions", defined, documented)
+    tests.see("commands in the definitions", sorted(set(defined)), sorted(documented))
     tests.see("commands of the man page", re.findall(r"^\.TP\n\\fB(\w+)", made("COMMANDS"), re.M), documented)
     known = documented + AROUND
     tests.see("commands in completion/_larch", re.findall(r"^ +['\"](\w+):", ZSH.read_text(), re.M), known)
@@ -286,7 +306,7 @@ def main():
     tests = Tests()
     with tempfile.TemporaryDirectory() as place:
         folder = pathlib.Path(place)
-        for name, text in {**call_texts.fixed_folder(), **MODELS, **TRIMMED}.items():
+        for name, text in {**call_texts.fixed_folder(), **MODELS, **SCRIPTS, **TRIMMED}.items():
             (folder / name).write_bytes(text)
         (folder / "a-b.lsl").write_text("")
         agreement(tests, program, folder)

@@ -2,7 +2,7 @@
 """Runs the examples of docs/TRAITS.md against the built program: python3 tools/gate/check_guide.py [PROGRAM WORD..]
 
 Each block marked `lsl` is a file T.lsl, or of the name that stands over it as a line "`NAME.lsl`:", which stays for the
-blocks below it; the line below a block is what the report says of it: `right`, or `L:C CODE`. Two files
+blocks below it; the line below a block is what the report says of it: `right`, or `L:C CODE`. Three files
 that are too long to print are made here. Each code of the program has exactly one part `### CODE`, and each such part
 is of a code; no other document, tool or comment of a crate repeats a sentence of such a part. Ends with 1 where an
 answer is another one, a code lacks its part, a sentence stands twice, or no example is found."""
@@ -21,10 +21,13 @@ def examples(text):
 
 
 def long_examples():
-    """A trait with 201 open parentheses, and one with 5,001 head tokens."""
+    """A trait with 201 open parentheses, one with 5,001 head tokens, and one that is right, with a term of overloaded
+    symbols, 4,990 inside each other."""
     head = "T: trait introduces a: -> Bool\n  asserts\n    "
     yield "T", head + "(" * 201 + "a" + ")" * 201 + "\n", "3:205 DEEP"
     yield "T", head + "a" + " = a" * 2500 + "\n", "3:10005 SIZE"
+    overloaded = "T: trait introduces\n    z: -> N\n    d: -> M\n    -__: N -> N\n    -__: N -> M\n"
+    yield "T", overloaded + "  asserts\n    d == " + "- " * 4990 + "z\n", "right"
 
 
 def without_part(text):

@@ -22,7 +22,7 @@ TOP = pathlib.Path(__file__).resolve().parents[2]
 PAGE = TOP / "README.md"
 MOST_WORDS = 1200
 BLOCK = re.compile(r"((?:[^\n]+\n)*)\n```(\w+)\n(.*?)^```$", re.M | re.S)
-FILE = re.compile(r"`(\w+\.(?:lsl|cert))`")
+FILE = re.compile(r"`(\w+\.(?:lsl|lp|cert))`")
 
 
 def calls(block):

@@ -24,8 +24,8 @@ OPEN, CLOSED = "([{<", ")]}>"
 # Files that are longer, for the reasons in docs/DECISIONS.md.
 LONG = {"larch_certificate_text/proofs/LineLaws.antt", "larch_grammar/specs/Machine.antt",
         "larch_grammar/proofs/CompleteTraits.antt", "larch_grammar/proofs/Ends.antt", "larch_grammar/proofs/Words.antt",
-        "larch_shorthand/proofs/Expansions.antt", "larch_prove_meaning/specs/Worked.antt",
-        "larch_prove_meaning/src/examples.rt", "larch_verify_law/proofs/Carried.antt",
+        "larch_shorthand/proofs/Expansions.antt", "larch_prove_examples/specs/Worked.antt",
+        "larch_prove_examples/src/examples.rt", "larch_verify_law/proofs/Carried.antt",
         "larch_derive_join/proofs/Accepted.antt"}
 # What ends as a participle does and is none, and participles that are names of their own.
 NO_PARTICIPLES = {"between", "even", "feed", "flatten", "heighten", "len", "need", "open", "read", "seed", "speed",
@@ -36,17 +36,15 @@ AGAIN = re.compile(r"\bOk\((\w+)\) => Ok\(\1\)|\bErr\((\w+)\) => return Err\(\2\
 HANDED_ON = re.compile(r"let (\w+) = [^;]*\?;\s*Ok\(\1\)\s*\}")
 # Names that stay, as crate:name: mostly of functions whose answer a caller keeps under the same name.
 LEFT = {"larch_base:numbered", "larch_pairs_critical:marked", "larch_pairs_critical:named",
-        "larch_pairs_critical:numbered", "larch_derive_tests:printed", "larch_duties:implied", "larch_duties:renamed",
+        "larch_pairs_critical:numbered", "larch_duties:implied", "larch_duties:renamed",
         "larch_flat_gathering:listed", "larch_flat_sources:listed", "larch_flat_sources:reached",
         "larch_grammar:named", "larch_grammar:qualified", "larch_io:taken",
-        "larch_method_table:planned", "larch_method_table:told", "larch_methods:supposed", "larch_pairs:replaced",
+        "larch_methods:supposed", "larch_pairs:replaced",
         "larch_prove_plans:joined", "larch_verify_pool:copied", "larch_verify_pool:numbered",
         "larch_rewrite_match:turned", "larch_flat_replacing:renamed",
-        "larch_rewrite_table:told", "larch_shorthand:generated", "larch_shorthand:injected",
+        "larch_shorthand:generated", "larch_shorthand:injected",
         "larch_shorthand:partitioned", "larch_sorts_counts:copied", "larch_sorts_counts:named",
         "larch_sorts_signature:named", "larch_syntax:counted", "larch_syntax:refused", "larch_tables:numbered",
-        "larch_term_table:prepared", "larch_term_tests:exchanged", "larch_term_tests:partitioned",
-        "larch_term_tests:replaced", "larch_traits_tests:marked",
         "larch_words:asked"}
 # So many functions end with `let x = f()?; Ok(x)`, for the reason in docs/DECISIONS.md, and so many arms wrap again
 # what they unwrapped: no more of them.

@@ -21,7 +21,7 @@ from tests import Tests
 TOP = pathlib.Path(__file__).resolve().parents[2]
 USAGE = "usage: larch COMMAND [WORD..] [--limit N] [--seed N] [--size N]\n"
 TRAITS = {"One.lsl": "One: trait\n  includes Two\n", "Two.lsl": "Two: trait\n  introduces\n    c: -> S\n",
-          "Wrong.lsl": "Wrong: trait\n  introduces\n    c -> S\n"}
+          "Wrong.lsl": "Wrong: trait\n  introduces\n    c -> S\n", "Two.lp": "duty imply.1\n"}
 MANY = [f"F{number}.lsl" for number in range(257)]
 CERTIFIED = ("Natural.lsl", "Natural.imply.1.cert")
 # A call's words in a folder `a` with the traits and a folder `b`; the program's words and their folder; what is said.
@@ -35,6 +35,14 @@ CALLS = [
     ("check --with-included a/One.lsl", "check One.lsl Two.lsl", "a", ""),
     ("obligations a/One.lsl --with-included", "obligations One.lsl Two.lsl", "a", ""),
     ("check a/One.lsl", "check One.lsl", "a", ""),
+    ("replay a/Two.lsl a/Two.lp --limit 5", "replay Two.lsl Two.lp --limit 5", "a", ""),
+    ("replay --limit=5 a/Two.lsl", "replay Two.lsl --limit=5", "a", ""),
+    ("replay --with-included a/One.lsl", "replay One.lsl Two.lsl Two.lp", "a", ""),
+    ("replay --limit 0 a/Two.lsl", "replay --limit 0 Two.lsl", "a", "behind --limit stands a number from 1 to 100,000"),
+    ("replay --limit 2 --limit 3 a/Two.lsl", "replay --limit 2 --limit 3 Two.lsl", "a",
+     "--limit stands more than once"),
+    ("session --limit", "session --limit", ".", "behind --limit stands a number"),
+    ("session a/Two.lsl", "session a/Two.lsl", ".", "`session` takes no words but --limit N"),
     ("check a/Two.lsl b/Four.lsl", "check a/Two.lsl b/Four.lsl", ".", "lie in one folder, and these in a and b"),
     ("check c/Two.lsl", "check c/Two.lsl", ".", "there is no folder c"),
     ("verify Natural imply.1 a/Natural.imply.1.cert a/Natural.lsl",
@@ -56,7 +64,7 @@ CALLS = [
     ("chekc One.lsl", "chekc One.lsl", "a", "`chekc`: did you mean `check`?"),
     ("frobnicate", "frobnicate", "a", "`frobnicate` is no command"),
     ("show Two.lsl", "show Two.lsl", "a", "there is no `show`: `larch obligations FILE..` lists"),
-    ("prove Two.lsl", "prove Two.lsl", "a", "there is no `prove`: nothing looks for proofs yet"),
+    ("prove Two.lsl", "prove Two.lsl", "a", "there is no `prove`: `larch replay FILE..` carries out"),
     ("install", "install", "a", "`install`: did you mean `larch --install`?"),
     ("--verison", "--verison", "a", "did you mean `larch --version`?"),
     ("a/Two.lsl", "a/Two.lsl", ".", "did you mean `larch check a/Two.lsl`?"),
@@ -66,7 +74,7 @@ CALLS = [
     ("check a/Two", "check Two", "a", "`Two` is no file: its name ends in `.lsl` or `.lp`; did you mean `Two.lsl`?"),
     ("check a/My-Trait.lsl", "check My-Trait.lsl", "a", "letters, digits and `_`"),
     ("check b/*.lsl", "check *.lsl", "b", "no file is called *.lsl"),
-    ("check --limit=3 a/Two.lsl", "check --limit=3 Two.lsl", "a", "no command takes the option --limit=3"),
+    ("check --limit=3 a/Two.lsl", "check --limit=3 Two.lsl", "a", "only `session` and `replay` take --limit"),
     ("verify Natural imply1 N.cert a/Natural.lsl", "verify Natural imply1 N.cert Natural.lsl", "a", "is no label"),
     ("verify Natural imply.1 a/Form.cert a/Natural.lsl", "verify Natural imply.1 Form.cert Natural.lsl", "a",
      "that is a line of the certificate Form.cert; "),
@@ -118,9 +126,10 @@ def around(tests, larch, folder):
     for word in ("help", "--help", "-h"):
         output, status, _ = run([larch, word], folder)
         tests.see(f"larch {word}: the status", status, 0)
-        for command in ("check", "obligations", "verify", "model", "trim", "session", "explain", "watch", "--install"):
+        for command in ("replay", "check", "obligations", "verify", "model", "trim", "session", "explain", "watch",
+                        "--install"):
             tests.has(f"larch {word}", output, f"larch {command}")
-    for command in ("check", "obligations", "verify", "model", "trim", "session", "explain", "watch"):
+    for command in ("replay", "check", "obligations", "verify", "model", "trim", "session", "explain", "watch"):
         output, status, _ = run([larch, "help", command], folder)
         tests.see(f"larch help {command}", (bool(output), status), (True, 0))
         tests.see(f"larch {command} --help", run([larch, command, "--help"], folder)[1], 0)

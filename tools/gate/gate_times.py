@@ -6,11 +6,16 @@ Prints a row for each crate, dearest first: seconds of processor time for its pr
 tests, the check with which its edits begin (the seed), and its edits; then the sums in minutes. With --to the rows go
 to that file as well, so that another run can be laid beside this one. What a process took after the last look at it is
 lost, half a second at most. Ends with the command's status.
+
+First it says what the machine has, and then every five minutes how far the run is, so that a log that is cut off tells
+where it stood: the minutes since the beginning, processors, load and free memory, how many checks have ended, the
+processor minutes of the command itself without its checks, and each check that runs with those that it has taken.
 """
 import argparse
 import collections
 import os
 import pathlib
+import re
 import subprocess
 import sys
 import threading
@@ -18,7 +23,9 @@ import time
 
 KINDS = ("proof", "tests", "seed", "edits")
 SECONDS_BETWEEN_LOOKS = 0.5
+SECONDS_BETWEEN_LINES = 300
 TICKS = os.sysconf("SC_CLK_TCK")
+GROUP = "/sys/fs/cgroup"
 
 
 def words_of(process):
@@ -29,13 +36,47 @@ def words_of(process):
         return []
 
 
+def fields_of(process):
+    """What the system says of a process behind its name, or nothing where it is gone."""
+    try:
+        return pathlib.Path(f"/proc/{process}/stat").read_text().rpartition(")")[2].split()
+    except OSError:
+        return []
+
+
 def numbers_of(process):
     """A process's parent, and the seconds that it and the children that it waited for took."""
+    said = fields_of(process)
+    return (int(said[1]), sum(int(it) for it in said[11:15]) / TICKS) if said else None
+
+
+def own_minutes_of(process):
+    """The processor minutes that a process took without its children."""
+    return sum(int(it) for it in fields_of(process)[11:13]) / TICKS / 60
+
+
+def number_in(file, pattern):
+    """The first number that a file has in this place, if there is one."""
     try:
-        said = pathlib.Path(f"/proc/{process}/stat").read_text().rpartition(")")[2].split()
+        found = re.search(pattern, pathlib.Path(file).read_text())
     except OSError:
         return None
-    return int(said[1]), sum(int(it) for it in said[11:15]) / TICKS
+    return int(found[1]) if found else None
+
+
+def free_gigabytes():
+    """The memory that is free, under the limit of the control group too."""
+    free = [1024 * (number_in("/proc/meminfo", r"MemAvailable:\s+(\d+)") or 0)]
+    limit, held = number_in(f"{GROUP}/memory.max", r"^(\d+)"), number_in(f"{GROUP}/memory.stat", r"anon (\d+)")
+    if limit and held is not None:
+        free.append(limit - held)
+    return min(free) / 1e9
+
+
+def machine():
+    """What the machine has now."""
+    processors = len(os.sched_getaffinity(0))
+    return f"{processors} processors, load {os.getloadavg()[0]:.1f}, {free_gigabytes():.1f} GB free"
 
 
 def is_check(words):
@@ -57,12 +98,13 @@ def kind_of(process, words):
 
 
 class Looks:
-    """The checks seen so far: of each what it is for and what it took at the last look."""
+    """The checks seen so far: of each what it is for and what it took at the last look; and those that ran then."""
 
     def __init__(self):
-        self.checks = {}
+        self.checks, self.running = {}, []
 
     def look(self):
+        self.running = []
         processes = [int(name) for name in os.listdir("/proc") if name.isdigit()]
         words = {process: words_of(process) for process in processes}
         numbers = {process: numbers_of(process) for process in processes}
@@ -80,6 +122,14 @@ class Looks:
             crate = words[first][words[first].index("--crate-name") + 1]
             key = first, crate, kind
             self.checks[key] = max(self.checks.get(key, 0), seconds)
+            self.running.append(key)
+
+    def line(self, begun, command):
+        """How far the run is."""
+        now = sorted(f"{key[1]} {key[2]} {self.checks[key] / 60:.1f}" for key in self.running)
+        minutes, count = (time.monotonic() - begun) / 60, len(self.checks) - len(now)
+        return (f"gate, minute {minutes:.0f}: {machine()}; {count} checks ended; processor minutes: "
+                f"itself {own_minutes_of(command):.1f}, {', '.join(now) or 'no check'}")
 
     def by_crate(self):
         rows = collections.defaultdict(lambda: dict.fromkeys(KINDS, 0.0))
@@ -98,9 +148,13 @@ def table(rows):
     return "\n".join(lines) + "\n"
 
 
-def look_until(ended, looks):
+def look_until(ended, looks, begun, command):
+    told = begun
     while not ended.wait(SECONDS_BETWEEN_LOOKS):
         looks.look()
+        if time.monotonic() - told >= SECONDS_BETWEEN_LINES:
+            told += SECONDS_BETWEEN_LINES
+            print(looks.line(begun, command), flush=True)
 
 
 def main():
@@ -109,9 +163,12 @@ def main():
     words.add_argument("command", nargs=argparse.REMAINDER, help="what to run, as rt ci")
     said = words.parse_args()
     looks, ended, begun = Looks(), threading.Event(), time.monotonic()
-    looking = threading.Thread(target=look_until, args=(ended, looks))
+    whole = 1024 * (number_in("/proc/meminfo", r"MemTotal:\s+(\d+)") or 0) / 1e9
+    print(f"gate: {machine()} of {whole:.1f}", flush=True)
+    command = subprocess.Popen(said.command)
+    looking = threading.Thread(target=look_until, args=(ended, looks, begun, command.pid))
     looking.start()
-    status = subprocess.run(said.command, check=False).returncode
+    status = command.wait()
     ended.set()
     looking.join()
     text = table(looks.by_crate()) + f"wall time {(time.monotonic() - begun) / 60:.1f} minutes\n"

@@ -1,5 +1,7 @@
 #!/usr/bin/env python3
-"""Compiles the program `larch` with no proof and keeps it: build_unproved.py PROGRAM writes it to that path.
+"""Compiles a program with no proof and keeps it: build_unproved.py PROGRAM [CRATE] writes it to that path.
+
+CRATE is the folder below `crates/` that has the program; without it that is `larch`.
 
 `rt try` compiles the sources, with tests of each index and sum in them, runs the program once and removes it. So while
 it runs, each file that it makes in its folder is given a second name here, and the largest program among them is kept.
@@ -38,10 +40,10 @@ def is_program(path):
         return file.read(len(PROGRAM_MARK)) == PROGRAM_MARK and os.access(path, os.X_OK)
 
 
-def try_once(made, kept):
-    """Runs the try with no words, which mean no command; what it printed."""
+def try_once(made, kept, crate):
+    """Runs the try with no words and no input, which mean no command; what it printed."""
     with (made.parent / "printed").open("w+") as printed:
-        run = subprocess.Popen(["rt", "try", "--seconds", "60"], cwd=TOP / "crates" / "larch", stdin=subprocess.DEVNULL,
+        run = subprocess.Popen(["rt", "try", "--seconds", "60"], cwd=TOP / "crates" / crate, stdin=subprocess.DEVNULL,
                                stdout=printed, stderr=subprocess.STDOUT, env={**os.environ, "TMPDIR": str(made)})
         seen = set()
         while run.poll() is None:
@@ -58,7 +60,7 @@ def main():
         made, kept = pathlib.Path(room) / "made", pathlib.Path(room) / "kept"
         made.mkdir()
         kept.mkdir()
-        printed = try_once(made, kept)
+        printed = try_once(made, kept, sys.argv[2] if len(sys.argv) > 2 else "larch")
         programs = [path for path in kept.iterdir() if is_program(path)]
         if not programs:
             sys.stderr.write(printed)

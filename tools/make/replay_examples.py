@@ -3,10 +3,10 @@
 computes.
 
     tools/make/replay_examples.py rows EVALUATOR   the kept examples: specs and contracts of
-                                                   crates/larch_prove_meaning
+                                                   crates/larch_prove_examples
     tools/make/replay_examples.py random EVALUATOR SEED COUNT [--small | --wide]
                                                    random blocks as lemmas,
-                                                   crates/larch_prove_meaning/proofs/Random.antt;
+                                                   crates/larch_prove_examples/proofs/Random.antt;
                                                    with --small under rewriting limits from 1 to 8, so that many
                                                    are refused with LIMIT, with --wide over traits whose terms grow,
                                                    so that many are refused with SIZE
@@ -25,7 +25,7 @@ import re
 import sys
 
 ROOT = os.path.dirname(os.path.dirname(os.path.dirname(os.path.abspath(__file__))))
-CRATE = os.path.join(ROOT, "crates", "larch_prove_meaning")
+CRATE = os.path.join(ROOT, "crates", "larch_prove_examples")
 WIDTH = 118
 
 
@@ -726,7 +726,7 @@ ghost use Rattle.larch_prove_meaning.specs.Redo.{redo, trait_replayed};
 ghost use Rattle.larch_prove_meaning.specs.Replays.{replay, Proved, Suspended, Refused, InPreamble, AtOpening};
 ghost use Rattle.larch_prove_meaning.specs.Replays.{AtCommand};
 ghost use Rattle.larch_prove_meaning.specs.Reports.{DutyProved, DutyRefused, DutySuspended, ScriptFault, trait_lines};
-ghost use Rattle.larch_prove_meaning.specs.Worked as worked;
+ghost use Rattle.larch_prove_examples.specs.Worked as worked;
 """
 
 
@@ -933,7 +933,7 @@ def answers(module, name, clauses):
     os.makedirs(folder, exist_ok=True)
     text = f"""use Rattle.std.specs.Prelude.{{refl}}
 use Rattle.larch_prove_meaning.specs.Computing.{{replaying}}
-use Rattle.larch_prove_meaning.proofs.{module}.{name}.Goals as goal
+use Rattle.larch_prove_examples.proofs.{module}.{name}.Goals as goal
 """
     for clause in clauses:
         returns = f"returns-clause-{clause}" if clause else "returns"

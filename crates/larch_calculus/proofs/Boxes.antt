@@ -3,8 +3,8 @@ use Rattle.std.proofs.Common.{◌≡◌, ◌≢◌, ℕ, suc, ◌≤◌, ◌<◌
 use Rattle.std.proofs.Common.{refl, sym, ◌∙◌, ap, subst, arith, Option, option_map, option_and_then, unwrap_or}
 use Rattle.std.proofs.lemmas.List.Elements.{All-nil, All-cons, All-append, All-weaker, All-contains}
 use Rattle.std.proofs.lemmas.List.Kept.{AllPairs-cons}
-use Rattle.larch_base.proofs.Lists.{all_from}
-use Rattle.larch_base.proofs.Members.{contains_left}
+use Rattle.larch_term.proofs.BaseLists.{all_from}
+use Rattle.larch_term.proofs.BaseMembers.{contains_left}
 use Rattle.larch_term.specs.Operator.{OperatorName, PlainOperator, plain, boxed}
 use Rattle.larch_term.specs.declared.statement.Statement.{Statement}
 use Rattle.larch_term.specs.declared.statement.Theory.{Theory}

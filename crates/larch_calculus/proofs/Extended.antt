@@ -3,8 +3,8 @@ use Rattle.std.proofs.Common.{◌≡◌, ◌≢◌, inl, inr, List, [], ◌∷�
 use Rattle.std.proofs.lemmas.List.{append_assoc}
 use Rattle.std.proofs.lemmas.List.Elements.{All-append, All-weaker, All-contains}
 use Rattle.std.proofs.lemmas.List.Kept.{AllPairs-cons}
-use Rattle.larch_base.proofs.Lists.{all_from, pairs_head, pairs_tail}
-use Rattle.larch_base.proofs.Members.{contains_here, contains_later, contains_right}
+use Rattle.larch_term.proofs.BaseLists.{all_from, pairs_head, pairs_tail}
+use Rattle.larch_term.proofs.BaseMembers.{contains_here, contains_later, contains_right}
 use Rattle.larch_term.specs.Operator.{PlainOperator}
 use Rattle.larch_term.specs.BuiltIn.{IsBuiltIn}
 use Rattle.larch_term.specs.Sorts.{IsKnown}

@@ -4,7 +4,7 @@ use Rattle.std.proofs.Common.{unwrap_or, Contains, refl, sym, ◌∙◌, ap}
 use Rattle.std.specs.List.{slice_get}
 use Rattle.std.proofs.lemmas.List.Elements.{All-map}
 use Rattle.std.proofs.lemmas.Option.{slice_get-map}
-use Rattle.larch_base.proofs.Lists.{all_from, pairs_map}
+use Rattle.larch_term.proofs.BaseLists.{all_from, pairs_map}
 use Rattle.larch_term.specs.BuiltIn.{built_in}
 use Rattle.larch_term.specs.Operator.{PlainOperator, boxed}
 use Rattle.larch_term.specs.Tree.{Tree, Forest, var, app, none, more}

@@ -5,8 +5,8 @@ use Rattle.std.proofs.Common.{subst}
 use Rattle.std.specs.List.{slice_get}
 use Rattle.std.proofs.lemmas.List.Elements.{All-nil, All-cons, All-head, All-tail, All-weaker}
 use Rattle.std.proofs.lemmas.Slice.Eq.{bytes_eq-Decides}
-use Rattle.larch_base.proofs.Bools.{true_or_false, both_true, and_both}
-use Rattle.larch_base.proofs.Members.{contains_here, contains_later, contains_right, contains_cases, contains_none}
+use Rattle.larch_term.proofs.BaseBools.{true_or_false, both_true, and_both}
+use Rattle.larch_term.proofs.BaseMembers.{contains_here, contains_later, contains_right, contains_cases, contains_none}
 use Rattle.larch_term.specs.Operator.{PlainOperator}
 use Rattle.larch_term.specs.Tree.{Tree, Forest, var, app, none, more}
 use Rattle.larch_term.specs.Sorts.{sort_of, WellSorted, IsOver, AllOver, IsKnown, sorts_of, AllWellSorted}

@@ -4,9 +4,9 @@ use Rattle.std.proofs.Common.{None, option_map, option_and_then, All, Contains, 
 use Rattle.std.specs.List.{slice_get, AllPairs}
 use Rattle.std.proofs.lemmas.List.Elements.{All-head, All-tail, All-contains}
 use Rattle.std.proofs.lemmas.Option.{slice_get-map}
-use Rattle.larch_base.proofs.Bools.{true_or_false, same_truth}
-use Rattle.larch_base.proofs.Lists.{pairs_tail}
-use Rattle.larch_base.proofs.Members.{contains_cases, contains_here, got_contains, contains_got}
+use Rattle.larch_term.proofs.BaseBools.{true_or_false, same_truth}
+use Rattle.larch_term.proofs.BaseLists.{pairs_tail}
+use Rattle.larch_term.proofs.BaseMembers.{contains_cases, contains_here, got_contains, contains_got}
 use Rattle.larch_term.specs.Operator.{OperatorName, PlainOperator, plain, boxed}
 use Rattle.larch_term.specs.OperatorKey.{same_name, name_Decides}
 use Rattle.larch_term.specs.Sorts.{IsKnown}

@@ -2,7 +2,7 @@
 use Rattle.std.proofs.Common.{◌≡◌, ℕ, zero, suc, inl, List, [], ◌∷◌, codes, Some, refl, subst, arith}
 use Rattle.std.specs.List.{slice_get}
 use Rattle.std.proofs.lemmas.List.Elements.{All-nil, All-cons}
-use Rattle.larch_base.proofs.Members.{contains_here, contains_later}
+use Rattle.larch_term.proofs.BaseMembers.{contains_here, contains_later}
 use Rattle.larch_term.specs.Operator.{PlainOperator, boxed}
 use Rattle.larch_term.specs.Tree.{app, none}
 use Rattle.larch_term.specs.Sorts.{IsKnown}

@@ -3,10 +3,11 @@ use Rattle.std.proofs.Common.{◌≡◌, ℕ, suc, ◌<◌, ◌≤◌, ◌==◌,
 use Rattle.std.proofs.Common.{map, All, Contains, bytes_eq, refl, sym, ◌∙◌, subst, arith}
 use Rattle.std.proofs.lemmas.List.Elements.{All-map, All-contains}
 use Rattle.std.proofs.lemmas.Slice.Eq.{bytes_eq-Decides}
-use Rattle.larch_base.proofs.Bools.{true_or_false}
-use Rattle.larch_base.proofs.Members.{contains_cases, contains_here, contains_later, contains_right, contains_either}
-use Rattle.larch_base.proofs.Members.{contained_in_map}
-use Rattle.larch_base.proofs.Lists.{all_from}
+use Rattle.larch_term.proofs.BaseBools.{true_or_false}
+use Rattle.larch_term.proofs.BaseMembers.{contains_cases, contains_here, contains_later}
+use Rattle.larch_term.proofs.BaseMembers.{contains_right, contains_either}
+use Rattle.larch_term.proofs.BaseMembers.{contained_in_map}
+use Rattle.larch_term.proofs.BaseLists.{all_from}
 use Rattle.larch_term.specs.Operator.{PlainOperator}
 use Rattle.larch_term.specs.Tree.{Tree, var}
 use Rattle.larch_term.specs.Sorts.{sort_of, sorts_of, WellSorted, AllWellSorted, IsOver, AllOver, IsKnown, IsTermOver}

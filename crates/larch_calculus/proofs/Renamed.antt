@@ -1,8 +1,8 @@
 -- Terms and theories by a renaming under which no two sorts become one, and by one that is taken back.
 use Rattle.std.proofs.Common.{◌≡◌, ℕ, List, map, bytes_eq, Some, option_map, Contains, sym, ◌∙◌, ap}
 use Rattle.std.proofs.lemmas.Slice.Eq.{bytes_eq-Decides}
-use Rattle.larch_base.proofs.Bools.{same_truth}
-use Rattle.larch_base.proofs.Lists.{map_by}
+use Rattle.larch_term.proofs.BaseBools.{same_truth}
+use Rattle.larch_term.proofs.BaseLists.{map_by}
 use Rattle.larch_term.specs.BuiltIn.{built_in, bool_sort}
 use Rattle.larch_term.specs.Operator.{PlainOperator}
 use Rattle.larch_term.specs.Place.{at}

@@ -1,8 +1,8 @@
 -- Built-in terms, identities, observations and hypotheses by a renaming.
 use Rattle.std.proofs.Common.{◌≡◌, ℕ, suc, ◌==◌, cond, List, [], ◌∷◌, ◌++◌, map, bytes_eq, refl, sym, ◌∙◌, ap}
 use Rattle.std.proofs.lemmas.List.{map-append}
-use Rattle.larch_base.proofs.Lists.{map_map, map_by}
-use Rattle.larch_base.proofs.Options.{map_cond, cond_by}
+use Rattle.larch_term.proofs.BaseLists.{map_map, map_by}
+use Rattle.larch_term.proofs.BaseOptions.{map_cond, cond_by}
 use Rattle.larch_term.specs.Operator.{PlainOperator}
 use Rattle.larch_term.specs.Tree.{Tree, var, app, none, more}
 use Rattle.larch_term.specs.Truth.{truth}

@@ -2,7 +2,7 @@
 use Rattle.std.proofs.Common.{◌≡◌, inl, inr, List, ◌++◌, map, All, refl, sym, ◌∙◌, ap, subst}
 use Rattle.std.proofs.lemmas.List.{map-append}
 use Rattle.std.proofs.lemmas.List.Elements.{All-contains}
-use Rattle.larch_base.proofs.Members.{contains_later, contains_map}
+use Rattle.larch_term.proofs.BaseMembers.{contains_later, contains_map}
 use Rattle.larch_term.specs.BuiltIn.{bool_sort, built_in, built_in_name}
 use Rattle.larch_term.specs.Operator.{OperatorName, PlainOperator, plain, boxed}
 use Rattle.larch_term.specs.Sorts.{IsKnown}

@@ -4,9 +4,9 @@ use Rattle.std.proofs.Common.{◌∙◌, ap, subst, arith}
 use Rattle.std.proofs.lemmas.List.Elements.{All-nil, All-cons, All-append, All-head, All-tail, All-map, All-weaker}
 use Rattle.std.proofs.lemmas.List.Elements.{All-contains}
 use Rattle.std.proofs.lemmas.Slice.Eq.{bytes_eq-Decides}
-use Rattle.larch_base.proofs.Bools.{true_or_false}
-use Rattle.larch_base.proofs.Lists.{all_from}
-use Rattle.larch_base.proofs.Members.{contains_left, contains_right, contains_either}
+use Rattle.larch_term.proofs.BaseBools.{true_or_false}
+use Rattle.larch_term.proofs.BaseLists.{all_from}
+use Rattle.larch_term.proofs.BaseMembers.{contains_left, contains_right, contains_either}
 use Rattle.larch_term.specs.Operator.{PlainOperator}
 use Rattle.larch_term.specs.BuiltIn.{bool_sort, built_in}
 use Rattle.larch_term.specs.Tree.{Tree, Forest, var, app, none, more}

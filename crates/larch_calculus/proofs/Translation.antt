@@ -2,9 +2,10 @@
 use Rattle.std.proofs.Common.{◌≡◌, ◌≢◌, ℕ, inl, inr, List, [], ◌∷◌, ◌++◌, map, Some, All, Contains, sym, ◌∙◌, ap, subst}
 use Rattle.std.specs.List.{slice_get}
 use Rattle.std.proofs.lemmas.List.Elements.{All-nil, All-cons, All-map, All-weaker, All-contains}
-use Rattle.larch_base.proofs.Lists.{map_map, map_by, pairs_map}
-use Rattle.larch_base.proofs.Members.{contains_here, contains_later, contains_right, contains_either, contains_cases}
-use Rattle.larch_base.proofs.Members.{contains_map, contained_in_map, got_in_map, got_contains}
+use Rattle.larch_term.proofs.BaseLists.{map_map, map_by, pairs_map}
+use Rattle.larch_term.proofs.BaseMembers.{contains_here, contains_later, contains_right}
+use Rattle.larch_term.proofs.BaseMembers.{contains_either, contains_cases}
+use Rattle.larch_term.proofs.BaseMembers.{contains_map, contained_in_map, got_in_map, got_contains}
 use Rattle.larch_term.specs.BuiltIn.{bool_sort}
 use Rattle.larch_term.specs.Operator.{PlainOperator}
 use Rattle.larch_term.specs.Tree.{Tree, var, app}

@@ -4,3 +4,7 @@
 
 pub mod example;
 pub mod laws;
+
+// Passed on to crates above, which then needn't list them.
+pub use larch_term;
+pub use larch_term::larch_base;

@@ -5,8 +5,8 @@ ghost use Rattle.larch_certificate.specs.Coded.{CodedTree, coded_var, coded_app,
 ghost use Rattle.larch_certificate.specs.CodedView.{view_coded};
 
 use crate::symbol::Symbol;
-use larch_base::{Memory, Name};
 use larch_term::Sort;
+use larch_term::larch_base::{Memory, Name};
 use std::marker::Model;
 use std::rc::Rc;
 

@@ -14,3 +14,6 @@ pub use line::{
     CodedVars, Line, Numbers, Path,
 };
 pub use symbol::Symbol;
+
+// Passed on to crates above, which then needn't list them.
+pub use larch_term::larch_base;

@@ -5,7 +5,7 @@ use Rattle.std.specs.Char.{is_ascii_alphanumeric, is_ascii_digit}
 use Rattle.std.specs.Str.{all_ascii_digits}
 use Rattle.std.proofs.lemmas.Bool.{and_parts, and_from, or_cases, both_ways, false≢true}
 use Rattle.std.proofs.lemmas.Grind.{common_steps}
-use Rattle.larch_base.specs.Word.{is_word, goes_on, begins_alphanumeric}
+use Rattle.larch_certificate.specs.BaseWord.{is_word, goes_on, begins_alphanumeric}
 use Rattle.larch_certificate_text.specs.ByteClasses.{passes, Lacks, is_ref_byte, is_word_byte, is_op_byte, is_atom_byte}
 use Rattle.larch_certificate_text.specs.ByteClasses.{is_term_byte}
 

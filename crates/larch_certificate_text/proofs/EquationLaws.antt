@@ -7,9 +7,9 @@ use Rattle.std.proofs.lemmas.Option.{none-some, some_pair_parts, cond_some, opti
 use Rattle.std.specs.Char.{is_ascii_digit}
 use Rattle.std.proofs.lemmas.Fmt.{digits_decimal}
 use Rattle.std.proofs.lemmas.Slice.Eq.{bytes_eq-Decides}
-use Rattle.larch_base.specs.Word.{is_word}
+use Rattle.larch_certificate.specs.BaseWord.{is_word}
 use Rattle.larch_certificate_text.specs.declared.here.Here.{Here}
-use Rattle.larch_term.specs.declared.built_in.BuiltIn.TheVariants as built
+use Rattle.larch_certificate.specs.TermBuilt_inBuiltIn.TheVariants as built
 use Rattle.larch_certificate.specs.declared.symbol.Symbol.{Symbol}
 use Rattle.larch_certificate.specs.declared.symbol.Symbol.TheVariants as symbol
 use Rattle.larch_certificate.specs.declared.line.CodedEquation.{CodedEquation}

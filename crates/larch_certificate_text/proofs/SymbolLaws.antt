@@ -7,10 +7,10 @@ use Rattle.std.proofs.lemmas.Fmt.{digits_decimal}
 use Rattle.std.proofs.lemmas.Bool.{cond-true, and_parts, and_from, eqb-true}
 use Rattle.std.proofs.lemmas.Option.{cond_some, option_and_then_some, none-some, same_Some}
 use Rattle.std.proofs.lemmas.Slice.Eq.{bytes_eq-Decides}
-use Rattle.larch_base.specs.Word.{is_word}
+use Rattle.larch_certificate.specs.BaseWord.{is_word}
 use Rattle.larch_certificate_text.specs.declared.here.Here.{Here}
-use Rattle.larch_term.specs.declared.built_in.BuiltIn.{BuiltIn}
-use Rattle.larch_term.specs.declared.built_in.BuiltIn.TheVariants as built
+use Rattle.larch_certificate.specs.TermBuilt_inBuiltIn.{BuiltIn}
+use Rattle.larch_certificate.specs.TermBuilt_inBuiltIn.TheVariants as built
 use Rattle.larch_certificate.specs.declared.symbol.Symbol.{Symbol}
 use Rattle.larch_certificate.specs.declared.symbol.Symbol.TheVariants as symbol
 use Rattle.larch_certificate_text.specs.ByteClasses.{passes, is_ref_byte, is_word_byte, is_op_byte}

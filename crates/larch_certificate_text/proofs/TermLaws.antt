@@ -4,7 +4,7 @@ use Rattle.std.proofs.Common.{◌∙◌, ap, arith, append-nil, append_assoc, su
 use Rattle.std.proofs.lemmas.Grind.{common_steps}
 use Rattle.std.proofs.lemmas.Bool.{cond-false, ne_eqb, eqb-true, and_parts}
 use Rattle.std.proofs.lemmas.Option.{none-some, same_Some, some_pair_parts}
-use Rattle.larch_base.specs.Word.{is_word}
+use Rattle.larch_certificate.specs.BaseWord.{is_word}
 use Rattle.larch_certificate_text.specs.declared.here.Here.{Here}
 use Rattle.larch_certificate_text.specs.declared.machine.Frame.{Frame}
 use Rattle.larch_certificate_text.specs.declared.machine.Machine.{Machine}

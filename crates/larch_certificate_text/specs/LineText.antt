@@ -3,7 +3,7 @@ use Rattle.std.specs.Prelude.{◌≡◌, ◌<◌, ℕ, ◌==◌, Bool, true, fal
 use Rattle.std.specs.Prelude.{bytes_eq, Option, Some, None, option_map, option_and_then}
 use Rattle.std.specs.Prelude.{if◌then◌else◌}
 use Rattle.std.specs.List.{join_with_byte}
-use Rattle.larch_base.specs.Word.{is_word}
+use Rattle.larch_certificate.specs.BaseWord.{is_word}
 use Rattle.larch_certificate.specs.Coded.{CodedTree}
 use Rattle.larch_certificate.specs.declared.line.Binding.{Binding}
 use Rattle.larch_certificate.specs.declared.line.BoxPart.{BoxPart}

@@ -2,10 +2,10 @@
 use Rattle.std.specs.Prelude.{ℕ, ◌==◌, ◌&&◌, List, [], ◌∷◌, ◌++◌, codes, decimal, bytes_eq}
 use Rattle.std.specs.Prelude.{Option, Some, None, option_map, option_and_then}
 use Rattle.std.specs.Prelude.{if◌then◌else◌}
-use Rattle.larch_base.specs.Word.{is_word}
+use Rattle.larch_certificate.specs.BaseWord.{is_word}
 use Rattle.larch_certificate_text.specs.declared.here.Here.{Here}
-use Rattle.larch_term.specs.declared.built_in.BuiltIn.{BuiltIn}
-use Rattle.larch_term.specs.declared.built_in.BuiltIn.TheVariants as built
+use Rattle.larch_certificate.specs.TermBuilt_inBuiltIn.{BuiltIn}
+use Rattle.larch_certificate.specs.TermBuilt_inBuiltIn.TheVariants as built
 use Rattle.larch_certificate.specs.declared.symbol.Symbol.{Symbol}
 use Rattle.larch_certificate.specs.declared.symbol.Symbol.TheVariants as symbol
 use Rattle.larch_certificate_text.specs.Parts.{IsSmall, read_number, ref_text, read_ref, cut_at}

@@ -1,7 +1,7 @@
 -- Terms as texts, and the machine that reads them.
 use Rattle.std.specs.Prelude.{◌≡◌, ℕ, ◌==◌, true, List, [], ◌∷◌, ◌++◌, Option, Some, None}
 use Rattle.std.specs.Prelude.{if◌then◌else◌}
-use Rattle.larch_base.specs.Word.{is_word}
+use Rattle.larch_certificate.specs.BaseWord.{is_word}
 use Rattle.larch_certificate_text.specs.declared.here.Here.{Here}
 use Rattle.larch_certificate.specs.declared.symbol.Symbol.{Symbol}
 use Rattle.larch_certificate_text.specs.declared.machine.Frame.{Frame}

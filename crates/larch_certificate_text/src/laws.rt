@@ -2,7 +2,7 @@
 ghost use Rattle.std.specs.Prelude.{◌≡◌, ◌<◌, ◌^◌, ◌∷◌, ◌++◌, [], ℕ, List, Bool, true, length, decimal};
 ghost use Rattle.std.specs.Prelude.{Some, Ok, Err};
 ghost use Rattle.std.specs.List.{join_with_byte};
-ghost use Rattle.larch_base.specs.Word.{is_word};
+ghost use Rattle.larch_certificate.specs.BaseWord.{is_word};
 ghost use Rattle.larch_certificate.specs.Coded.{CodedTree, CodedForest, coded_app, coded_var, no_terms, term_then};
 ghost use Rattle.larch_certificate.specs.declared.line.CodedEquation.{CodedEquation};
 ghost use Rattle.larch_certificate.specs.declared.line.Line.{Line};

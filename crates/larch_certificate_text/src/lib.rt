@@ -16,3 +16,6 @@ pub use machine::{Frame, Machine};
 pub use rule_word::RuleWord;
 pub use stack::Stack;
 pub use text::Text;
+
+// Passed on to crates above, which then needn't list them.
+pub use larch_certificate;

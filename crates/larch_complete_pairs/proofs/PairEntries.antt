@@ -29,8 +29,8 @@ use Rattle.larch_pairs_critical.proofs.Overlapping.{all_overlap}
 use Rattle.larch_pairs_critical.proofs.Replacements.{all_differ, all_fit, all_over, first_variables, second_variables}
 use Rattle.larch_certificate_text.specs.LineText.{IsWord}
 use Rattle.larch_certificate_text.specs.Parts.{Each}
-use Rattle.larch_rewrite_meaning.specs.Sides.{AreSidesOver, Sides}
-use Rattle.larch_verify_meaning.specs.Matching.{all_different}
+use Rattle.larch_complete_meaning.specs.RewriteMeaningSides.{AreSidesOver, Sides}
+use Rattle.larch_derive.specs.VerifyMeaningMatching.{all_different}
 use Rattle.larch_derive.specs.Builder.{theory_in}
 use Rattle.larch_derive.specs.Predicates.{Extends, HasEquation, HasNoBadLine, Known}
 use Rattle.larch_derive.specs.Words.{AreWordedOperators, AreWordedTerms, IsWordedOperator, IsWordedTerm}

@@ -11,7 +11,7 @@ use Rattle.larch_derive.specs.declared.builder.Builder.{Builder}
 use Rattle.larch_derive.proofs.Growth.{stays_said}
 use Rattle.larch_pairs_critical.specs.Overlap.{Overlaps}
 use Rattle.larch_pairs_critical.specs.declared.pair.Pair.{Pair}
-use Rattle.larch_rewrite_meaning.specs.Sides.{Sides}
+use Rattle.larch_complete_meaning.specs.RewriteMeaningSides.{Sides}
 use Rattle.larch_term.specs.Place.{at, put}
 use Rattle.larch_term.specs.Substitution.{instance_of}
 

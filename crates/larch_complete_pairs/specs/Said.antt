@@ -13,8 +13,8 @@ use Rattle.larch_pairs.specs.declared.refusal.PairRefusal.TheVariants.{TooLarge 
 use Rattle.larch_pairs.specs.declared.refusal.PairRefusal.TheVariants.{Memory as pair_memory}
 use Rattle.larch_pairs_critical.specs.Overlap.{Overlaps}
 use Rattle.larch_pairs_critical.specs.declared.pair.Pair.{Pair}
-use Rattle.larch_rewrite_meaning.specs.Sides.{Sides}
-use Rattle.larch_verify_meaning.specs.Matching.{all_different}
+use Rattle.larch_complete_meaning.specs.RewriteMeaningSides.{Sides}
+use Rattle.larch_derive.specs.VerifyMeaningMatching.{all_different}
 
 -- the sides of an equation, and of a rule
 abbrev pub sides_in : SaidEquation → Sides

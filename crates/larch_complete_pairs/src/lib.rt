@@ -7,3 +7,6 @@ mod said;
 
 pub use pairs::{push_pairs, say_pair};
 pub use said::{SaidEquation, SaidRule};
+
+// Passed on to crates above, which then needn't list them.
+pub use larch_derive_lines;

@@ -4,7 +4,7 @@ ghost use Rattle.larch_complete_pairs.specs.Said.{IsSaid, IsSaidRule, IsPairOf, 
 ghost use Rattle.larch_derive.specs.Builder.{theory_in};
 ghost use Rattle.larch_derive.specs.Predicates.{Extends, HasEquation};
 ghost use Rattle.larch_pairs_critical.specs.Overlap.{IsApplication};
-ghost use Rattle.larch_rewrite_meaning.specs.Sides.{AreSidesOver, Sides};
+ghost use Rattle.larch_complete_meaning.specs.RewriteMeaningSides.{AreSidesOver, Sides};
 
 use crate::said::{SaidEquation, SaidRule};
 use larch_base::{Memory, Sequence};

@@ -6,7 +6,7 @@ use Rattle.std.specs.Option.{option_map, option_map_or}
 use Rattle.std.proofs.lemmas.List.{length-append}
 use Rattle.std.proofs.lemmas.Option.{option_and_then_some}
 use Rattle.std.proofs.lemmas.List.Elements.{All-head, All-tail}
-use Rattle.larch_base.proofs.Options.{some_inj}
+use Rattle.larch_term.proofs.BaseOptions.{some_inj}
 use Rattle.larch_term.specs.Operator.{PlainOperator}
 use Rattle.larch_term.specs.Sorts.{IsKnown, IsOver, AllOver}
 use Rattle.larch_term.specs.Statement.{IsStatementOver}
@@ -14,15 +14,15 @@ use Rattle.larch_term.specs.Tree.{Tree, Forest, var, app, none, more}
 use Rattle.larch_term.specs.declared.statement.Statement.{Statement}
 use Rattle.larch_term.specs.declared.statement.Statement.TheVariants.{Equation, Generated, Partitioned}
 use Rattle.larch_term.specs.declared.statement.Theory.{Theory}
-use Rattle.larch_renaming.specs.Renaming.{renamed_all}
-use Rattle.larch_calculus.specs.Renaming.{HasPlainNames}
-use Rattle.larch_certificate.specs.declared.line.BoxPart.{BoxPart}
-use Rattle.larch_certificate.specs.declared.line.CodedEquation.{CodedEquation}
-use Rattle.larch_certificate.specs.declared.line.Line.{Line}
-use Rattle.larch_certificate.specs.declared.line.Line.TheVariants.{Axiom, Hyp, Row, Refl, Sym, Inst, Repl, Equal}
-use Rattle.larch_certificate.specs.declared.line.Line.TheVariants.{BoxLine, Done, Fresh, Cases, Induct, Observe}
-use Rattle.larch_certificate.specs.declared.line.Line.TheVariants.{Generated as GeneratedLine}
-use Rattle.larch_certificate.specs.declared.line.Line.TheVariants.{Partitioned as PartitionedLine}
+use Rattle.larch_verify_meaning.specs.RenamingRenaming.{renamed_all}
+use Rattle.larch_verify_meaning.specs.CalculusRenaming.{HasPlainNames}
+use Rattle.larch_certificate_text.specs.CertificateLineBoxPart.{BoxPart}
+use Rattle.larch_certificate_text.specs.CertificateLineCodedEquation.{CodedEquation}
+use Rattle.larch_certificate_text.specs.CertificateLineLine.{Line}
+use Rattle.larch_certificate_text.specs.CertificateLineLine.TheVariants.{Axiom, Hyp, Row, Refl, Sym, Inst, Repl, Equal}
+use Rattle.larch_certificate_text.specs.CertificateLineLine.TheVariants.{BoxLine, Done, Fresh, Cases, Induct, Observe}
+use Rattle.larch_certificate_text.specs.CertificateLineLine.TheVariants.{Generated as GeneratedLine}
+use Rattle.larch_certificate_text.specs.CertificateLineLine.TheVariants.{Partitioned as PartitionedLine}
 use Rattle.larch_verify_meaning.specs.Acceptance.{Accepts, last_statement}
 use Rattle.larch_verify_meaning.specs.Context.{theory_of, find_line, find_symbol, innermost}
 use Rattle.larch_verify_meaning.specs.Decoding.{each, decode_equation}

@@ -5,19 +5,19 @@ use Rattle.std.proofs.Common.{subst, arith}
 use Rattle.std.specs.List.{slice_get}
 use Rattle.std.proofs.lemmas.List.{take_more}
 use Rattle.std.proofs.lemmas.Bool.{cond-false}
-use Rattle.larch_base.proofs.Members.{contains_cases, contains_none}
-use Rattle.larch_base.proofs.Options.{some_inj}
-use Rattle.larch_base.specs.ByNumber.{numbered}
+use Rattle.larch_term.proofs.BaseMembers.{contains_cases, contains_none}
+use Rattle.larch_term.proofs.BaseOptions.{some_inj}
+use Rattle.larch_term.specs.BaseByNumber.{numbered}
 use Rattle.larch_term.specs.BuiltIn.{IsBuiltIn}
 use Rattle.larch_term.specs.OperatorKey.{same_operator, operator_Decides}
-use Rattle.larch_certificate.specs.declared.symbol.Symbol.TheVariants.{Own}
+use Rattle.larch_certificate_text.specs.CertificateSymbolSymbol.TheVariants.{Own}
 use Rattle.larch_derive.specs.OpenBox.{place_from, constant_of}
 use Rattle.larch_term.specs.Operator.{PlainOperator}
 use Rattle.larch_term.specs.Tree.{Tree, forest_of}
 use Rattle.larch_term.specs.declared.statement.Statement.{Statement}
 use Rattle.larch_term.specs.declared.statement.Statement.TheVariants.{Equation, Generated, Partitioned}
-use Rattle.larch_certificate.specs.Coded.{CodedTree, coded_forest_of}
-use Rattle.larch_certificate.specs.declared.line.CodedEquation.{CodedEquation}
+use Rattle.larch_certificate_text.specs.CertificateCoded.{CodedTree, coded_forest_of}
+use Rattle.larch_certificate_text.specs.CertificateLineCodedEquation.{CodedEquation}
 use Rattle.larch_derive.specs.Coding.{IsNameOf, IsCodeOf, AreCodesOf, AreCodesOfEquations}
 use Rattle.larch_derive.specs.declared.open_box.OpenBox.{OpenBox}
 

@@ -6,8 +6,8 @@ use Rattle.std.specs.Cmp.Lexicographic.{pointwise}
 use Rattle.std.specs.List.{slice_get}
 use Rattle.std.proofs.lemmas.List.Elements.{All-contains}
 use Rattle.std.proofs.lemmas.Bool.{cond-true}
-use Rattle.larch_base.proofs.Members.{contains_either, contains_cases, contains_none}
-use Rattle.larch_base.specs.ByNumber.{numbered}
+use Rattle.larch_term.proofs.BaseMembers.{contains_either, contains_cases, contains_none}
+use Rattle.larch_term.specs.BaseByNumber.{numbered}
 use Rattle.larch_term.specs.BuiltIn.{IsBuiltIn, built_in, bool_sort}
 use Rattle.larch_term.specs.Operator.{OperatorName, PlainOperator, plain, boxed}
 use Rattle.larch_term.specs.OperatorKey.{sorts_Decides}
@@ -15,12 +15,13 @@ use Rattle.larch_term.specs.Sorts.{sorts_of, AllWellSorted, IsKnown, AllOver, Is
 use Rattle.larch_term.specs.Tree.{Tree, Forest, var, app, none, more}
 use Rattle.larch_term.specs.declared.statement.Theory.{Theory}
 use Rattle.larch_term.proofs.BuiltIns.{is_built_in_at_last}
-use Rattle.larch_renaming.specs.Renaming.{rename_tree, renamed_all}
-use Rattle.larch_calculus.specs.Renaming.{HasPlainNames, IsPlainName}
-use Rattle.larch_certificate.specs.Coded.{CodedTree, CodedForest, coded_var, coded_app, no_terms, term_then}
-use Rattle.larch_certificate.specs.declared.line.BoxPart.{BoxPart}
-use Rattle.larch_certificate.specs.declared.symbol.Symbol.{Symbol}
-use Rattle.larch_certificate.specs.declared.symbol.Symbol.TheVariants.{Own, Constant, BuiltIn}
+use Rattle.larch_verify_meaning.specs.RenamingRenaming.{rename_tree, renamed_all}
+use Rattle.larch_verify_meaning.specs.CalculusRenaming.{HasPlainNames, IsPlainName}
+use Rattle.larch_certificate_text.specs.CertificateCoded.{CodedTree, CodedForest, coded_var}
+use Rattle.larch_certificate_text.specs.CertificateCoded.{coded_app, no_terms, term_then}
+use Rattle.larch_certificate_text.specs.CertificateLineBoxPart.{BoxPart}
+use Rattle.larch_certificate_text.specs.CertificateSymbolSymbol.{Symbol}
+use Rattle.larch_certificate_text.specs.CertificateSymbolSymbol.TheVariants.{Own, Constant, BuiltIn}
 use Rattle.larch_verify_meaning.specs.Context.{theory_of, find_open, find_symbol}
 use Rattle.larch_verify_meaning.specs.Decoding.{decode, decode_all, applied_to}
 use Rattle.larch_verify_meaning.specs.Events.{PlainBox, Event, Said, Opened, Closed, operators_of, operators_from}

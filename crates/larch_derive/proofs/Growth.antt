@@ -10,8 +10,8 @@ use Rattle.larch_term.specs.Tree.{Tree}
 use Rattle.larch_term.specs.declared.statement.Statement.{Statement}
 use Rattle.larch_term.specs.declared.statement.Statement.TheVariants.{Equation}
 use Rattle.larch_term.specs.declared.statement.Theory.{Theory}
-use Rattle.larch_certificate.specs.Coded.{CodedTree}
-use Rattle.larch_certificate.specs.declared.line.Line.{Line}
+use Rattle.larch_certificate_text.specs.CertificateCoded.{CodedTree}
+use Rattle.larch_certificate_text.specs.CertificateLineLine.{Line}
 use Rattle.larch_verify_meaning.specs.Context.{theory_of, find_line}
 use Rattle.larch_verify_meaning.specs.Events.{Event, Said, Opened, Closed, State, start}
 use Rattle.larch_verify_meaning.specs.Run.{run, step}

@@ -3,7 +3,7 @@ use Rattle.std.proofs.Common.{◌≡◌, ◌==◌, ℕ, suc, false, cond, List, 
 use Rattle.std.proofs.Common.{ap₂, subst, arith}
 use Rattle.std.specs.Option.{option_map, option_map_or, option_and_then}
 use Rattle.std.proofs.lemmas.Bool.{cond-true}
-use Rattle.larch_base.proofs.Options.{some_inj}
+use Rattle.larch_term.proofs.BaseOptions.{some_inj}
 use Rattle.larch_term.specs.Equality.{same_tree}
 use Rattle.larch_term.proofs.Decided.{tree_Decides}
 use Rattle.larch_term.specs.Place.{at, put}
@@ -12,13 +12,13 @@ use Rattle.larch_term.specs.Tree.{Tree}
 use Rattle.larch_term.specs.declared.statement.Statement.{Statement}
 use Rattle.larch_term.specs.declared.statement.Statement.TheVariants.{Equation}
 use Rattle.larch_term.specs.declared.statement.Theory.{Theory}
-use Rattle.larch_term_law.proofs.Places.{put_sort, put_well_sorted, put_over}
-use Rattle.larch_term_law.proofs.Substitutions.{substituted_nil}
-use Rattle.larch_renaming.specs.Renaming.{rename_tree}
-use Rattle.larch_renaming.proofs.Renamed.{at_renamed, renamed_put}
-use Rattle.larch_certificate.specs.Coded.{CodedTree}
-use Rattle.larch_certificate.specs.declared.line.Line.{Line}
-use Rattle.larch_certificate.specs.declared.line.Line.TheVariants.{Refl, Sym, Inst, Repl}
+use Rattle.larch_verify_meaning.proofs.TermLawPlaces.{put_sort, put_well_sorted, put_over}
+use Rattle.larch_verify_meaning.proofs.TermLawSubstitutions.{substituted_nil}
+use Rattle.larch_verify_meaning.specs.RenamingRenaming.{rename_tree}
+use Rattle.larch_verify_meaning.proofs.RenamingRenamed.{at_renamed, renamed_put}
+use Rattle.larch_certificate_text.specs.CertificateCoded.{CodedTree}
+use Rattle.larch_certificate_text.specs.CertificateLineLine.{Line}
+use Rattle.larch_certificate_text.specs.CertificateLineLine.TheVariants.{Refl, Sym, Inst, Repl}
 use Rattle.larch_certificate_text.specs.LineText.{FitLine}
 use Rattle.larch_verify_meaning.specs.Context.{find_line, find_symbol}
 use Rattle.larch_verify_meaning.specs.Decoding.{decode}

@@ -4,15 +4,15 @@ use Rattle.std.proofs.Common.{◌∙◌, ap, subst, arith}
 use Rattle.std.specs.Option.{option_map, option_and_then}
 use Rattle.std.proofs.lemmas.Option.{option_and_then_some}
 use Rattle.std.proofs.lemmas.List.Elements.{All-nil, All-cons}
-use Rattle.larch_base.proofs.Options.{some_inj}
+use Rattle.larch_term.proofs.BaseOptions.{some_inj}
 use Rattle.larch_term.specs.declared.statement.Statement.{Statement}
 use Rattle.larch_term.specs.declared.statement.Theory.{Theory}
-use Rattle.larch_certificate.specs.declared.line.BoxPart.{BoxPart}
-use Rattle.larch_certificate.specs.declared.line.CodedEquation.{CodedEquation}
-use Rattle.larch_certificate.specs.declared.line.Line.{Line}
-use Rattle.larch_certificate.specs.declared.line.Line.TheVariants.{Axiom, Hyp, Row, Refl, Sym, Inst, Repl, Equal}
-use Rattle.larch_certificate.specs.declared.line.Line.TheVariants.{BoxLine, Done, Fresh, Cases, Induct, Observe}
-use Rattle.larch_certificate.specs.declared.line.Line.TheVariants.{Generated, Partitioned}
+use Rattle.larch_certificate_text.specs.CertificateLineBoxPart.{BoxPart}
+use Rattle.larch_certificate_text.specs.CertificateLineCodedEquation.{CodedEquation}
+use Rattle.larch_certificate_text.specs.CertificateLineLine.{Line}
+use Rattle.larch_certificate_text.specs.CertificateLineLine.TheVariants.{Axiom, Hyp, Row, Refl, Sym, Inst, Repl, Equal}
+use Rattle.larch_certificate_text.specs.CertificateLineLine.TheVariants.{BoxLine, Done, Fresh, Cases, Induct, Observe}
+use Rattle.larch_certificate_text.specs.CertificateLineLine.TheVariants.{Generated, Partitioned}
 use Rattle.larch_verify_meaning.specs.Context.{find_symbol, innermost}
 use Rattle.larch_verify_meaning.specs.Decoding.{each, decode_equation}
 use Rattle.larch_verify_meaning.specs.Events.{PlainBox, Event, Said, Opened, Closed, State}

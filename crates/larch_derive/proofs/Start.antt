@@ -7,10 +7,10 @@ use Rattle.larch_term.specs.Operator.{OperatorName, PlainOperator, plain, boxed}
 use Rattle.larch_term.specs.Sorts.{IsTermOver}
 use Rattle.larch_term.specs.Tree.{Tree}
 use Rattle.larch_term.specs.declared.statement.Theory.{Theory}
-use Rattle.larch_renaming.specs.Renaming.{no_renaming}
-use Rattle.larch_renaming.proofs.Renamed.{renamed_alike_over, renamed_unchanged}
-use Rattle.larch_calculus.specs.Renaming.{HasPlainNames, IsPlainName}
-use Rattle.larch_calculus.proofs.Sorted.{term_over_more}
+use Rattle.larch_verify_meaning.specs.RenamingRenaming.{no_renaming}
+use Rattle.larch_verify_meaning.proofs.RenamingRenamed.{renamed_alike_over, renamed_unchanged}
+use Rattle.larch_verify_meaning.specs.CalculusRenaming.{HasPlainNames, IsPlainName}
+use Rattle.larch_verify_meaning.proofs.CalculusSorted.{term_over_more}
 use Rattle.larch_certificate_text.specs.CertificateText.{Writable}
 use Rattle.larch_verify_meaning.specs.Events.{start}
 use Rattle.larch_verify_meaning.specs.Run.{run}

@@ -4,7 +4,7 @@ use Rattle.std.proofs.Common.{refl, sym, ◌∙◌, ap, subst}
 use Rattle.std.specs.Option.{option_map, option_or}
 use Rattle.std.proofs.lemmas.Bool.{cond-false}
 use Rattle.std.proofs.lemmas.List.Elements.{All-head, All-tail, All-contains}
-use Rattle.larch_base.proofs.Members.{contains_here, contains_later, contains_left}
+use Rattle.larch_term.proofs.BaseMembers.{contains_here, contains_later, contains_left}
 use Rattle.larch_term.specs.BuiltIn.{built_in, built_in_name}
 use Rattle.larch_term.specs.Operator.{OperatorName, PlainOperator, plain, boxed}
 use Rattle.larch_term.specs.OperatorKey.{same_operator, operator_Decides}
@@ -12,10 +12,10 @@ use Rattle.larch_term.specs.Sorts.{IsKnown}
 use Rattle.larch_term.specs.Statement.{IsStatementOver}
 use Rattle.larch_term.specs.declared.statement.Statement.{Statement}
 use Rattle.larch_term.specs.declared.statement.Theory.{Theory}
-use Rattle.larch_renaming.specs.Renaming.{no_renaming}
-use Rattle.larch_renaming.proofs.RenamedStatements.{statement_unchanged, statement_alike_over}
-use Rattle.larch_calculus.specs.Renaming.{IsFaithful, HasPlainNames, IsPlainName}
-use Rattle.larch_calculus.proofs.Sorted.{statement_over_more}
+use Rattle.larch_verify_meaning.specs.RenamingRenaming.{no_renaming}
+use Rattle.larch_verify_meaning.proofs.RenamingRenamedStatements.{statement_unchanged, statement_alike_over}
+use Rattle.larch_verify_meaning.specs.CalculusRenaming.{IsFaithful, HasPlainNames, IsPlainName}
+use Rattle.larch_verify_meaning.proofs.CalculusSorted.{statement_over_more}
 use Rattle.larch_verify_meaning.specs.Context.{theory_of}
 use Rattle.larch_verify_meaning.specs.Events.{Event, Said, Opened, Closed, operators_of}
 use Rattle.larch_derive.specs.declared.open_box.OpenBox.{OpenBox}

@@ -11,9 +11,10 @@ use Rattle.larch_term.specs.Substitution.{instance_of, substituted_all, is_entry
 use Rattle.larch_term.specs.Tree.{Tree, Forest, var, app, none, more}
 use Rattle.larch_term.specs.declared.statement.Statement.{Statement}
 use Rattle.larch_term.specs.declared.substitution.Entry.{Entry}
-use Rattle.larch_term_law.proofs.Substitutions.{image_holds}
-use Rattle.larch_certificate.specs.Coded.{CodedTree, CodedForest, coded_var, coded_app, no_terms, term_then}
-use Rattle.larch_certificate.specs.declared.line.Line.{Line}
+use Rattle.larch_verify_meaning.proofs.TermLawSubstitutions.{image_holds}
+use Rattle.larch_certificate_text.specs.CertificateCoded.{CodedTree, CodedForest, coded_var}
+use Rattle.larch_certificate_text.specs.CertificateCoded.{coded_app, no_terms, term_then}
+use Rattle.larch_certificate_text.specs.CertificateLineLine.{Line}
 use Rattle.larch_certificate_text.specs.CertificateText.{FitLines, Writable}
 use Rattle.larch_certificate_text.specs.LineText.{IsWord, IsArgument, FitLine}
 use Rattle.larch_certificate_text.specs.Parts.{IsSmall, Each}

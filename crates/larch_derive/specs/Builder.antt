@@ -4,13 +4,13 @@ use Rattle.larch_term.specs.Operator.{PlainOperator}
 use Rattle.larch_term.specs.declared.statement.Statement.{Statement}
 use Rattle.larch_term.specs.declared.statement.Theory.{Theory}
 use Rattle.larch_term.specs.Tree.{Tree}
-use Rattle.larch_certificate.specs.Coded.{CodedTree}
-use Rattle.larch_certificate.specs.declared.line.BoxPart.{BoxPart}
-use Rattle.larch_certificate.specs.declared.line.CodedEquation.{CodedEquation}
-use Rattle.larch_certificate.specs.declared.line.Line.{Line}
-use Rattle.larch_certificate.specs.declared.line.Line.TheVariants.{Axiom, Hyp, Row, Refl, Sym, Inst, Repl, Equal}
-use Rattle.larch_certificate.specs.declared.line.Line.TheVariants.{BoxLine, Done, Fresh, Cases, Induct, Observe}
-use Rattle.larch_certificate.specs.declared.line.Line.TheVariants.{Generated, Partitioned}
+use Rattle.larch_certificate_text.specs.CertificateCoded.{CodedTree}
+use Rattle.larch_certificate_text.specs.CertificateLineBoxPart.{BoxPart}
+use Rattle.larch_certificate_text.specs.CertificateLineCodedEquation.{CodedEquation}
+use Rattle.larch_certificate_text.specs.CertificateLineLine.{Line}
+use Rattle.larch_certificate_text.specs.CertificateLineLine.TheVariants.{Axiom, Hyp, Row, Refl, Sym, Inst, Repl, Equal}
+use Rattle.larch_certificate_text.specs.CertificateLineLine.TheVariants.{BoxLine, Done, Fresh, Cases, Induct, Observe}
+use Rattle.larch_certificate_text.specs.CertificateLineLine.TheVariants.{Generated, Partitioned}
 use Rattle.larch_certificate_text.specs.Parts.{IsSmall, Each}
 use Rattle.larch_derive.specs.declared.builder.Builder.{Builder}
 use Rattle.larch_derive.specs.declared.open_box.OpenBox.{OpenBox}

@@ -1,15 +1,16 @@
 -- How terms are written in lines.
 use Rattle.std.specs.Prelude.{◌≡◌, List, [], ◌∷◌, Contains, Some, None}
-use Rattle.larch_base.specs.ByNumber.{numbered}
+use Rattle.larch_term.specs.BaseByNumber.{numbered}
 use Rattle.larch_term.specs.BuiltIn.{IsBuiltIn, IsBuiltInAs}
 use Rattle.larch_term.specs.Operator.{PlainOperator}
 use Rattle.larch_term.specs.Tree.{Tree, Forest, var, app, none, more}
 use Rattle.larch_term.specs.declared.statement.Statement.{Statement}
 use Rattle.larch_term.specs.declared.statement.Statement.TheVariants.{Equation, Generated, Partitioned}
-use Rattle.larch_certificate.specs.Coded.{CodedTree, CodedForest, coded_var, coded_app, no_terms, term_then}
-use Rattle.larch_certificate.specs.declared.line.CodedEquation.{CodedEquation}
-use Rattle.larch_certificate.specs.declared.symbol.Symbol.{Symbol}
-use Rattle.larch_certificate.specs.declared.symbol.Symbol.TheVariants.{Own, Constant, BuiltIn}
+use Rattle.larch_certificate_text.specs.CertificateCoded.{CodedTree, CodedForest, coded_var}
+use Rattle.larch_certificate_text.specs.CertificateCoded.{coded_app, no_terms, term_then}
+use Rattle.larch_certificate_text.specs.CertificateLineCodedEquation.{CodedEquation}
+use Rattle.larch_certificate_text.specs.CertificateSymbolSymbol.{Symbol}
+use Rattle.larch_certificate_text.specs.CertificateSymbolSymbol.TheVariants.{Own, Constant, BuiltIn}
 use Rattle.larch_certificate_text.specs.SymbolText.{FitSymbol}
 use Rattle.larch_derive.specs.declared.open_box.OpenBox.{OpenBox}
 use Rattle.larch_derive.specs.OpenBox.{constant_of}

@@ -2,7 +2,7 @@
 use Rattle.std.specs.Prelude.{List}
 use Rattle.larch_term.specs.declared.statement.Statement.{Statement}
 use Rattle.larch_term.specs.declared.statement.Theory.{Theory}
-use Rattle.larch_certificate.specs.declared.line.Line.{Line}
+use Rattle.larch_certificate_text.specs.CertificateLineLine.{Line}
 use Rattle.larch_certificate_text.specs.CertificateText.{Writable}
 use Rattle.larch_verify_meaning.specs.Acceptance.{Accepts}
 use Rattle.larch_verify_meaning.specs.LastLine.{EndsWithoutStatedClause}

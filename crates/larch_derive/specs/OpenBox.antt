@@ -3,7 +3,7 @@ use Rattle.std.specs.Prelude.{ℕ, suc, if◌then◌else◌, List, [], ◌∷◌
 use Rattle.std.specs.Option.{option_or}
 use Rattle.larch_term.specs.Operator.{OperatorName, PlainOperator, plain, boxed}
 use Rattle.larch_term.specs.OperatorKey.{same_operator}
-use Rattle.larch_renaming.specs.Renaming.{Renaming}
+use Rattle.larch_verify_meaning.specs.RenamingRenaming.{Renaming}
 use Rattle.larch_derive.specs.declared.open_box.OpenBox.{OpenBox}
 
 -- the place of an operator in a list, the first place having a number

@@ -8,10 +8,10 @@ use Rattle.larch_term.specs.Tree.{Tree}
 use Rattle.larch_term.specs.declared.statement.Statement.{Statement}
 use Rattle.larch_term.specs.declared.statement.Statement.TheVariants.{Equation}
 use Rattle.larch_term.specs.declared.statement.Theory.{Theory}
-use Rattle.larch_renaming.specs.Renaming.{rename_tree, renamed_statement}
-use Rattle.larch_calculus.specs.Renaming.{HasPlainNames}
-use Rattle.larch_certificate.specs.declared.line.BoxPart.{BoxPart}
-use Rattle.larch_certificate.specs.declared.line.Line.{Line}
+use Rattle.larch_verify_meaning.specs.RenamingRenaming.{rename_tree, renamed_statement}
+use Rattle.larch_verify_meaning.specs.CalculusRenaming.{HasPlainNames}
+use Rattle.larch_certificate_text.specs.CertificateLineBoxPart.{BoxPart}
+use Rattle.larch_certificate_text.specs.CertificateLineLine.{Line}
 use Rattle.larch_certificate_text.specs.CertificateText.{Writable}
 use Rattle.larch_verify_meaning.specs.Context.{theory_of, find_line}
 use Rattle.larch_verify_meaning.specs.Events.{Event, Said, Opened, Closed, State, start}

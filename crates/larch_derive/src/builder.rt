@@ -1,5 +1,5 @@
 ghost use Rattle.std.specs.Prelude.{◌≡◌, suc, ◌-◌, ◌++◌, ◌∷◌, [], IfOk, OnErr, OnOk, false, length, map, take, All};
-ghost use Rattle.larch_calculus.specs.Renaming.{IsPlainName};
+ghost use Rattle.larch_verify_meaning.specs.CalculusRenaming.{IsPlainName};
 ghost use Rattle.larch_certificate_text.specs.Parts.{IsSmall};
 ghost use Rattle.larch_derive.specs.Coding.{IsSymbolOf};
 ghost use Rattle.larch_derive.specs.Predicates.{HasNoBadLine};
@@ -13,8 +13,10 @@ use crate::open_box::{OpenBox, OpenBoxes, copy_boxes};
 use crate::shared_list::ChunkedList;
 use crate::shared_theory::SharedTheory;
 use crate::small::{number_is_small, numbers_of_line_are_small};
-use larch_base::{Memory, Sequence, let_go};
-use larch_certificate::{BoxPart, BoxParts, Certificate, Coded, Line, Symbol};
+use larch_certificate_text::larch_certificate::{
+    BoxPart, BoxParts, Certificate, Coded, Line, Symbol,
+};
+use larch_term::larch_base::{Memory, Sequence, let_go};
 use larch_term::{Operator, Operators, Statements, Term, Theory, copy_operators};
 use std::alloc::Global;
 

@@ -1,13 +1,15 @@
 ghost use Rattle.std.specs.Prelude.{IfOk};
 ghost use Rattle.larch_term.specs.Tree.{forest_of};
-ghost use Rattle.larch_certificate.specs.Coded.{coded_forest_of};
+ghost use Rattle.larch_certificate_text.specs.CertificateCoded.{coded_forest_of};
 ghost use Rattle.larch_certificate_text.specs.SymbolText.{FitSymbol};
 ghost use Rattle.larch_derive.specs.Coding.{IsNameOf, IsCodeOf, AreCodesOf, AreCodesOfEquations};
 
 use crate::open_box::{OpenBox, constant_of};
 use crate::shared_theory::SharedTheory;
-use larch_base::{Memory, Sequence};
-use larch_certificate::{Coded, CodedEquation, CodedEquations, CodedTerms, Symbol};
+use larch_certificate_text::larch_certificate::{
+    Coded, CodedEquation, CodedEquations, CodedTerms, Symbol,
+};
+use larch_term::larch_base::{Memory, Sequence};
 use larch_term::{Node, Operator, Statement, Term, Terms, built_in_of};
 use std::alloc::Global;
 

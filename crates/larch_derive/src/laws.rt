@@ -1,13 +1,13 @@
 //! What holds of builders, for crates above to cite. No function here does anything.
 ghost use Rattle.std.specs.Prelude.{◌≡◌, ℕ, false, List, [], Some, length};
-ghost use Rattle.larch_certificate.specs.Coded.{CodedTree};
-ghost use Rattle.larch_certificate.specs.declared.line.Line.{Line};
-ghost use Rattle.larch_certificate.specs.declared.line.Line.TheVariants.{Refl, Sym, Repl};
+ghost use Rattle.larch_certificate_text.specs.CertificateCoded.{CodedTree};
+ghost use Rattle.larch_certificate_text.specs.CertificateLineLine.{Line};
+ghost use Rattle.larch_certificate_text.specs.CertificateLineLine.TheVariants.{Refl, Sym, Repl};
 ghost use Rattle.larch_certificate_text.specs.CertificateText.{Writable};
 ghost use Rattle.larch_certificate_text.specs.LineText.{IsWord};
 ghost use Rattle.larch_term.specs.Place.{at, put};
 ghost use Rattle.larch_derive.specs.Builder.{IsEmpty, IsPushed, IsCodeIn, theory_in, lines_in, boxes_in};
-ghost use Rattle.larch_calculus.specs.Renaming.{HasPlainNames};
+ghost use Rattle.larch_verify_meaning.specs.CalculusRenaming.{HasPlainNames};
 ghost use Rattle.larch_verify_meaning.specs.Acceptance.{Accepts};
 ghost use Rattle.larch_verify_meaning.specs.LastLine.{states_clause, EndsWithoutStatedClause};
 ghost use Rattle.larch_term.specs.Sorts.{sort_of, IsTermOver};

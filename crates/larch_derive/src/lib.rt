@@ -13,3 +13,6 @@ mod small;
 pub use builder::Builder;
 pub use open_box::{OpenBox, OpenBoxes};
 pub use shared_list::ChunkedList;
+
+// Passed on to crates above, which then needn't list them.
+pub use larch_certificate_text::larch_certificate;

@@ -18,17 +18,17 @@ use Rattle.larch_term.specs.declared.statement.Statement.{Statement}
 use Rattle.larch_term.specs.declared.statement.Statement.TheVariants.{Equation}
 use Rattle.larch_term.specs.declared.statement.Theory.{Theory}
 use Rattle.larch_term.proofs.Decided.{statement_Decides}
-use Rattle.larch_renaming.specs.Renaming.{renamed_variable}
-use Rattle.larch_renaming.proofs.Renamed.{renamed_occurrences}
-use Rattle.larch_renaming.proofs.RenamedStatements.{statement_alike}
-use Rattle.larch_calculus.specs.Formula.{falsity}
+use Rattle.larch_verify_law.specs.RenamingRenaming.{renamed_variable}
+use Rattle.larch_verify_law.proofs.RenamingRenamed.{renamed_occurrences}
+use Rattle.larch_verify_law.proofs.RenamingRenamedStatements.{statement_alike}
+use Rattle.larch_verify_law.specs.CalculusFormula.{falsity}
 use Rattle.larch_certificate.specs.declared.line.Line.{Line}
 use Rattle.larch_certificate.specs.declared.line.Line.TheVariants.{Cases}
-use Rattle.larch_verify_meaning.specs.BoxRules.{cases_of, supposes}
-use Rattle.larch_verify_meaning.specs.Context.{theory_of, find_closed}
-use Rattle.larch_verify_meaning.specs.Events.{PlainBox, State, operators_from}
-use Rattle.larch_verify_meaning.specs.Matching.{is_empty, same_statements}
-use Rattle.larch_verify_meaning.specs.Run.{judge}
+use Rattle.larch_verify_law.specs.VerifyMeaningBoxRules.{cases_of, supposes}
+use Rattle.larch_verify_law.specs.VerifyMeaningContext.{theory_of, find_closed}
+use Rattle.larch_verify_law.specs.VerifyMeaningEvents.{PlainBox, State, operators_from}
+use Rattle.larch_verify_law.specs.VerifyMeaningMatching.{is_empty, same_statements}
+use Rattle.larch_verify_law.specs.VerifyMeaningRun.{judge}
 use Rattle.larch_derive.specs.declared.builder.Builder.{Builder}
 use Rattle.larch_derive.specs.declared.open_box.OpenBox.{OpenBox}
 use Rattle.larch_derive.specs.Builder.{IsPushed, part_for}

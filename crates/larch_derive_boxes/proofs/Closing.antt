@@ -10,13 +10,14 @@ use Rattle.larch_term.specs.Tree.{Tree}
 use Rattle.larch_term.specs.declared.statement.Statement.{Statement}
 use Rattle.larch_term.specs.declared.statement.Statement.TheVariants.{Equation}
 use Rattle.larch_term.specs.declared.statement.Theory.{Theory}
-use Rattle.larch_calculus.specs.Theories.{AreNew}
+use Rattle.larch_verify_law.specs.CalculusTheories.{AreNew}
 use Rattle.larch_certificate.specs.declared.line.Line.{Line}
 use Rattle.larch_certificate.specs.declared.line.Line.TheVariants.{Inst, Done}
-use Rattle.larch_certificate_text.specs.CertificateText.{Writable}
-use Rattle.larch_verify_meaning.specs.Context.{theory_of, find_closed, innermost}
-use Rattle.larch_verify_meaning.specs.Events.{PlainBox, Event, Said, Opened, Closed, State, start, operators_of}
-use Rattle.larch_verify_meaning.specs.Run.{run}
+use Rattle.larch_derive.specs.CertificateTextCertificateText.{Writable}
+use Rattle.larch_verify_law.specs.VerifyMeaningContext.{theory_of, find_closed, innermost}
+use Rattle.larch_verify_law.specs.VerifyMeaningEvents.{PlainBox, Event, Said, Opened}
+use Rattle.larch_verify_law.specs.VerifyMeaningEvents.{Closed, State, start, operators_of}
+use Rattle.larch_verify_law.specs.VerifyMeaningRun.{run}
 use Rattle.larch_derive.specs.declared.builder.Builder.{Builder}
 use Rattle.larch_derive.specs.declared.open_box.OpenBox.{OpenBox}
 use Rattle.larch_derive.specs.Builder.{IsPushed}

@@ -19,20 +19,20 @@ use Rattle.larch_term.specs.declared.statement.Statement.{Statement}
 use Rattle.larch_term.specs.declared.statement.Statement.TheVariants.{Equation}
 use Rattle.larch_term.specs.declared.variable.Variable.{Variable}
 use Rattle.larch_term.specs.Variable.{occurrences}
-use Rattle.larch_renaming.specs.Renaming.{renamed_entry}
-use Rattle.larch_renaming.proofs.RenamedSubstitutions.{renamed_substituted, apart_by_sorts}
-use Rattle.larch_calculus.specs.Freed.{free_constants, constants_for}
-use Rattle.larch_calculus.specs.Theories.{AreConstants, AreNew}
-use Rattle.larch_calculus.proofs.Freeing.{freed_constants}
+use Rattle.larch_verify_law.specs.RenamingRenaming.{renamed_entry}
+use Rattle.larch_verify_law.proofs.RenamingRenamedSubstitutions.{renamed_substituted, apart_by_sorts}
+use Rattle.larch_verify_law.specs.CalculusFreed.{free_constants, constants_for}
+use Rattle.larch_verify_law.specs.CalculusTheories.{AreConstants, AreNew}
+use Rattle.larch_verify_law.proofs.CalculusFreeing.{freed_constants}
 use Rattle.larch_certificate.specs.declared.line.CodedVar.{CodedVar}
 use Rattle.larch_certificate.specs.declared.line.Line.TheVariants.{Fresh}
-use Rattle.larch_certificate_text.specs.LineText.{IsWord, FitVariable}
-use Rattle.larch_certificate_text.specs.Parts.{Each}
-use Rattle.larch_verify_meaning.specs.BoxRules.{freed_equation, freed_result}
-use Rattle.larch_verify_meaning.specs.Context.{theory_of}
-use Rattle.larch_verify_meaning.specs.Events.{State, start, operators_of, operators_from, part_operator}
-use Rattle.larch_verify_meaning.specs.Matching.{has_constants, variable_of}
-use Rattle.larch_verify_meaning.specs.Run.{judge}
+use Rattle.larch_derive.specs.CertificateTextLineText.{IsWord, FitVariable}
+use Rattle.larch_derive.specs.CertificateTextParts.{Each}
+use Rattle.larch_verify_law.specs.VerifyMeaningBoxRules.{freed_equation, freed_result}
+use Rattle.larch_verify_law.specs.VerifyMeaningContext.{theory_of}
+use Rattle.larch_verify_law.specs.VerifyMeaningEvents.{State, start, operators_of, operators_from, part_operator}
+use Rattle.larch_verify_law.specs.VerifyMeaningMatching.{has_constants, variable_of}
+use Rattle.larch_verify_law.specs.VerifyMeaningRun.{judge}
 use Rattle.larch_derive.specs.declared.builder.Builder.{Builder}
 use Rattle.larch_derive.specs.declared.open_box.OpenBox.{OpenBox}
 use Rattle.larch_derive.specs.Builder.{IsPushed, part_for, part_sort}

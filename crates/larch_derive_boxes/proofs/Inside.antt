@@ -19,19 +19,20 @@ use Rattle.larch_term.specs.declared.statement.Statement.{Statement}
 use Rattle.larch_term.specs.declared.statement.Statement.TheVariants.{Equation, Generated, Partitioned}
 use Rattle.larch_term.specs.declared.statement.Theory.{Theory}
 use Rattle.larch_term.specs.declared.substitution.Entry.{Entry}
-use Rattle.larch_term_law.proofs.Substitutions.{substituted_sort, substituted_well_sorted, substituted_over}
-use Rattle.larch_renaming.specs.Renaming.{renamed_entry, Carries}
-use Rattle.larch_renaming.proofs.Renamed.{renamed_term_over}
-use Rattle.larch_calculus.specs.Formula.{constant}
-use Rattle.larch_calculus.specs.Generation.{only, equation_at, place_name, induction_hypotheses, generation_formula}
-use Rattle.larch_calculus.specs.Generation.{generation_hypotheses}
-use Rattle.larch_calculus.specs.Observation.{observer_term, observations_of, observations}
-use Rattle.larch_calculus.specs.Renaming.{HasPlainNames}
-use Rattle.larch_calculus.specs.Theories.{AreConstants}
-use Rattle.larch_calculus.proofs.Observed.{observations_over}
-use Rattle.larch_calculus.proofs.Renamed.{renamed_substituted}
-use Rattle.larch_calculus.proofs.Sorted.{generation_over, knows_more, only_fits}
-use Rattle.larch_verify_meaning.specs.Events.{Event, Opened, State, start}
+use Rattle.larch_verify_law.proofs.TermLawSubstitutions.{substituted_sort, substituted_well_sorted, substituted_over}
+use Rattle.larch_verify_law.specs.RenamingRenaming.{renamed_entry, Carries}
+use Rattle.larch_verify_law.proofs.RenamingRenamed.{renamed_term_over}
+use Rattle.larch_verify_law.specs.CalculusFormula.{constant}
+use Rattle.larch_verify_law.specs.CalculusGeneration.{only, equation_at, place_name}
+use Rattle.larch_verify_law.specs.CalculusGeneration.{induction_hypotheses, generation_formula}
+use Rattle.larch_verify_law.specs.CalculusGeneration.{generation_hypotheses}
+use Rattle.larch_verify_law.specs.CalculusObservation.{observer_term, observations_of, observations}
+use Rattle.larch_verify_law.specs.CalculusRenaming.{HasPlainNames}
+use Rattle.larch_verify_law.specs.CalculusTheories.{AreConstants}
+use Rattle.larch_verify_law.proofs.CalculusObserved.{observations_over}
+use Rattle.larch_verify_law.proofs.CalculusRenamed.{renamed_substituted}
+use Rattle.larch_verify_law.proofs.CalculusSorted.{generation_over, knows_more, only_fits}
+use Rattle.larch_verify_law.specs.VerifyMeaningEvents.{Event, Opened, State, start}
 use Rattle.larch_derive.specs.declared.builder.Builder.{Builder}
 use Rattle.larch_derive.specs.declared.open_box.OpenBox.{OpenBox}
 use Rattle.larch_derive.specs.Builder.{shape_of}

@@ -12,8 +12,9 @@ use Rattle.larch_term.specs.OperatorKey.{same_operator, operator_Decides}
 use Rattle.larch_term.specs.Tree.{app, none}
 use Rattle.larch_term.specs.declared.statement.Theory.{Theory}
 use Rattle.larch_certificate.specs.declared.line.BoxPart.{BoxPart}
-use Rattle.larch_verify_meaning.specs.Context.{theory_of}
-use Rattle.larch_verify_meaning.specs.Events.{Event, Said, Opened, Closed, operators_of, operators_from, part_operator}
+use Rattle.larch_verify_law.specs.VerifyMeaningContext.{theory_of}
+use Rattle.larch_verify_law.specs.VerifyMeaningEvents.{Event, Said, Opened, Closed}
+use Rattle.larch_verify_law.specs.VerifyMeaningEvents.{operators_of, operators_from, part_operator}
 use Rattle.larch_derive.specs.declared.builder.Builder.{Builder}
 use Rattle.larch_derive.specs.declared.open_box.OpenBox.{OpenBox}
 use Rattle.larch_derive.specs.Builder.{part_for, part_sort, shape_of}

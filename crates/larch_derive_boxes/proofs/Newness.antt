@@ -3,11 +3,11 @@ use Rattle.std.proofs.Common.{◌≡◌, ◌<◌, ℕ, List, Contains, refl, sym
 use Rattle.larch_base.proofs.Lists.{all_from}
 use Rattle.larch_term.specs.Operator.{OperatorName, PlainOperator, plain, boxed}
 use Rattle.larch_term.specs.declared.statement.Theory.{Theory}
-use Rattle.larch_calculus.specs.Boxes.{IsOlder, IsOlderName}
-use Rattle.larch_calculus.specs.Renaming.{HasPlainNames}
-use Rattle.larch_calculus.specs.Theories.{AreNew}
-use Rattle.larch_verify_meaning.specs.Context.{theory_of}
-use Rattle.larch_verify_meaning.specs.Events.{PlainBox, Event, operators_of}
+use Rattle.larch_verify_law.specs.CalculusBoxes.{IsOlder, IsOlderName}
+use Rattle.larch_verify_law.specs.CalculusRenaming.{HasPlainNames}
+use Rattle.larch_verify_law.specs.CalculusTheories.{AreNew}
+use Rattle.larch_verify_law.specs.VerifyMeaningContext.{theory_of}
+use Rattle.larch_verify_law.specs.VerifyMeaningEvents.{PlainBox, Event, operators_of}
 use Rattle.larch_verify_law.proofs.Contexts.{box_new}
 use Rattle.larch_derive.proofs.Decoding.{constant_older}
 use Rattle.larch_derive.proofs.Runs.{GoDown}

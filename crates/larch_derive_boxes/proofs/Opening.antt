@@ -13,17 +13,17 @@ use Rattle.larch_term.specs.Tree.{Tree, var, app}
 use Rattle.larch_term.specs.declared.statement.Statement.{Statement}
 use Rattle.larch_term.specs.declared.statement.Statement.TheVariants.{Equation, Generated, Partitioned}
 use Rattle.larch_term.specs.declared.statement.Theory.{Theory}
-use Rattle.larch_calculus.specs.Renaming.{HasPlainNames}
+use Rattle.larch_verify_law.specs.CalculusRenaming.{HasPlainNames}
 use Rattle.larch_certificate.specs.declared.line.CodedEquation.{CodedEquation}
 use Rattle.larch_certificate.specs.declared.line.Line.{Line}
 use Rattle.larch_certificate.specs.declared.line.Line.TheVariants.{BoxLine}
-use Rattle.larch_certificate_text.specs.CertificateText.{Writable}
-use Rattle.larch_certificate_text.specs.LineText.{FitLine}
-use Rattle.larch_certificate_text.specs.Parts.{IsSmall}
-use Rattle.larch_verify_meaning.specs.Context.{theory_of, find_symbol}
-use Rattle.larch_verify_meaning.specs.Decoding.{each, decode, decode_equation, equation_between}
-use Rattle.larch_verify_meaning.specs.Events.{Event, Opened, State, start}
-use Rattle.larch_verify_meaning.specs.Run.{run}
+use Rattle.larch_derive.specs.CertificateTextCertificateText.{Writable}
+use Rattle.larch_derive.specs.CertificateTextLineText.{FitLine}
+use Rattle.larch_derive.specs.CertificateTextParts.{IsSmall}
+use Rattle.larch_verify_law.specs.VerifyMeaningContext.{theory_of, find_symbol}
+use Rattle.larch_verify_law.specs.VerifyMeaningDecoding.{each, decode, decode_equation, equation_between}
+use Rattle.larch_verify_law.specs.VerifyMeaningEvents.{Event, Opened, State, start}
+use Rattle.larch_verify_law.specs.VerifyMeaningRun.{run}
 use Rattle.larch_derive.specs.declared.builder.Builder.{Builder}
 use Rattle.larch_derive.specs.declared.open_box.OpenBox.{OpenBox}
 use Rattle.larch_derive.specs.Builder.{IsOpened, part_for, shape_of}

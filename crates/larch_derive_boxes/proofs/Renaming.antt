@@ -11,11 +11,11 @@ use Rattle.larch_term.specs.Tree.{Tree, Forest, var, app, none, more}
 use Rattle.larch_term.specs.declared.statement.Statement.{Statement}
 use Rattle.larch_term.specs.declared.statement.Statement.TheVariants.{Equation, Generated, Partitioned}
 use Rattle.larch_term.specs.declared.statement.Theory.{Theory}
-use Rattle.larch_renaming.specs.Renaming.{renamed_all}
-use Rattle.larch_calculus.specs.Renaming.{HasPlainNames}
-use Rattle.larch_calculus.proofs.Sorted.{statement_over_more}
-use Rattle.larch_verify_meaning.specs.Context.{theory_of}
-use Rattle.larch_verify_meaning.specs.Events.{Event, operators_of}
+use Rattle.larch_verify_law.specs.RenamingRenaming.{renamed_all}
+use Rattle.larch_verify_law.specs.CalculusRenaming.{HasPlainNames}
+use Rattle.larch_verify_law.proofs.CalculusSorted.{statement_over_more}
+use Rattle.larch_verify_law.specs.VerifyMeaningContext.{theory_of}
+use Rattle.larch_verify_law.specs.VerifyMeaningEvents.{Event, operators_of}
 use Rattle.larch_derive.specs.declared.open_box.OpenBox.{OpenBox}
 use Rattle.larch_derive.specs.OpenBox.{place_from, constant_of, in_lines, name_in_lines, naming}
 use Rattle.larch_derive.specs.Predicates.{AreOthers, written_term, written_statement}

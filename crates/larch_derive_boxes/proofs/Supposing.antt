@@ -8,11 +8,11 @@ use Rattle.larch_base.proofs.Members.{got_contains}
 use Rattle.larch_base.specs.ByNumber.{numbered}
 use Rattle.larch_term.specs.Statement.{IsStatementOver}
 use Rattle.larch_term.specs.declared.statement.Statement.{Statement}
-use Rattle.larch_tables.proofs.Identities.{at_place}
+use Rattle.larch_verify_law.proofs.TablesIdentities.{at_place}
 use Rattle.larch_certificate.specs.declared.line.Line.TheVariants.{Hyp}
-use Rattle.larch_verify_meaning.specs.Context.{find_open}
-use Rattle.larch_verify_meaning.specs.Events.{PlainBox, Event, Said, Opened, Closed, State, start}
-use Rattle.larch_verify_meaning.specs.Run.{judge}
+use Rattle.larch_verify_law.specs.VerifyMeaningContext.{find_open}
+use Rattle.larch_verify_law.specs.VerifyMeaningEvents.{PlainBox, Event, Said, Opened, Closed, State, start}
+use Rattle.larch_verify_law.specs.VerifyMeaningRun.{judge}
 use Rattle.larch_derive.specs.declared.builder.Builder.{Builder}
 use Rattle.larch_derive.specs.declared.open_box.OpenBox.{OpenBox}
 use Rattle.larch_derive.specs.Builder.{IsPushed}

@@ -15,15 +15,17 @@ use Rattle.larch_term.specs.Truth.{truth}
 use Rattle.larch_term.specs.declared.statement.Statement.{Statement}
 use Rattle.larch_term.specs.declared.statement.Statement.TheVariants.{Equation, Generated, Partitioned}
 use Rattle.larch_term.specs.declared.variable.Variable.{Variable}
-use Rattle.larch_calculus.specs.Formula.{apply_one, conjunction}
-use Rattle.larch_calculus.specs.Generation.{place_name, variables_from, variable_terms, holding, conjunction_from}
-use Rattle.larch_calculus.specs.Generation.{implied_by, generation_formula, generation_hypotheses}
-use Rattle.larch_calculus.specs.Observation.{Observation, arguments_with, observer_term, observations_of, observations}
-use Rattle.larch_calculus.proofs.Observed.{observation_is}
+use Rattle.larch_verify_law.specs.CalculusFormula.{apply_one, conjunction}
+use Rattle.larch_verify_law.specs.CalculusGeneration.{place_name, variables_from, variable_terms}
+use Rattle.larch_verify_law.specs.CalculusGeneration.{holding, conjunction_from}
+use Rattle.larch_verify_law.specs.CalculusGeneration.{implied_by, generation_formula, generation_hypotheses}
+use Rattle.larch_verify_law.specs.CalculusObservation.{Observation, arguments_with, observer_term}
+use Rattle.larch_verify_law.specs.CalculusObservation.{observations_of, observations}
+use Rattle.larch_verify_law.proofs.CalculusObserved.{observation_is}
 use Rattle.larch_certificate.specs.declared.line.CodedEquation.{CodedEquation}
-use Rattle.larch_certificate_text.specs.EquationText.{FitEquation}
-use Rattle.larch_certificate_text.specs.LineText.{IsWord, FitBoxPart}
-use Rattle.larch_certificate_text.specs.Parts.{Each}
+use Rattle.larch_derive.specs.CertificateTextEquationText.{FitEquation}
+use Rattle.larch_derive.specs.CertificateTextLineText.{IsWord, FitBoxPart}
+use Rattle.larch_derive.specs.CertificateTextParts.{Each}
 use Rattle.larch_derive.specs.declared.open_box.OpenBox.{OpenBox}
 use Rattle.larch_derive.specs.Builder.{part_for, part_sort}
 use Rattle.larch_derive.specs.Coding.{AreCodesOfEquations}

@@ -11,16 +11,16 @@ use Rattle.larch_term.specs.declared.statement.Statement.{Statement}
 use Rattle.larch_term.specs.declared.statement.Statement.TheVariants.{Equation, Generated, Partitioned}
 use Rattle.larch_term.specs.declared.statement.Theory.{Theory}
 use Rattle.larch_term.specs.declared.substitution.Entry.{Entry}
-use Rattle.larch_calculus.specs.Freed.{constants_for}
-use Rattle.larch_calculus.specs.Theories.{AreNew, AreConstants}
+use Rattle.larch_verify_law.specs.CalculusFreed.{constants_for}
+use Rattle.larch_verify_law.specs.CalculusTheories.{AreNew, AreConstants}
 use Rattle.larch_certificate.specs.declared.line.CodedVar.{CodedVar}
 use Rattle.larch_certificate.specs.declared.line.Line.{Line}
 use Rattle.larch_certificate.specs.declared.line.Line.TheVariants.{Inst, Done}
-use Rattle.larch_certificate_text.specs.CertificateText.{Writable}
-use Rattle.larch_verify_meaning.specs.Context.{theory_of, find_open, find_closed}
-use Rattle.larch_verify_meaning.specs.Events.{PlainBox, Event, Opened, State, start, operators_of}
-use Rattle.larch_verify_meaning.specs.Matching.{variable_of}
-use Rattle.larch_verify_meaning.specs.Run.{run}
+use Rattle.larch_derive.specs.CertificateTextCertificateText.{Writable}
+use Rattle.larch_verify_law.specs.VerifyMeaningContext.{theory_of, find_open, find_closed}
+use Rattle.larch_verify_law.specs.VerifyMeaningEvents.{PlainBox, Event, Opened, State, start, operators_of}
+use Rattle.larch_verify_law.specs.VerifyMeaningMatching.{variable_of}
+use Rattle.larch_verify_law.specs.VerifyMeaningRun.{run}
 use Rattle.larch_derive.specs.declared.builder.Builder.{Builder}
 use Rattle.larch_derive.specs.declared.open_box.OpenBox.{OpenBox}
 use Rattle.larch_derive.specs.Builder.{IsPushed, part_for}

@@ -5,3 +5,6 @@ mod boxes;
 pub mod laws;
 
 pub use boxes::{close_box, push_cases, push_fresh, push_hyp};
+
+// Passed on to crates above, which then needn't list them.
+pub use larch_derive;

@@ -19,26 +19,27 @@ use Rattle.larch_term.specs.Truth.{truth}
 use Rattle.larch_term.specs.declared.statement.Statement.{Statement}
 use Rattle.larch_term.specs.declared.statement.Statement.TheVariants.{Equation, Generated}
 use Rattle.larch_term.specs.declared.statement.Theory.{Theory}
-use Rattle.larch_calculus.specs.Formula.{apply_one}
-use Rattle.larch_calculus.specs.Generation.{generation_hypotheses}
-use Rattle.larch_calculus.proofs.RenamedHypotheses.{truth_renamed, generation_renamed}
+use Rattle.larch_derive_boxes.specs.CalculusFormula.{apply_one}
+use Rattle.larch_derive_boxes.specs.CalculusGeneration.{generation_hypotheses}
+use Rattle.larch_derive_boxes.proofs.CalculusRenamedHypotheses.{truth_renamed, generation_renamed}
 use Rattle.larch_certificate.specs.declared.line.Line.TheVariants.{Generated as GeneratedLine}
-use Rattle.larch_verify_meaning.specs.ClauseRules.{own_operators, generated_by, shows_generated, holds_of_variable}
-use Rattle.larch_verify_meaning.specs.Context.{find_closed}
-use Rattle.larch_verify_meaning.specs.Events.{PlainBox, State, box_predicate}
-use Rattle.larch_verify_meaning.specs.LastLine.{EndsWithoutStatedClause}
-use Rattle.larch_verify_meaning.specs.Matching.{same_statements, is_predicate_on}
-use Rattle.larch_verify_meaning.specs.Run.{judge}
-use Rattle.larch_verify_law.proofs.Told.{each_told, numbered_contains}
-use Rattle.larch_derive.specs.declared.builder.Builder.{Builder}
-use Rattle.larch_derive.specs.declared.open_box.OpenBox.{OpenBox}
-use Rattle.larch_derive.specs.Builder.{IsPushed, part_for, part_sort}
-use Rattle.larch_derive.specs.OpenBox.{place_from, constant_of, in_lines, name_in_lines, naming}
-use Rattle.larch_derive.specs.Predicates.{HasStatement, Extends}
-use Rattle.larch_derive.specs.Words.{IsWordedOperator, AreWordedOperators, IsWordedTheory}
-use Rattle.larch_derive.proofs.Accepting.{pushed_ends}
-use Rattle.larch_derive.proofs.Pushing.{own_says, pushed_extends}
-use Rattle.larch_derive.proofs.Unchanged.{own_operators_written}
+use Rattle.larch_derive_boxes.specs.VerifyMeaningClauseRules.{own_operators, generated_by}
+use Rattle.larch_derive_boxes.specs.VerifyMeaningClauseRules.{shows_generated, holds_of_variable}
+use Rattle.larch_derive_boxes.specs.VerifyMeaningContext.{find_closed}
+use Rattle.larch_derive_boxes.specs.VerifyMeaningEvents.{PlainBox, State, box_predicate}
+use Rattle.larch_derive_boxes.specs.VerifyMeaningLastLine.{EndsWithoutStatedClause}
+use Rattle.larch_derive_boxes.specs.VerifyMeaningMatching.{same_statements, is_predicate_on}
+use Rattle.larch_derive_boxes.specs.VerifyMeaningRun.{judge}
+use Rattle.larch_derive_boxes.proofs.VerifyLawTold.{each_told, numbered_contains}
+use Rattle.larch_derive_boxes.specs.DeriveBuilderBuilder.{Builder}
+use Rattle.larch_derive_boxes.specs.DeriveOpen_boxOpenBox.{OpenBox}
+use Rattle.larch_derive_boxes.specs.DeriveBuilder.{IsPushed, part_for, part_sort}
+use Rattle.larch_derive_boxes.specs.DeriveOpenBox.{place_from, constant_of, in_lines, name_in_lines, naming}
+use Rattle.larch_derive_boxes.specs.DerivePredicates.{HasStatement, Extends}
+use Rattle.larch_derive_boxes.specs.DeriveWords.{IsWordedOperator, AreWordedOperators, IsWordedTheory}
+use Rattle.larch_derive_boxes.proofs.DeriveAccepting.{pushed_ends}
+use Rattle.larch_derive_boxes.proofs.DerivePushing.{own_says, pushed_extends}
+use Rattle.larch_derive_boxes.proofs.DeriveUnchanged.{own_operators_written}
 use Rattle.larch_derive_boxes.specs.Boxes.{ResultIn, HasResult}
 use Rattle.larch_derive_boxes.proofs.Freshness.{innermost_constant}
 use Rattle.larch_derive_clauses.specs.Showing.{ShowsGenerated}

@@ -11,28 +11,29 @@ use Rattle.larch_term.specs.Operator.{PlainOperator}
 use Rattle.larch_term.specs.Sorts.{sort_of, IsKnown}
 use Rattle.larch_term.specs.Tree.{Tree, app}
 use Rattle.larch_term.specs.declared.statement.Statement.TheVariants.{Equation, Generated}
-use Rattle.larch_calculus.specs.Generation.{constant_terms, equation_at, induction_hypotheses}
-use Rattle.larch_calculus.proofs.RenamedHypotheses.{constants_renamed, equation_renamed, induction_renamed}
+use Rattle.larch_derive_boxes.specs.CalculusGeneration.{constant_terms, equation_at, induction_hypotheses}
+use Rattle.larch_derive_boxes.proofs.CalculusRenamedHypotheses.{constants_renamed, equation_renamed, induction_renamed}
 use Rattle.larch_certificate.specs.declared.line.CodedEquation.{CodedEquation}
 use Rattle.larch_certificate.specs.declared.line.CodedVar.{CodedVar}
 use Rattle.larch_certificate.specs.declared.line.Line.TheVariants.{Induct}
-use Rattle.larch_verify_meaning.specs.BoxRules.{shows_case, shows_cases, induct_over}
-use Rattle.larch_verify_meaning.specs.Context.{find_line, find_closed}
-use Rattle.larch_verify_meaning.specs.Events.{State, start, operators_from}
-use Rattle.larch_verify_meaning.specs.Matching.{same_statements, has_constants}
-use Rattle.larch_verify_meaning.specs.Run.{judge}
-use Rattle.larch_derive.specs.declared.builder.Builder.{Builder}
-use Rattle.larch_derive.specs.Builder.{IsPushed, IsCodeIn, part_for}
-use Rattle.larch_derive.specs.OpenBox.{in_lines, naming}
-use Rattle.larch_derive.specs.Predicates.{operators_at, written_term, written_statement, KnownIn, SaysIn, Known}
-use Rattle.larch_derive.specs.Predicates.{HasStatement, Extends}
-use Rattle.larch_derive.proofs.Pushing.{pushed_says, pushed_extends}
-use Rattle.larch_derive.proofs.Runs.{down_run}
+use Rattle.larch_derive_boxes.specs.VerifyMeaningBoxRules.{shows_case, shows_cases, induct_over}
+use Rattle.larch_derive_boxes.specs.VerifyMeaningContext.{find_line, find_closed}
+use Rattle.larch_derive_boxes.specs.VerifyMeaningEvents.{State, start, operators_from}
+use Rattle.larch_derive_boxes.specs.VerifyMeaningMatching.{same_statements, has_constants}
+use Rattle.larch_derive_boxes.specs.VerifyMeaningRun.{judge}
+use Rattle.larch_derive_boxes.specs.DeriveBuilderBuilder.{Builder}
+use Rattle.larch_derive_boxes.specs.DeriveBuilder.{IsPushed, IsCodeIn, part_for}
+use Rattle.larch_derive_boxes.specs.DeriveOpenBox.{in_lines, naming}
+use Rattle.larch_derive_boxes.specs.DerivePredicates.{operators_at, written_term, written_statement}
+use Rattle.larch_derive_boxes.specs.DerivePredicates.{KnownIn, SaysIn, Known}
+use Rattle.larch_derive_boxes.specs.DerivePredicates.{HasStatement, Extends}
+use Rattle.larch_derive_boxes.proofs.DerivePushing.{pushed_says, pushed_extends}
+use Rattle.larch_derive_boxes.proofs.DeriveRuns.{down_run}
 use Rattle.larch_derive_boxes.specs.Boxes.{box_of}
 use Rattle.larch_derive_boxes.proofs.Freshness.{own_named, has_sorts, known_at}
 use Rattle.larch_derive_boxes.proofs.Renaming.{inside_in_lines, inside_written}
 use Rattle.larch_derive_clauses.specs.Showing.{ShowsCase, ShowCases}
-use Rattle.larch_certificate_text.specs.LineText.{IsWord}
+use Rattle.larch_derive_boxes.specs.CertificateTextLineText.{IsWord}
 use Rattle.larch_derive_clauses.proofs.Written.{equation_means, equation_known, equation_fits, result_at}
 use Rattle.larch_derive_clauses.proofs.Written.{inside_faithful, found_by}
 use Rattle.larch_derive_clauses.proofs.Written.{constants_named, statements_same, statement_same}

@@ -14,26 +14,27 @@ use Rattle.larch_term.specs.Tree.{Tree, var, app, more}
 use Rattle.larch_term.specs.Variable.{occurrences, same_variable}
 use Rattle.larch_term.specs.declared.statement.Statement.TheVariants.{Equation, Partitioned}
 use Rattle.larch_term.specs.declared.variable.Variable.{Variable}
-use Rattle.larch_renaming.specs.Renaming.{renamed_variable}
-use Rattle.larch_renaming.proofs.Renamed.{renamed_occurrences}
-use Rattle.larch_calculus.specs.Observation.{Observation, arguments_with, variables_beside, observer_term}
-use Rattle.larch_calculus.specs.Observation.{other_variables, observations_of}
-use Rattle.larch_calculus.proofs.RenamedHypotheses.{renamed_observation, observed_renamed, observations_of_renamed}
+use Rattle.larch_derive_boxes.specs.RenamingRenaming.{renamed_variable}
+use Rattle.larch_derive_boxes.proofs.RenamingRenamed.{renamed_occurrences}
+use Rattle.larch_derive_boxes.specs.CalculusObservation.{Observation, arguments_with, variables_beside, observer_term}
+use Rattle.larch_derive_boxes.specs.CalculusObservation.{other_variables, observations_of}
+use Rattle.larch_derive_boxes.proofs.CalculusRenamedHypotheses.{renamed_observation, observed_renamed}
+use Rattle.larch_derive_boxes.proofs.CalculusRenamedHypotheses.{observations_of_renamed}
 use Rattle.larch_certificate.specs.declared.line.CodedEquation.{CodedEquation}
 use Rattle.larch_certificate.specs.declared.line.Line.TheVariants.{Observe}
-use Rattle.larch_verify_meaning.specs.ClauseRules.{shows_same, show_same, observed_equal}
-use Rattle.larch_verify_meaning.specs.Context.{find_line}
-use Rattle.larch_verify_meaning.specs.Events.{State}
-use Rattle.larch_verify_meaning.specs.Matching.{all_different, are_apart, variable_name, argument_name}
-use Rattle.larch_verify_meaning.specs.Run.{judge}
-use Rattle.larch_derive.specs.declared.builder.Builder.{Builder}
-use Rattle.larch_derive.specs.declared.open_box.OpenBox.{OpenBox}
-use Rattle.larch_derive.specs.Builder.{IsPushed, IsCodeIn}
-use Rattle.larch_derive.specs.OpenBox.{in_lines, naming}
-use Rattle.larch_derive.specs.Predicates.{written_term, written_statement, StandIn, KnownIn, SaysIn, Known}
-use Rattle.larch_derive.specs.Predicates.{HasStatement, Extends}
-use Rattle.larch_derive.proofs.Pushing.{pushed_says, pushed_extends}
-use Rattle.larch_derive.proofs.Unchanged.{naming_faithful}
+use Rattle.larch_derive_boxes.specs.VerifyMeaningClauseRules.{shows_same, show_same, observed_equal}
+use Rattle.larch_derive_boxes.specs.VerifyMeaningContext.{find_line}
+use Rattle.larch_derive_boxes.specs.VerifyMeaningEvents.{State}
+use Rattle.larch_derive_boxes.specs.VerifyMeaningMatching.{all_different, are_apart, variable_name, argument_name}
+use Rattle.larch_derive_boxes.specs.VerifyMeaningRun.{judge}
+use Rattle.larch_derive_boxes.specs.DeriveBuilderBuilder.{Builder}
+use Rattle.larch_derive_boxes.specs.DeriveOpen_boxOpenBox.{OpenBox}
+use Rattle.larch_derive_boxes.specs.DeriveBuilder.{IsPushed, IsCodeIn}
+use Rattle.larch_derive_boxes.specs.DeriveOpenBox.{in_lines, naming}
+use Rattle.larch_derive_boxes.specs.DerivePredicates.{written_term, written_statement, StandIn, KnownIn, SaysIn, Known}
+use Rattle.larch_derive_boxes.specs.DerivePredicates.{HasStatement, Extends}
+use Rattle.larch_derive_boxes.proofs.DerivePushing.{pushed_says, pushed_extends}
+use Rattle.larch_derive_boxes.proofs.DeriveUnchanged.{naming_faithful}
 use Rattle.larch_derive_boxes.proofs.Freshness.{sort_written, known_at}
 use Rattle.larch_derive_clauses.specs.Showing.{ShowsSame, ShowSame}
 use Rattle.larch_derive_clauses.proofs.Written.{equation_means, equation_known, equation_fits, said_at}

@@ -15,25 +15,25 @@ use Rattle.larch_term.specs.Sorts.{IsKnown}
 use Rattle.larch_term.specs.Statement.{IsStatementOver}
 use Rattle.larch_term.specs.declared.statement.Statement.TheVariants.{Equation, Partitioned}
 use Rattle.larch_term.specs.declared.statement.Theory.{Theory}
-use Rattle.larch_calculus.specs.Formula.{constant}
-use Rattle.larch_calculus.specs.Generation.{place_name}
-use Rattle.larch_calculus.specs.Observation.{observations}
-use Rattle.larch_calculus.proofs.RenamedHypotheses.{observations_renamed}
+use Rattle.larch_derive_boxes.specs.CalculusFormula.{constant}
+use Rattle.larch_derive_boxes.specs.CalculusGeneration.{place_name}
+use Rattle.larch_derive_boxes.specs.CalculusObservation.{observations}
+use Rattle.larch_derive_boxes.proofs.CalculusRenamedHypotheses.{observations_renamed}
 use Rattle.larch_certificate.specs.declared.line.Line.TheVariants.{Partitioned as PartitionedLine}
-use Rattle.larch_certificate_text.specs.LineText.{IsWord}
-use Rattle.larch_verify_meaning.specs.ClauseRules.{own_operators, partitioned_by}
-use Rattle.larch_verify_meaning.specs.Events.{State, box_constant, part_operator}
-use Rattle.larch_verify_meaning.specs.LastLine.{EndsWithoutStatedClause}
-use Rattle.larch_verify_meaning.specs.Matching.{same_statements, has_constants}
-use Rattle.larch_verify_meaning.specs.Run.{judge}
-use Rattle.larch_derive.specs.declared.builder.Builder.{Builder}
-use Rattle.larch_derive.specs.declared.open_box.OpenBox.{OpenBox}
-use Rattle.larch_derive.specs.Builder.{IsPushed}
-use Rattle.larch_derive.specs.OpenBox.{in_lines, naming}
-use Rattle.larch_derive.specs.Predicates.{written_statement, HasStatement, Extends}
-use Rattle.larch_derive.proofs.Accepting.{pushed_ends}
-use Rattle.larch_derive.proofs.Pushing.{own_says, pushed_extends}
-use Rattle.larch_derive.proofs.Unchanged.{own_operators_written}
+use Rattle.larch_derive_boxes.specs.CertificateTextLineText.{IsWord}
+use Rattle.larch_derive_boxes.specs.VerifyMeaningClauseRules.{own_operators, partitioned_by}
+use Rattle.larch_derive_boxes.specs.VerifyMeaningEvents.{State, box_constant, part_operator}
+use Rattle.larch_derive_boxes.specs.VerifyMeaningLastLine.{EndsWithoutStatedClause}
+use Rattle.larch_derive_boxes.specs.VerifyMeaningMatching.{same_statements, has_constants}
+use Rattle.larch_derive_boxes.specs.VerifyMeaningRun.{judge}
+use Rattle.larch_derive_boxes.specs.DeriveBuilderBuilder.{Builder}
+use Rattle.larch_derive_boxes.specs.DeriveOpen_boxOpenBox.{OpenBox}
+use Rattle.larch_derive_boxes.specs.DeriveBuilder.{IsPushed}
+use Rattle.larch_derive_boxes.specs.DeriveOpenBox.{in_lines, naming}
+use Rattle.larch_derive_boxes.specs.DerivePredicates.{written_statement, HasStatement, Extends}
+use Rattle.larch_derive_boxes.proofs.DeriveAccepting.{pushed_ends}
+use Rattle.larch_derive_boxes.proofs.DerivePushing.{own_says, pushed_extends}
+use Rattle.larch_derive_boxes.proofs.DeriveUnchanged.{own_operators_written}
 use Rattle.larch_derive_boxes.specs.Boxes.{box_of, ResultIn, HasResult, AreOwnConstants}
 use Rattle.larch_derive_boxes.proofs.Freshness.{own_named, has_sorts, sort_of_part}
 use Rattle.larch_derive_clauses.specs.Showing.{ShowsPartitioned}

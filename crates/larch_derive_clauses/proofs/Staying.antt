@@ -4,15 +4,15 @@ use Rattle.larch_term.specs.Operator.{PlainOperator}
 use Rattle.larch_term.specs.Tree.{Tree, var, app}
 use Rattle.larch_term.specs.Truth.{truth}
 use Rattle.larch_term.specs.declared.statement.Statement.TheVariants.{Equation}
-use Rattle.larch_calculus.specs.Formula.{constant, apply_one}
-use Rattle.larch_calculus.specs.Generation.{place_name, constant_terms, equation_at, induction_hypotheses}
-use Rattle.larch_calculus.specs.Generation.{generation_hypotheses}
-use Rattle.larch_calculus.specs.Observation.{Observation, observer_term, observations}
+use Rattle.larch_derive_boxes.specs.CalculusFormula.{constant, apply_one}
+use Rattle.larch_derive_boxes.specs.CalculusGeneration.{place_name, constant_terms, equation_at, induction_hypotheses}
+use Rattle.larch_derive_boxes.specs.CalculusGeneration.{generation_hypotheses}
+use Rattle.larch_derive_boxes.specs.CalculusObservation.{Observation, observer_term, observations}
 use Rattle.larch_certificate.specs.declared.line.CodedVar.{CodedVar}
-use Rattle.larch_derive.specs.declared.builder.Builder.{Builder}
-use Rattle.larch_derive.specs.OpenBox.{constant_of}
-use Rattle.larch_derive.specs.Predicates.{Grows}
-use Rattle.larch_derive.proofs.Growth.{grown_said, grows_alike}
+use Rattle.larch_derive_boxes.specs.DeriveBuilderBuilder.{Builder}
+use Rattle.larch_derive_boxes.specs.DeriveOpenBox.{constant_of}
+use Rattle.larch_derive_boxes.specs.DerivePredicates.{Grows}
+use Rattle.larch_derive_boxes.proofs.DeriveGrowth.{grown_said, grows_alike}
 use Rattle.larch_derive_boxes.specs.Boxes.{AreOwnConstants}
 use Rattle.larch_derive_boxes.proofs.Closing.{grown_result}
 use Rattle.larch_derive_clauses.specs.Showing.{ShowsCase, ShowCases, ShowsSame, ShowSame, ShowsGenerated}

@@ -13,23 +13,24 @@ use Rattle.larch_term.specs.Tree.{Tree}
 use Rattle.larch_term.specs.declared.statement.Statement.{Statement}
 use Rattle.larch_term.specs.declared.statement.Statement.TheVariants.{Equation}
 use Rattle.larch_term.proofs.Decided.{statement_Decides}
-use Rattle.larch_calculus.specs.Renaming.{IsFaithful}
+use Rattle.larch_derive_boxes.specs.CalculusRenaming.{IsFaithful}
 use Rattle.larch_certificate.specs.declared.line.CodedEquation.{CodedEquation}
-use Rattle.larch_certificate_text.specs.EquationText.{FitEquation}
-use Rattle.larch_verify_meaning.specs.Context.{find_symbol, find_closed}
-use Rattle.larch_verify_meaning.specs.Decoding.{decode, decode_equation, equation_between}
-use Rattle.larch_verify_meaning.specs.Events.{State, operators_from, part_operator}
-use Rattle.larch_verify_meaning.specs.Matching.{same_statements}
-use Rattle.larch_derive.specs.declared.builder.Builder.{Builder}
-use Rattle.larch_derive.specs.Words.{IsWordedTerm}
-use Rattle.larch_derive.proofs.Words.{term_fits}
-use Rattle.larch_derive.specs.declared.open_box.OpenBox.{OpenBox}
-use Rattle.larch_derive.specs.Builder.{IsCodeIn, part_for}
-use Rattle.larch_derive.specs.OpenBox.{in_lines, naming}
-use Rattle.larch_derive.specs.Predicates.{AreOthers, operators_at, written_term, written_statement, StandIn, KnownIn}
-use Rattle.larch_derive.specs.Predicates.{SaysIn, HasStatement}
-use Rattle.larch_derive.proofs.Pushing.{means_at, one_state}
-use Rattle.larch_derive.proofs.Unchanged.{naming_faithful}
+use Rattle.larch_derive_boxes.specs.CertificateTextEquationText.{FitEquation}
+use Rattle.larch_derive_boxes.specs.VerifyMeaningContext.{find_symbol, find_closed}
+use Rattle.larch_derive_boxes.specs.VerifyMeaningDecoding.{decode, decode_equation, equation_between}
+use Rattle.larch_derive_boxes.specs.VerifyMeaningEvents.{State, operators_from, part_operator}
+use Rattle.larch_derive_boxes.specs.VerifyMeaningMatching.{same_statements}
+use Rattle.larch_derive_boxes.specs.DeriveBuilderBuilder.{Builder}
+use Rattle.larch_derive_boxes.specs.DeriveWords.{IsWordedTerm}
+use Rattle.larch_derive_boxes.proofs.DeriveWords.{term_fits}
+use Rattle.larch_derive_boxes.specs.DeriveOpen_boxOpenBox.{OpenBox}
+use Rattle.larch_derive_boxes.specs.DeriveBuilder.{IsCodeIn, part_for}
+use Rattle.larch_derive_boxes.specs.DeriveOpenBox.{in_lines, naming}
+use Rattle.larch_derive_boxes.specs.DerivePredicates.{AreOthers, operators_at, written_term}
+use Rattle.larch_derive_boxes.specs.DerivePredicates.{written_statement, StandIn, KnownIn}
+use Rattle.larch_derive_boxes.specs.DerivePredicates.{SaysIn, HasStatement}
+use Rattle.larch_derive_boxes.proofs.DerivePushing.{means_at, one_state}
+use Rattle.larch_derive_boxes.proofs.DeriveUnchanged.{naming_faithful}
 use Rattle.larch_derive_boxes.specs.Boxes.{box_of, ResultIn, HasResult}
 use Rattle.larch_derive_boxes.proofs.Freshness.{Named, sort_written}
 use Rattle.larch_derive_boxes.proofs.Opening.{between}

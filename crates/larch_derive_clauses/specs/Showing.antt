@@ -5,17 +5,17 @@ use Rattle.larch_term.specs.Operator.{PlainOperator}
 use Rattle.larch_term.specs.Tree.{Tree, var, app}
 use Rattle.larch_term.specs.Truth.{truth}
 use Rattle.larch_term.specs.declared.statement.Statement.TheVariants.{Equation}
-use Rattle.larch_calculus.specs.Formula.{constant, apply_one}
-use Rattle.larch_calculus.specs.Generation.{place_name, constant_terms, equation_at, induction_hypotheses}
-use Rattle.larch_calculus.specs.Generation.{generation_hypotheses}
-use Rattle.larch_calculus.specs.Observation.{Observation, observer_term, other_variables, observations}
+use Rattle.larch_derive_boxes.specs.CalculusFormula.{constant, apply_one}
+use Rattle.larch_derive_boxes.specs.CalculusGeneration.{place_name, constant_terms, equation_at, induction_hypotheses}
+use Rattle.larch_derive_boxes.specs.CalculusGeneration.{generation_hypotheses}
+use Rattle.larch_derive_boxes.specs.CalculusObservation.{Observation, observer_term, other_variables, observations}
 use Rattle.larch_certificate.specs.declared.line.CodedVar.{CodedVar}
-use Rattle.larch_verify_meaning.specs.Matching.{are_apart}
-use Rattle.larch_derive.specs.declared.builder.Builder.{Builder}
-use Rattle.larch_derive.specs.declared.open_box.OpenBox.{OpenBox}
-use Rattle.larch_derive.specs.Builder.{boxes_in}
-use Rattle.larch_derive.specs.OpenBox.{constant_of}
-use Rattle.larch_derive.specs.Predicates.{HasEquation}
+use Rattle.larch_derive_boxes.specs.VerifyMeaningMatching.{are_apart}
+use Rattle.larch_derive_boxes.specs.DeriveBuilderBuilder.{Builder}
+use Rattle.larch_derive_boxes.specs.DeriveOpen_boxOpenBox.{OpenBox}
+use Rattle.larch_derive_boxes.specs.DeriveBuilder.{boxes_in}
+use Rattle.larch_derive_boxes.specs.DeriveOpenBox.{constant_of}
+use Rattle.larch_derive_boxes.specs.DerivePredicates.{HasEquation}
 use Rattle.larch_derive_boxes.specs.Boxes.{HasResult, AreOwnConstants}
 
 -- the closed box with a number shows an equation of what a generator makes: it has a constant for each of the

@@ -2,15 +2,15 @@ ghost use Rattle.std.specs.Prelude.{◌≡◌, IfOk, OnOk, OnErr, List};
 ghost use Rattle.larch_term.specs.Operator.{PlainOperator};
 ghost use Rattle.larch_term.specs.Sorts.{sort_of};
 ghost use Rattle.larch_term.specs.declared.statement.Statement.TheVariants.{Generated, Partitioned};
-ghost use Rattle.larch_calculus.specs.Observation.{observations_of};
-ghost use Rattle.larch_certificate_text.specs.LineText.{IsWord};
-ghost use Rattle.larch_derive.specs.Builder.{IsCodeIn};
-ghost use Rattle.larch_derive.specs.Predicates.{Known, HasStatement, HasEquation, Extends};
+ghost use Rattle.larch_derive_boxes.specs.CalculusObservation.{observations_of};
+ghost use Rattle.larch_derive_boxes.specs.CertificateTextLineText.{IsWord};
+ghost use Rattle.larch_derive_boxes.specs.DeriveBuilder.{IsCodeIn};
+ghost use Rattle.larch_derive_boxes.specs.DerivePredicates.{Known, HasStatement, HasEquation, Extends};
 ghost use Rattle.larch_derive_clauses.specs.Showing.{ShowCases, ShowSame};
 
 use larch_base::Memory;
 use larch_certificate::{CodedEquation, CodedVar, Line, Numbers};
-use larch_derive::Builder;
+use larch_derive_boxes::larch_derive::Builder;
 use larch_term::Term;
 
 /// A line that says an equation by induction on a variable, whose name is a word: by the clause of a line, and a closed

@@ -2,10 +2,10 @@
 ghost use Rattle.std.specs.Prelude.{ℕ, List};
 ghost use Rattle.larch_term.specs.Operator.{PlainOperator};
 ghost use Rattle.larch_term.specs.Tree.{Tree};
-ghost use Rattle.larch_calculus.specs.Observation.{Observation};
+ghost use Rattle.larch_derive_boxes.specs.CalculusObservation.{Observation};
 ghost use Rattle.larch_certificate.specs.declared.line.CodedVar.{CodedVar};
-ghost use Rattle.larch_derive.specs.Predicates.{Grows};
-ghost use Rattle.larch_derive.specs.declared.builder.Builder.{Builder};
+ghost use Rattle.larch_derive_boxes.specs.DerivePredicates.{Grows};
+ghost use Rattle.larch_derive_boxes.specs.DeriveBuilderBuilder.{Builder};
 ghost use Rattle.larch_derive_clauses.specs.Showing.{ShowCases, ShowSame, ShowsGenerated, ShowsPartitioned};
 
 /// What was shown is shown still where the builder has grown.

@@ -7,3 +7,6 @@ pub mod laws;
 
 pub use clauses::{push_generated, push_partitioned};
 pub use equations::{push_induct, push_observe};
+
+// Passed on to crates above, which then needn't list them.
+pub use larch_derive_boxes;

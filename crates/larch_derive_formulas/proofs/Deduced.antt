@@ -4,11 +4,11 @@ use Rattle.larch_term.specs.BuiltIn.{bool_sort, built_in}
 use Rattle.larch_term.specs.Tree.{Tree}
 use Rattle.larch_term.specs.Truth.{truth}
 use Rattle.larch_term.specs.declared.built_in.BuiltIn.TheVariants.{And, Implies, Not, Or}
-use Rattle.larch_calculus.specs.Formula.{conjunction, disjunction, falsity, implication, negation}
-use Rattle.larch_tables.specs.Spelling.{x, y}
-use Rattle.larch_derive.specs.Predicates.{HasEquation}
-use Rattle.larch_derive.specs.declared.builder.Builder.{Builder}
-use Rattle.larch_derive.proofs.Growth.{known_left}
+use Rattle.larch_derive_lines.specs.CalculusFormula.{conjunction, disjunction, falsity, implication, negation}
+use Rattle.larch_derive_lines.specs.TablesSpelling.{x, y}
+use Rattle.larch_derive_lines.specs.DerivePredicates.{HasEquation}
+use Rattle.larch_derive_lines.specs.DeriveBuilderBuilder.{Builder}
+use Rattle.larch_derive_lines.proofs.DeriveGrowth.{known_left}
 use Rattle.larch_derive_formulas.specs.Instances.{of_truths, IsKnownAt, IsInstance}
 use Rattle.larch_derive_formulas.proofs.Rows.{known_one, known_two, of_row}
 

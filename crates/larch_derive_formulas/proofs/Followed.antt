@@ -11,8 +11,8 @@ use Rattle.larch_term.specs.Tree.{Tree}
 use Rattle.larch_term.specs.Truth.{truth}
 use Rattle.larch_term.specs.declared.statement.Statement.{Statement}
 use Rattle.larch_term.specs.declared.statement.Statement.TheVariants.{Equation}
-use Rattle.larch_calculus.specs.Formula.{equality}
-use Rattle.larch_tables.specs.Row.{PlainRow}
+use Rattle.larch_derive_lines.specs.CalculusFormula.{equality}
+use Rattle.larch_derive_lines.specs.TablesRow.{PlainRow}
 use Rattle.larch_derive_formulas.specs.Consequences.{Follows, found_by, given_by}
 use Rattle.larch_derive_formulas.specs.Instances.{truths, values}
 use Rattle.larch_derive_formulas.specs.declared.consequences.Deduction.{Deduction}

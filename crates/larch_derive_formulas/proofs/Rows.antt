@@ -12,16 +12,18 @@ use Rattle.larch_term.specs.Truth.{truth}
 use Rattle.larch_term.specs.declared.statement.Statement.{Statement}
 use Rattle.larch_term.specs.declared.statement.Statement.TheVariants.{Equation}
 use Rattle.larch_term.specs.declared.substitution.Entry.{Entry}
-use Rattle.larch_calculus.specs.Formula.{apply_one, choice, equality, equivalence, falsity, apply_two}
-use Rattle.larch_tables.specs.Spelling.{x, y, a, b}
-use Rattle.larch_certificate_text.specs.LineText.{IsWord}
-use Rattle.larch_verify_meaning.specs.Matching.{all_different}
-use Rattle.larch_verify_meaning.specs.Rules.{row_says}
-use Rattle.larch_derive.specs.Predicates.{written_term, Known, HasNoBadLine, HasEquation, HasStatement, Extends}
-use Rattle.larch_derive.specs.declared.builder.Builder.{Builder}
-use Rattle.larch_derive.specs.declared.open_box.OpenBox.{OpenBox}
-use Rattle.larch_derive.proofs.Growth.{extends_grows, grown_stands, known_stands, extends_trans, stays_known}
-use Rattle.larch_derive.proofs.Words.{known_sort}
+use Rattle.larch_derive_lines.specs.CalculusFormula.{apply_one, choice, equality, equivalence, falsity, apply_two}
+use Rattle.larch_derive_lines.specs.TablesSpelling.{x, y, a, b}
+use Rattle.larch_derive_lines.specs.CertificateTextLineText.{IsWord}
+use Rattle.larch_derive_lines.specs.VerifyMeaningMatching.{all_different}
+use Rattle.larch_derive_lines.specs.VerifyMeaningRules.{row_says}
+use Rattle.larch_derive_lines.specs.DerivePredicates.{written_term, Known, HasNoBadLine}
+use Rattle.larch_derive_lines.specs.DerivePredicates.{HasEquation, HasStatement, Extends}
+use Rattle.larch_derive_lines.specs.DeriveBuilderBuilder.{Builder}
+use Rattle.larch_derive_lines.specs.DeriveOpen_boxOpenBox.{OpenBox}
+use Rattle.larch_derive_lines.proofs.DeriveGrowth.{extends_grows, grown_stands, known_stands}
+use Rattle.larch_derive_lines.proofs.DeriveGrowth.{extends_trans, stays_known}
+use Rattle.larch_derive_lines.proofs.DeriveWords.{known_sort}
 use Rattle.larch_derive_lines.specs.Rules.{variable_in, AreKnownEntries, IsWordedSort}
 use Rattle.larch_derive_formulas.specs.Instances.{truths, values, of_truths, of_values, IsKnownAt, MayReplace}
 use Rattle.larch_derive_formulas.specs.Instances.{IsInstance}

@@ -8,10 +8,10 @@ use Rattle.larch_term.specs.Tree.{Tree}
 use Rattle.larch_term.specs.Truth.{truth, is_truth}
 use Rattle.larch_term.specs.declared.built_in.BuiltIn.TheVariants.{Iff, Equal}
 use Rattle.larch_term.proofs.TruthTest.{is_truth_Decides}
-use Rattle.larch_calculus.specs.Formula.{choice, equality, equivalence, falsity, formula, apply_two}
-use Rattle.larch_derive.specs.Predicates.{Known, HasEquation}
-use Rattle.larch_derive.specs.declared.builder.Builder.{Builder}
-use Rattle.larch_derive.proofs.Growth.{known_left}
+use Rattle.larch_derive_lines.specs.CalculusFormula.{choice, equality, equivalence, falsity, formula, apply_two}
+use Rattle.larch_derive_lines.specs.DerivePredicates.{Known, HasEquation}
+use Rattle.larch_derive_lines.specs.DeriveBuilderBuilder.{Builder}
+use Rattle.larch_derive_lines.proofs.DeriveGrowth.{known_left}
 use Rattle.larch_derive_formulas.specs.Formulas.{equation_formula, equating}
 use Rattle.larch_derive_formulas.specs.Instances.{of_truths, of_values, IsInstance}
 use Rattle.larch_derive_formulas.specs.declared.instances.Instance.{Instance}

@@ -11,9 +11,9 @@ use Rattle.larch_term.specs.declared.built_in.BuiltIn.TheVariants.{Not, And, Or,
 use Rattle.larch_term.specs.declared.statement.Statement.{Statement}
 use Rattle.larch_term.specs.declared.statement.Statement.TheVariants.{Equation}
 use Rattle.larch_term.specs.declared.substitution.Entry.{Entry}
-use Rattle.larch_calculus.specs.Formula.{falsity}
-use Rattle.larch_tables.specs.Row.{PlainRow}
-use Rattle.larch_tables.specs.Tables.{deduction_rows}
+use Rattle.larch_derive_lines.specs.CalculusFormula.{falsity}
+use Rattle.larch_derive_lines.specs.TablesRow.{PlainRow}
+use Rattle.larch_derive_lines.specs.TablesTables.{deduction_rows}
 use Rattle.larch_derive_formulas.specs.declared.consequences.Consequences.{Consequences}
 use Rattle.larch_derive_formulas.specs.declared.consequences.Consequences.TheVariants.{One, Both}
 use Rattle.larch_derive_formulas.specs.declared.consequences.Deduction.{Deduction}

@@ -4,7 +4,7 @@ use Rattle.larch_term.specs.BuiltIn.{bool_sort, built_in}
 use Rattle.larch_term.specs.Operator.{PlainOperator}
 use Rattle.larch_term.specs.Sorts.{sort_of}
 use Rattle.larch_term.specs.Tree.{Tree}
-use Rattle.larch_calculus.specs.Formula.{equality, equivalence}
+use Rattle.larch_derive_lines.specs.CalculusFormula.{equality, equivalence}
 use Rattle.larch_term.specs.declared.built_in.BuiltIn.TheVariants.{Iff, Equal}
 
 -- that two terms are equal, or at Bool equivalent: the formula of an equation, if neither side is true

@@ -6,10 +6,10 @@ use Rattle.larch_term.specs.Substitution.{instance_of}
 use Rattle.larch_term.specs.Tree.{Tree}
 use Rattle.larch_term.specs.declared.statement.Statement.TheVariants.{Equation}
 use Rattle.larch_term.specs.declared.substitution.Entry.{Entry}
-use Rattle.larch_verify_meaning.specs.Matching.{all_different}
-use Rattle.larch_verify_meaning.specs.Rules.{row_says}
-use Rattle.larch_derive.specs.Predicates.{Known, HasNoBadLine}
-use Rattle.larch_derive.specs.declared.builder.Builder.{Builder}
+use Rattle.larch_derive_lines.specs.VerifyMeaningMatching.{all_different}
+use Rattle.larch_derive_lines.specs.VerifyMeaningRules.{row_says}
+use Rattle.larch_derive_lines.specs.DerivePredicates.{Known, HasNoBadLine}
+use Rattle.larch_derive_lines.specs.DeriveBuilderBuilder.{Builder}
 use Rattle.larch_derive_lines.specs.Rules.{variable_in, AreKnownEntries, IsWordedSort}
 use Rattle.larch_derive_formulas.specs.declared.instances.Instance.{Instance}
 

@@ -1,12 +1,12 @@
 ghost use Rattle.std.specs.Prelude.{◌≡◌, IfOk};
-ghost use Rattle.larch_calculus.specs.Formula.{falsity};
-ghost use Rattle.larch_derive.specs.Predicates.{Extends, HasEquation, Known};
+ghost use Rattle.larch_derive_lines.specs.CalculusFormula.{falsity};
+ghost use Rattle.larch_derive_lines.specs.DerivePredicates.{Extends, HasEquation, Known};
 ghost use Rattle.larch_term.specs.Sorts.{sort_of};
 ghost use Rattle.larch_term.specs.Truth.{truth};
 
 use crate::instances::{of_values, push_reach};
 use larch_base::Memory;
-use larch_derive::Builder;
+use larch_derive_lines::larch_derive::Builder;
 use larch_term::{Term, sort_of};
 use std::alloc::Global;
 

@@ -1,9 +1,10 @@
 ghost use Rattle.std.specs.Prelude.{◌≡◌, ◌↔◌, ℕ, List, not, IfOk, IfSome, IfNone, IsSome, IsTrue};
 ghost use Rattle.std.specs.List.{AllZip};
 ghost use Rattle.larch_base.specs.ByNumber.{numbered};
-ghost use Rattle.larch_calculus.specs.Formula.{negation};
-ghost use Rattle.larch_derive.specs.Predicates.{Extends, HasEquation, HasStatement};
-ghost use Rattle.larch_derive_formulas.specs.Consequences.{Follows, arguments_of, found_by, given_by, head_of, deduction_left};
+ghost use Rattle.larch_derive_lines.specs.CalculusFormula.{negation};
+ghost use Rattle.larch_derive_lines.specs.DerivePredicates.{Extends, HasEquation, HasStatement};
+ghost use Rattle.larch_derive_formulas.specs.Consequences.{Follows, arguments_of, found_by};
+ghost use Rattle.larch_derive_formulas.specs.Consequences.{given_by, head_of, deduction_left};
 ghost use Rattle.larch_derive_formulas.specs.Consequences.{last_sort, lines_of, sort_within, truth_value};
 ghost use Rattle.larch_derive_formulas.specs.declared.consequences.TheConstants.{DEDUCTIONS};
 ghost use Rattle.larch_term.specs.BuiltIn.{built_in};
@@ -17,7 +18,7 @@ use crate::deductions::{
 use crate::formulas::push_equivalent;
 use crate::instances::Places;
 use larch_base::Memory;
-use larch_derive::Builder;
+use larch_derive_lines::larch_derive::Builder;
 use larch_derive_lines::push_equal;
 use larch_term::{BuiltIn, Node, Operator, Term, same_operator, same_term};
 use std::alloc::Global;

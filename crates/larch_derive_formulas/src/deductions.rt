@@ -1,6 +1,6 @@
 ghost use Rattle.std.specs.Prelude.{◌≡◌, ◌+◌, ◌++◌, ◌∷◌, List, length, IfOk};
-ghost use Rattle.larch_calculus.specs.Formula.{conjunction, disjunction, falsity, implication, negation};
-ghost use Rattle.larch_derive.specs.Predicates.{Extends, HasEquation};
+ghost use Rattle.larch_derive_lines.specs.CalculusFormula.{conjunction, disjunction, falsity, implication, negation};
+ghost use Rattle.larch_derive_lines.specs.DerivePredicates.{Extends, HasEquation};
 ghost use Rattle.larch_derive_formulas.specs.Instances.{IsInstance, of_truths};
 ghost use Rattle.larch_term.specs.Operator.{PlainOperator};
 ghost use Rattle.larch_term.specs.Tree.{Tree, app, forest_of};
@@ -8,7 +8,7 @@ ghost use Rattle.larch_term.specs.Truth.{truth};
 
 use crate::instances::{Places, of_truths, push_reach};
 use larch_base::Memory;
-use larch_derive::Builder;
+use larch_derive_lines::larch_derive::Builder;
 use larch_derive_lines::push_sym;
 use larch_term::Term;
 use std::alloc::Global;

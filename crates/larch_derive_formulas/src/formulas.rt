@@ -1,7 +1,7 @@
 ghost use Rattle.std.specs.Prelude.{◌≡◌, IfOk};
-ghost use Rattle.larch_calculus.specs.Formula.{equivalence, formula, apply_two};
-ghost use Rattle.larch_derive.specs.Predicates.{Extends, HasEquation, Known};
-ghost use Rattle.larch_derive.specs.declared.builder.Builder.{Builder as Built};
+ghost use Rattle.larch_derive_lines.specs.CalculusFormula.{equivalence, formula, apply_two};
+ghost use Rattle.larch_derive_lines.specs.DerivePredicates.{Extends, HasEquation, Known};
+ghost use Rattle.larch_derive_lines.specs.DeriveBuilderBuilder.{Builder as Built};
 ghost use Rattle.larch_derive_formulas.specs.Formulas.{equation_formula, equating};
 ghost use Rattle.larch_derive_formulas.specs.Instances.{IsInstance};
 ghost use Rattle.larch_term.specs.Tree.{Tree};
@@ -9,7 +9,7 @@ ghost use Rattle.larch_term.specs.Truth.{truth};
 
 use crate::instances::{Instance, of_truths, of_values, push_change, push_instance};
 use larch_base::Memory;
-use larch_derive::Builder;
+use larch_derive_lines::larch_derive::Builder;
 use larch_derive_lines::{push_equal, push_sym, push_trans};
 use larch_term::{Term, is_truth, sort_of};
 use std::alloc::Global;

@@ -1,12 +1,12 @@
 ghost use Rattle.std.specs.Prelude.{◌≡◌, ◌+◌, ◌++◌, ◌∷◌, [], false, List, length, IfOk};
-ghost use Rattle.larch_derive.specs.Predicates.{Extends, HasEquation};
+ghost use Rattle.larch_derive_lines.specs.DerivePredicates.{Extends, HasEquation};
 ghost use Rattle.larch_derive_formulas.specs.Instances.{IsInstance, of_truths, of_values};
 ghost use Rattle.larch_term.specs.Operator.{PlainOperator};
 ghost use Rattle.larch_term.specs.Substitution.{is_entry_of};
 ghost use Rattle.larch_term.specs.Tree.{Tree, app, forest_of};
 
 use larch_base::{Memory, Name};
-use larch_derive::Builder;
+use larch_derive_lines::larch_derive::Builder;
 use larch_derive_lines::{push_argument, push_inst, push_row, push_sym, push_trans};
 use larch_term::{Entry, Sort, Substitution, Term, bool_sort, copy};
 use std::alloc::Global;

@@ -13,3 +13,6 @@ pub use deductions::{
     BothLines, push_conjuncts, push_disjuncts, push_false, push_implication_parts, push_true,
 };
 pub use formulas::{push_equality, push_equation, push_equivalent, push_formula};
+
+// Passed on to crates above, which then needn't list them.
+pub use larch_derive_lines;

@@ -13,19 +13,19 @@ use Rattle.larch_term.specs.Tree.{Tree, var, app}
 use Rattle.larch_term.specs.Variable.{occurrences}
 use Rattle.larch_term.specs.declared.statement.Statement.TheVariants.{Equation}
 use Rattle.larch_term.specs.declared.substitution.Entry.{Entry}
-use Rattle.larch_term_law.proofs.Substitutions.{substituted_sort, substituted_well_sorted, substituted_over}
-use Rattle.larch_renaming.specs.Renaming.{renamed_entry}
-use Rattle.larch_renaming.proofs.RenamedSubstitutions.{renamed_substituted, apart_by_sorts}
-use Rattle.larch_certificate.specs.declared.line.Binding.{Binding}
-use Rattle.larch_certificate.specs.declared.line.Line.TheVariants.{Inst}
-use Rattle.larch_certificate_text.specs.LineText.{IsWord, FitBinding}
-use Rattle.larch_certificate_text.specs.Parts.{Each}
-use Rattle.larch_verify_meaning.specs.Context.{find_symbol, find_line}
-use Rattle.larch_verify_meaning.specs.Decoding.{each, decode_binding, entry_for}
-use Rattle.larch_verify_meaning.specs.Events.{State}
-use Rattle.larch_verify_meaning.specs.Matching.{all_different}
-use Rattle.larch_verify_meaning.specs.Rules.{instance_by, replaced_variable}
-use Rattle.larch_verify_meaning.specs.Run.{judge}
+use Rattle.larch_derive.proofs.TermLawSubstitutions.{substituted_sort, substituted_well_sorted, substituted_over}
+use Rattle.larch_derive.specs.RenamingRenaming.{renamed_entry}
+use Rattle.larch_derive.proofs.RenamingRenamedSubstitutions.{renamed_substituted, apart_by_sorts}
+use Rattle.larch_derive.specs.CertificateLineBinding.{Binding}
+use Rattle.larch_derive.specs.CertificateLineLine.TheVariants.{Inst}
+use Rattle.larch_derive.specs.CertificateTextLineText.{IsWord, FitBinding}
+use Rattle.larch_derive.specs.CertificateTextParts.{Each}
+use Rattle.larch_derive.specs.VerifyMeaningContext.{find_symbol, find_line}
+use Rattle.larch_derive.specs.VerifyMeaningDecoding.{each, decode_binding, entry_for}
+use Rattle.larch_derive.specs.VerifyMeaningEvents.{State}
+use Rattle.larch_derive.specs.VerifyMeaningMatching.{all_different}
+use Rattle.larch_derive.specs.VerifyMeaningRules.{instance_by, replaced_variable}
+use Rattle.larch_derive.specs.VerifyMeaningRun.{judge}
 use Rattle.larch_derive.specs.declared.builder.Builder.{Builder}
 use Rattle.larch_derive.specs.declared.open_box.OpenBox.{OpenBox}
 use Rattle.larch_derive.specs.Builder.{IsPushed, IsCodeIn}

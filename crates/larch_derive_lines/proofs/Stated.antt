@@ -7,9 +7,9 @@ use Rattle.std.specs.List.{slice_get}
 use Rattle.std.proofs.lemmas.Bool.{cond-true}
 use Rattle.std.proofs.lemmas.Option.{option_and_then_some, cond_some}
 use Rattle.std.proofs.lemmas.List.Elements.{All-nil, All-cons, All-contains}
-use Rattle.larch_base.proofs.Members.{got_contains}
-use Rattle.larch_base.proofs.Options.{some_inj}
-use Rattle.larch_base.specs.ByNumber.{numbered}
+use Rattle.larch_term.proofs.BaseMembers.{got_contains}
+use Rattle.larch_term.proofs.BaseOptions.{some_inj}
+use Rattle.larch_term.specs.BaseByNumber.{numbered}
 use Rattle.larch_term.specs.BuiltIn.{built_in, bool_sort}
 use Rattle.larch_term.specs.Equality.{same_statement}
 use Rattle.larch_term.specs.Operator.{PlainOperator}
@@ -22,19 +22,19 @@ use Rattle.larch_term.specs.declared.statement.Statement.{Statement}
 use Rattle.larch_term.specs.declared.statement.Statement.TheVariants.{Equation, Generated, Partitioned}
 use Rattle.larch_term.specs.declared.statement.Theory.{Theory}
 use Rattle.larch_term.proofs.Decided.{statement_Decides}
-use Rattle.larch_calculus.specs.Formula.{equality}
-use Rattle.larch_calculus.proofs.Identities.{identity_over}
-use Rattle.larch_calculus.proofs.Sorted.{sides_over}
-use Rattle.larch_tables.specs.Statement.{IsIdentityStatement}
-use Rattle.larch_tables.specs.Tables.{built_in_rows}
-use Rattle.larch_tables.proofs.Identities.{Every, every_at, at_place, row_identity}
-use Rattle.larch_tables.specs.Row.{PlainRow}
-use Rattle.larch_certificate.specs.declared.line.Line.TheVariants.{Axiom, Row, Equal as EqualLine}
-use Rattle.larch_certificate_text.specs.LineText.{IsWord, FitLine}
-use Rattle.larch_certificate_text.specs.Parts.{IsSmall}
-use Rattle.larch_verify_meaning.specs.Events.{State}
-use Rattle.larch_verify_meaning.specs.Rules.{row_says, stated_equal}
-use Rattle.larch_verify_meaning.specs.Run.{judge}
+use Rattle.larch_derive.specs.CalculusFormula.{equality}
+use Rattle.larch_derive.proofs.CalculusIdentities.{identity_over}
+use Rattle.larch_derive.proofs.CalculusSorted.{sides_over}
+use Rattle.larch_derive.specs.TablesStatement.{IsIdentityStatement}
+use Rattle.larch_derive.specs.TablesTables.{built_in_rows}
+use Rattle.larch_derive.proofs.TablesIdentities.{Every, every_at, at_place, row_identity}
+use Rattle.larch_derive.specs.TablesRow.{PlainRow}
+use Rattle.larch_derive.specs.CertificateLineLine.TheVariants.{Axiom, Row, Equal as EqualLine}
+use Rattle.larch_derive.specs.CertificateTextLineText.{IsWord, FitLine}
+use Rattle.larch_derive.specs.CertificateTextParts.{IsSmall}
+use Rattle.larch_derive.specs.VerifyMeaningEvents.{State}
+use Rattle.larch_derive.specs.VerifyMeaningRules.{row_says, stated_equal}
+use Rattle.larch_derive.specs.VerifyMeaningRun.{judge}
 use Rattle.larch_derive.specs.declared.builder.Builder.{Builder}
 use Rattle.larch_derive.specs.Builder.{IsPushed}
 use Rattle.larch_derive.specs.OpenBox.{in_lines}

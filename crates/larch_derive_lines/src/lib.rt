@@ -12,3 +12,6 @@ pub use rules::{
     push_again, push_axiom, push_equal, push_inst, push_refl, push_repl, push_row, push_sym,
     push_trans, push_written_inst,
 };
+
+// Passed on to crates above, which then needn't list them.
+pub use larch_derive;

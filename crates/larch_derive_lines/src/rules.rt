@@ -5,18 +5,18 @@ ghost use Rattle.larch_term.specs.Substitution.{instance_of};
 ghost use Rattle.larch_term.specs.Truth.{truth};
 ghost use Rattle.larch_term.specs.declared.statement.Statement.{Statement};
 ghost use Rattle.larch_term.specs.declared.substitution.Entry.{Entry};
-ghost use Rattle.larch_calculus.specs.Formula.{equality};
-ghost use Rattle.larch_verify_meaning.specs.Matching.{all_different};
-ghost use Rattle.larch_verify_meaning.specs.Rules.{row_says};
+ghost use Rattle.larch_derive.specs.CalculusFormula.{equality};
+ghost use Rattle.larch_derive.specs.VerifyMeaningMatching.{all_different};
+ghost use Rattle.larch_derive.specs.VerifyMeaningRules.{row_says};
 ghost use Rattle.larch_derive.specs.Builder.{IsCodeIn, lines_in, theory_in};
 ghost use Rattle.larch_derive_lines.specs.Rules.{variable_in, AreKnownEntries, AreWritten, IsWordedSort};
 ghost use Rattle.larch_term.specs.Place.{at, put};
 ghost use Rattle.larch_term.specs.Tree.{Tree};
 ghost use Rattle.larch_derive.specs.Predicates.{HasNoBadLine, Known, HasStatement, HasEquation, Extends};
 
-use larch_base::{Memory, Sequence};
-use larch_certificate::{Binding, Bindings, Line, Path};
 use larch_derive::Builder;
+use larch_derive::larch_certificate::{Binding, Bindings, Line, Path};
+use larch_term::larch_base::{Memory, Sequence};
 use larch_term::{Entry, Sort, Substitution, Term};
 use std::alloc::Global;
 

@@ -1,8 +1,19 @@
-use crate::numbers::empty;
-use larch_base::Memory;
+use larch_base::{Memory, Sequence};
 use larch_certificate::Line;
 use larch_derive::{Builder, ChunkedList};
+use larch_term::Theory;
 use std::alloc::Global;
+
+// A builder without lines. The lines name statements by their numbers, so the theory states nothing here.
+fn empty(alloc: Global) -> Result<Builder, Memory> {
+    let operators = Sequence::new(alloc);
+    let statements = Sequence::new(alloc);
+    let theory = Theory {
+        operators,
+        statements,
+    };
+    Builder::new(alloc, &theory)
+}
 
 // How many lines there are.
 fn count(builder: &Builder) -> Result<usize, Memory> {

@@ -7,15 +7,15 @@ use Rattle.larch_base.specs.declared.fault.Fault.{Fault}
 use Rattle.larch_base.specs.declared.limits.TheConstants.{MAX_DUTIES}
 use Rattle.larch_raw.specs.declared.equation.RawTrait.{RawTrait}
 use Rattle.larch_term.specs.declared.statement.Statement.{Statement}
-use Rattle.larch_traits_items.specs.Items.{items_state}
-use Rattle.larch_traits_items.specs.Steps.{after, all_behind, all_taken, each}
+use Rattle.larch_flat_meaning.specs.TraitsItemsItems.{items_state}
+use Rattle.larch_base_meaning.specs.Steps.{after, all_behind, all_taken, each}
 use Rattle.larch_flat_meaning.specs.Flat.{FlatTrait, theory_of}
 use Rattle.larch_flat_meaning.specs.Gathered.{Gathered, new_among}
 use Rattle.larch_flat_meaning.specs.Stops.{Stop, Refused, refused_if, surely}
 use Rattle.larch_duties_meaning.specs.Conversions.{Conversion, clause_over, conversion_of}
 use Rattle.larch_duties_meaning.specs.Duties.{all_duties, duties, duties_of, not_too_many, with_clauses}
 use Rattle.larch_duties_meaning.specs.Implied.{implied_statements}
-use Rattle.larch_flat_sources.specs.Sources.{Table, files_in}
+use Rattle.larch_flat.specs.FlatSourcesSources.{Table, files_in}
 use Rattle.larch_duties.specs.Kept.{duties_in}
 use Rattle.larch_duties.specs.Steps.{reference_implies}
 use Rattle.larch_duties.specs.TraitDuties.{claims_of, flat_with}
@@ -113,3 +113,21 @@ pub claims_kept : (sources : Table) (raw : RawTrait) (g : Gathered) (ss is : Lis
 claims_kept sources raw g ss is cs b e h n t =
     claims_told sources raw g ss cs b e h (t ∙ ap (λ xs. nat_lt MAX_DUTIES (length (all_duties (duties_in g xs cs)))) n)
     ∙ ap (λ xs. surely (refused_if Size raw.name.pos b (Ok (duties_in g xs cs)))) (sym n)
+
+-- nothing is implied
+nothing_implied : (sources : Table) (own : FlatTrait) → own.raw.implied ≡ [] → own.raw.implied_items ≡ []
+    → implied_statements (length sources) (files_in sources) own ≡ Ok []
+nothing_implied sources own e h =
+    implied_told sources own [] []
+    (ap (λ refs. all_taken (λ ref. all_behind (reference_implies sources own ref)) refs []) e)
+    (ap (items_state own.operators) h)
+
+-- nothing is implied or converted, and there may be too much that is to be discharged
+pub claims_none : (sources : Table) (raw : RawTrait) (g : Gathered) (is : List Statement) (cs : List Conversion)
+    (b : Bool)
+    → raw.implied ≡ [] → raw.implied_items ≡ [] → raw.conversions ≡ [] → is ≡ [] → cs ≡ []
+    → b ≡ nat_lt MAX_DUTIES (length (all_duties (duties_in g is cs)))
+    → claims_of sources (flat_with raw g) ≡ surely (refused_if Size raw.name.pos b (Ok (duties_in g is cs)))
+claims_none sources raw g is cs b e h k i j t =
+    claims_kept sources raw g [] is cs b (nothing_implied sources (flat_with raw g) e h)
+    (ap (each (conversion_of g.operators)) k ∙ ap Ok (sym j)) i t

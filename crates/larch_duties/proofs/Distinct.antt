@@ -10,7 +10,7 @@ use Rattle.larch_term.specs.declared.statement.Statement.{Statement}
 use Rattle.larch_flat_meaning.specs.Flat.{renamed_mark, with_mark}
 use Rattle.larch_flat_meaning.specs.Gathered.{Marked, new_among, stands_in, statements_in, with_new, with_statement}
 use Rattle.larch_flat_meaning.specs.Replacements.{Replacements, renaming}
-use Rattle.larch_flat_statements.specs.HashInput.{statement_equivalence}
+use Rattle.larch_flat.specs.FlatStatementsHashInput.{statement_equivalence}
 use Rattle.larch_duties.specs.Steps.{new_in, renamed_in}
 use Rattle.larch_duties.proofs.Once.{statements_found}
 

@@ -1,11 +1,11 @@
 -- The duties of a trait are the same among others that say the same of what is reached.
 use Rattle.std.proofs.Common.{◌≡◌, ap, ◌≤◌, arith, ℕ, length, List, Ok}
-use Rattle.larch_traits_items.specs.Steps.{after}
+use Rattle.larch_base_meaning.specs.Steps.{after}
 use Rattle.larch_flat_meaning.specs.Reached.{AgreeOn, AreReached}
 use Rattle.larch_duties_meaning.specs.Claims.{claims_in}
 use Rattle.larch_duties_meaning.proofs.Reached.{duties_elsewhere as elsewhere}
-use Rattle.larch_flat_sources.specs.Sources.{Table, files_in, names_in}
-use Rattle.larch_flat_sources.proofs.Tables.{among, names_length}
+use Rattle.larch_flat.specs.FlatSourcesSources.{Table, files_in, names_in}
+use Rattle.larch_flat.proofs.FlatSourcesTables.{among, names_length}
 use Rattle.larch_duties.specs.TraitDuties.{trait_claims, trait_duties}
 
 as_many : (sources : Table) → length (names_in sources) ≤ length sources

@@ -15,3 +15,6 @@ pub mod OwnDuties
 pub mod Places
 pub mod References
 pub mod Worded
+-- passed on to crates above, which then needn't list the crates that these are of
+pub use Rattle.larch_flat_meaning.proofs.Gathering as FlatMeaningGathering
+pub use Rattle.larch_flat_meaning.proofs.Proper as FlatMeaningProper

@@ -2,14 +2,14 @@
 use Rattle.std.proofs.Common.{◌≡◌, sym, ap, ◌∙◌, ℕ, List, Option, Some, None, Result, Ok, Err}
 use Rattle.std.specs.Prelude.{IfSome}
 use Rattle.larch_raw.specs.declared.equation.RawTrait.{RawTrait}
-use Rattle.larch_traits_items.specs.Steps.{after}
+use Rattle.larch_base_meaning.specs.Steps.{after}
 use Rattle.larch_flat_meaning.specs.Flat.{FlatTrait}
 use Rattle.larch_flat_meaning.specs.Gathered.{Gathered}
 use Rattle.larch_flat_meaning.specs.Laws.{gathered_in}
 use Rattle.larch_flat_meaning.specs.Stops.{Stop}
 use Rattle.larch_duties_meaning.specs.Duties.{Duties}
 use Rattle.larch_duties_meaning.specs.Listing.{trait_listing}
-use Rattle.larch_flat_sources.specs.Sources.{Table}
+use Rattle.larch_flat.specs.FlatSourcesSources.{Table}
 use Rattle.larch_flat.specs.Parts.{flat_trait, parts_of}
 use Rattle.larch_duties.specs.TraitDuties.{claims_of, flat_with, trait_duties, trait_listed}
 

@@ -14,8 +14,8 @@ use Rattle.larch_base.specs.declared.label.Label.TheVariants.{Assume, Imply}
 use Rattle.larch_base.specs.declared.limits.TheConstants.{MAX_DUTIES}
 use Rattle.larch_term.specs.declared.statement.Statement.{Statement}
 use Rattle.larch_term.specs.declared.statement.Theory.{Theory}
-use Rattle.larch_traits_items.specs.Steps.{after, each}
-use Rattle.larch_traits_items.proofs.Kept.{after_was, ok_inj}
+use Rattle.larch_base_meaning.specs.Steps.{after, each}
+use Rattle.larch_flat_meaning.proofs.TraitsItemsKept.{after_was, ok_inj}
 use Rattle.larch_flat_meaning.specs.Files.{Files}
 use Rattle.larch_flat_meaning.specs.Flat.{FlatTrait, theory_of}
 use Rattle.larch_flat_meaning.specs.Gathered.{new_among}
@@ -26,7 +26,7 @@ use Rattle.larch_duties_meaning.specs.Conversions.{Clause, Conversion, clause_ov
 use Rattle.larch_duties_meaning.specs.Duties.{Duties, Duty, all_duties, duties, duties_of, label_all, not_too_many}
 use Rattle.larch_duties_meaning.specs.Duties.{with_clauses}
 use Rattle.larch_duties_meaning.specs.Implied.{implied_statements}
-use Rattle.larch_flat_sources.specs.Sources.{Table, files_in}
+use Rattle.larch_flat.specs.FlatSourcesSources.{Table, files_in}
 use Rattle.larch_flat.specs.Parts.{flat_trait}
 use Rattle.larch_duties.specs.Finding.{label_behind, labelled_in, or_else}
 use Rattle.larch_duties.specs.Own.{IsDutyOf, is_assumed, is_implied, own_claims, statements_with}

@@ -9,14 +9,14 @@ use Rattle.larch_base.specs.declared.label.Label.TheVariants.{Assume, Imply}
 use Rattle.larch_raw.specs.declared.equation.RawTrait.{RawTrait}
 use Rattle.larch_term.specs.declared.statement.Statement.{Statement}
 use Rattle.larch_term.specs.declared.statement.Theory.{Theory}
-use Rattle.larch_traits_items.specs.Steps.{after}
+use Rattle.larch_base_meaning.specs.Steps.{after}
 use Rattle.larch_flat_meaning.specs.Flat.{FlatTrait}
 use Rattle.larch_flat_meaning.specs.Gathered.{Gathered}
 use Rattle.larch_flat_meaning.specs.Laws.{gathered_in}
 use Rattle.larch_flat_meaning.specs.Stops.{Stop}
 use Rattle.larch_duties_meaning.specs.Conversions.{Conversion}
 use Rattle.larch_duties_meaning.specs.Duties.{Duties, Duty, label_all}
-use Rattle.larch_flat_sources.specs.Sources.{Table}
+use Rattle.larch_flat.specs.FlatSourcesSources.{Table}
 use Rattle.larch_flat.specs.Parts.{flat_trait, parts_of}
 use Rattle.larch_duties.specs.Kept.{duties_in, theory_in}
 use Rattle.larch_duties.specs.Own.{is_assumed, is_implied, own_claims, statements_with, trait_own_claims}

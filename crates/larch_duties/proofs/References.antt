@@ -10,9 +10,9 @@ use Rattle.larch_base.specs.declared.position.Pos.{Pos}
 use Rattle.larch_raw.specs.declared.equation.RawTrait.{RawTrait}
 use Rattle.larch_raw.specs.declared.reference.RawRef.{RawRef}
 use Rattle.larch_term.specs.declared.statement.Statement.{Statement}
-use Rattle.larch_sorts_meaning.specs.Faults.{fault}
-use Rattle.larch_traits_items.specs.Steps.{after, all_behind, all_taken}
-use Rattle.larch_traits_items.proofs.Kept.{ok_inj}
+use Rattle.larch_flat_meaning.specs.SortsMeaningFaults.{fault}
+use Rattle.larch_base_meaning.specs.Steps.{after, all_behind, all_taken}
+use Rattle.larch_flat_meaning.proofs.TraitsItemsKept.{ok_inj}
 use Rattle.larch_flat_meaning.specs.Flat.{FlatTrait, at_reference}
 use Rattle.larch_term.specs.Operator.{PlainOperator}
 use Rattle.larch_flat_meaning.specs.Gathered.{Gathered}
@@ -20,7 +20,7 @@ use Rattle.larch_flat_meaning.specs.Laws.{gathered_in}
 use Rattle.larch_flat_meaning.specs.Replacements.{Replacements, new_operator, replacements_of}
 use Rattle.larch_flat_meaning.specs.Stops.{Stop, Refused, refused_if, stopped_if, surely}
 use Rattle.larch_duties_meaning.specs.Implied.{implied_by, is_among, take_implied, take_reference}
-use Rattle.larch_flat_sources.specs.Sources.{Table, files_in, name_at}
+use Rattle.larch_flat.specs.FlatSourcesSources.{Table, files_in, name_at}
 use Rattle.larch_flat.specs.Known.{Knows}
 use Rattle.larch_flat.specs.Parts.{flat_trait, parts_of}
 use Rattle.larch_flat.proofs.References.{flat_raw}

@@ -1,9 +1,9 @@
 -- Where files are written with words, so are the duties of what is read of them; and these are sound.
 use Rattle.std.proofs.Common.{◌≡◌, refl, subst, ℕ, length, List, All, Result, Ok, Err}
-use Rattle.larch_calculus.specs.Renaming.{HasPlainNames}
-use Rattle.larch_sorts_meaning.specs.Laws.{StatementSorts}
-use Rattle.larch_traits_items.specs.Laws.{IsWord}
-use Rattle.larch_traits_items.proofs.Kept.{after_was, ok_inj}
+use Rattle.larch_duties_meaning.specs.CalculusRenaming.{HasPlainNames}
+use Rattle.larch_flat_meaning.specs.SortsMeaningLaws.{StatementSorts}
+use Rattle.larch_base_meaning.specs.Word.{IsWord}
+use Rattle.larch_flat_meaning.proofs.TraitsItemsKept.{after_was, ok_inj}
 use Rattle.larch_flat_meaning.specs.Flat.{FlatTrait, theory_of}
 use Rattle.larch_flat_meaning.specs.Gathered.{Gathered}
 use Rattle.larch_flat_meaning.specs.Laws.{AreWorded, IsInWords, IsTheoryInWords, gathered_in}
@@ -18,7 +18,7 @@ use Rattle.larch_duties_meaning.proofs.Claims.{each_has}
 use Rattle.larch_duties_meaning.proofs.Plain.{duties_plain}
 use Rattle.larch_duties_meaning.proofs.Sound.{duties_sound}
 use Rattle.larch_duties_meaning.proofs.Words.{duties_words}
-use Rattle.larch_flat_sources.specs.Sources.{Table, files_in}
+use Rattle.larch_flat.specs.FlatSourcesSources.{Table, files_in}
 use Rattle.larch_flat.specs.Parts.{IsFlat, flat_trait, parts_of}
 use Rattle.larch_duties.specs.Kept.{theory_in}
 use Rattle.larch_duties.specs.TraitDuties.{claims_of, trait_claims, trait_duties}

@@ -12,7 +12,7 @@ use Rattle.larch_term.specs.declared.statement.Theory.{Theory}
 use Rattle.larch_duties_meaning.specs.Claims.{Claim}
 use Rattle.larch_duties_meaning.specs.Conversions.{Clause, Conversion, Copied}
 use Rattle.larch_duties_meaning.specs.Duties.{ClauseDuties, Duties, Duty}
-use Rattle.larch_flat_statements.specs.MarkedCode.{coded_statement}
+use Rattle.larch_flat.specs.FlatStatementsMarkedCode.{coded_statement}
 
 abbrev pub coded_conversion : Coded Conversion
 coded_conversion =

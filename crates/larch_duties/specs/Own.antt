@@ -6,11 +6,11 @@ use Rattle.larch_base.specs.declared.label.Label.{Label}
 use Rattle.larch_base.specs.declared.label.Label.TheVariants.{Assume, Imply, Convert}
 use Rattle.larch_term.specs.declared.statement.Statement.{Statement}
 use Rattle.larch_term.specs.declared.statement.Theory.{Theory}
-use Rattle.larch_traits_items.specs.Steps.{after}
+use Rattle.larch_base_meaning.specs.Steps.{after}
 use Rattle.larch_flat_meaning.specs.Flat.{FlatTrait, theory_of}
 use Rattle.larch_flat_meaning.specs.Stops.{Stop}
 use Rattle.larch_duties_meaning.specs.Duties.{Duties, Duty, all_duties}
-use Rattle.larch_flat_sources.specs.Sources.{Table}
+use Rattle.larch_flat.specs.FlatSourcesSources.{Table}
 use Rattle.larch_flat.specs.Parts.{flat_trait}
 use Rattle.larch_duties.specs.TraitDuties.{claims_of, trait_duties}
 use Rattle.larch_duties.specs.declared.own.OwnClaims.{OwnClaims}

@@ -5,13 +5,13 @@ use Rattle.larch_base.specs.declared.fault.Fault.{Fault}
 use Rattle.larch_raw.specs.declared.reference.RawRef.{RawRef}
 use Rattle.larch_renaming.specs.Renaming.{renamed_statement}
 use Rattle.larch_term.specs.declared.statement.Statement.{Statement}
-use Rattle.larch_traits_items.specs.Steps.{after}
+use Rattle.larch_base_meaning.specs.Steps.{after}
 use Rattle.larch_flat_meaning.specs.Flat.{FlatTrait, at_reference, renamed_marked}
 use Rattle.larch_flat_meaning.specs.Gathered.{Marked, stands_in, statements_in}
 use Rattle.larch_flat_meaning.specs.Replacements.{Replacements, renaming, replacements_of}
 use Rattle.larch_flat_meaning.specs.Stops.{Stop, stopped_if, surely}
 use Rattle.larch_duties_meaning.specs.Implied.{implied_by}
-use Rattle.larch_flat_sources.specs.Sources.{Table, files_in}
+use Rattle.larch_flat.specs.FlatSourcesSources.{Table, files_in}
 use Rattle.larch_flat.specs.Parts.{flat_trait}
 
 -- what a trait implies by a reference to another one

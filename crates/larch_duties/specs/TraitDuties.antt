@@ -1,14 +1,14 @@
 -- The duties of what is read of files.
 use Rattle.std.specs.Prelude.{ℕ, List, length, Result, Ok}
 use Rattle.larch_raw.specs.declared.equation.RawTrait.{RawTrait}
-use Rattle.larch_traits_items.specs.Steps.{after}
+use Rattle.larch_base_meaning.specs.Steps.{after}
 use Rattle.larch_flat_meaning.specs.Flat.{FlatTrait}
 use Rattle.larch_flat_meaning.specs.Gathered.{Gathered}
 use Rattle.larch_flat_meaning.specs.Stops.{Stop}
 use Rattle.larch_duties_meaning.specs.Claims.{Claim, claims_in}
 use Rattle.larch_duties_meaning.specs.Duties.{Duties, duties}
 use Rattle.larch_duties_meaning.specs.Listing.{trait_listing}
-use Rattle.larch_flat_sources.specs.Sources.{Table, files_in}
+use Rattle.larch_flat.specs.FlatSourcesSources.{Table, files_in}
 use Rattle.larch_flat.specs.Parts.{flat_trait}
 
 -- the duties of a flat trait among these files, or what is wrong with its claims first

@@ -1,23 +1,23 @@
 ghost use Rattle.std.specs.Prelude.{◌≡◌, [], find, IfOk, None};
 ghost use Rattle.std.specs.Option.{option_copied};
 ghost use Rattle.larch_base.specs.Answering.{Answers};
-ghost use Rattle.larch_traits_items.specs.References.{all_same, exact_of, is_meant, only_operator};
-ghost use Rattle.larch_traits_items.specs.Refusal.{cause};
-ghost use Rattle.larch_traits_items.specs.Steps.{all_taken, each};
-ghost use Rattle.larch_sorts_meaning.specs.Read.{read_term};
-ghost use Rattle.larch_sorts_meaning.specs.Refusal.{cause as read_told};
+ghost use Rattle.larch_flat_meaning.specs.TraitsItemsReferences.{all_same, exact_of, is_meant, only_operator};
+ghost use Rattle.larch_flat_meaning.specs.TraitsItemsRefusal.{cause};
+ghost use Rattle.larch_base_meaning.specs.Steps.{all_taken, each};
+ghost use Rattle.larch_flat_meaning.specs.SortsMeaningRead.{read_term};
+ghost use Rattle.larch_flat_meaning.specs.SortsMeaningRefusal.{cause as read_told};
 ghost use Rattle.larch_duties_meaning.specs.Implied.{is_among};
 ghost use Rattle.larch_duties_meaning.specs.Conversions.{conversion_of, take_converted, take_exempted};
 
 use crate::among::Among;
 use crate::standing::has_one_of;
 use larch_base::{Code, Memory, Name, Sequence};
+use larch_flat_meaning::larch_sorts::read_lone;
+use larch_flat_meaning::larch_sorts_meaning::{ReadRefusal, Scope};
+use larch_flat_meaning::larch_sorts_signature::Signature;
+use larch_flat_meaning::larch_traits_items::{TraitRefusal, declare_variables, operator_of};
 use larch_raw::{RawConversion, RawEquation, RawOpRef};
-use larch_sorts::read_lone;
-use larch_sorts_meaning::{ReadRefusal, Scope};
-use larch_sorts_signature::Signature;
 use larch_term::{Operator, Operators, Term};
-use larch_traits_items::{TraitRefusal, declare_variables, operator_of};
 use std::alloc::Global;
 use std::marker::Model;
 

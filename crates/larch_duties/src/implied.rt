@@ -1,10 +1,10 @@
 ghost use Rattle.std.specs.Prelude.{◌≡◌, [], ◌++◌, length, map, not, IfOk};
 ghost use Rattle.std.specs.List.{list_all};
 ghost use Rattle.larch_base.specs.Answering.{Answers};
-ghost use Rattle.larch_traits_items.specs.Refusal.{cause};
-ghost use Rattle.larch_traits_items.specs.Steps.{all_behind, all_taken};
+ghost use Rattle.larch_flat_meaning.specs.TraitsItemsRefusal.{cause};
+ghost use Rattle.larch_base_meaning.specs.Steps.{all_behind, all_taken};
 ghost use Rattle.larch_duties_meaning.specs.Implied.{implied_statements, is_among};
-ghost use Rattle.larch_flat_sources.specs.Sources.{files_in};
+ghost use Rattle.larch_flat.specs.FlatSourcesSources.{files_in};
 ghost use Rattle.larch_flat.specs.Known.{AreAllKnown, Knows, stop_told};
 ghost use Rattle.larch_duties.specs.Steps.{new_in, reference_implies, renamed_in, trait_implies};
 ghost use Rattle.larch_duties.specs.TraitDuties.{flat_with};
@@ -13,14 +13,14 @@ use crate::among::Among;
 use crate::known::{known_of, marked_at};
 use larch_base::{Code, Memory, Sequence};
 use larch_flat::FlatTraits;
-use larch_flat_gathering::Flat;
-use larch_flat_replacing::{NewNames, replacements_of};
-use larch_flat_sources::Sources;
-use larch_flat_statements::{MarkedStatements, new_among};
+use larch_flat::larch_flat_gathering::Flat;
+use larch_flat::larch_flat_replacing::{NewNames, replacements_of};
+use larch_flat::larch_flat_sources::Sources;
+use larch_flat::larch_flat_statements::{MarkedStatements, new_among};
+use larch_flat_meaning::larch_sorts_signature::Signature;
+use larch_flat_meaning::larch_traits_items::{TraitRefusal, state_items};
 use larch_raw::{RawRef, RawTrait};
-use larch_sorts_signature::Signature;
 use larch_term::{Operator, Statements};
-use larch_traits_items::{TraitRefusal, state_items};
 use std::alloc::Global;
 
 // A trait: its text, with what its flat trait gathers.

@@ -1,12 +1,13 @@
-ghost use Rattle.std.specs.Prelude.{◌≡◌, ◌<◌, ◌+◌, ◌++◌, ◌∷◌, true, drop, get_or, length, slice_get, take, IfOk, None, Some};
+ghost use Rattle.std.specs.Prelude.{◌≡◌, ◌<◌, ◌+◌, ◌++◌, ◌∷◌, true, drop};
+ghost use Rattle.std.specs.Prelude.{get_or, length, slice_get, take, IfOk, None, Some};
 ghost use Rattle.larch_flat_meaning.specs.Gathered.{new_among, with_statement};
 ghost use Rattle.std.specs.Prelude.{[], fold, false};
 ghost use Rattle.larch_flat.specs.Known.{is_known};
 
 use larch_base::{Fault, Memory};
 use larch_flat::FlatTraits;
-use larch_flat_gathering::Flat;
-use larch_flat_statements::{MarkedStatements, new_among};
+use larch_flat::larch_flat_gathering::Flat;
+use larch_flat::larch_flat_statements::{MarkedStatements, new_among};
 use larch_term::{Statement, Statements, copy_statement};
 use std::alloc::Global;
 

@@ -1,14 +1,14 @@
 //! What holds of the duties of what is read of files, for crates above to cite. No function here does anything.
 ghost use Rattle.std.specs.Prelude.{◌≡◌, ℕ, suc, List, All, Ok, Some, slice_get};
 ghost use Rattle.larch_base.specs.declared.label.Label.TheVariants.{Assume, Imply};
-ghost use Rattle.larch_calculus.specs.Renaming.{HasPlainNames};
+ghost use Rattle.larch_duties_meaning.specs.CalculusRenaming.{HasPlainNames};
 ghost use Rattle.larch_flat_meaning.specs.Gathered.{Gathered};
 ghost use Rattle.larch_flat_meaning.specs.Laws.{AreWorded, IsInWords, IsTheoryInWords};
 ghost use Rattle.larch_flat_meaning.specs.Reached.{AgreeOn, AreReached};
 ghost use Rattle.larch_duties_meaning.specs.Claims.{Claim, duty_of};
 ghost use Rattle.larch_duties_meaning.specs.Duties.{Duties, all_duties};
 ghost use Rattle.larch_duties_meaning.specs.Laws.{IsDutyInWords, IsSoundDuty};
-ghost use Rattle.larch_flat_sources.specs.Sources.{Table, files_in};
+ghost use Rattle.larch_flat.specs.FlatSourcesSources.{Table, files_in};
 ghost use Rattle.larch_flat.specs.Parts.{IsFlat};
 ghost use Rattle.larch_duties.specs.Kept.{theory_in};
 ghost use Rattle.larch_duties.specs.Own.{IsDutyOf, trait_own_claims};

@@ -2,7 +2,7 @@ ghost use Rattle.std.specs.Prelude.{◌≡◌, ◌<◌, ◌≤◌, length, IfOk}
 ghost use Rattle.larch_base.specs.Answering.{Answers};
 ghost use Rattle.larch_base.specs.declared.limits.TheConstants.{MAX_DUTIES};
 ghost use Rattle.larch_raw.specs.declared.equation.RawTrait.{RawTrait};
-ghost use Rattle.larch_flat_sources.specs.Sources.{name_at};
+ghost use Rattle.larch_flat.specs.FlatSourcesSources.{name_at};
 ghost use Rattle.larch_flat.specs.Known.{AreAllKnown, Knows, stop_told};
 ghost use Rattle.larch_duties.specs.Own.{own_claims, trait_own_claims};
 ghost use Rattle.larch_duties.specs.TraitDuties.{flat_with};
@@ -12,10 +12,10 @@ use crate::theories::theory_of;
 use crate::trait_duties::{Duties, duties_of};
 use larch_base::Memory;
 use larch_flat::FlatTraits;
-use larch_flat_gathering::Flat;
-use larch_flat_sources::Sources;
+use larch_flat::larch_flat_gathering::Flat;
+use larch_flat::larch_flat_sources::Sources;
+use larch_flat_meaning::larch_traits_items::TraitRefusal;
 use larch_term::{Statements, Theory, copy_statements};
-use larch_traits_items::TraitRefusal;
 use std::alloc::Global;
 
 /// The theory of a trait, and what the trait claims over it, kept apart from its flat trait.

@@ -3,7 +3,7 @@ ghost use Rattle.larch_base.specs.Answering.{Answers};
 ghost use Rattle.larch_raw.specs.declared.equation.RawTrait.{RawTrait};
 ghost use Rattle.larch_flat_meaning.specs.Gathered.{Marked};
 ghost use Rattle.larch_duties_meaning.specs.Listing.{trait_listing, listed_marked, listed_operator, mark_text};
-ghost use Rattle.larch_flat_sources.specs.Sources.{name_at};
+ghost use Rattle.larch_flat.specs.FlatSourcesSources.{name_at};
 ghost use Rattle.larch_flat.specs.Known.{AreAllKnown, Knows, stop_told};
 ghost use Rattle.larch_duties.specs.Kept.{theory_in};
 ghost use Rattle.larch_duties.specs.Lines.{added_lines, clause_lines, clauses_lines, converted_lines, copy_lines};
@@ -16,12 +16,12 @@ use crate::known::{known_of, marked_at};
 use crate::trait_duties::{Duties, duties_of};
 use larch_base::{Bytes, Memory};
 use larch_flat::FlatTraits;
-use larch_flat_gathering::Flat;
-use larch_flat_sources::Sources;
-use larch_flat_statements::MarkedStatements;
+use larch_flat::larch_flat_gathering::Flat;
+use larch_flat::larch_flat_sources::Sources;
+use larch_flat::larch_flat_statements::MarkedStatements;
+use larch_flat_meaning::larch_traits_items::TraitRefusal;
 use larch_print::{write_operator, write_statement};
 use larch_term::{Operator, Statement};
-use larch_traits_items::TraitRefusal;
 use std::alloc::Global;
 
 /// The lines of the trait of the file with a number and of its duties, behind the line of its name, where all flat

@@ -1,8 +1,8 @@
-ghost use Rattle.std.specs.Prelude.{◌≡◌, ◌<◌, ◌-◌, ◌^◌, length, min, nat_lt, sum_by, IfOk};
+ghost use Rattle.std.specs.Prelude.{◌≡◌, ◌<◌, ◌-◌, ◌^◌, [], length, min, nat_lt, sum_by, IfOk, IsTrue};
 ghost use Rattle.larch_base.specs.Answering.{Answers};
 ghost use Rattle.larch_base.specs.declared.limits.TheConstants.{MAX_DUTIES};
 ghost use Rattle.larch_duties_meaning.specs.Duties.{all_duties};
-ghost use Rattle.larch_flat_sources.specs.Sources.{name_at};
+ghost use Rattle.larch_flat.specs.FlatSourcesSources.{Table, name_at};
 ghost use Rattle.larch_flat.specs.Known.{AreAllKnown, Knows, stop_told};
 ghost use Rattle.larch_duties.specs.Kept.{duties_in};
 ghost use Rattle.larch_duties.specs.TraitDuties.{claims_of, flat_with, trait_duties};
@@ -13,12 +13,12 @@ use crate::known::{known_of, not_discharged};
 use larch_base::limits::MAX_DUTIES;
 use larch_base::{Code, Memory, Sequence};
 use larch_flat::FlatTraits;
-use larch_flat_gathering::Flat;
-use larch_flat_sources::Sources;
+use larch_flat::larch_flat_gathering::Flat;
+use larch_flat::larch_flat_sources::Sources;
+use larch_flat_meaning::larch_sorts_signature::Signature;
+use larch_flat_meaning::larch_traits_items::TraitRefusal;
 use larch_raw::RawTrait;
-use larch_sorts_signature::Signature;
 use larch_term::{Statement, Statements, copy_operators};
-use larch_traits_items::TraitRefusal;
 use std::alloc::Global;
 use std::marker::Model;
 
@@ -76,7 +76,8 @@ pub fn duties_of<'a>(
     }
 }
 
-// The duties of a flat trait with this text.
+// The duties of a flat trait with this text. Its operators are made ready for reading only where there is something to
+// be read.
 pub(crate) fn claims_of<'a>(
     alloc: Global,
     sources: &Sources,
@@ -88,12 +89,49 @@ pub(crate) fn claims_of<'a>(
     requires all { AreAllKnown sources.now flat_traits.now }
     ensures { Answers stop_told result (claims_of sources.now (flat_with raw.now flat.now)) }
 {
+    if claims_nothing(raw) {
+        return duties_without_claims(alloc, flat, raw);
+    }
     let signature = signature_of(alloc, flat)?;
     let statements = implied(alloc, sources, flat_traits, flat, raw, &signature)?;
     let clauses = raw.conversions.as_slice();
     let conversions = conversions_of(alloc, &signature, clauses)?;
     let discharge = flat.discharge.as_slice();
     let implied = not_discharged(alloc, discharge, statements)?;
+    if are_too_many(flat, implied.as_slice(), conversions.as_slice()) {
+        return Err(TraitRefusal::Wrong(raw.name.pos, Code::Size));
+    }
+    Ok(Duties {
+        flat,
+        implied,
+        conversions,
+    })
+}
+
+// Whether a text implies nothing and converts nothing.
+fn claims_nothing(raw: &RawTrait) -> bool
+    ensures references { IsTrue result → raw.now.implied ≡ [] }
+    ensures items { IsTrue result → raw.now.implied_items ≡ [] }
+    ensures conversions { IsTrue result → raw.now.conversions ≡ [] }
+{
+    raw.implied.as_slice().is_empty()
+        && raw.implied_items.as_slice().is_empty()
+        && raw.conversions.as_slice().is_empty()
+}
+
+// The duties of a flat trait whose text implies nothing and converts nothing.
+fn duties_without_claims<'a>(
+    alloc: Global,
+    flat: &'a Flat,
+    raw: &RawTrait,
+) -> Result<Duties<'a>, TraitRefusal>
+    requires references { raw.now.implied ≡ [] }
+    requires items { raw.now.implied_items ≡ [] }
+    requires conversions { raw.now.conversions ≡ [] }
+    ensures { (sources : Table) → Answers stop_told result (claims_of sources (flat_with raw.now flat.now)) }
+{
+    let implied = Sequence::new(alloc);
+    let conversions = Sequence::new(alloc);
     if are_too_many(flat, implied.as_slice(), conversions.as_slice()) {
         return Err(TraitRefusal::Wrong(raw.name.pos, Code::Size));
     }

@@ -10,17 +10,17 @@ use Rattle.larch_raw.specs.declared.equation.RawEquation.{RawEquation}
 use Rattle.larch_term.specs.Operator.{PlainOperator}
 use Rattle.larch_term.specs.Tree.{Tree}
 use Rattle.larch_term.specs.declared.statement.Statement.TheVariants.{Equation}
-use Rattle.larch_sorts_meaning.specs.Laws.{IsSortOf}
-use Rattle.larch_sorts_meaning.specs.Read.{read_term}
-use Rattle.larch_sorts_meaning.specs.Scope.{Variables}
-use Rattle.larch_sorts_meaning.proofs.ReadAnswers.{term_ok}
-use Rattle.larch_sorts_meaning.proofs.Sorted.{well_sorted}
-use Rattle.larch_sorts_meaning.proofs.SortsRead.{term_sorts_exist}
-use Rattle.larch_traits_items.specs.References.{exact_of, is_meant, only_operator}
-use Rattle.larch_traits_items.specs.Steps.{after, all_taken}
-use Rattle.larch_traits_items.specs.Variables.{variables_declared}
-use Rattle.larch_traits_items.proofs.Kept.{Any, after_was, all_any, found_is, kept, ok_inj}
-use Rattle.larch_traits_items.proofs.Stated.{only_by, scope_exists}
+use Rattle.larch_flat_meaning.specs.SortsMeaningLaws.{IsSortOf}
+use Rattle.larch_flat_meaning.specs.SortsMeaningRead.{read_term}
+use Rattle.larch_flat_meaning.specs.SortsMeaningScope.{Variables}
+use Rattle.larch_flat_meaning.proofs.SortsMeaningReadAnswers.{term_ok}
+use Rattle.larch_flat_meaning.proofs.SortsMeaningSorted.{well_sorted}
+use Rattle.larch_flat_meaning.proofs.SortsMeaningSortsRead.{term_sorts_exist}
+use Rattle.larch_flat_meaning.specs.TraitsItemsReferences.{exact_of, is_meant, only_operator}
+use Rattle.larch_base_meaning.specs.Steps.{after, all_taken}
+use Rattle.larch_flat_meaning.specs.TraitsItemsVariables.{variables_declared}
+use Rattle.larch_flat_meaning.proofs.TraitsItemsKept.{Any, after_was, all_any, found_is, kept, ok_inj}
+use Rattle.larch_flat_meaning.proofs.TraitsItemsStated.{only_by, scope_exists}
 use Rattle.larch_flat_meaning.specs.Laws.{IsStatedOver}
 use Rattle.larch_flat_meaning.specs.Stops.{refused_if}
 use Rattle.larch_flat_meaning.proofs.Proper.{refused_if_was}

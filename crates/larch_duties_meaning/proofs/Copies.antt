@@ -10,7 +10,7 @@ use Rattle.std.proofs.lemmas.List.Elements.{All-tail, All-weaker}
 use Rattle.std.proofs.lemmas.List.Quantifiers.{all_pairs_push}
 use Rattle.std.proofs.lemmas.Slice.Eq.{bytes_eq-Decides}
 use Rattle.larch_base.proofs.Members.{contains_here, contains_later, contains_left, contains_map, contains_right}
-use Rattle.larch_renaming.specs.Renaming.{KeepsBuiltIns, rename_tree, renamed_statement}
+use Rattle.larch_calculus.specs.RenamingRenaming.{KeepsBuiltIns, rename_tree, renamed_statement}
 use Rattle.larch_term.specs.BuiltIn.{IsBuiltIn, bool_sort}
 use Rattle.larch_term.specs.Equality.{same_operator}
 use Rattle.larch_term.specs.Operator.{OperatorName, PlainOperator, plain}

@@ -7,13 +7,13 @@ use Rattle.larch_base.specs.declared.code.Code.TheVariants.{ImpliedOperator, Unk
 use Rattle.larch_base.specs.declared.position.Pos.{Pos}
 use Rattle.larch_base.proofs.Members.{contains_cases, contains_none}
 use Rattle.larch_raw.specs.declared.reference.RawRef.{RawRef}
-use Rattle.larch_renaming.specs.Renaming.{KeepsBuiltIns, renamed_statement}
+use Rattle.larch_calculus.specs.RenamingRenaming.{KeepsBuiltIns, renamed_statement}
 use Rattle.larch_term.specs.Operator.{PlainOperator}
 use Rattle.larch_term.specs.declared.statement.Statement.{Statement}
-use Rattle.larch_traits_items.specs.Items.{items_state}
-use Rattle.larch_traits_items.specs.Steps.{after, all_taken}
-use Rattle.larch_traits_items.proofs.Kept.{Any, after_was, all_any, kept, ok_inj}
-use Rattle.larch_traits_items.proofs.Stated.{items_are}
+use Rattle.larch_flat_meaning.specs.TraitsItemsItems.{items_state}
+use Rattle.larch_base_meaning.specs.Steps.{after, all_taken}
+use Rattle.larch_flat_meaning.proofs.TraitsItemsKept.{Any, after_was, all_any, kept, ok_inj}
+use Rattle.larch_flat_meaning.proofs.TraitsItemsStated.{items_are}
 use Rattle.larch_flat_meaning.specs.Files.{Files}
 use Rattle.larch_flat_meaning.specs.Flat.{FlatTrait, flat, at_reference, renamed_mark, renamed_marked}
 use Rattle.larch_flat_meaning.specs.Gathered.{Marked, stands_in, statements_in}

@@ -11,8 +11,8 @@ use Rattle.larch_base.specs.declared.label.Label.TheVariants.{Assume, Imply, Con
 use Rattle.larch_base.specs.declared.limits.TheConstants.{MAX_DUTIES}
 use Rattle.larch_term.specs.declared.statement.Statement.{Statement}
 use Rattle.larch_term.specs.declared.statement.Theory.{Theory}
-use Rattle.larch_traits_items.specs.Steps.{each}
-use Rattle.larch_traits_items.proofs.Kept.{after_was, ok_inj}
+use Rattle.larch_base_meaning.specs.Steps.{each}
+use Rattle.larch_flat_meaning.proofs.TraitsItemsKept.{after_was, ok_inj}
 use Rattle.larch_flat_meaning.specs.Files.{Files}
 use Rattle.larch_flat_meaning.specs.Flat.{FlatTrait, theory_of}
 use Rattle.larch_flat_meaning.specs.Gathered.{new_among}

@@ -18,16 +18,18 @@ use Rattle.larch_term.specs.Equality.{same_operator}
 use Rattle.larch_term.specs.Operator.{OperatorName, PlainOperator, plain}
 use Rattle.larch_term.specs.declared.statement.Statement.{Statement}
 use Rattle.larch_term.specs.declared.statement.Theory.{Theory}
-use Rattle.larch_sorts_meaning.specs.Faults.{fault_at}
-use Rattle.larch_traits_items.specs.Declarations.{declared_operators, declared_by, fits, operator_of, own_operator}
-use Rattle.larch_traits_items.specs.Steps.{each, first_position}
-use Rattle.larch_traits_items.proofs.Kept.{Any, after_was, all_any, each_kept, ok_inj, several_kept, unless_was}
-use Rattle.larch_shorthand.specs.Enumeration.{elements, enumeration_operators, successor}
-use Rattle.larch_shorthand.specs.Operators.{operator}
-use Rattle.larch_shorthand.specs.Shorthand.{expand, expansion_of, names_in, wrong_in}
-use Rattle.larch_shorthand.specs.Tuple.{getter, maker, setter}
-use Rattle.larch_shorthand.specs.Union.{injection, names_of, tag, tag_sort, union_operators}
-use Rattle.larch_shorthand.specs.declared.expansion.Expansion.{Expansion}
+use Rattle.larch_flat_meaning.specs.SortsMeaningFaults.{fault_at}
+use Rattle.larch_flat_meaning.specs.TraitsItemsDeclarations.{declared_operators, declared_by, fits}
+use Rattle.larch_flat_meaning.specs.TraitsItemsDeclarations.{operator_of, own_operator}
+use Rattle.larch_base_meaning.specs.Steps.{each, first_position}
+use Rattle.larch_flat_meaning.proofs.TraitsItemsKept.{Any, after_was, all_any, each_kept}
+use Rattle.larch_flat_meaning.proofs.TraitsItemsKept.{ok_inj, several_kept, unless_was}
+use Rattle.larch_flat_meaning.specs.ShorthandEnumeration.{elements, enumeration_operators, successor}
+use Rattle.larch_flat_meaning.specs.ShorthandOperators.{operator}
+use Rattle.larch_flat_meaning.specs.ShorthandShorthand.{expand, expansion_of, names_in, wrong_in}
+use Rattle.larch_flat_meaning.specs.ShorthandTuple.{getter, maker, setter}
+use Rattle.larch_flat_meaning.specs.ShorthandUnion.{injection, names_of, tag, tag_sort, union_operators}
+use Rattle.larch_flat_meaning.specs.ShorthandExpansionExpansion.{Expansion}
 use Rattle.larch_flat_meaning.specs.Files.{Files}
 use Rattle.larch_flat_meaning.specs.Flat.{FlatTrait, flat, theory_of}
 use Rattle.larch_flat_meaning.specs.Replacements.{Replacements, new_operator}

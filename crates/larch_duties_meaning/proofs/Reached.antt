@@ -6,8 +6,8 @@ use Rattle.larch_base.specs.declared.code.Code.TheVariants.{UnknownTrait}
 use Rattle.larch_base.proofs.Members.{contains_map, contains_right}
 use Rattle.larch_raw.specs.declared.reference.RawRef.{RawRef}
 use Rattle.larch_term.specs.declared.statement.Statement.{Statement}
-use Rattle.larch_traits_items.specs.Items.{items_state}
-use Rattle.larch_traits_items.specs.Steps.{after}
+use Rattle.larch_flat_meaning.specs.TraitsItemsItems.{items_state}
+use Rattle.larch_base_meaning.specs.Steps.{after}
 use Rattle.larch_flat_meaning.specs.Files.{Files, target}
 use Rattle.larch_flat_meaning.specs.Flat.{FlatTrait, at_reference, flat}
 use Rattle.larch_flat_meaning.specs.Laws.{AreAmong}

@@ -9,9 +9,9 @@ use Rattle.larch_term.specs.Sorts.{AllOver, AllWellSorted, sorts_of}
 use Rattle.larch_term.specs.Tree.{forest_of}
 use Rattle.larch_term.specs.declared.statement.Statement.{Statement}
 use Rattle.larch_term.specs.declared.statement.Theory.{Theory}
-use Rattle.larch_sorts_meaning.specs.Laws.{ForestSorts, IsSortOf}
-use Rattle.larch_sorts_meaning.proofs.SortsRead.{own_sorts}
-use Rattle.larch_traits_items.proofs.Kept.{Any, after_was, all_any}
+use Rattle.larch_flat_meaning.specs.SortsMeaningLaws.{ForestSorts, IsSortOf}
+use Rattle.larch_flat_meaning.proofs.SortsMeaningSortsRead.{own_sorts}
+use Rattle.larch_flat_meaning.proofs.TraitsItemsKept.{Any, after_was, all_any}
 use Rattle.larch_flat_meaning.specs.Files.{Files}
 use Rattle.larch_flat_meaning.specs.Flat.{FlatTrait, flat, theory_of}
 use Rattle.larch_flat_meaning.specs.Laws.{AreWorded, IsStatedOver}

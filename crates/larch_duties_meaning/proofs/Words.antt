@@ -7,24 +7,25 @@ use Rattle.larch_base.proofs.Lists.{all_from}
 use Rattle.larch_raw.specs.Worded.{WordedConversion, WordedItem, WordedTrait, WordedVar}
 use Rattle.larch_raw.specs.declared.equation.RawConversion.{RawConversion}
 use Rattle.larch_raw.specs.declared.equation.RawEquation.{RawEquation}
-use Rattle.larch_renaming.specs.Renaming.{Renaming, rename_tree, renamed_statement}
+use Rattle.larch_calculus.specs.RenamingRenaming.{Renaming, rename_tree, renamed_statement}
 use Rattle.larch_term.specs.Operator.{PlainOperator}
 use Rattle.larch_term.specs.Tree.{Tree, forest_of, var}
 use Rattle.larch_term.specs.Variable.{occurrences, occurrences_in}
 use Rattle.larch_term.specs.declared.statement.Statement.{Statement}
 use Rattle.larch_term.specs.declared.statement.Statement.TheVariants.{Equation}
 use Rattle.larch_term.specs.declared.statement.Theory.{Theory}
-use Rattle.larch_sorts_meaning.specs.Laws.{OperatorSorts, StatementSorts}
-use Rattle.larch_sorts_meaning.specs.Read.{read_term}
-use Rattle.larch_sorts_meaning.specs.Scope.{Variables}
-use Rattle.larch_sorts_meaning.proofs.ReadAnswers.{term_ok}
-use Rattle.larch_sorts_meaning.proofs.Sorted.{in_scope}
-use Rattle.larch_sorts_meaning.proofs.SortsRead.{statement_names}
-use Rattle.larch_traits_items.specs.Laws.{BindsWords, IsWord}
-use Rattle.larch_traits_items.specs.Steps.{after, all_taken}
-use Rattle.larch_traits_items.specs.Variables.{variables_declared}
-use Rattle.larch_traits_items.proofs.Kept.{Any, after_was, all_any, kept, ok_inj}
-use Rattle.larch_traits_items.proofs.Stated.{items_bind, scope_words}
+use Rattle.larch_flat_meaning.specs.SortsMeaningLaws.{OperatorSorts, StatementSorts}
+use Rattle.larch_flat_meaning.specs.SortsMeaningRead.{read_term}
+use Rattle.larch_flat_meaning.specs.SortsMeaningScope.{Variables}
+use Rattle.larch_flat_meaning.proofs.SortsMeaningReadAnswers.{term_ok}
+use Rattle.larch_flat_meaning.proofs.SortsMeaningSorted.{in_scope}
+use Rattle.larch_flat_meaning.proofs.SortsMeaningSortsRead.{statement_names}
+use Rattle.larch_base_meaning.specs.Word.{IsWord}
+use Rattle.larch_flat_meaning.specs.TraitsItemsLaws.{BindsWords}
+use Rattle.larch_base_meaning.specs.Steps.{after, all_taken}
+use Rattle.larch_flat_meaning.specs.TraitsItemsVariables.{variables_declared}
+use Rattle.larch_flat_meaning.proofs.TraitsItemsKept.{Any, after_was, all_any, kept, ok_inj}
+use Rattle.larch_flat_meaning.proofs.TraitsItemsStated.{items_bind, scope_words}
 use Rattle.larch_flat_meaning.specs.Files.{Files}
 use Rattle.larch_flat_meaning.specs.Flat.{FlatTrait, flat, theory_of}
 use Rattle.larch_flat_meaning.specs.Laws.{AreWorded, IsStatedOver}

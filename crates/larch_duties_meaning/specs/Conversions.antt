@@ -10,18 +10,18 @@ use Rattle.larch_base.specs.declared.position.Pos.{Pos}
 use Rattle.larch_raw.specs.declared.declared.RawOpRef.{RawOpRef}
 use Rattle.larch_raw.specs.declared.equation.RawConversion.{RawConversion}
 use Rattle.larch_raw.specs.declared.equation.RawEquation.{RawEquation}
-use Rattle.larch_renaming.specs.Renaming.{rename_tree, renamed_statement}
+use Rattle.larch_calculus.specs.RenamingRenaming.{rename_tree, renamed_statement}
 use Rattle.larch_term.specs.Operator.{OperatorName, PlainOperator, plain, boxed}
 use Rattle.larch_term.specs.Tree.{Tree, Forest, var, app, none, more}
 use Rattle.larch_term.specs.declared.statement.Statement.{Statement}
 use Rattle.larch_term.specs.declared.statement.Statement.TheVariants.{Equation, Generated, Partitioned}
 use Rattle.larch_term.specs.declared.statement.Theory.{Theory}
-use Rattle.larch_sorts_meaning.specs.Faults.{fault}
-use Rattle.larch_sorts_meaning.specs.Read.{read_term}
-use Rattle.larch_sorts_meaning.specs.Scope.{Variables}
-use Rattle.larch_traits_items.specs.References.{exact_of, is_meant, only_operator}
-use Rattle.larch_traits_items.specs.Steps.{after, all_taken}
-use Rattle.larch_traits_items.specs.Variables.{variables_declared}
+use Rattle.larch_flat_meaning.specs.SortsMeaningFaults.{fault}
+use Rattle.larch_flat_meaning.specs.SortsMeaningRead.{read_term}
+use Rattle.larch_flat_meaning.specs.SortsMeaningScope.{Variables}
+use Rattle.larch_flat_meaning.specs.TraitsItemsReferences.{exact_of, is_meant, only_operator}
+use Rattle.larch_base_meaning.specs.Steps.{after, all_taken}
+use Rattle.larch_flat_meaning.specs.TraitsItemsVariables.{variables_declared}
 use Rattle.larch_flat_meaning.specs.Replacements.{Replacements, renaming}
 use Rattle.larch_flat_meaning.specs.Stops.{refused_if}
 use Rattle.larch_duties_meaning.specs.Implied.{is_among}

@@ -12,7 +12,7 @@ use Rattle.larch_term.specs.Tree.{Tree, var, app, forest_of}
 use Rattle.larch_term.specs.declared.statement.Statement.{Statement}
 use Rattle.larch_term.specs.declared.statement.Statement.TheVariants.{Equation}
 use Rattle.larch_term.specs.declared.statement.Theory.{Theory}
-use Rattle.larch_traits_items.specs.Steps.{after, each}
+use Rattle.larch_base_meaning.specs.Steps.{after, each}
 use Rattle.larch_flat_meaning.specs.Files.{Files}
 use Rattle.larch_flat_meaning.specs.Flat.{FlatTrait, flat, theory_of}
 use Rattle.larch_flat_meaning.specs.Gathered.{new_among}

@@ -23,11 +23,11 @@ use Rattle.larch_term.specs.declared.statement.Statement.{Statement}
 use Rattle.larch_term.specs.declared.statement.Statement.TheVariants.{Equation}
 use Rattle.larch_term.specs.declared.statement.Statement.TheVariants as statement
 use Rattle.larch_term.specs.declared.statement.Theory.{Theory}
-use Rattle.larch_sorts_meaning.specs.Read.{read_equation, read_term, unread_in}
-use Rattle.larch_sorts_meaning.specs.ReadingLists.{readings}
-use Rattle.larch_sorts_meaning.specs.Unknown.{unknown_among}
-use Rattle.larch_traits_items.specs.Steps.{after}
-use Rattle.larch_shorthand.specs.Operators.{operator, constant, on}
+use Rattle.larch_flat_meaning.specs.SortsMeaningRead.{read_equation, read_term, unread_in}
+use Rattle.larch_flat_meaning.specs.SortsMeaningReadingLists.{readings}
+use Rattle.larch_flat_meaning.specs.SortsMeaningUnknown.{unknown_among}
+use Rattle.larch_base_meaning.specs.Steps.{after}
+use Rattle.larch_flat_meaning.specs.ShorthandOperators.{operator, constant, on}
 use Rattle.larch_flat_meaning.specs.Examples.{a_trait, assumes, bare, base, call, declares, files_of, including_one}
 use Rattle.larch_flat_meaning.specs.Examples.{base_a, base_f, base_theory, form_at, states, word_at}
 use Rattle.larch_flat_meaning.specs.Files.{Files}

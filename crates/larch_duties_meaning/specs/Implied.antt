@@ -8,8 +8,8 @@ use Rattle.larch_raw.specs.declared.reference.RawRef.{RawRef}
 use Rattle.larch_term.specs.Equality.{same_operator}
 use Rattle.larch_term.specs.Operator.{PlainOperator}
 use Rattle.larch_term.specs.declared.statement.Statement.{Statement}
-use Rattle.larch_traits_items.specs.Items.{items_state}
-use Rattle.larch_traits_items.specs.Steps.{after, all_taken}
+use Rattle.larch_flat_meaning.specs.TraitsItemsItems.{items_state}
+use Rattle.larch_base_meaning.specs.Steps.{after, all_taken}
 use Rattle.larch_flat_meaning.specs.Files.{Files}
 use Rattle.larch_flat_meaning.specs.Flat.{FlatTrait, flat, at_reference, renamed_marked}
 use Rattle.larch_flat_meaning.specs.Gathered.{stands_in, statements_in}

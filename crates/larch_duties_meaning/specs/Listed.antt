@@ -1,7 +1,7 @@
 -- What the examples of listings are written with.
 use Rattle.std.specs.Prelude.{◌++◌, ℕ, codes, List, [], ◌∷◌, Result, Ok}
 use Rattle.larch_raw.specs.declared.equation.RawTrait.{RawTrait}
-use Rattle.larch_traits_items.specs.Steps.{after}
+use Rattle.larch_base_meaning.specs.Steps.{after}
 use Rattle.larch_flat_meaning.specs.Examples.{assuming, base, files_of}
 use Rattle.larch_flat_meaning.specs.Files.{Files}
 use Rattle.larch_flat_meaning.specs.Flat.{flat}

@@ -20,3 +20,6 @@ pub use texts::{
     operators_statements_and_duties_are_listed, what_clauses_add_is_listed,
     what_is_assumed_is_listed,
 };
+
+// Passed on to crates above, which then needn't list them.
+pub use larch_flat_meaning::larch_traits_items;

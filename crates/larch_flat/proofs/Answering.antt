@@ -3,9 +3,9 @@ use Rattle.std.proofs.Common.{◌≡◌, ap, Option, Some, None, Result, Ok, Err
 use Rattle.std.specs.Prelude.{IfSome, option_map}
 use Rattle.larch_base.specs.Answering.{Answers}
 use Rattle.larch_base.specs.declared.fault.Fault.{Fault}
-use Rattle.larch_traits_items.specs.Refusal.{cause}
-use Rattle.larch_traits_items.specs.declared.refusal.TraitRefusal.{TraitRefusal}
-use Rattle.larch_flat_meaning.specs.Stops.{Stop, Refused, surely}
+use Rattle.larch_flat_sources.specs.TraitsItemsRefusal.{cause}
+use Rattle.larch_flat_sources.specs.TraitsItemsRefusalTraitRefusal.{TraitRefusal}
+use Rattle.larch_flat_sources.specs.FlatMeaningStops.{Stop, Refused, surely}
 
 pub refused_surely : {A : Type 0} (o : Option Fault) (a : Result A Fault) → IfSome o (λ f. a ≡ Err f)
     → IfSome (option_map Refused o) (λ s. surely a ≡ Err s)

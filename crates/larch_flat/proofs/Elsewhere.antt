@@ -1,10 +1,10 @@
 -- What is known of files is known of others that say the same of what is reached.
 use Rattle.std.proofs.Common.{◌≡◌, sym, ap, ◌∙◌, arith, ℕ, ◌+◌, ◌≤◌, length, List, Result}
 use Rattle.larch_base.specs.declared.fault.Fault.{Fault}
-use Rattle.larch_flat_meaning.specs.Flat.{flat}
-use Rattle.larch_flat_meaning.specs.Gathered.{Gathered}
-use Rattle.larch_flat_meaning.specs.Reached.{AgreeOn, AreReached}
-use Rattle.larch_flat_meaning.proofs.Reached.{depths_same, flat_same}
+use Rattle.larch_flat_sources.specs.FlatMeaningFlat.{flat}
+use Rattle.larch_flat_sources.specs.FlatMeaningGathered.{Gathered}
+use Rattle.larch_flat_sources.specs.FlatMeaningReached.{AgreeOn, AreReached}
+use Rattle.larch_flat_sources.proofs.FlatMeaningReached.{depths_same, flat_same}
 use Rattle.larch_flat_sources.specs.Sources.{Table, files_in, names_in}
 use Rattle.larch_flat_sources.proofs.Tables.{among, names_length}
 use Rattle.larch_flat.specs.Parts.{IsFlat, flat_trait, parts_of}

@@ -5,12 +5,12 @@ use Rattle.std.specs.Prelude.{bytes_eq, not}
 use Rattle.larch_base.specs.declared.code.Code.TheVariants.{TraitName}
 use Rattle.larch_base.specs.declared.fault.Fault.{Fault}
 use Rattle.larch_raw.specs.declared.equation.RawTrait.{RawTrait}
-use Rattle.larch_sorts_meaning.specs.Faults.{fault}
-use Rattle.larch_traits_items.specs.Steps.{after, all_taken}
-use Rattle.larch_flat_meaning.specs.Flat.{FlatTrait, flat_file, flat_of, take_reference, take_rest}
-use Rattle.larch_flat_meaning.specs.Gathered.{Gathered, nothing}
-use Rattle.larch_flat_meaning.specs.Laws.{gathered_in}
-use Rattle.larch_flat_meaning.specs.Stops.{Stop, Refused, TooDeep, stopped_if, surely}
+use Rattle.larch_flat_sources.specs.SortsMeaningFaults.{fault}
+use Rattle.larch_base_meaning.specs.Steps.{after, all_taken}
+use Rattle.larch_flat_sources.specs.FlatMeaningFlat.{FlatTrait, flat_file, flat_of, take_reference, take_rest}
+use Rattle.larch_flat_sources.specs.FlatMeaningGathered.{Gathered, nothing}
+use Rattle.larch_flat_sources.specs.FlatMeaningLaws.{gathered_in}
+use Rattle.larch_flat_sources.specs.FlatMeaningStops.{Stop, Refused, TooDeep, stopped_if, surely}
 use Rattle.larch_flat_sources.specs.Sources.{Table, files_in}
 use Rattle.larch_flat.specs.Parts.{flat_trait, parts_of, with_reference}
 

@@ -2,7 +2,7 @@
 use Rattle.std.proofs.Common.{◌≡◌, refl, sym, ◌∙◌, ℕ, zero, suc, length, replicate, get_or, Option, Some, None, Result}
 use Rattle.std.proofs.lemmas.List.{length-replicate}
 use Rattle.larch_base.specs.declared.fault.Fault.{Fault}
-use Rattle.larch_flat_meaning.specs.Gathered.{Gathered}
+use Rattle.larch_flat_sources.specs.FlatMeaningGathered.{Gathered}
 use Rattle.larch_flat_sources.specs.Sources.{Table}
 use Rattle.larch_flat.specs.Known.{Knows}
 

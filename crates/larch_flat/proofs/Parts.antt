@@ -13,18 +13,18 @@ use Rattle.larch_raw.specs.declared.equation.RawTrait.{RawTrait}
 use Rattle.larch_raw.specs.declared.reference.RawReference.{RawReference}
 use Rattle.larch_term.specs.Operator.{PlainOperator}
 use Rattle.larch_term.specs.declared.statement.Statement.{Statement}
-use Rattle.larch_sorts_meaning.specs.Faults.{fault}
-use Rattle.larch_renaming.specs.Renaming.{renamed_statement}
-use Rattle.larch_traits_items.specs.Refusal.{cause}
-use Rattle.larch_traits_items.specs.Steps.{after}
-use Rattle.larch_traits_items.specs.declared.refusal.TraitRefusal.{TraitRefusal}
-use Rattle.larch_traits_items.proofs.Kept.{ok_inj}
-use Rattle.larch_flat_meaning.specs.Files.{closure, is_there, target}
-use Rattle.larch_flat_meaning.specs.Flat.{FlatTrait, renamed_mark, renamed_marked, with_mark, within}
-use Rattle.larch_flat_meaning.specs.Gathered.{Gathered, Marked, is_too_large, with_operators, with_statement}
-use Rattle.larch_flat_meaning.specs.Gathered.{with_taken}
-use Rattle.larch_flat_meaning.specs.Replacements.{Replacements, new_operator, renaming, replacements_of}
-use Rattle.larch_flat_meaning.specs.Stops.{Stop, Refused, refused_if, surely}
+use Rattle.larch_flat_sources.specs.SortsMeaningFaults.{fault}
+use Rattle.larch_flat_replacing.specs.RenamingRenaming.{renamed_statement}
+use Rattle.larch_flat_sources.specs.TraitsItemsRefusal.{cause}
+use Rattle.larch_base_meaning.specs.Steps.{after}
+use Rattle.larch_flat_sources.specs.TraitsItemsRefusalTraitRefusal.{TraitRefusal}
+use Rattle.larch_flat_sources.proofs.TraitsItemsKept.{ok_inj}
+use Rattle.larch_flat_sources.specs.FlatMeaningFiles.{closure, is_there, target}
+use Rattle.larch_flat_sources.specs.FlatMeaningFlat.{FlatTrait, renamed_mark, renamed_marked, with_mark, within}
+use Rattle.larch_flat_sources.specs.FlatMeaningGathered.{Gathered, Marked, is_too_large, with_operators, with_statement}
+use Rattle.larch_flat_sources.specs.FlatMeaningGathered.{with_taken}
+use Rattle.larch_flat_sources.specs.FlatMeaningReplacements.{Replacements, new_operator, renaming, replacements_of}
+use Rattle.larch_flat_sources.specs.FlatMeaningStops.{Stop, Refused, refused_if, surely}
 use Rattle.larch_flat_gathering.specs.Keeping.{Keeps, KeepsAnswer, Leaves, Gathering}
 use Rattle.larch_flat_sources.specs.Sources.{Table, files_in, name_at}
 use Rattle.larch_flat_sources.proofs.Tables.{there_at}

@@ -11,17 +11,17 @@ use Rattle.larch_base.proofs.Options.{some_inj}
 use Rattle.larch_raw.specs.declared.declared.RawForm.{RawForm}
 use Rattle.larch_raw.specs.declared.equation.RawTrait.{RawTrait}
 use Rattle.larch_raw.specs.declared.reference.RawReference.{RawReference}
-use Rattle.larch_sorts_meaning.specs.Faults.{fault}
-use Rattle.larch_traits_items.specs.Steps.{after}
-use Rattle.larch_traits_items.proofs.Kept.{ok_inj}
-use Rattle.larch_flat_meaning.specs.Files.{Files, closure, target}
-use Rattle.larch_flat_meaning.specs.Flat.{FlatTrait, flat}
-use Rattle.larch_flat_meaning.specs.Flat.{take_flat, take_new, take_reference}
-use Rattle.larch_flat_meaning.specs.Flat.{take_told}
-use Rattle.larch_flat_meaning.specs.Gathered.{Gathered}
-use Rattle.larch_flat_meaning.specs.Laws.{gathered_in}
-use Rattle.larch_flat_meaning.specs.Stops.{Stop, Refused, TooDeep, stopped_if, surely}
-use Rattle.larch_flat_meaning.proofs.Texts.{flat_text}
+use Rattle.larch_flat_sources.specs.SortsMeaningFaults.{fault}
+use Rattle.larch_base_meaning.specs.Steps.{after}
+use Rattle.larch_flat_sources.proofs.TraitsItemsKept.{ok_inj}
+use Rattle.larch_flat_sources.specs.FlatMeaningFiles.{Files, closure, target}
+use Rattle.larch_flat_sources.specs.FlatMeaningFlat.{FlatTrait, flat}
+use Rattle.larch_flat_sources.specs.FlatMeaningFlat.{take_flat, take_new, take_reference}
+use Rattle.larch_flat_sources.specs.FlatMeaningFlat.{take_told}
+use Rattle.larch_flat_sources.specs.FlatMeaningGathered.{Gathered}
+use Rattle.larch_flat_sources.specs.FlatMeaningLaws.{gathered_in}
+use Rattle.larch_flat_sources.specs.FlatMeaningStops.{Stop, Refused, TooDeep, stopped_if, surely}
+use Rattle.larch_flat_sources.proofs.FlatMeaningTexts.{flat_text}
 use Rattle.larch_flat.specs.Parts.{parts_of, with_parts}
 
 -- a text as it is known to be there

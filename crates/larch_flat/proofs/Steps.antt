@@ -7,14 +7,14 @@ use Rattle.larch_base.specs.Answering.{Answers}
 use Rattle.larch_base.specs.declared.fault.Fault.{Fault}
 use Rattle.larch_raw.specs.declared.equation.RawTrait.{RawTrait}
 use Rattle.larch_raw.specs.declared.reference.RawReference.{RawReference}
-use Rattle.larch_traits_items.specs.Refusal.{cause}
-use Rattle.larch_traits_items.specs.Steps.{after, all_taken}
-use Rattle.larch_traits_items.specs.declared.refusal.TraitRefusal.{TraitRefusal}
-use Rattle.larch_traits_items.proofs.Steps.{step_refused, step_taken, told_weaker}
-use Rattle.larch_flat_meaning.specs.Flat.{FlatTrait, take_rest}
-use Rattle.larch_flat_meaning.specs.Gathered.{Gathered, nothing}
-use Rattle.larch_flat_meaning.specs.Laws.{gathered_in}
-use Rattle.larch_flat_meaning.specs.Stops.{Stop, Refused, surely}
+use Rattle.larch_flat_sources.specs.TraitsItemsRefusal.{cause}
+use Rattle.larch_base_meaning.specs.Steps.{after, all_taken}
+use Rattle.larch_flat_sources.specs.TraitsItemsRefusalTraitRefusal.{TraitRefusal}
+use Rattle.larch_flat_sources.proofs.TraitsItemsSteps.{step_refused, step_taken, told_weaker}
+use Rattle.larch_flat_sources.specs.FlatMeaningFlat.{FlatTrait, take_rest}
+use Rattle.larch_flat_sources.specs.FlatMeaningGathered.{Gathered, nothing}
+use Rattle.larch_flat_sources.specs.FlatMeaningLaws.{gathered_in}
+use Rattle.larch_flat_sources.specs.FlatMeaningStops.{Stop, Refused, surely}
 use Rattle.larch_flat_gathering.specs.Keeping.{Keeps, Gathering}
 use Rattle.larch_flat_sources.specs.Sources.{Table, files_in, name_at}
 use Rattle.larch_flat.specs.Known.{Knows, KeepsTold, LeavesFlat, is_known, stop_told}

@@ -5,13 +5,13 @@ use Rattle.std.specs.Prelude.{bytes_eq}
 use Rattle.std.specs.List.{list_any}
 use Rattle.larch_base.specs.declared.code.Code.TheVariants.{Cycle}
 use Rattle.larch_raw.specs.declared.reference.RawReference.{RawReference}
-use Rattle.larch_sorts_meaning.specs.Faults.{fault}
-use Rattle.larch_flat_meaning.specs.Files.{closure, is_there, target, targets_in}
-use Rattle.larch_flat_meaning.specs.Gathered.{Gathered}
-use Rattle.larch_flat_meaning.specs.Reach.{reach_count}
-use Rattle.larch_flat_meaning.specs.Stops.{Refused}
-use Rattle.larch_flat_meaning.proofs.Shrinking.{falls_told, told_closure}
-use Rattle.larch_flat_meaning.proofs.Unfolding.{unfolds}
+use Rattle.larch_flat_sources.specs.SortsMeaningFaults.{fault}
+use Rattle.larch_flat_sources.specs.FlatMeaningFiles.{closure, is_there, target, targets_in}
+use Rattle.larch_flat_sources.specs.FlatMeaningGathered.{Gathered}
+use Rattle.larch_flat_sources.specs.FlatMeaningReach.{reach_count}
+use Rattle.larch_flat_sources.specs.FlatMeaningStops.{Refused}
+use Rattle.larch_flat_sources.proofs.FlatMeaningShrinking.{falls_told, told_closure}
+use Rattle.larch_flat_sources.proofs.FlatMeaningUnfolding.{unfolds}
 use Rattle.larch_base.proofs.Members.{contains_here, contains_later}
 use Rattle.larch_flat_sources.specs.Sources.{Table, files_in, name_at, names_in, targets_of}
 use Rattle.larch_flat_sources.proofs.Tables.{among, names_length, there_at}

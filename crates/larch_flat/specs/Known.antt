@@ -4,11 +4,11 @@ use Rattle.std.specs.Prelude.{Option, None, Some, is_some, option_map, IfSome, R
 use Rattle.std.specs.List.{list_any}
 use Rattle.larch_base.specs.declared.fault.Fault.{Fault}
 use Rattle.larch_raw.specs.declared.reference.RawReference.{RawReference}
-use Rattle.larch_traits_items.specs.Refusal.{cause}
-use Rattle.larch_traits_items.specs.declared.refusal.TraitRefusal.{TraitRefusal}
-use Rattle.larch_flat_meaning.specs.Files.{closure, target}
-use Rattle.larch_flat_meaning.specs.Gathered.{Gathered}
-use Rattle.larch_flat_meaning.specs.Stops.{Stop, Refused}
+use Rattle.larch_flat_sources.specs.TraitsItemsRefusal.{cause}
+use Rattle.larch_flat_sources.specs.TraitsItemsRefusalTraitRefusal.{TraitRefusal}
+use Rattle.larch_flat_sources.specs.FlatMeaningFiles.{closure, target}
+use Rattle.larch_flat_sources.specs.FlatMeaningGathered.{Gathered}
+use Rattle.larch_flat_sources.specs.FlatMeaningStops.{Stop, Refused}
 use Rattle.larch_flat_sources.specs.Sources.{Table, files_in, name_at}
 use Rattle.larch_flat_gathering.specs.Keeping.{Keeps, Gathering}
 use Rattle.larch_flat.specs.Parts.{IsFlat}

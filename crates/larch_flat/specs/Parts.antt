@@ -4,12 +4,12 @@ use Rattle.larch_base.specs.declared.fault.Fault.{Fault}
 use Rattle.larch_raw.specs.declared.declared.RawForm.{RawForm}
 use Rattle.larch_raw.specs.declared.reference.RawReference.{RawReference}
 use Rattle.larch_term.specs.Operator.{PlainOperator}
-use Rattle.larch_traits_items.specs.Steps.{after}
-use Rattle.larch_flat_meaning.specs.Flat.{FlatTrait, flat, renamed_marked, take_reference, within}
-use Rattle.larch_flat_meaning.specs.Gathered.{Gathered, Marked, with_operators, with_taken}
-use Rattle.larch_flat_meaning.specs.Laws.{gathered_in}
-use Rattle.larch_flat_meaning.specs.Replacements.{Replacements, new_operator, replacements_of}
-use Rattle.larch_flat_meaning.specs.Stops.{Stop, surely}
+use Rattle.larch_base_meaning.specs.Steps.{after}
+use Rattle.larch_flat_sources.specs.FlatMeaningFlat.{FlatTrait, flat, renamed_marked, take_reference, within}
+use Rattle.larch_flat_sources.specs.FlatMeaningGathered.{Gathered, Marked, with_operators, with_taken}
+use Rattle.larch_flat_sources.specs.FlatMeaningLaws.{gathered_in}
+use Rattle.larch_flat_sources.specs.FlatMeaningReplacements.{Replacements, new_operator, replacements_of}
+use Rattle.larch_flat_sources.specs.FlatMeaningStops.{Stop, surely}
 use Rattle.larch_flat_sources.specs.Sources.{Table, files_in}
 
 -- the flat trait of a name: references are followed as deep as there are files, which is deep enough

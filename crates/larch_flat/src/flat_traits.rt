@@ -18,7 +18,7 @@ pub struct FlatTraits {
 impl Model for FlatTraits {
     ghost use Rattle.std.specs.Prelude.{List, Option, Result};
     ghost use Rattle.larch_base.specs.declared.fault.Fault.{Fault};
-    ghost use Rattle.larch_flat_meaning.specs.Gathered.{Gathered};
+    ghost use Rattle.larch_flat_sources.specs.FlatMeaningGathered.{Gathered};
 
     ghost Value = { List (Option (Result Gathered Fault)) };
 

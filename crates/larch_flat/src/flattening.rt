@@ -1,8 +1,8 @@
 ghost use Rattle.std.specs.Prelude.{◌≡◌, ◌<◌, true, bytes_eq, not, length, map, IfOk, OnOk, Ok, Some};
 ghost use Rattle.larch_base.specs.Answering.{Answers};
-ghost use Rattle.larch_traits_items.specs.Steps.{all_taken};
-ghost use Rattle.larch_flat_meaning.specs.Files.{target};
-ghost use Rattle.larch_flat_meaning.specs.Gathered.{nothing};
+ghost use Rattle.larch_base_meaning.specs.Steps.{all_taken};
+ghost use Rattle.larch_flat_sources.specs.FlatMeaningFiles.{target};
+ghost use Rattle.larch_flat_sources.specs.FlatMeaningGathered.{nothing};
 ghost use Rattle.larch_flat_gathering.specs.Keeping.{Keeps};
 ghost use Rattle.larch_flat_sources.specs.Links.{AreLinks};
 ghost use Rattle.larch_flat_sources.specs.Sources.{files_in, name_at, targets_of};
@@ -13,9 +13,9 @@ use crate::flat_traits::FlatTraits;
 use crate::taking::{take_target, target_of};
 use larch_base::{Code, Fault, Memory, Name};
 use larch_flat_gathering::{Flat, Gathering};
+use larch_flat_sources::larch_traits_items::TraitRefusal;
 use larch_flat_sources::{Links, Sources, links_of};
 use larch_raw::{RawReference, RawTrait};
-use larch_traits_items::TraitRefusal;
 use std::alloc::Global;
 
 // What was read of files, with the links between them by their references.

@@ -1,8 +1,8 @@
 //! What holds of the flat traits of all sources, for crates above to cite. No function here does anything.
 ghost use Rattle.std.specs.Prelude.{◌≡◌, ℕ, List, Result};
 ghost use Rattle.larch_base.specs.declared.fault.Fault.{Fault};
-ghost use Rattle.larch_flat_meaning.specs.Gathered.{Gathered};
-ghost use Rattle.larch_flat_meaning.specs.Reached.{AgreeOn, AreReached};
+ghost use Rattle.larch_flat_sources.specs.FlatMeaningGathered.{Gathered};
+ghost use Rattle.larch_flat_sources.specs.FlatMeaningReached.{AgreeOn, AreReached};
 ghost use Rattle.larch_flat_sources.specs.Sources.{Table, files_in};
 ghost use Rattle.larch_flat.specs.Parts.{IsFlat, flat_trait};
 

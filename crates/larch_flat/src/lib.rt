@@ -12,3 +12,9 @@ mod taking;
 pub use flat_traits::FlatTraits;
 pub use flattening::{flatten, flatten_rest};
 pub use laws::what_is_known_is_known_elsewhere;
+
+// Passed on to crates above, which then needn't list them.
+pub use larch_flat_gathering;
+pub use larch_flat_gathering::larch_flat_statements;
+pub use larch_flat_replacing;
+pub use larch_flat_sources;

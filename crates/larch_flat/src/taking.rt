@@ -1,6 +1,6 @@
 ghost use Rattle.std.specs.Prelude.{◌≡◌, ℕ, ◌<◌, true, fold, length, Err, IfErr, IfOk, IfSome, OnOk};
-ghost use Rattle.larch_flat_meaning.specs.Flat.{renamed_marked, within};
-ghost use Rattle.larch_flat_meaning.specs.Gathered.{Gathered, with_taken};
+ghost use Rattle.larch_flat_sources.specs.FlatMeaningFlat.{renamed_marked, within};
+ghost use Rattle.larch_flat_sources.specs.FlatMeaningGathered.{Gathered, with_taken};
 ghost use Rattle.larch_flat_gathering.specs.Keeping.{Keeps, Leaves};
 ghost use Rattle.larch_flat.specs.Known.{IsTarget, Knows, LeavesFlat, is_known, stop_told};
 ghost use Rattle.larch_flat.specs.Parts.{with_new, with_parts, with_reference};
@@ -10,12 +10,12 @@ ghost use Rattle.larch_flat_sources.specs.Sources.{name_at};
 use crate::flat_traits::FlatTraits;
 use larch_base::{Code, Memory};
 use larch_flat_gathering::Gathering;
+use larch_flat_gathering::larch_flat_statements::MarkedStatements;
 use larch_flat_replacing::{NewNames, Replacements, replacements_of};
+use larch_flat_sources::larch_traits_items::TraitRefusal;
 use larch_flat_sources::{MarkedFiles, Sources};
-use larch_flat_statements::MarkedStatements;
 use larch_raw::{RawForm, RawReference};
 use larch_term::{Operator, copy_statement};
-use larch_traits_items::TraitRefusal;
 use std::alloc::Global;
 
 // The number of the file that a reference names; `marks` has the files that lead to the one with the reference. It is

@@ -7,9 +7,10 @@ use Rattle.larch_base.proofs.Bools.{or_left, or_right}
 use Rattle.larch_term.specs.Equality.{same_statement}
 use Rattle.larch_term.specs.Operator.{PlainOperator}
 use Rattle.larch_term.specs.declared.statement.Statement.{Statement}
-use Rattle.larch_flat_meaning.specs.Gathered.{Gathered, Marked, is_too_large, nodes_in}
-use Rattle.larch_flat_meaning.specs.Gathered.{with_asserted, with_marked, with_operators, with_statement, with_taken}
-use Rattle.larch_flat_meaning.proofs.Sizes.{operators_grow}
+use Rattle.larch_flat_statements.specs.FlatMeaningGathered.{Gathered, Marked, is_too_large, nodes_in}
+use Rattle.larch_flat_statements.specs.FlatMeaningGathered.{with_asserted, with_marked, with_operators}
+use Rattle.larch_flat_statements.specs.FlatMeaningGathered.{with_statement, with_taken}
+use Rattle.larch_flat_statements.proofs.FlatMeaningSizes.{operators_grow}
 use Rattle.larch_flat_statements.proofs.Entries.{counts}
 
 -- there are no fewer operators, statements and nodes

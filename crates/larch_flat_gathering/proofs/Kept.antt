@@ -3,7 +3,8 @@ use Rattle.std.proofs.Common.{◌≡◌, Bool, true, false, ◌||◌, List, refl
 use Rattle.std.specs.Prelude.{fold}
 use Rattle.larch_term.specs.Operator.{PlainOperator}
 use Rattle.larch_term.specs.declared.statement.Statement.{Statement}
-use Rattle.larch_flat_meaning.specs.Gathered.{Gathered, is_too_large, with_asserted, with_operator, with_operators}
+use Rattle.larch_flat_statements.specs.FlatMeaningGathered.{Gathered, is_too_large, with_asserted}
+use Rattle.larch_flat_statements.specs.FlatMeaningGathered.{with_operator, with_operators}
 use Rattle.larch_flat_gathering.specs.Keeping.{Keeps, KeepsUnless, Gathering}
 use Rattle.larch_flat_gathering.specs.Storing.{storing, storing_operators, with_limits}
 use Rattle.larch_flat_gathering.proofs.Growing.{Grew, asserted_same, grew_asserted, grew_operators, grew_taken}

@@ -8,18 +8,19 @@ use Rattle.larch_raw.specs.declared.equation.RawTrait.{RawTrait}
 use Rattle.larch_raw.specs.declared.shorthand.RawShorthand.{RawShorthand}
 use Rattle.larch_term.specs.Operator.{PlainOperator}
 use Rattle.larch_term.specs.declared.statement.Statement.{Statement}
-use Rattle.larch_sorts_meaning.specs.Faults.{fault, unless}
-use Rattle.larch_traits_items.specs.Declarations.{declared_operators}
-use Rattle.larch_traits_items.specs.Items.{items_state}
-use Rattle.larch_traits_items.specs.Steps.{after, all_taken}
-use Rattle.larch_traits_items.proofs.Kept.{ok_inj}
-use Rattle.larch_traits_items.proofs.Steps.{after_refused, step_refused, step_taken, told_weaker}
-use Rattle.larch_shorthand.specs.Shorthand.{expand, expand_operators, expansion_of, wrong_in}
-use Rattle.larch_shorthand.specs.declared.expansion.Expansion.{Expansion}
-use Rattle.larch_flat_meaning.specs.Flat.{FlatTrait, finish_trait, take_items, take_own, take_rest, take_shorthand}
-use Rattle.larch_flat_meaning.specs.Flat.{within}
-use Rattle.larch_flat_meaning.specs.Gathered.{Gathered, is_too_large, with_asserted, with_operators}
-use Rattle.larch_flat_meaning.specs.Laws.{gathered_in}
+use Rattle.larch_flat_statements.specs.SortsMeaningFaults.{fault, unless}
+use Rattle.larch_flat_statements.specs.TraitsItemsDeclarations.{declared_operators}
+use Rattle.larch_flat_statements.specs.TraitsItemsItems.{items_state}
+use Rattle.larch_base_meaning.specs.Steps.{after, all_taken}
+use Rattle.larch_flat_statements.proofs.TraitsItemsKept.{ok_inj}
+use Rattle.larch_flat_statements.proofs.TraitsItemsSteps.{after_refused, step_refused, step_taken, told_weaker}
+use Rattle.larch_flat_statements.specs.ShorthandShorthand.{expand, expand_operators, expansion_of, wrong_in}
+use Rattle.larch_flat_statements.specs.ShorthandExpansionExpansion.{Expansion}
+use Rattle.larch_flat_statements.specs.FlatMeaningFlat.{FlatTrait, finish_trait, take_items}
+use Rattle.larch_flat_statements.specs.FlatMeaningFlat.{take_own, take_rest, take_shorthand}
+use Rattle.larch_flat_statements.specs.FlatMeaningFlat.{within}
+use Rattle.larch_flat_statements.specs.FlatMeaningGathered.{Gathered, is_too_large, with_asserted, with_operators}
+use Rattle.larch_flat_statements.specs.FlatMeaningLaws.{gathered_in}
 use Rattle.larch_flat_gathering.specs.Keeping.{Keeps, KeepsAnswer, Gathering}
 use Rattle.larch_flat_gathering.specs.Storing.{discharge_stated}
 use Rattle.larch_flat_gathering.proofs.Kept.{full_asserted}

@@ -3,7 +3,7 @@ use Rattle.std.specs.Prelude.{Bool, List, refl}
 use Rattle.std.specs.Coded.{Coded, code_by, coded×, coded_bool, coded_list}
 use Rattle.larch_term.specs.Operator.{PlainOperator, coded_operator}
 use Rattle.larch_term.specs.declared.statement.Statement.{Statement}
-use Rattle.larch_flat_meaning.specs.Gathered.{Gathered, Marked}
+use Rattle.larch_flat_statements.specs.FlatMeaningGathered.{Gathered, Marked}
 use Rattle.larch_flat_statements.specs.MarkedCode.{coded_marked, coded_statement}
 use Rattle.larch_flat_gathering.specs.Keeping.{Gathering}
 

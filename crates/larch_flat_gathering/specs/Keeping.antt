@@ -1,9 +1,9 @@
 -- What a store keeps of all that is gathered.
 use Rattle.std.specs.Prelude.{◌≡◌, Bool, true, false, IfSome, Result, Ok, Err}
 use Rattle.larch_base.specs.declared.fault.Fault.{Fault}
-use Rattle.larch_traits_items.specs.Refusal.{cause}
-use Rattle.larch_traits_items.specs.declared.refusal.TraitRefusal.{TraitRefusal}
-use Rattle.larch_flat_meaning.specs.Gathered.{Gathered, is_too_large}
+use Rattle.larch_flat_statements.specs.TraitsItemsRefusal.{cause}
+use Rattle.larch_flat_statements.specs.TraitsItemsRefusalTraitRefusal.{TraitRefusal}
+use Rattle.larch_flat_statements.specs.FlatMeaningGathered.{Gathered, is_too_large}
 
 -- what is kept, and whether a limit is passed for certain
 pub record Gathering : Type 0 where

@@ -1,8 +1,9 @@
 -- What is done with a store.
 use Rattle.std.specs.Prelude.{◌||◌, Bool, List}
 use Rattle.larch_term.specs.Operator.{PlainOperator}
-use Rattle.larch_flat_meaning.specs.Gathered.{Gathered, Marked, is_too_large, new_among, statements_in, with_operators}
-use Rattle.larch_flat_meaning.specs.Gathered.{with_taken}
+use Rattle.larch_flat_statements.specs.FlatMeaningGathered.{Gathered, Marked, is_too_large}
+use Rattle.larch_flat_statements.specs.FlatMeaningGathered.{new_among, statements_in, with_operators}
+use Rattle.larch_flat_statements.specs.FlatMeaningGathered.{with_taken}
 use Rattle.larch_flat_gathering.specs.Keeping.{Gathering}
 
 -- it is full where a limit is passed

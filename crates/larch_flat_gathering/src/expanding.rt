@@ -1,15 +1,15 @@
 ghost use Rattle.std.specs.Prelude.{◌≡◌, Ok};
 ghost use Rattle.larch_base.specs.Answering.{Answers};
-ghost use Rattle.larch_traits_items.specs.Refusal.{cause};
-ghost use Rattle.larch_traits_items.specs.Steps.{after};
-ghost use Rattle.larch_shorthand.specs.Refusal.{cause as told_of_shorthand};
-ghost use Rattle.larch_shorthand.specs.Shorthand.{expand, expand_operators};
+ghost use Rattle.larch_flat_statements.specs.TraitsItemsRefusal.{cause};
+ghost use Rattle.larch_base_meaning.specs.Steps.{after};
+ghost use Rattle.larch_flat_statements.specs.ShorthandRefusal.{cause as told_of_shorthand};
+ghost use Rattle.larch_flat_statements.specs.ShorthandShorthand.{expand, expand_operators};
 
 use larch_base::Code;
+use larch_flat_statements::larch_shorthand::{ExpandRefusal, Expansion, expand, expand_operators};
+use larch_flat_statements::larch_traits_items::TraitRefusal;
 use larch_raw::RawShorthand;
-use larch_shorthand::{ExpandRefusal, Expansion, expand, expand_operators};
 use larch_term::{Operators, Statements};
-use larch_traits_items::TraitRefusal;
 use std::alloc::Global;
 
 // The operators that a shorthand stands for.

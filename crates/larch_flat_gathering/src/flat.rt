@@ -22,7 +22,7 @@ impl Drop for Flat {
 }
 
 impl Model for Flat {
-    ghost use Rattle.larch_flat_meaning.specs.Gathered.{Gathered};
+    ghost use Rattle.larch_flat_statements.specs.FlatMeaningGathered.{Gathered};
     ghost use Rattle.larch_flat_gathering.specs.FlatCode.{coded_gathered};
 
     ghost Value = { Gathered };

@@ -9,3 +9,6 @@ mod trait_;
 
 pub use flat::Flat;
 pub use store::Gathering;
+
+// Passed on to crates above, which then needn't list them.
+pub use larch_flat_statements;

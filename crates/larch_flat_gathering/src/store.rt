@@ -1,6 +1,7 @@
 ghost use Rattle.std.specs.Prelude.{◌≡◌, fold, OnOk};
-ghost use Rattle.larch_flat_meaning.specs.Gathered.{Gathered, is_too_large, nothing, with_asserted, with_operator};
-ghost use Rattle.larch_flat_meaning.specs.Gathered.{with_operators, with_taken};
+ghost use Rattle.larch_flat_statements.specs.FlatMeaningGathered.{Gathered, is_too_large, nothing};
+ghost use Rattle.larch_flat_statements.specs.FlatMeaningGathered.{with_asserted, with_operator};
+ghost use Rattle.larch_flat_statements.specs.FlatMeaningGathered.{with_operators, with_taken};
 ghost use Rattle.larch_flat_gathering.specs.Keeping.{Keeps};
 ghost use Rattle.larch_flat_gathering.specs.Storing.{storing, storing_operators, with_limits};
 

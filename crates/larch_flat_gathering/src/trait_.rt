@@ -1,11 +1,12 @@
 ghost use Rattle.std.specs.Prelude.{◌≡◌, IfOk, Ok};
 ghost use Rattle.larch_base.specs.Answering.{Answers};
-ghost use Rattle.larch_traits_items.specs.Items.{items_state};
-ghost use Rattle.larch_traits_items.specs.Refusal.{cause};
-ghost use Rattle.larch_traits_items.specs.Steps.{after, all_taken};
-ghost use Rattle.larch_flat_meaning.specs.Flat.{finish_trait, take_items, take_own, take_rest, take_shorthand, within};
-ghost use Rattle.larch_flat_meaning.specs.Gathered.{Gathered};
-ghost use Rattle.larch_flat_meaning.specs.Laws.{gathered_in};
+ghost use Rattle.larch_flat_statements.specs.TraitsItemsItems.{items_state};
+ghost use Rattle.larch_flat_statements.specs.TraitsItemsRefusal.{cause};
+ghost use Rattle.larch_base_meaning.specs.Steps.{after, all_taken};
+ghost use Rattle.larch_flat_statements.specs.FlatMeaningFlat.{finish_trait, take_items, take_own};
+ghost use Rattle.larch_flat_statements.specs.FlatMeaningFlat.{take_rest, take_shorthand, within};
+ghost use Rattle.larch_flat_statements.specs.FlatMeaningGathered.{Gathered};
+ghost use Rattle.larch_flat_statements.specs.FlatMeaningLaws.{gathered_in};
 ghost use Rattle.larch_flat_gathering.specs.Keeping.{Keeps, Leaves};
 ghost use Rattle.larch_flat_gathering.specs.Storing.{discharge_stated};
 
@@ -14,11 +15,11 @@ use crate::flat::Flat;
 use crate::store::Gathering;
 use indexmap::IndexSet;
 use larch_base::{Code, Memory, Sequence};
+use larch_flat_statements::larch_sorts_signature::Signature;
+use larch_flat_statements::larch_traits_items::{TraitRefusal, declare, state_items};
 use larch_flat_statements::new_among;
 use larch_raw::{RawItem, RawShorthand, RawTrait};
-use larch_sorts_signature::Signature;
 use larch_term::{Operator, Operators, Statements, copy_operators};
-use larch_traits_items::{TraitRefusal, declare, state_items};
 use std::alloc::Global;
 
 impl Gathering {

@@ -7,7 +7,7 @@ use Rattle.larch_base.specs.declared.code.Code.TheVariants.{UnknownTrait, TraitN
 use Rattle.larch_base.specs.declared.fault.Fault.{Fault}
 use Rattle.larch_raw.specs.declared.equation.RawTrait.{RawTrait}
 use Rattle.larch_raw.specs.declared.reference.RawReference.{RawReference}
-use Rattle.larch_traits_items.specs.Steps.{after, all_taken}
+use Rattle.larch_shorthand.specs.BaseMeaningSteps.{after, all_taken}
 use Rattle.larch_flat_meaning.specs.Files.{Files, closure, here, is_there, next_files, spread, target, targets_in}
 use Rattle.larch_flat_meaning.specs.Files.{there, with_name}
 use Rattle.larch_flat_meaning.specs.Flat.{FlatTrait, flat, flat_by, flat_file, take_reference, take_new, take_rest}

@@ -11,7 +11,7 @@ use Rattle.larch_base.specs.declared.fault.Fault.{Fault}
 use Rattle.larch_base.proofs.Members.{contained_in_filter, contains_cases, contains_filter, contains_flat_map}
 use Rattle.larch_base.proofs.Members.{contains_here, contains_later, contains_none}
 use Rattle.larch_raw.specs.declared.equation.RawTrait.{RawTrait}
-use Rattle.larch_traits_items.proofs.Kept.{ok_inj}
+use Rattle.larch_shorthand.proofs.TraitsItemsKept.{ok_inj}
 use Rattle.larch_flat_meaning.specs.Files.{Files, Reaches, closure, here, is_there, next_files, spread, targets_in}
 use Rattle.larch_flat_meaning.specs.Files.{there, with_name}
 use Rattle.larch_flat_meaning.specs.Stops.{Stop}

@@ -12,8 +12,8 @@ use Rattle.larch_base.proofs.Bools.{true_or_false}
 use Rattle.larch_base.proofs.Members.{contained_in_filter, contains_cases, contains_here}
 use Rattle.larch_raw.specs.declared.equation.RawTrait.{RawTrait}
 use Rattle.larch_raw.specs.declared.reference.RawReference.{RawReference}
-use Rattle.larch_traits_items.specs.Steps.{after, all_taken}
-use Rattle.larch_traits_items.proofs.Kept.{ok_inj}
+use Rattle.larch_shorthand.specs.BaseMeaningSteps.{after, all_taken}
+use Rattle.larch_shorthand.proofs.TraitsItemsKept.{ok_inj}
 use Rattle.larch_flat_meaning.specs.Files.{Files, Reaches, closure, here, is_there, next_files, spread, target}
 use Rattle.larch_flat_meaning.specs.Files.{targets_in, there}
 use Rattle.larch_flat_meaning.specs.Flat.{FlatTrait, flat, flat_by, flat_file, take_reference, take_new, take_told}

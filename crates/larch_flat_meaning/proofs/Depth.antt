@@ -9,7 +9,7 @@ use Rattle.larch_base.specs.declared.fault.Fault.{Fault}
 use Rattle.larch_base.specs.declared.position.Pos.{Pos}
 use Rattle.larch_raw.specs.declared.equation.RawTrait.{RawTrait}
 use Rattle.larch_raw.specs.declared.reference.RawReference.{RawReference}
-use Rattle.larch_traits_items.specs.Steps.{after, all_taken}
+use Rattle.larch_shorthand.specs.BaseMeaningSteps.{after, all_taken}
 use Rattle.larch_flat_meaning.specs.Files.{Files, closure, spread, target}
 use Rattle.larch_flat_meaning.specs.Flat.{FlatTrait, flat, flat_by, flat_file, take_reference, at_reference, take_flat}
 use Rattle.larch_flat_meaning.specs.Flat.{take_told, take_new, take_rest}

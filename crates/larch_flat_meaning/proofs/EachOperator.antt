@@ -10,9 +10,9 @@ use Rattle.larch_raw.specs.declared.shorthand.RawShorthand.{RawShorthand}
 use Rattle.larch_term.specs.Equality.{same_operator}
 use Rattle.larch_term.specs.Operator.{PlainOperator}
 use Rattle.larch_term.specs.declared.statement.Statement.{Statement}
-use Rattle.larch_traits_items.specs.Declarations.{declared_operators}
-use Rattle.larch_traits_items.specs.Items.{items_state}
-use Rattle.larch_traits_items.proofs.Kept.{after_was, ok_inj}
+use Rattle.larch_shorthand.specs.TraitsItemsDeclarations.{declared_operators}
+use Rattle.larch_shorthand.specs.TraitsItemsItems.{items_state}
+use Rattle.larch_shorthand.proofs.TraitsItemsKept.{after_was, ok_inj}
 use Rattle.larch_shorthand.specs.Shorthand.{expand}
 use Rattle.larch_shorthand.specs.declared.expansion.Expansion.{Expansion}
 use Rattle.larch_flat_meaning.specs.Flat.{FlatTrait, renamed_marked, take_flat, take_items, take_own, take_shorthand}

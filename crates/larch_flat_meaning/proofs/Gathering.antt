@@ -10,8 +10,8 @@ use Rattle.larch_base.specs.declared.position.Pos.{Pos}
 use Rattle.larch_raw.specs.declared.equation.RawTrait.{RawTrait}
 use Rattle.larch_raw.specs.declared.reference.RawReference.{RawReference}
 use Rattle.larch_raw.specs.declared.shorthand.RawShorthand.{RawShorthand}
-use Rattle.larch_traits_items.specs.Steps.{after, all_taken}
-use Rattle.larch_traits_items.proofs.Kept.{after_was, kept, ok_inj}
+use Rattle.larch_shorthand.specs.BaseMeaningSteps.{after, all_taken}
+use Rattle.larch_shorthand.proofs.TraitsItemsKept.{after_was, kept, ok_inj}
 use Rattle.larch_flat_meaning.specs.Files.{Files, closure, target}
 use Rattle.larch_flat_meaning.specs.Flat.{FlatTrait, finish_trait, flat, flat_by, flat_file, at_reference, take_flat}
 use Rattle.larch_flat_meaning.specs.Flat.{take_new, take_own, take_reference, take_rest, take_shorthand, take_told}

@@ -18,3 +18,10 @@ pub mod Theory
 pub mod Unfolding
 pub mod Words
 pub mod Variables
+-- passed on to crates above, which then needn't list the crates that these are of
+pub use Rattle.larch_shorthand.proofs.SortsMeaningReadAnswers as SortsMeaningReadAnswers
+pub use Rattle.larch_shorthand.proofs.SortsMeaningSorted as SortsMeaningSorted
+pub use Rattle.larch_shorthand.proofs.SortsMeaningSortsRead as SortsMeaningSortsRead
+pub use Rattle.larch_shorthand.proofs.TraitsItemsKept as TraitsItemsKept
+pub use Rattle.larch_shorthand.proofs.TraitsItemsStated as TraitsItemsStated
+pub use Rattle.larch_shorthand.proofs.TraitsItemsSteps as TraitsItemsSteps

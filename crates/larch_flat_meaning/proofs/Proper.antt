@@ -21,8 +21,8 @@ use Rattle.larch_term.specs.declared.built_in.BuiltIn.TheVariants.{Unequal, If}
 use Rattle.larch_term.proofs.BuiltIns.{is_built_in_Decides}
 use Rattle.larch_term.proofs.Decided.{operator_Decides}
 use Rattle.larch_renaming.specs.Renaming.{FitsSignatures, KeepsBuiltIns}
-use Rattle.larch_traits_items.specs.Steps.{after, all_taken}
-use Rattle.larch_traits_items.proofs.Kept.{after_was, all_any, kept, ok_inj, Any}
+use Rattle.larch_shorthand.specs.BaseMeaningSteps.{after, all_taken}
+use Rattle.larch_shorthand.proofs.TraitsItemsKept.{after_was, all_any, kept, ok_inj, Any}
 use Rattle.larch_flat_meaning.specs.Replacements.{Named, OldOperators, OldSort, Replacement, Replacements}
 use Rattle.larch_flat_meaning.specs.Replacements.{all_replacements, cannot_rename, cannot_rename_sort, fits_operator}
 use Rattle.larch_flat_meaning.specs.Replacements.{is_count_wrong, kept_apart, meant_by, new_operator, new_sort}

@@ -10,14 +10,14 @@ use Rattle.larch_base.proofs.Bools.{or_left}
 use Rattle.larch_term.specs.Equality.{same_operator}
 use Rattle.larch_term.specs.Operator.{PlainOperator}
 use Rattle.larch_term.specs.declared.statement.Statement.{Statement}
-use Rattle.larch_traits_items.specs.Declarations.{declared_operators}
-use Rattle.larch_traits_items.specs.Items.{items_state}
+use Rattle.larch_shorthand.specs.TraitsItemsDeclarations.{declared_operators}
+use Rattle.larch_shorthand.specs.TraitsItemsItems.{items_state}
 use Rattle.larch_base.specs.declared.code.Code.TheVariants.{Size}
 use Rattle.larch_base.specs.declared.position.Pos.{Pos}
 use Rattle.larch_raw.specs.declared.equation.RawTrait.{RawTrait}
 use Rattle.larch_raw.specs.declared.reference.RawReference.{RawReference}
-use Rattle.larch_traits_items.specs.Steps.{after, all_taken}
-use Rattle.larch_traits_items.proofs.Kept.{after_was, ok_inj}
+use Rattle.larch_shorthand.specs.BaseMeaningSteps.{after, all_taken}
+use Rattle.larch_shorthand.proofs.TraitsItemsKept.{after_was, ok_inj}
 use Rattle.larch_flat_meaning.specs.Flat.{FlatTrait, finish_trait, take_flat, take_items, take_own, take_rest}
 use Rattle.larch_flat_meaning.specs.Flat.{take_shorthand, with_renamed, within}
 use Rattle.larch_flat_meaning.specs.Gathered.{Gathered, is_too_large, nodes_in, with_asserted, with_operator}

@@ -12,9 +12,9 @@ use Rattle.larch_term.specs.declared.statement.Statement.TheVariants.{Equation, 
 use Rattle.larch_renaming.specs.Renaming.{Carries, FitsSignatures, KeepsBuiltIns, Renaming, rename_tree, renamed_all}
 use Rattle.larch_renaming.specs.Renaming.{renamed_statement}
 use Rattle.larch_renaming.proofs.RenamedStatements.{built_in_renamed, renamed_statement_over}
-use Rattle.larch_sorts_meaning.specs.Laws.{ForestSorts, IsSortOf, OperatorSorts, StatementSorts, TermSorts}
-use Rattle.larch_sorts_meaning.specs.Laws.{sorts_of_operator}
-use Rattle.larch_traits_items.specs.Laws.{NamesOwn}
+use Rattle.larch_shorthand.specs.SortsMeaningLaws.{ForestSorts, IsSortOf, OperatorSorts, StatementSorts, TermSorts}
+use Rattle.larch_shorthand.specs.SortsMeaningLaws.{sorts_of_operator}
+use Rattle.larch_shorthand.specs.TraitsItemsLaws.{NamesOwn}
 use Rattle.larch_flat_meaning.specs.Laws.{IsStatedOver}
 
 -- the first operators are among the second ones

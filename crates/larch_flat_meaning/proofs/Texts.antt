@@ -4,8 +4,8 @@ use Rattle.std.specs.Prelude.{bytes_eq}
 use Rattle.larch_base.specs.declared.code.Code.TheVariants.{TraitName}
 use Rattle.larch_base.specs.declared.fault.Fault.{Fault}
 use Rattle.larch_raw.specs.declared.equation.RawTrait.{RawTrait}
-use Rattle.larch_traits_items.specs.Steps.{after, all_taken}
-use Rattle.larch_traits_items.proofs.Kept.{after_was, ok_inj}
+use Rattle.larch_shorthand.specs.BaseMeaningSteps.{after, all_taken}
+use Rattle.larch_shorthand.proofs.TraitsItemsKept.{after_was, ok_inj}
 use Rattle.larch_flat_meaning.specs.Files.{Files}
 use Rattle.larch_flat_meaning.specs.Flat.{FlatTrait, finish_trait, flat, flat_by, flat_file, take_own, take_reference}
 use Rattle.larch_flat_meaning.specs.Flat.{take_rest, take_shorthand, within}

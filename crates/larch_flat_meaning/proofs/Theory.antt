@@ -10,10 +10,10 @@ use Rattle.larch_raw.specs.declared.shorthand.RawShorthand.{RawShorthand}
 use Rattle.larch_term.specs.Operator.{PlainOperator}
 use Rattle.larch_term.specs.Statement.{IsStatementOver, IsTheory}
 use Rattle.larch_term.specs.declared.statement.Statement.{Statement}
-use Rattle.larch_traits_items.specs.Declarations.{declared_operators}
-use Rattle.larch_traits_items.specs.Items.{items_state}
-use Rattle.larch_traits_items.proofs.Kept.{Any, after_was, all_any, ok_inj}
-use Rattle.larch_traits_items.proofs.Stated.{declared_own, items_are}
+use Rattle.larch_shorthand.specs.TraitsItemsDeclarations.{declared_operators}
+use Rattle.larch_shorthand.specs.TraitsItemsItems.{items_state}
+use Rattle.larch_shorthand.proofs.TraitsItemsKept.{Any, after_was, all_any, ok_inj}
+use Rattle.larch_shorthand.proofs.TraitsItemsStated.{declared_own, items_are}
 use Rattle.larch_shorthand.specs.Shorthand.{expand}
 use Rattle.larch_shorthand.specs.declared.expansion.Expansion.{Expansion}
 use Rattle.larch_flat_meaning.specs.Files.{Files}

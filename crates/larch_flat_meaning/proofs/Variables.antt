@@ -28,12 +28,13 @@ use Rattle.larch_term.specs.declared.statement.Statement.TheVariants.{Equation, 
 use Rattle.larch_term.specs.declared.variable.Variable.{Variable}
 use Rattle.larch_renaming.specs.Renaming.{Renaming, rename_tree, renamed_statement, renamed_variable}
 use Rattle.larch_renaming.proofs.Renamed.{renamed_occurrences}
-use Rattle.larch_sorts_meaning.specs.Laws.{StatementSorts, StatementVariables}
-use Rattle.larch_traits_items.specs.Declarations.{declared_operators}
-use Rattle.larch_traits_items.specs.Items.{items_state}
-use Rattle.larch_traits_items.specs.Laws.{BindsWords, IsWord}
-use Rattle.larch_traits_items.proofs.Kept.{Any, after_was, all_any, ok_inj, unless_was}
-use Rattle.larch_traits_items.proofs.Stated.{items_bind}
+use Rattle.larch_shorthand.specs.SortsMeaningLaws.{StatementSorts, StatementVariables}
+use Rattle.larch_shorthand.specs.TraitsItemsDeclarations.{declared_operators}
+use Rattle.larch_shorthand.specs.TraitsItemsItems.{items_state}
+use Rattle.larch_shorthand.specs.BaseMeaningWord.{IsWord}
+use Rattle.larch_shorthand.specs.TraitsItemsLaws.{BindsWords}
+use Rattle.larch_shorthand.proofs.TraitsItemsKept.{Any, after_was, all_any, ok_inj, unless_was}
+use Rattle.larch_shorthand.proofs.TraitsItemsStated.{items_bind}
 use Rattle.larch_shorthand.specs.Enumeration.{all_differ, all_followed, differ, elements, enumeration}
 use Rattle.larch_shorthand.specs.Enumeration.{following_statement, followed_from, successor}
 use Rattle.larch_shorthand.specs.Operators.{on, on_two}

@@ -27,12 +27,13 @@ use Rattle.larch_term.specs.Operator.{PlainOperator}
 use Rattle.larch_term.specs.Tree.{Tree, Forest, var, app, none, more}
 use Rattle.larch_term.specs.declared.statement.Statement.{Statement}
 use Rattle.larch_term.specs.declared.statement.Statement.TheVariants.{Equation, Generated, Partitioned}
-use Rattle.larch_sorts_meaning.specs.Laws.{ForestSorts, IsSortOf, OperatorSorts, StatementSorts, TermSorts}
-use Rattle.larch_sorts_meaning.specs.Laws.{sorts_of_operator}
-use Rattle.larch_traits_items.specs.Laws.{DeclaresWords, IsWord}
-use Rattle.larch_traits_items.specs.Steps.{after, all_taken}
-use Rattle.larch_traits_items.proofs.Kept.{after_was, kept, ok_inj, unless_was}
-use Rattle.larch_traits_items.proofs.Stated.{declared_words}
+use Rattle.larch_shorthand.specs.SortsMeaningLaws.{ForestSorts, IsSortOf, OperatorSorts, StatementSorts, TermSorts}
+use Rattle.larch_shorthand.specs.SortsMeaningLaws.{sorts_of_operator}
+use Rattle.larch_shorthand.specs.BaseMeaningWord.{IsWord}
+use Rattle.larch_shorthand.specs.TraitsItemsLaws.{DeclaresWords}
+use Rattle.larch_shorthand.specs.BaseMeaningSteps.{after, all_taken}
+use Rattle.larch_shorthand.proofs.TraitsItemsKept.{after_was, kept, ok_inj, unless_was}
+use Rattle.larch_shorthand.proofs.TraitsItemsStated.{declared_words}
 use Rattle.larch_shorthand.specs.Enumeration.{elements, enumeration_operators, successor}
 use Rattle.larch_shorthand.specs.Operators.{operator}
 use Rattle.larch_shorthand.specs.Shorthand.{expand, expansion_of, names_in, wrong_in}

@@ -29,9 +29,9 @@ use Rattle.larch_term.specs.Operator.{PlainOperator}
 use Rattle.larch_term.specs.declared.statement.Statement.{Statement}
 use Rattle.larch_term.specs.declared.statement.Statement.TheVariants.{Equation, Generated, Partitioned}
 use Rattle.larch_term.specs.declared.statement.Theory.{Theory}
-use Rattle.larch_sorts_meaning.specs.Read.{read_equation, read_term, unread_in}
-use Rattle.larch_sorts_meaning.specs.ReadingLists.{readings}
-use Rattle.larch_sorts_meaning.specs.Unknown.{unknown_among}
+use Rattle.larch_shorthand.specs.SortsMeaningRead.{read_equation, read_term, unread_in}
+use Rattle.larch_shorthand.specs.SortsMeaningReadingLists.{readings}
+use Rattle.larch_shorthand.specs.SortsMeaningUnknown.{unknown_among}
 use Rattle.larch_shorthand.specs.Operators.{operator, constant, on, on_two}
 use Rattle.larch_flat_meaning.specs.Files.{Files}
 use Rattle.larch_flat_meaning.specs.Flat.{FlatTrait, flat, theory_of}

@@ -12,11 +12,11 @@ use Rattle.larch_raw.specs.declared.shorthand.RawShorthand.{RawShorthand}
 use Rattle.larch_term.specs.Operator.{PlainOperator}
 use Rattle.larch_term.specs.declared.statement.Statement.{Statement}
 use Rattle.larch_term.specs.declared.statement.Theory.{Theory}
-use Rattle.larch_sorts_meaning.specs.Faults.{fault}
+use Rattle.larch_shorthand.specs.SortsMeaningFaults.{fault}
 use Rattle.larch_renaming.specs.Renaming.{renamed_statement}
-use Rattle.larch_traits_items.specs.Declarations.{declared_operators}
-use Rattle.larch_traits_items.specs.Items.{items_state}
-use Rattle.larch_traits_items.specs.Steps.{after, all_taken}
+use Rattle.larch_shorthand.specs.TraitsItemsDeclarations.{declared_operators}
+use Rattle.larch_shorthand.specs.TraitsItemsItems.{items_state}
+use Rattle.larch_shorthand.specs.BaseMeaningSteps.{after, all_taken}
 use Rattle.larch_shorthand.specs.Shorthand.{expand}
 use Rattle.larch_flat_meaning.specs.Files.{Files, closure, target}
 use Rattle.larch_flat_meaning.specs.Gathered.{Gathered, Marked, nothing, is_too_large, new_among, statements_in}

@@ -7,8 +7,9 @@ use Rattle.larch_term.specs.Operator.{PlainOperator}
 use Rattle.larch_term.specs.Statement.{IsStatementOver}
 use Rattle.larch_term.specs.declared.statement.Statement.{Statement}
 use Rattle.larch_term.specs.declared.statement.Theory.{Theory}
-use Rattle.larch_sorts_meaning.specs.Laws.{IsSortOf, OperatorSorts, StatementSorts, StatementVariables}
-use Rattle.larch_traits_items.specs.Laws.{IsWord, NamesOwn}
+use Rattle.larch_shorthand.specs.SortsMeaningLaws.{IsSortOf, OperatorSorts, StatementSorts, StatementVariables}
+use Rattle.larch_shorthand.specs.BaseMeaningWord.{IsWord}
+use Rattle.larch_shorthand.specs.TraitsItemsLaws.{NamesOwn}
 use Rattle.larch_flat_meaning.specs.Files.{Files, Reaches, is_there}
 use Rattle.larch_flat_meaning.specs.Flat.{FlatTrait}
 use Rattle.larch_flat_meaning.specs.Gathered.{Gathered}

@@ -16,11 +16,11 @@ use Rattle.larch_term.specs.BuiltIn.{bool_sort, built_in, is_built_in}
 use Rattle.larch_term.specs.Equality.{same_operator}
 use Rattle.larch_term.specs.Operator.{OperatorName, PlainOperator, plain}
 use Rattle.larch_term.specs.declared.built_in.BuiltIn.TheVariants.{True, False}
-use Rattle.larch_sorts_known.specs.Sorts.{exists_sort}
+use Rattle.larch_shorthand.specs.SortsKnownSorts.{exists_sort}
 use Rattle.larch_renaming.specs.Renaming.{Renaming}
-use Rattle.larch_traits_items.specs.Declarations.{operator_of}
-use Rattle.larch_traits_items.specs.References.{is_meant}
-use Rattle.larch_traits_items.specs.Steps.{after, all_taken}
+use Rattle.larch_shorthand.specs.TraitsItemsDeclarations.{operator_of}
+use Rattle.larch_shorthand.specs.TraitsItemsReferences.{is_meant}
+use Rattle.larch_shorthand.specs.BaseMeaningSteps.{after, all_taken}
 use Rattle.larch_flat_meaning.specs.Stops.{refused_if}
 
 -- old sorts with new ones, and old operators with new names; all at once

@@ -3,7 +3,7 @@ use Rattle.std.specs.Prelude.{if◌then◌else◌, Bool, Result, Ok, Err}
 use Rattle.larch_base.specs.declared.code.Code.{Code}
 use Rattle.larch_base.specs.declared.fault.Fault.{Fault}
 use Rattle.larch_base.specs.declared.position.Pos.{Pos}
-use Rattle.larch_sorts_meaning.specs.Faults.{fault}
+use Rattle.larch_shorthand.specs.SortsMeaningFaults.{fault}
 
 -- something is wrong; or references weren't followed deep enough to tell
 pub data Stop : Type 0 where

@@ -5,7 +5,7 @@ use Rattle.larch_raw.specs.declared.declared.RawForm.{RawForm}
 use Rattle.larch_raw.specs.declared.reference.RawActual.{RawActual}
 use Rattle.larch_raw.specs.declared.reference.RawRef.{RawRef}
 use Rattle.larch_base.specs.declared.code.Code.TheVariants.{Rename}
-use Rattle.larch_traits_items.specs.Steps.{after, all_taken}
+use Rattle.larch_base_meaning.specs.Steps.{after, all_taken}
 use Rattle.larch_term.specs.Operator.{PlainOperator}
 use Rattle.larch_flat_meaning.specs.Replacements.{Replacements, by_name, by_position, is_count_wrong, kept_apart}
 use Rattle.larch_flat_meaning.specs.Replacements.{none_replaced, plain_forms, replace, replacements_of}

@@ -1,14 +1,14 @@
 ghost use Rattle.std.specs.Prelude.{◌≡◌, ◌++◌, filter, IfOk, OnOk};
 ghost use Rattle.std.specs.Option.{option_copied};
-ghost use Rattle.larch_traits_items.specs.References.{is_meant};
+ghost use Rattle.larch_flat_meaning.specs.TraitsItemsReferences.{is_meant};
 ghost use Rattle.larch_flat_meaning.specs.Replacements.{exactly, names_sort, with_truth_values};
 ghost use Rattle.larch_flat_replacing.specs.Kept.{both_truth_values};
 
 use larch_base::{Memory, Name, Sequence};
+use larch_flat_meaning::larch_sorts_known::{SortSet, existing_sorts};
+use larch_flat_meaning::larch_traits_items::operator_of;
 use larch_raw::{RawForm, RawSig};
-use larch_sorts_known::{SortSet, existing_sorts};
 use larch_term::{BuiltIn, Operator, Operators, bool_sort};
-use larch_traits_items::operator_of;
 use std::alloc::Global;
 use std::marker::Model;
 
@@ -34,7 +34,7 @@ impl Drop for OldNames<'_> {
 impl<'a> Model for OldNames<'a> {
     ghost use Rattle.std.specs.Prelude.{List, ◌≡◌};
     ghost use Rattle.larch_term.specs.Operator.{PlainOperator};
-    ghost use Rattle.larch_sorts_known.specs.Sorts.{existing_sorts};
+    ghost use Rattle.larch_flat_meaning.specs.SortsKnownSorts.{existing_sorts};
     ghost use Rattle.larch_flat_replacing.specs.Kept.{both_truth_values};
 
     ghost Value = { List PlainOperator };

@@ -4,10 +4,11 @@ ghost use Rattle.std.specs.Option.{option_copied};
 ghost use Rattle.larch_base.specs.Answering.{Answers};
 ghost use Rattle.larch_base.specs.declared.code.Code.TheVariants.{Rename};
 ghost use Rattle.larch_term.specs.BuiltIn.{is_built_in};
-ghost use Rattle.larch_traits_items.specs.Refusal.{cause};
-ghost use Rattle.larch_traits_items.specs.Steps.{after, all_taken};
+ghost use Rattle.larch_flat_meaning.specs.TraitsItemsRefusal.{cause};
+ghost use Rattle.larch_base_meaning.specs.Steps.{after, all_taken};
 ghost use Rattle.larch_flat_meaning.specs.Replacements.{OldOperators, OldSort, by_name, by_position, cannot_rename};
-ghost use Rattle.larch_flat_meaning.specs.Replacements.{cannot_rename_sort, fits_operator, is_count_wrong, kept_apart, meant_by};
+ghost use Rattle.larch_flat_meaning.specs.Replacements.{cannot_rename_sort, fits_operator, is_count_wrong};
+ghost use Rattle.larch_flat_meaning.specs.Replacements.{kept_apart, meant_by};
 ghost use Rattle.larch_flat_meaning.specs.Replacements.{new_operator, none_or_any, none_replaced, plain_forms, replace};
 ghost use Rattle.larch_flat_meaning.specs.Replacements.{replace_form, replacements_of};
 ghost use Rattle.larch_flat_meaning.specs.Stops.{refused_if};
@@ -15,9 +16,9 @@ ghost use Rattle.larch_flat_meaning.specs.Stops.{refused_if};
 use crate::old_names::OldNames;
 use crate::replacements::Replacements;
 use larch_base::{Code, Memory, Pos};
+use larch_flat_meaning::larch_traits_items::TraitRefusal;
 use larch_raw::{RawActual, RawForm, RawRef, RawSig};
 use larch_term::{Operator, Sort, is_built_in};
-use larch_traits_items::TraitRefusal;
 use std::alloc::Global;
 
 // A replacement as it is written: a new form in place of what an old one names, or of the operator of its signature

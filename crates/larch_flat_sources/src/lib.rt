@@ -14,3 +14,6 @@ pub use links::{Links, links_of};
 pub use marks::MarkedFiles;
 pub use reaching::reached;
 pub use sources::Sources;
+
+// Passed on to crates above, which then needn't list them.
+pub use larch_flat_meaning::larch_traits_items;

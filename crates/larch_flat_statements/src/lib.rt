@@ -10,3 +10,6 @@ mod marked;
 
 pub use known::new_among;
 pub use marked::MarkedStatements;
+
+// Passed on to crates above, which then needn't list them.
+pub use larch_flat_meaning::{larch_shorthand, larch_sorts_signature, larch_traits_items};

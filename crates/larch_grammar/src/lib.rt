@@ -36,3 +36,6 @@ pub use trees::{
     bracket_tree, call_tree, chain_tree, field_tree, if_tree, no_terms, postfix_tree, prefix_tree,
     qualified, with_term,
 };
+
+// Passed on to crates above, which then needn't list them.
+pub use larch_grammar_law;

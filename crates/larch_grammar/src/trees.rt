@@ -1,5 +1,6 @@
 ghost use Rattle.std.specs.Prelude.{◌≡◌, ◌++◌, ◌∷◌, [], IfOk};
-ghost use Rattle.larch_grammar.specs.Trees.{bracket_tree, call_tree, field_tree, if_tree, infix_tree, chain_tree, one, postfix_tree, prefix_tree};
+ghost use Rattle.larch_grammar.specs.Trees.{bracket_tree, call_tree, field_tree, if_tree, infix_name, infix_tree};
+ghost use Rattle.larch_grammar.specs.Trees.{chain_tree, one, postfix_tree, prefix_tree};
 ghost use Rattle.larch_raw.specs.RawTree.{qualified};
 
 use crate::machine::Link;
@@ -8,7 +9,7 @@ use crate::names::{
 };
 use crate::terminal::Bracket;
 use larch_base::{Memory, Name, Pos};
-use larch_raw::{RawTerm, RawTerms, RawWord};
+use larch_raw::{RawNode, RawTerm, RawTerms, RawWord};
 use std::alloc::Global;
 
 /// No terms.
@@ -53,11 +54,24 @@ fn infix_tree(
 ) -> Result<RawTerm, Memory>
     ensures { IfOk result (λ term. term ≡ infix_tree symbol left right) }
 {
-    let name = infix_name(alloc, &symbol.name)?;
+    let name = name_behind(alloc, &symbol.name, &left)?;
     let operands = room_for(alloc, 2)?;
     let operands = with_term(operands, left)?;
     let operands = with_term(operands, right)?;
     Ok(RawTerm::apply(name, operands, symbol.pos))
+}
+
+// The name of an infix symbol, which a chain of the symbol shares: behind an operand that has it there is no new one.
+fn name_behind(alloc: Global, symbol: &Name, left: &RawTerm) -> Result<Name, Memory>
+    ensures { IfOk result (λ name. name ≡ infix_name symbol.now) }
+{
+    let name = infix_name(alloc, symbol)?;
+    if let RawNode::Apply(before, _, _) = left.node() {
+        if *before == name {
+            return before.copy();
+        }
+    }
+    Ok(name)
 }
 
 /// A prefix symbol before its operand.

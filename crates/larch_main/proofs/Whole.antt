@@ -1,5 +1,5 @@
 -- Calls that write one text at their end, and what no fault leaves.
-use Rattle.std.proofs.Common.{◌≡◌, ◌≢◌, ℕ, inl, inr, Bool, true, false, List, [], Option, Some, None, Result, Ok, Err}
+use Rattle.std.proofs.Common.{◌≡◌, ◌≢◌, ℕ, inl, inr, Bool, true, false, List, [], Option, Result, Ok, Err}
 use Rattle.std.proofs.Common.{refl, sym, subst, ap, ◌∙◌}
 use Rattle.std.proofs.KnownBytes.{Consumes-nil, Appends-nil}
 use Rattle.std.specs.Prelude.{IfErr, IfOk, MatchBool, OnOk}
@@ -7,140 +7,35 @@ use Rattle.std.specs.Io.KnownBytes.{Appends}
 use Rattle.larch_io.specs.Faults.{Rose}
 use Rattle.larch_io.specs.Folder.{FileMap}
 use Rattle.larch_io.specs.Put.{PutsFront}
-use Rattle.larch_certificate.specs.declared.line.Line.{Line}
-use Rattle.larch_certificate_text.specs.CertificateText.{read_certificate}
-use Rattle.larch_verify_meaning.specs.Acceptance.{verdict}
-use Rattle.larch_duties_meaning.specs.Duties.{Duty}
 use Rattle.larch_words.specs.Call.{call_of, is_certificate, is_model}
 use Rattle.larch_words.specs.declared.call.Call.{Call}
 use Rattle.larch_words.specs.declared.call.Trial.{Trial}
 use Rattle.larch_words.specs.declared.call.Verification.{Verification}
 use Rattle.larch_words.specs.declared.call.Call.TheVariants as call_
 use Rattle.larch_words.specs.declared.call.Question.{Question}
-use Rattle.larch_words.specs.declared.call.Question.TheVariants.{Check, Model, Obligations, Trim, Verify}
-use Rattle.larch_main.specs.Answer.{AnswersBy, IsAnswer, TellsAnswer, good_or_remains, no_file, said, size_passed}
-use Rattle.larch_main.specs.declared.answer.Answer.{Answer}
-use Rattle.larch_main.specs.declared.progress.Halt.{Halt}
-use Rattle.larch_main.specs.declared.progress.Halt.TheVariants as halt_
-use Rattle.larch_main.specs.declared.status.Status.{Status}
-use Rattle.larch_main.specs.declared.status.Status.TheVariants.{Good, Remains, Words, ReadFault, WriteFault, Memory}
-use Rattle.larch_main.specs.declared.status.Status.TheVariants.{Malformed, Size, NoFile}
-use Rattle.larch_main.specs.Check.{check_answer}
-use Rattle.larch_main.specs.Gather.{Gathered, Whole, Absent, TooLarge, IsFolder, evidence_in, gather_names}
-use Rattle.larch_main.specs.Obligations.{obligations_answer}
-use Rattle.larch_main.specs.Questions.{Answered, IsCertified, MayAnswer, NamesModel, TrimsCertificate}
-use Rattle.larch_main.specs.Running.{usage_text, Output, Answers, WritesBefore, WritesFront, Writes}
-use Rattle.larch_main.specs.Running.{CallTakes, Counts, KeepsFolder, KeepsSource, folder_failed, source_failed}
-use Rattle.larch_main.specs.Running.{Shows, sink_failed, reads_folder, reads_source}
-use Rattle.larch_duties.specs.Own.{trait_own_claims}
-use Rattle.larch_duties.specs.declared.own.OwnClaims.{OwnClaims}
-use Rattle.larch_flat_meaning.specs.Stops.{Stop}
-use Rattle.larch_models_answer.specs.Judgements.{judge_model}
-use Rattle.larch_models_answer.specs.declared.finding.Ending.{Ending}
-use Rattle.larch_models_answer.specs.declared.finding.Ending.TheVariants as ending_
-use Rattle.larch_traits.specs.Reading.{read_files}
-use Rattle.larch_main.specs.Model.{ending_status, trial_answer, tried_over}
-use Rattle.larch_main.specs.Progress.{HaltFaults}
-use Rattle.larch_main.specs.Report.{check_of}
-use Rattle.larch_report.specs.Counts.{counts_of, is_good}
-use Rattle.larch_main.specs.Say.{Says}
-use Rattle.larch_main.specs.Trim.{IsTrimmed, trimming_answer}
-use Rattle.larch_main.specs.Verify.{IsShown, duty_in, judged_by, verdict_told, verification_answer}
-use Rattle.larch_main.proofs.Endings.{known_rest, input_is, known_files, folder_is, nothing_yet}
-use Rattle.larch_main.proofs.Left.{left_keeps}
-
--- a status that stands beside a text
-abbrev pub IsSaid : Status → Type 0
-IsSaid ReadFault = ⊥
-IsSaid WriteFault = ⊥
-IsSaid Memory = ⊥
-IsSaid _ = Unit {0}
-
-either_said : (b : Bool) → IsSaid (good_or_remains b)
-either_said true = tt
-either_said false = tt
-
-by_said : {A : Type 0} (Told : A → List ℕ → Status → Type 0)
-    → ((found : A) (text : List ℕ) (status : Status) → Told found text status → IsSaid status)
-    → (found : Gathered A) (text : List ℕ) (status : Status) → AnswersBy Told found text status → IsSaid status
-by_said Told each (Whole found) text status is = each found text status is
-by_said Told each (Absent name) text status is = subst IsSaid (sym is.1) tt
-by_said Told each TooLarge text status is = subst IsSaid (sym is.1) tt
-
-verdict_said : (o : Option ℕ) → IsSaid (verdict_told o).status
-verdict_said None = tt
-verdict_said (Some number) = tt
-
-judged_said : (duty : Option Duty) (read : Result (Bool × List Line) ℕ) → IsSaid (judged_by duty read).status
-judged_said None (Ok read) = tt
-judged_said (Some duty) (Ok read) = verdict_said (verdict duty.theory duty.statement read.1)
-judged_said duty (Err number) = tt
-
-ending_said : (ending : Ending) → IsSaid (ending_status ending)
-ending_said ending_.Holds = tt
-ending_said ending_.Fails = tt
-ending_said ending_.Malformed = tt
-ending_said ending_.TooLarge = tt
-
-tried_said : (text : List ℕ) (claims : Result OwnClaims Stop) → IsSaid (tried_over text claims).status
-tried_said text (Ok own) = ending_said (judge_model own.theory own.assumed own.implied text).ending
-tried_said text (Err stop) = tt
-
--- what may be answered to a question about files stands beside such a status
-pub may_said : (question : Question) (names : List (List ℕ)) (folder : FileMap) (text : List ℕ) (status : Status)
-    → MayAnswer question names folder text status → IsSaid status
-may_said Check names folder text status is =
-    by_said (λ files. IsAnswer (check_answer files))
-    (λ files text status is. subst IsSaid (sym is.1) (either_said (is_good (counts_of (check_of files)))))
-    (gather_names folder [] names) text status is
-may_said Obligations names folder text status is =
-    by_said (λ files. IsAnswer (obligations_answer files))
-    (λ files text status is. subst IsSaid (sym is.1) (either_said (is_good (counts_of (check_of files)))))
-    (gather_names folder [] names) text status is
-may_said (Verify asked) names folder text status is =
-    by_said (λ e. IsAnswer (verification_answer asked.stem asked.label e))
-    (λ e text status is. subst IsSaid (sym is.1)
-    (judged_said (duty_in e.files asked.stem asked.label) (read_certificate true e.text)))
-    (evidence_in folder asked.certificate names) text status is
-may_said (Model tried) names folder text status is =
-    by_said (λ e. IsAnswer (trial_answer tried.stem e))
-    (λ e text status is. subst IsSaid (sym is.1)
-    (tried_said e.text (trait_own_claims (read_files e.files) tried.stem)))
-    (evidence_in folder tried.model names) text status is
-may_said (Trim asked) names folder text status is =
-    by_said (λ e. IsAnswer (trimming_answer asked.stem asked.label e))
-    (λ e text status is. subst IsSaid (sym is.1)
-    (left_keeps IsSaid tt (verification_answer asked.stem asked.label e) (read_certificate true e.text)
-    (judged_said (duty_in e.files asked.stem asked.label) (read_certificate true e.text))))
-    (evidence_in folder asked.certificate names) text status is
-
--- whatever was found, something may be answered
-by_some : {A : Type 0} (Told : A → List ℕ → Status → Type 0)
-    → ((found : A) → (answer : Answer) × Told found answer.text answer.status)
-    → (found : Gathered A) → (answer : Answer) × AnswersBy Told found answer.text answer.status
-by_some Told each (Whole found) = each found
-by_some Told each (Absent name) = (no_file name, (refl, refl))
-by_some Told each TooLarge = (size_passed, (refl, refl))
-
-some_answer : (question : Question) (names : List (List ℕ)) (folder : FileMap)
-    → (answer : Answer) × MayAnswer question names folder answer.text answer.status
-some_answer Check names folder =
-    by_some (λ files. IsAnswer (check_answer files)) (λ files. (check_answer files, (refl, refl)))
-    (gather_names folder [] names)
-some_answer Obligations names folder =
-    by_some (λ files. IsAnswer (obligations_answer files)) (λ files. (obligations_answer files, (refl, refl)))
-    (gather_names folder [] names)
-some_answer (Verify asked) names folder =
-    by_some (λ e. IsAnswer (verification_answer asked.stem asked.label e))
-    (λ e. (verification_answer asked.stem asked.label e, (refl, refl)))
-    (evidence_in folder asked.certificate names)
-some_answer (Model tried) names folder =
-    by_some (λ e. IsAnswer (trial_answer tried.stem e)) (λ e. (trial_answer tried.stem e, (refl, refl)))
-    (evidence_in folder tried.model names)
-some_answer (Trim asked) names folder =
-    by_some (λ e. IsAnswer (trimming_answer asked.stem asked.label e))
-    (λ e. (trimming_answer asked.stem asked.label e, (refl, refl)))
-    (evidence_in folder asked.certificate names)
+use Rattle.larch_words.specs.declared.call.Question.TheVariants.{Check, Model, Obligations, Replay, Trim, Verify}
+use Rattle.larch_main_files.specs.Answer.{TellsAnswer, said}
+use Rattle.larch_main_files.specs.declared.answer.Answer.{Answer}
+use Rattle.larch_main_status.specs.declared.halt.Halt.{Halt}
+use Rattle.larch_main_status.specs.declared.halt.Halt.TheVariants as halt_
+use Rattle.larch_main_status.specs.declared.status.Status.{Status}
+use Rattle.larch_main_status.specs.declared.status.Status.TheVariants.{Good, Remains, Words, ReadFault, WriteFault}
+use Rattle.larch_main_status.specs.declared.status.Status.TheVariants.{Memory, Malformed, Size, NoFile}
+use Rattle.larch_main_files.specs.Gather.{IsFolder}
+use Rattle.larch_main_files.specs.Questions.{Answered, IsCertified, NamesModel, TrimsCertificate}
+use Rattle.larch_main.specs.Running.{usage_text, Output, Answers, WritesBefore, WritesFront, Writes, CallReports}
+use Rattle.larch_main.specs.Running.{CallTakes, KeepsFolder, KeepsSource, folder_failed, source_failed, Shows}
+use Rattle.larch_main.specs.Running.{reads_folder, reads_source}
+use Rattle.larch_main_status.specs.Faults.{Counts, sink_failed}
+use Rattle.larch_main_status.specs.Faults.{HaltFaults}
+use Rattle.larch_main_status.specs.Say.{Says}
+use Rattle.larch_main_files.specs.Trim.{IsTrimmed}
+use Rattle.larch_main_files.specs.Verify.{IsShown}
+use Rattle.larch_main_session.proofs.Endings.{known_rest, input_is, nothing_reported, nothing_yet}
+use Rattle.larch_main_files.proofs.Said.{IsSaid, answer_is_said, said_sink, some_answer}
+use Rattle.larch_main_status.proofs.Statuses.{quiet}
+use Rattle.larch_main.proofs.Replaying.{folder_is, known_files, nothing_replayed}
+use Rattle.larch_main.proofs.Sessions.{session_front}
 
 writes_said : (call : Call) (told : Option FileMap) (left leaves held holds : Option (List ℕ)) (status : Status)
     → IsSaid status
@@ -174,7 +69,8 @@ nothing_of call told left held answer is = record {
 -- nothing was written, and memory ran out
 pub nothing_written : (call : Call) (told : Option FileMap) (left held : Option (List ℕ))
     → WritesFront call told left left held held
-nothing_written call_.Session told left held = nothing_yet left held told
+nothing_written (call_.Session limit) told left held =
+    session_front limit told left left held held (nothing_yet limit left held 0)
 nothing_written (call_.OnFiles question names) told left held =
     let some = some_answer question names (known_files told) in
     nothing_of (call_.OnFiles question names) told left held some.0 some.1
@@ -221,34 +117,8 @@ module _ (call : Call) (told : Option FileMap) (left held kept : Option (List �
       ]
     ]
 
--- what a status that is said says of counts
+-- what a status that is said says of the folder
 module _ (status : Status) (says : IsSaid status) where
-  no_sink_fault : (s : Status) → IsSaid s → sink_failed s ≡ false
-  no_sink_fault Good is = refl
-  no_sink_fault Remains is = refl
-  no_sink_fault Words is = refl
-  no_sink_fault Malformed is = refl
-  no_sink_fault Size is = refl
-  no_sink_fault NoFile is = refl
-  no_sink_fault ReadFault is = absurd is
-  no_sink_fault WriteFault is = absurd is
-  no_sink_fault Memory is = absurd is
-
-  quiet : (failed : Bool) (before now : ℕ) → failed ≡ false → now ≡ before → Counts failed before now
-  quiet failed before now is same = subst (λ b. Counts b before now) (sym is) same
-
-  pub said_sink : (held kept : Option (List ℕ)) (before now : ℕ) (text : List ℕ) (result : Status)
-      → Says held kept before now text status result → Counts (sink_failed result) before now
-  said_sink held kept before now text result said = elim said [
-    | inl whole ↦
-        subst (λ r. Counts (sink_failed r) before now) (sym whole.0)
-        (quiet (sink_failed status) before now (no_sink_fault status says) whole.2)
-    | inr front ↦ elim front [
-      | inl failed ↦ subst (λ r. Counts (sink_failed r) before now) (sym failed.0) failed.2
-      | inr lacking ↦ subst (λ r. Counts (sink_failed r) before now) (sym lacking.0) lacking.2
-    ]
-  ]
-
   no_folder_fault : (call : Call) (s : Status) → IsSaid s → folder_failed call s ≡ false
   no_folder_fault call Good is = refl
   no_folder_fault call Remains is = refl
@@ -277,16 +147,13 @@ module _ (question : Question) (names : List (List ℕ)) (told : Option FileMap)
   abbrev asks : Call
   asks = call_.OnFiles question names
 
-  answer_is_said : (answer : Answer) → Answered question names told answer → IsSaid answer.status
-  answer_is_said answer by = may_said question names by.folder answer.text answer.status by.answers
-
   -- what is answered to a question about files was to be written
   pub look_writes : (answered : Result Answer Halt) → IfOk answered (λ answer. Answered question names told answer)
       → (left held kept : Option (List ℕ)) (before now : ℕ) (result : Status)
       → TellsAnswer held kept before now answered result → Writes asks told left left held kept result
   look_writes (Ok answer) by left held kept before now result tells =
       said_writes asks told left held kept by.folder answer.text answer.status by.is_folder
-      by.answers (answer_is_said answer by) before now result tells
+      by.answers (answer_is_said question names told answer by) before now result tells
   look_writes (Err halt_.ReadFault) by left held kept before now result tells =
       subst (Writes asks told left left held kept) (sym tells.0)
       (subst (λ k. WritesBefore asks left left held k) (sym tells.1) (Appends-nil held))
@@ -294,23 +161,13 @@ module _ (question : Question) (names : List (List ℕ)) (told : Option FileMap)
       subst (Writes asks told left left held kept) (sym tells.0)
       (subst (λ k. WritesFront asks told left left held k) (sym tells.1) (nothing_written asks told left held))
 
-  pub look_sink : (answered : Result Answer Halt) → IfOk answered (λ answer. Answered question names told answer)
-      → (held kept : Option (List ℕ)) (before now : ℕ) (result : Status)
-      → TellsAnswer held kept before now answered result → Counts (sink_failed result) before now
-  look_sink (Ok answer) by held kept before now result tells =
-      said_sink answer.status (answer_is_said answer by) held kept before now answer.text result tells
-  look_sink (Err halt_.ReadFault) by held kept before now result tells =
-      subst (λ r. Counts (sink_failed r) before now) (sym tells.0) tells.2
-  look_sink (Err halt_.Memory) by held kept before now result tells =
-      subst (λ r. Counts (sink_failed r) before now) (sym tells.0) tells.2
-
   pub look_folder : (answered : Result Answer Halt) → IfOk answered (λ answer. Answered question names told answer)
       → (held kept : Option (List ℕ)) (before now : ℕ) (result : Status)
       (first last : ℕ) → OnOk answered (last ≡ first) → IfErr answered (λ halt. HaltFaults halt first last)
       → TellsAnswer held kept before now answered result → Counts (folder_failed asks result) first last
   look_folder (Ok answer) by held kept before now result first last fine failed tells =
-      said_folder answer.status (answer_is_said answer by) asks held kept before now answer.text result first
-      last fine tells
+      said_folder answer.status (answer_is_said question names told answer by) asks held kept before now answer.text
+      result first last fine tells
   look_folder (Err halt_.ReadFault) by held kept before now result first last fine failed tells =
       subst (λ r. Counts (folder_failed asks r) first last) (sym tells.0) failed
   look_folder (Err halt_.Memory) by held kept before now result first last fine failed tells =
@@ -337,7 +194,8 @@ pub complete : (call : Call) (told : Option FileMap) (left leaves held holds : O
 complete call told left leaves held holds Good a b c d e f w source folder sink read look write memory = w
 complete call told left leaves held holds Remains a b c d e f w source folder sink read look write memory = w
 complete call told left leaves held holds Words a b c d e f w source folder sink read look write memory = w
-complete call_.Session told left leaves held holds ReadFault a b c d e f w source folder sink read look write memory =
+complete (call_.Session limit) told left leaves held holds ReadFault a b c d e f w source folder sink read look write
+    memory =
     absurd (read source)
 complete (call_.OnFiles question names) told left leaves held holds ReadFault a b c d e f w source folder sink read look
     write memory = absurd (look folder)
@@ -351,10 +209,28 @@ complete call told left leaves held holds Malformed a b c d e f w source folder 
 complete call told left leaves held holds Size a b c d e f w source folder sink read look write memory = w
 complete call told left leaves held holds NoFile a b c d e f w source folder sink read look write memory = w
 
+-- so it is of reports
+pub nothing_made : (call : Call) (told : Option FileMap) (left held : Option (List ℕ)) (n : ℕ)
+    → CallReports call told left held held n n
+nothing_made (call_.Session limit) told left held n = nothing_reported limit left held n
+nothing_made (call_.OnFiles Check names) told left held n = refl
+nothing_made (call_.OnFiles Obligations names) told left held n = refl
+nothing_made (call_.OnFiles (Replay limit) names) told left held n = nothing_replayed limit names told held n
+nothing_made (call_.OnFiles (Verify asked) names) told left held n = refl
+nothing_made (call_.OnFiles (Model tried) names) told left held n = refl
+nothing_made (call_.OnFiles (Trim asked) names) told left held n = refl
+nothing_made call_.Nothing told left held n = refl
+
+pub reports_as : (these call : Call) (told : Option FileMap) (left held holds : Option (List ℕ)) (before now : ℕ)
+    → these ≡ call
+    → CallReports these told left held holds before now → CallReports call told left held holds before now
+reports_as these call told left held holds before now is r =
+    subst (λ (c : Call). CallReports c told left held holds before now) is r
+
 -- where memory ran out before the words were read, whatever they ask for
 pub memory_input : (call : Call) (left leaves held holds : Option (List ℕ))
     → CallTakes call left leaves held holds Memory
-memory_input call_.Session left leaves held holds = tt
+memory_input (call_.Session limit) left leaves held holds = tt
 memory_input (call_.OnFiles question names) left leaves held holds = tt
 memory_input call_.Nothing left leaves held holds = tt
 
@@ -385,10 +261,11 @@ module _ (law : (asked : Verification) (names : List (List ℕ)) (folder : FileM
     → Output (call_.OnFiles (Trim asked) names) folder input output Good → IsTrimmed folder asked names output) where
   pub shows : (call : Call) (told : Option FileMap) (left leaves held holds : Option (List ℕ)) (status : Status)
       → Writes call told left leaves held holds status → Shows call told status
-  shows call_.Session told left leaves held holds status w = tt
+  shows (call_.Session limit) told left leaves held holds status w = tt
   shows call_.Nothing told left leaves held holds status w = tt
   shows (call_.OnFiles Check names) told left leaves held holds status w = tt
   shows (call_.OnFiles Obligations names) told left leaves held holds status w = tt
+  shows (call_.OnFiles (Replay limit) names) told left leaves held holds status w = tt
   shows (call_.OnFiles (Model tried) names) told left leaves held holds status w = tt
   shows (call_.OnFiles (Verify asked) names) told left leaves held holds Good w =
       (w.folder, w.is_folder, law asked names w.folder w.input w.output w.defined)

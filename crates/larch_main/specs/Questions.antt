@@ -1,52 +1,18 @@
--- What may be answered to a question about files.
-use Rattle.std.specs.Prelude.{◌≡◌, ℕ, true, List, [], Option}
+-- What comes of proof work at a question about files.
+use Rattle.std.specs.Prelude.{◌≡◌, ℕ, List, Option}
 use Rattle.larch_io.specs.Folder.{FileMap}
-use Rattle.larch_words.specs.Call.{is_certificate, is_model}
 use Rattle.larch_words.specs.declared.call.Question.{Question}
-use Rattle.larch_words.specs.declared.call.Question.TheVariants.{Check, Model, Obligations, Trim, Verify}
-use Rattle.larch_words.specs.declared.call.Trial.{Trial}
-use Rattle.larch_words.specs.declared.call.Verification.{Verification}
-use Rattle.larch_main.specs.Answer.{AnswersBy, IsAnswer}
-use Rattle.larch_main.specs.Check.{check_answer}
-use Rattle.larch_main.specs.Gather.{IsFolder, evidence_in, gather_names}
-use Rattle.larch_main.specs.Model.{trial_answer}
-use Rattle.larch_main.specs.Obligations.{obligations_answer}
-use Rattle.larch_main.specs.Trim.{trimming_answer}
-use Rattle.larch_main.specs.Verify.{verification_answer}
-use Rattle.larch_main.specs.declared.answer.Answer.{Answer}
-use Rattle.larch_main.specs.declared.status.Status.{Status}
+use Rattle.larch_words.specs.declared.call.Question.TheVariants.{Replay}
+use Rattle.larch_main_files.specs.declared.answer.Answer.{Answer}
+use Rattle.larch_main.specs.Replay.{Replayed, Replays}
 
--- to this question about the files of these names in a folder, this text and this status may be answered
-abbrev pub MayAnswer : Question → List (List ℕ) → FileMap → List ℕ → Status → Type 0
-MayAnswer Check names folder = AnswersBy (λ files. IsAnswer (check_answer files)) (gather_names folder [] names)
-MayAnswer Obligations names folder =
-    AnswersBy (λ files. IsAnswer (obligations_answer files)) (gather_names folder [] names)
-MayAnswer (Verify asked) names folder =
-    AnswersBy (λ evidence. IsAnswer (verification_answer asked.stem asked.label evidence))
-    (evidence_in folder asked.certificate names)
-MayAnswer (Model tried) names folder =
-    AnswersBy (λ evidence. IsAnswer (trial_answer tried.stem evidence)) (evidence_in folder tried.model names)
-MayAnswer (Trim asked) names folder =
-    AnswersBy (λ evidence. IsAnswer (trimming_answer asked.stem asked.label evidence))
-    (evidence_in folder asked.certificate names)
+-- What comes of proof work at a question, by what was answered: only `replay` makes a report, no other takes a step.
+abbrev pub Works : Question → List (List ℕ) → Option FileMap → ℕ → ℕ → Option Answer → Type 0
+Works (Replay limit) names told before now answer = Replays limit names told before now answer
+Works _ names told before now answer = now ≡ before
 
--- the certificate that a question names has the name of one
-abbrev pub IsCertified : Question → Type 0
-IsCertified question =
-    (asked : Verification) → question ≡ Verify asked → is_certificate asked.certificate ≡ true
-
--- also where it is to be trimmed
-abbrev pub TrimsCertificate : Question → Type 0
-TrimsCertificate question =
-    (asked : Verification) → question ≡ Trim asked → is_certificate asked.certificate ≡ true
-
--- and so has the model
-abbrev pub NamesModel : Question → Type 0
-NamesModel question = (tried : Trial) → question ≡ Model tried → is_model tried.model ≡ true
-
--- this was answered to a question: on some folder, the told one where it is told
-pub record Answered (question : Question) (names : List (List ℕ)) (told : Option FileMap) (answer : Answer) : Type 0
-  where
-    pub folder : FileMap
-    pub is_folder : IsFolder told folder
-    pub answers : MayAnswer question names folder answer.text answer.status
+-- the same by what was written: the sink held `held` and holds `holds`
+abbrev pub QuestionReports : Question → List (List ℕ) → Option FileMap → Option (List ℕ) → Option (List ℕ) → ℕ → ℕ
+    → Type 0
+QuestionReports (Replay limit) names told held holds before now = Replayed limit names told held holds before now
+QuestionReports _ names told held holds before now = now ≡ before

@@ -1,45 +1,44 @@
 -- What a call of the program does, by what its words ask for, its folder, its input and its status.
-use Rattle.std.specs.Prelude.{◌≡◌, ◌⊎◌, Bool, true, false, ℕ, List, [], ◌++◌, Option, IfSome, MatchBool, codes}
-use Rattle.std.specs.Io.KnownBytes.{Appends, Consumes, IsAtEnd}
-use Rattle.larch_io.specs.Faults.{Rose}
+use Rattle.std.specs.Prelude.{◌≡◌, Bool, true, false, ℕ, List, [], ◌++◌, Option, MatchBool, codes}
+use Rattle.std.specs.Io.KnownBytes.{Appends}
 use Rattle.larch_io.specs.Folder.{FileMap}
+use Rattle.larch_main_session.specs.Endings.{BreaksOff, TakesInput}
+use Rattle.larch_main_session.specs.Reports.{Reported}
+use Rattle.larch_main_session.specs.Session.{State, IsInput, Session, start, with_status}
 use Rattle.larch_words.specs.declared.call.Call.{Call}
 use Rattle.larch_words.specs.declared.call.Call.TheVariants as call_
 use Rattle.larch_words.specs.declared.call.Question.TheVariants.{Trim, Verify}
-use Rattle.larch_main.specs.declared.status.Status.{Status}
-use Rattle.larch_main.specs.declared.status.Status.TheVariants.{Good, Remains, Words, ReadFault, WriteFault, Memory}
-use Rattle.larch_main.specs.declared.status.Status.TheVariants.{Malformed, Size, NoFile}
-use Rattle.larch_main.specs.Answer.{IsAnswer, said}
-use Rattle.larch_main.specs.Gather.{IsFolder}
-use Rattle.larch_main.specs.Questions.{MayAnswer}
-use Rattle.larch_main.specs.Verify.{IsShown}
-use Rattle.larch_main.specs.Session.{State, start, with_status, waiting, Session}
+use Rattle.larch_main_status.specs.declared.status.Status.{Status}
+use Rattle.larch_main_status.specs.declared.status.Status.TheVariants.{Good, Remains, Words, ReadFault, WriteFault}
+use Rattle.larch_main_status.specs.declared.status.Status.TheVariants.{Memory}
+use Rattle.larch_main_status.specs.declared.status.Status.TheVariants.{Malformed, Size, NoFile}
+use Rattle.larch_main_files.specs.Answer.{IsAnswer, said}
+use Rattle.larch_main_files.specs.Gather.{IsFolder}
+use Rattle.larch_main_files.specs.Questions.{MayAnswer}
+use Rattle.larch_main.specs.Questions.{QuestionReports}
+use Rattle.larch_main_files.specs.Verify.{IsShown}
 
 abbrev pub usage_text : List ℕ
 usage_text = codes "usage: larch COMMAND [WORD..] [--limit N] [--seed N] [--size N]\n"
 
 -- for this call, on this folder and this input, the program writes `output` and ends with `status`
 abbrev pub Output : Call → FileMap → List ℕ → List ℕ → Status → Type 0
-Output call_.Session folder input output status =
-    (last : State) × Session true start input output (with_status status) last
+Output (call_.Session limit) folder input output status =
+    (last : State) × Session true (start limit) input output (with_status status) last
 Output (call_.OnFiles question names) folder input output status = MayAnswer question names folder output status
 Output call_.Nothing folder input output status = IsAnswer (said usage_text Words) output status
 
 -- a call reads the source: only a session does
 abbrev pub reads_source : Call → Bool
-reads_source call_.Session = true
+reads_source (call_.Session limit) = true
 reads_source (call_.OnFiles question names) = false
 reads_source call_.Nothing = false
 
 -- a call looks at the folder: each one that names files does
 abbrev pub reads_folder : Call → Bool
-reads_folder call_.Session = false
+reads_folder (call_.Session limit) = false
 reads_folder (call_.OnFiles question names) = true
 reads_folder call_.Nothing = false
-
--- all that a source has left, where it tells
-abbrev pub IsInput : Option (List ℕ) → List ℕ → Type 0
-IsInput left input = IfSome left (λ bytes. bytes ≡ input)
 
 -- The folder tells these files; the source had `left` before the call and has `leaves` after it, the sink held `held`
 -- and holds `holds`.
@@ -66,18 +65,9 @@ module _ (call : Call) (told : Option FileMap) (left leaves held holds : Option 
     pub defined : Output call folder input (front ++ rest) status
     pub written : Appends held holds front
 
--- the replies to the whole commands in the bytes that the source gave were written: the session waits for more
-pub record BreaksOff (left leaves held holds : Option (List ℕ)) : Type 0 where
-  pub given : List ℕ
-  pub output : List ℕ
-  pub last : State
-  pub gave : Consumes left leaves given
-  pub replies : Session false start given output waiting last
-  pub written : Appends held holds output
-
 -- what was written before a fault of what is read: a session's replies; nothing by another call
 abbrev pub WritesBefore : Call → Option (List ℕ) → Option (List ℕ) → Option (List ℕ) → Option (List ℕ) → Type 0
-WritesBefore call_.Session left leaves held holds = BreaksOff left leaves held holds
+WritesBefore (call_.Session limit) left leaves held holds = BreaksOff limit left leaves held holds
 WritesBefore (call_.OnFiles question names) left leaves held holds = Appends held holds []
 WritesBefore call_.Nothing left leaves held holds = ⊥
 
@@ -94,17 +84,6 @@ module _ (call : Call) (told : Option FileMap) (left leaves held holds : Option 
   Writes Size = Answers call told left leaves held holds Size
   Writes NoFile = Answers call told left leaves held holds NoFile
 
--- The bytes that the source gave are the whole input, or end the session whatever follows them; and what the session
--- answers to them was written.
-pub record TakesWhole (left leaves held holds : Option (List ℕ)) (status : Status) : Type 0 where
-  pub given : List ℕ
-  pub output : List ℕ
-  pub last : State
-  pub gave : Consumes left leaves given
-  pub whole : (Session true start given output (with_status status) last × IsAtEnd leaves)
-      ⊎ Session false start given output (with_status status) last
-  pub written : Appends held holds output
-
 -- What a call shows by its status, on some folder, the told one where it is told: `verify` or `trim` that ends well
 -- shows that what was to be verified is so.
 abbrev pub Shows : Call → Option FileMap → Status → Type 0
@@ -114,15 +93,18 @@ Shows (call_.OnFiles (Trim asked) names) told Good =
     (folder : FileMap) × IsFolder told folder × IsShown folder asked names
 Shows _ told status = Unit {0}
 
--- which statuses of a session say that the input was taken to its end or through `quit`
-abbrev pub TakesInput : Option (List ℕ) → Option (List ℕ) → Option (List ℕ) → Option (List ℕ) → Status → Type 0
-TakesInput left leaves held holds Good = TakesWhole left leaves held holds Good
-TakesInput left leaves held holds Remains = TakesWhole left leaves held holds Remains
-TakesInput left leaves held holds _ = Unit {0}
+-- What comes of a call's reports: each duty that one calls proved of which something was written is derivable from its
+-- own theory, and the steps are at most those of its reports; a call that makes none takes no step. The source had
+-- `left` before the call.
+abbrev pub CallReports : Call → Option FileMap → Option (List ℕ) → Option (List ℕ) → Option (List ℕ) → ℕ → ℕ → Type 0
+CallReports (call_.Session limit) told left held holds before now = Reported limit left held holds before now
+CallReports (call_.OnFiles question names) told left held holds before now =
+    QuestionReports question names told held holds before now
+CallReports call_.Nothing told left held holds before now = now ≡ before
 
 -- what a call says of its input: only a session has one
 abbrev pub CallTakes : Call → Option (List ℕ) → Option (List ℕ) → Option (List ℕ) → Option (List ℕ) → Status → Type 0
-CallTakes call_.Session left leaves held holds status = TakesInput left leaves held holds status
+CallTakes (call_.Session limit) left leaves held holds status = TakesInput limit left leaves held holds status
 CallTakes (call_.OnFiles question names) left leaves held holds status = Unit {0}
 CallTakes call_.Nothing left leaves held holds status = Unit {0}
 
@@ -135,15 +117,6 @@ source_failed call _ = false
 abbrev pub folder_failed : Call → Status → Bool
 folder_failed call ReadFault = reads_folder call
 folder_failed call _ = false
-
--- a status says that the sink failed
-abbrev pub sink_failed : Status → Bool
-sink_failed WriteFault = true
-sink_failed _ = false
-
--- a count of faults rose exactly where this is so
-abbrev pub Counts : Bool → ℕ → ℕ → Type 0
-Counts failed before now = MatchBool failed (Rose before now) (now ≡ before)
 
 -- a call that doesn't read the source leaves it as it was
 abbrev pub KeepsSource : {A : Type 0} → Call → A → A → Type 0

@@ -4,28 +4,29 @@ ghost use Rattle.larch_base.specs.FileName.{is_file_name};
 ghost use Rattle.larch_io.specs.Faults.{Rose};
 ghost use Rattle.larch_words.specs.Call.{call_of};
 ghost use Rattle.larch_words.specs.declared.call.Call.TheVariants.{OnFiles as call_on_files};
-ghost use Rattle.larch_main.specs.Questions.{Answered, IsCertified, NamesModel, TrimsCertificate};
-ghost use Rattle.larch_main.specs.Running.{Answers, Writes, CallTakes, KeepsFolder, KeepsSource};
-ghost use Rattle.larch_main.specs.Running.{Counts, Shows, folder_failed, sink_failed, source_failed};
-ghost use Rattle.larch_main.specs.Answer.{answer_of};
-ghost use Rattle.larch_main.specs.Look.{GatherFaults};
-ghost use Rattle.larch_main.specs.Turns.{CallLooks, LookInTurn, looks_of};
-ghost use Rattle.larch_main.specs.Progress.{HaltFaults};
+ghost use Rattle.larch_main_status.specs.Faults.{Counts, sink_failed};
+ghost use Rattle.larch_main_files.specs.Questions.{Answered, IsCertified, NamesModel, TrimsCertificate};
+ghost use Rattle.larch_main.specs.Questions.{QuestionReports, Works};
+ghost use Rattle.larch_main.specs.Running.{Answers, CallReports, Writes, CallTakes, KeepsFolder, KeepsSource};
+ghost use Rattle.larch_main.specs.Running.{Shows, folder_failed, source_failed};
+ghost use Rattle.larch_main_files.specs.Answer.{answer_of, made_of};
+ghost use Rattle.larch_main_files.specs.Look.{GatherFaults};
+ghost use Rattle.larch_main_files.specs.Turns.{CallLooks, LookInTurn, looks_of};
+ghost use Rattle.larch_main_status.specs.Faults.{HaltFaults};
 
-use crate::answer::{Answer, answer_to, tell};
-use crate::check::check;
-use crate::gather::GatherRefusal;
 use crate::laws::{what_is_trimmed_is_accepted, what_is_verified_is_derivable};
-use crate::model::model;
-use crate::obligations::obligations;
-use crate::progress::Halt;
-use crate::say::say;
-use crate::session::session;
-use crate::status::Status;
-use crate::trim::trim;
-use crate::verify::verify;
+use crate::replay::replay;
 use larch_base::{FileName, Steps};
 use larch_io::{Folder, Sink, Source};
+use larch_main_files::check::check;
+use larch_main_files::gather::GatherRefusal;
+use larch_main_files::model::model;
+use larch_main_files::obligations::obligations;
+use larch_main_files::trim::trim;
+use larch_main_files::verify::verify;
+use larch_main_files::{Answer, answer_to, tell};
+use larch_main_session::run_session;
+use larch_main_status::{Halt, Status, say_at_end};
 use larch_words::{
     Call, Question, calls_name_files, certificates_are_named, models_are_named, read_words,
 };
@@ -53,7 +54,10 @@ pub fn run<F: Folder, S: Source, K: Sink, L: Ledger>(
     // Where `verify` or `trim` ends well, the duty that it was asked for is derivable from its theory, and fails in no
     // model.
     ensures shown { Shows (call_of (map string_bytes words.now)) (F.files folder.old) result }
-    ensures steps { steps.new ≡ steps.old }
+    // Each duty that a report calls proved is derivable from its own theory, and a step is counted at most for each
+    // opening of a duty and each command that the reports replay.
+    ensures reports { CallReports (call_of (map string_bytes words.now)) (F.files folder.old)
+        (S.left source.old) (K.held sink.old) (K.held sink.new) steps.old steps.new }
 
     // A fault is answered exactly where its count rose.
     ensures source_faults { Counts (source_failed (call_of (map string_bytes words.now)) result)
@@ -90,21 +94,22 @@ pub fn run<F: Folder, S: Source, K: Sink, L: Ledger>(
         Err(_) => return Status::Memory,
     };
     match &call {
-        Call::Session => session(alloc, source, sink),
-        Call::Nothing => say(sink, USAGE, Status::Words),
+        Call::Session(limit) => run_session(alloc, *limit, source, sink, steps),
+        Call::Nothing => say_at_end(sink, USAGE, Status::Words),
         Call::OnFiles(question, names) => {
-            run_on_files(alloc, question, names.as_slice(), folder, sink)
+            run_on_files(alloc, question, names.as_slice(), folder, sink, steps)
         }
     }
 }
 
 // Answers a question about the files of these names.
-fn run_on_files<F: Folder, K: Sink>(
+fn run_on_files<F: Folder, K: Sink, L: Ledger>(
     alloc: Global,
     question: &Question,
     names: &[FileName],
     folder: &mut F,
     sink: &mut K,
+    steps: &mut Steps<L>,
 ) -> Status
     requires names { list_all is_file_name names.now ≡ true }
     requires certificate { IsCertified question.now }
@@ -113,6 +118,8 @@ fn run_on_files<F: Folder, K: Sink>(
     // The source, of which nothing is taken, may have left anything.
     ensures output { (left : Option (List ℕ)) → Writes (call_on_files question.now names.now) (F.files folder.old)
         left left (K.held sink.old) (K.held sink.new) result }
+    ensures reports { QuestionReports question.now names.now (F.files folder.old)
+        (K.held sink.old) (K.held sink.new) steps.old steps.new }
     ensures same { F.files folder.new ≡ F.files folder.old }
     ensures source_faults { (count : ℕ) → Counts (source_failed (call_on_files question.now names.now) result)
         count count }
@@ -122,40 +129,43 @@ fn run_on_files<F: Folder, K: Sink>(
     ensures looks { CallLooks (call_on_files question.now names.now) (F.files folder.old)
         (F.looks folder.old) (F.looks folder.new) }
 {
-    let answered = answer(alloc, question, names, folder);
+    let answered = answer(alloc, question, names, folder, steps);
     tell(sink, answered)
 }
 
 // What is answered to a question about the files of these names.
-fn answer<F: Folder>(
+fn answer<F: Folder, L: Ledger>(
     alloc: Global,
     question: &Question,
     names: &[FileName],
     folder: &mut F,
+    steps: &mut Steps<L>,
 ) -> Result<Answer, Halt>
     requires names { list_all is_file_name names.now ≡ true }
     requires certificate { IsCertified question.now }
     requires model { NamesModel question.now }
     requires trimmed { TrimsCertificate question.now }
     ensures answer { IfOk result (λ answer. Answered question.now names.now (F.files folder.old) answer) }
+    ensures works { Works question.now names.now (F.files folder.old) steps.old steps.new (made_of result) }
     ensures same { F.files folder.new ≡ F.files folder.old }
     ensures fine { OnOk result (F.faults folder.new ≡ F.faults folder.old) }
     ensures faults { IfErr result (λ halt. HaltFaults halt (F.faults folder.old) (F.faults folder.new)) }
     ensures looks { LookInTurn (F.files folder.old) (looks_of question.now names.now)
         (F.looks folder.old) (F.looks folder.new) }
 {
-    match answer_of(alloc, question, names, folder) {
+    match answer_of(alloc, question, names, folder, steps) {
         Ok(answer) => Ok(answer),
         Err(refusal) => answer_to(alloc, refusal),
     }
 }
 
 // What comes of a question about the files of these names.
-fn answer_of<F: Folder>(
+fn answer_of<F: Folder, L: Ledger>(
     alloc: Global,
     question: &Question,
     names: &[FileName],
     folder: &mut F,
+    steps: &mut Steps<L>,
 ) -> Result<Answer, GatherRefusal>
     requires names { list_all is_file_name names.now ≡ true }
     requires certificate { IsCertified question.now }
@@ -163,6 +173,7 @@ fn answer_of<F: Folder>(
     requires trimmed { TrimsCertificate question.now }
     ensures answer { IfSome (answer_of result) (λ answer.
         Answered question.now names.now (F.files folder.old) answer) }
+    ensures works { Works question.now names.now (F.files folder.old) steps.old steps.new (answer_of result) }
     ensures same { F.files folder.new ≡ F.files folder.old }
     ensures fine { OnOk result (F.faults folder.new ≡ F.faults folder.old) }
     ensures faults { IfErr result (λ refusal. GatherFaults refusal (F.faults folder.old) (F.faults folder.new)) }
@@ -172,6 +183,7 @@ fn answer_of<F: Folder>(
     match question {
         Question::Check => check(alloc, names, folder),
         Question::Obligations => obligations(alloc, names, folder),
+        Question::Replay(limit) => replay(alloc, *limit, names, folder, steps),
         Question::Verify(asked) => verify(alloc, asked, names, folder),
         Question::Model(tried) => model(alloc, tried, names, folder),
         Question::Trim(asked) => trim(alloc, asked, names, folder),

@@ -24,18 +24,23 @@ use Rattle.larch_derive.specs.declared.builder.Builder.{Builder}
 use Rattle.larch_derive.specs.declared.open_box.OpenBox.{OpenBox}
 use Rattle.larch_derive.proofs.Growth.{known_stands}
 use Rattle.larch_derive.specs.Words.{IsWordedOperator, AreWordedOperators, IsWordedTerm, IsWordedStatement}
-use Rattle.larch_derive_boxes.specs.Boxes.{AreOwnConstants, MaySuppose, Opens}
-use Rattle.larch_derive_boxes.proofs.Inside.{generation_supposed, induction_supposed, observations_supposed}
-use Rattle.larch_derive_boxes.proofs.Opening.{may_suppose}
+use Rattle.larch_derive_clauses.specs.DeriveBoxesBoxes.{AreOwnConstants, MaySuppose, Opens}
+use Rattle.larch_derive_clauses.proofs.DeriveBoxesInside.{generation_supposed, induction_supposed}
+use Rattle.larch_derive_clauses.proofs.DeriveBoxesInside.{observations_supposed}
+use Rattle.larch_derive_clauses.proofs.DeriveBoxesOpening.{may_suppose}
 use Rattle.larch_prove_plans.specs.ClauseGoals.{generation_goal, partition_goal, predicate_named}
 use Rattle.larch_prove_plans.specs.Planning.{equate}
-use Rattle.larch_prove_meaning.specs.NewNames.{constant_named, new_constants}
-use Rattle.larch_prove_meaning.specs.Plans.{Cases, Contradiction, Implication, Induction, Partition, Plan, Setting}
-use Rattle.larch_prove_meaning.specs.Plans.{Subgoal, a_variable, argument_variables, closed_by, constants_of, fails}
-use Rattle.larch_prove_meaning.specs.Plans.{generators, goal_at, holds, induction_subgoals, names_of, observers}
-use Rattle.larch_prove_meaning.specs.Plans.{other_sorts, partition_subgoals, plan, shared_subgoal, shown, supposed_of}
-use Rattle.larch_prove_meaning.specs.Plans.{taken_beside, two_arguments}
-use Rattle.larch_prove_meaning.proofs.PlanParts.{new_are_constants}
+use Rattle.larch_prove_plans.specs.ProveMeaningNewNames.{constant_named, new_constants}
+use Rattle.larch_prove_plans.specs.ProveMeaningPlans.{Cases, Contradiction, Implication, Induction}
+use Rattle.larch_prove_plans.specs.ProveMeaningPlans.{Partition, Plan, Setting}
+use Rattle.larch_prove_plans.specs.ProveMeaningPlans.{Subgoal, a_variable, argument_variables}
+use Rattle.larch_prove_plans.specs.ProveMeaningPlans.{closed_by, constants_of, fails}
+use Rattle.larch_prove_plans.specs.ProveMeaningPlans.{generators, goal_at, holds}
+use Rattle.larch_prove_plans.specs.ProveMeaningPlans.{induction_subgoals, names_of, observers}
+use Rattle.larch_prove_plans.specs.ProveMeaningPlans.{other_sorts, partition_subgoals, plan}
+use Rattle.larch_prove_plans.specs.ProveMeaningPlans.{shared_subgoal, shown, supposed_of}
+use Rattle.larch_prove_plans.specs.ProveMeaningPlans.{taken_beside, two_arguments}
+use Rattle.larch_prove_plans.proofs.ProveMeaningPlanParts.{new_are_constants}
 use Rattle.larch_methods.specs.Inside.{IsInside, value_term}
 use Rattle.larch_methods.specs.Methods.{IsKnownFormula}
 use Rattle.larch_methods.specs.Opening.{HasOtherConstants, MayBegin, MayBeginAll, MayOpen}

@@ -8,7 +8,7 @@ use Rattle.larch_term.specs.Truth.{truth}
 use Rattle.larch_term.specs.declared.statement.Statement.TheVariants.{Generated}
 use Rattle.larch_term.specs.declared.variable.Variable.{Variable}
 use Rattle.larch_certificate.specs.declared.line.CodedVar.{CodedVar}
-use Rattle.larch_certificate_text.specs.LineText.{IsWord}
+use Rattle.larch_derive.specs.CertificateTextLineText.{IsWord}
 use Rattle.larch_derive.specs.Predicates.{Extends, HasStatement, Known, HasNoBadLine}
 use Rattle.larch_derive.specs.declared.builder.Builder.{Builder}
 use Rattle.larch_derive.proofs.Growth.{extends_grows, known_stands}

@@ -9,12 +9,12 @@ use Rattle.larch_term.specs.Tree.{Tree, var, app, nodes}
 use Rattle.larch_term.specs.Truth.{truth}
 use Rattle.larch_term.specs.declared.built_in.BuiltIn.TheVariants.{And}
 use Rattle.larch_term.specs.declared.statement.Statement.TheVariants.{Equation}
-use Rattle.larch_tables.specs.Spelling.{x}
+use Rattle.larch_derive.specs.TablesSpelling.{x}
 use Rattle.larch_calculus.specs.Formula.{conjunction, apply_two}
 use Rattle.larch_derive.specs.Predicates.{Extends, HasEquation, Known}
 use Rattle.larch_derive.specs.declared.builder.Builder.{Builder}
 use Rattle.larch_derive.proofs.Growth.{extends_trans, stays_said}
-use Rattle.larch_prove_meaning.specs.Plans.{conjuncts, conjuncts_in}
+use Rattle.larch_prove_plans.specs.ProveMeaningPlans.{conjuncts, conjuncts_in}
 use Rattle.larch_methods.specs.Conjuncts.{AreTrue, HasConjuncts, is_headed_by}
 use Rattle.larch_methods.specs.Methods.{IsKnownFormula}
 use Rattle.larch_methods.specs.Rows.{HasArguments, IsSettledBy}

@@ -24,18 +24,22 @@ use Rattle.larch_derive.specs.OpenBox.{constant_of}
 use Rattle.larch_derive.specs.Predicates.{Grows, HasEquation, Known}
 use Rattle.larch_derive.specs.declared.builder.Builder.{Builder}
 use Rattle.larch_derive.specs.declared.open_box.OpenBox.{OpenBox}
-use Rattle.larch_derive_boxes.specs.Boxes.{AreOwnConstants, HasResult}
-use Rattle.larch_derive_boxes.proofs.Closing.{grown_result}
+use Rattle.larch_derive_clauses.specs.DeriveBoxesBoxes.{AreOwnConstants, HasResult}
+use Rattle.larch_derive_clauses.proofs.DeriveBoxesClosing.{grown_result}
 use Rattle.larch_derive_clauses.specs.Showing.{ShowCases, ShowsCase}
-use Rattle.larch_rewrite_meaning.specs.Sides.{Sides}
+use Rattle.larch_prove_plans.specs.RewriteMeaningSides.{Sides}
 use Rattle.larch_prove_plans.specs.ClauseGoals.{generation_goal, partition_goal, predicate_named}
 use Rattle.larch_prove_plans.specs.Planning.{equate}
-use Rattle.larch_prove_meaning.specs.NewNames.{constant_named, new_constants}
-use Rattle.larch_prove_meaning.specs.Plans.{Cases, Conjunction, Contradiction, Implication, Induction, Partition, Plan}
-use Rattle.larch_prove_meaning.specs.Plans.{Setting, Subgoal, a_variable, argument_variables, closed_by, conjuncts}
-use Rattle.larch_prove_meaning.specs.Plans.{constants_of, fails, generators, goal_at, holds, induction_subgoals}
-use Rattle.larch_prove_meaning.specs.Plans.{names_of, observers, other_sorts, partition_subgoals, plan, shared_subgoal}
-use Rattle.larch_prove_meaning.specs.Plans.{shown, supposed_of, taken_beside, two_arguments}
+use Rattle.larch_prove_plans.specs.ProveMeaningNewNames.{constant_named, new_constants}
+use Rattle.larch_prove_plans.specs.ProveMeaningPlans.{Cases, Conjunction, Contradiction, Implication}
+use Rattle.larch_prove_plans.specs.ProveMeaningPlans.{Induction, Partition, Plan}
+use Rattle.larch_prove_plans.specs.ProveMeaningPlans.{Setting, Subgoal, a_variable}
+use Rattle.larch_prove_plans.specs.ProveMeaningPlans.{argument_variables, closed_by, conjuncts}
+use Rattle.larch_prove_plans.specs.ProveMeaningPlans.{constants_of, fails, generators}
+use Rattle.larch_prove_plans.specs.ProveMeaningPlans.{goal_at, holds, induction_subgoals}
+use Rattle.larch_prove_plans.specs.ProveMeaningPlans.{names_of, observers, other_sorts}
+use Rattle.larch_prove_plans.specs.ProveMeaningPlans.{partition_subgoals, plan, shared_subgoal}
+use Rattle.larch_prove_plans.specs.ProveMeaningPlans.{shown, supposed_of, taken_beside, two_arguments}
 use Rattle.larch_methods.specs.Clauses.{ByConstants, ByPredicate, IsSupposing}
 use Rattle.larch_methods.specs.Conjuncts.{AreTrue}
 use Rattle.larch_methods.specs.Inside.{IsInside, ShowsUnder, closed_in, written_variable}
@@ -48,7 +52,7 @@ use Rattle.larch_methods.proofs.Worded.{found_holds, variables_worded}
 use Rattle.larch_derive_lines.proofs.Stated.{stated_worded}
 use Rattle.larch_derive.proofs.Words.{known_worded, theory_worded}
 use Rattle.larch_derive.specs.Words.{IsWordedOperator}
-use Rattle.larch_certificate_text.specs.LineText.{IsWord}
+use Rattle.larch_derive.specs.CertificateTextLineText.{IsWord}
 use Rattle.larch_methods.proofs.Planned.{argument_sorts, cases_planned, conjunction_planned, contradiction_planned}
 use Rattle.larch_methods.proofs.Planned.{implication_planned, induction_planned, new_sorts, other_are}
 use Rattle.larch_methods.proofs.Planned.{partition_planned, supposed_as}

@@ -11,7 +11,7 @@ use Rattle.larch_base.specs.ByNumber.{numbered}
 use Rattle.larch_term.specs.Equality.{same_operator}
 use Rattle.larch_term.specs.Operator.{PlainOperator}
 use Rattle.larch_term.specs.OperatorKey.{operator_Decides}
-use Rattle.larch_verify_meaning.specs.Decoding.{each}
+use Rattle.larch_derive.specs.VerifyMeaningDecoding.{each}
 
 parts_same : {Y : Type 0} (o p : Option Y) (os ps : List (Option Y)) → o ∷ os ≡ p ∷ ps → (o ≡ p) × (os ≡ ps)
 parts_same o p os ps e = (cc, cc)

@@ -14,26 +14,26 @@ use Rattle.larch_term.specs.declared.statement.Statement.{Statement}
 use Rattle.larch_term.specs.declared.statement.Theory.{Theory}
 use Rattle.larch_term.specs.declared.statement.Statement.TheVariants.{Equation, Partitioned}
 use Rattle.larch_term.specs.declared.variable.Variable.{Variable}
-use Rattle.larch_term_law.proofs.Occurring.{listed_occurs}
+use Rattle.larch_calculus.proofs.TermLawOccurring.{listed_occurs}
 use Rattle.larch_calculus.specs.Observation.{Observation, observations_of, observer_term}
 use Rattle.larch_certificate.specs.declared.line.CodedVar.{CodedVar}
-use Rattle.larch_verify_meaning.specs.Matching.{are_apart, variable_of}
+use Rattle.larch_derive.specs.VerifyMeaningMatching.{are_apart, variable_of}
 use Rattle.larch_derive.specs.Predicates.{Extends, Grows, HasEquation, HasStatement, Known, HasNoBadLine}
 use Rattle.larch_derive.specs.declared.builder.Builder.{Builder}
 use Rattle.larch_derive.specs.declared.open_box.OpenBox.{OpenBox}
 use Rattle.larch_derive.proofs.Growth.{extends_grows, extends_refl, extends_trans, grown_stands, grows_alike}
 use Rattle.larch_derive.proofs.Growth.{known_stands, stays_known}
-use Rattle.larch_derive_boxes.specs.Boxes.{HasResult, with_constants}
-use Rattle.larch_derive_boxes.proofs.Closing.{grown_result}
+use Rattle.larch_derive_clauses.specs.DeriveBoxesBoxes.{HasResult, with_constants}
+use Rattle.larch_derive_clauses.proofs.DeriveBoxesClosing.{grown_result}
 use Rattle.larch_derive_clauses.specs.Showing.{ShowSame, ShowsSame}
 use Rattle.larch_derive_clauses.proofs.Staying.{all_same_stay}
-use Rattle.larch_prove_meaning.specs.Plans.{other_sorts, shown}
+use Rattle.larch_prove_plans.specs.ProveMeaningPlans.{other_sorts, shown}
 use Rattle.larch_methods.specs.Inside.{closed_in, written_variable}
 use Rattle.larch_methods.specs.Methods.{IsStated}
 use Rattle.larch_methods.specs.Observers.{ByObservers, HasShorterNames, ShowsObservation, variables_for}
 use Rattle.larch_methods.proofs.Places.{before, closed_observed, others_are, word_at}
 use Rattle.larch_methods.proofs.Worded.{names_are_words, word_is_word, written_names}
-use Rattle.larch_certificate_text.specs.LineText.{IsWord}
+use Rattle.larch_derive.specs.CertificateTextLineText.{IsWord}
 use Rattle.larch_methods.proofs.Sharing.{own_still, written_back}
 use Rattle.larch_methods.proofs.Words.{words_apart}
 

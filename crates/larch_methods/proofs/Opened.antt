@@ -9,14 +9,14 @@ use Rattle.larch_term.specs.Sorts.{sort_of, IsKnown, IsTermOver}
 use Rattle.larch_term.specs.Tree.{Tree}
 use Rattle.larch_term.specs.declared.statement.Statement.{Statement}
 use Rattle.larch_term.specs.declared.variable.Variable.{Variable}
-use Rattle.larch_term_law.proofs.Substitutions.{substituted_sort}
+use Rattle.larch_calculus.proofs.TermLawSubstitutions.{substituted_sort}
 use Rattle.larch_calculus.specs.Formula.{constant}
 use Rattle.larch_calculus.specs.Freed.{constants_for}
 use Rattle.larch_calculus.specs.Observation.{Observation, observer_term, places_of_sort}
 use Rattle.larch_calculus.proofs.Freeing.{constants_fit}
 use Rattle.larch_calculus.proofs.Observed.{observed_over}
 use Rattle.larch_calculus.proofs.RenamedHypotheses.{observed_renamed}
-use Rattle.larch_certificate_text.specs.LineText.{IsWord}
+use Rattle.larch_derive.specs.CertificateTextLineText.{IsWord}
 use Rattle.larch_derive.specs.Builder.{IsOpened, boxes_in, theory_in}
 use Rattle.larch_derive.specs.OpenBox.{naming}
 use Rattle.larch_derive.specs.Predicates.{Known, HasNoBadLine, operators_at, written_term}
@@ -26,11 +26,11 @@ use Rattle.larch_derive.proofs.Growth.{extends_grows, extends_refl, grown_known,
 use Rattle.larch_derive.proofs.Unchanged.{known_in_boxes, naming_faithful, own_in_lines}
 use Rattle.larch_derive_lines.specs.Rules.{AreKnownEntries}
 use Rattle.larch_derive_lines.proofs.Instances.{known_substituted}
-use Rattle.larch_derive_boxes.specs.Boxes.{AreOwnConstants, MaySuppose, Opens}
-use Rattle.larch_derive_boxes.proofs.Freshness.{sort_written}
-use Rattle.larch_derive_boxes.proofs.Knowing.{constant_known}
-use Rattle.larch_derive_boxes.proofs.Opening.{opened_boxes, opened_known, opens}
-use Rattle.larch_derive_boxes.proofs.Words.{observer_worded}
+use Rattle.larch_derive_clauses.specs.DeriveBoxesBoxes.{AreOwnConstants, MaySuppose, Opens}
+use Rattle.larch_derive_clauses.proofs.DeriveBoxesFreshness.{sort_written}
+use Rattle.larch_derive_clauses.proofs.DeriveBoxesKnowing.{constant_known}
+use Rattle.larch_derive_clauses.proofs.DeriveBoxesOpening.{opened_boxes, opened_known, opens}
+use Rattle.larch_derive_clauses.proofs.DeriveBoxesWords.{observer_worded}
 use Rattle.larch_derive.specs.Words.{IsWordedOperator, AreWordedOperators}
 use Rattle.larch_methods.specs.Inside.{IsInside, closed_in}
 use Rattle.larch_methods.specs.Methods.{IsKnownFormula}

@@ -11,7 +11,7 @@ use Rattle.larch_calculus.specs.Formula.{constant}
 use Rattle.larch_calculus.specs.Freed.{constants_for}
 use Rattle.larch_calculus.specs.Observation.{Observation, arguments_with, observer_term, other_variables}
 use Rattle.larch_calculus.specs.Observation.{variables_beside}
-use Rattle.larch_prove_meaning.specs.Plans.{arguments_around, other_sorts, shown}
+use Rattle.larch_prove_plans.specs.ProveMeaningPlans.{arguments_around, other_sorts, shown}
 use Rattle.larch_methods.specs.Observers.{HasShorterNames, variables_for, word_of}
 use Rattle.larch_methods.proofs.Words.{AreImages, constants_are_images, term_stays}
 

@@ -19,13 +19,16 @@ use Rattle.larch_calculus.specs.Formula.{constant, implication}
 use Rattle.larch_calculus.specs.Generation.{equation_at, induction_hypotheses}
 use Rattle.larch_calculus.specs.Observation.{observations_of}
 use Rattle.larch_prove_plans.specs.Planning.{equate}
-use Rattle.larch_prove_meaning.specs.NewNames.{free_name, new_constants}
-use Rattle.larch_prove_meaning.specs.Plans.{Cases, Conjunction, Contradiction, Implication, Induction, Partition, Plan}
-use Rattle.larch_prove_meaning.specs.Plans.{Setting, a_variable, argument_variables, cases_plan, conjuncts}
-use Rattle.larch_prove_meaning.specs.Plans.{contradiction_plan, found_or, generators, goal_at, holds, implication_of}
-use Rattle.larch_prove_meaning.specs.Plans.{induction_subgoals, observers, partition_subgoals, plan, shared_subgoal}
-use Rattle.larch_prove_meaning.specs.Plans.{supposed_of, taken_beside, two_arguments, with_found}
-use Rattle.larch_prove_meaning.proofs.LevelSorts.{ok_inj}
+use Rattle.larch_prove_plans.specs.ProveMeaningNewNames.{free_name, new_constants}
+use Rattle.larch_prove_plans.specs.ProveMeaningPlans.{Cases, Conjunction, Contradiction, Implication}
+use Rattle.larch_prove_plans.specs.ProveMeaningPlans.{Induction, Partition, Plan}
+use Rattle.larch_prove_plans.specs.ProveMeaningPlans.{Setting, a_variable, argument_variables, cases_plan, conjuncts}
+use Rattle.larch_prove_plans.specs.ProveMeaningPlans.{contradiction_plan, found_or, generators}
+use Rattle.larch_prove_plans.specs.ProveMeaningPlans.{goal_at, holds, implication_of}
+use Rattle.larch_prove_plans.specs.ProveMeaningPlans.{induction_subgoals, observers, partition_subgoals}
+use Rattle.larch_prove_plans.specs.ProveMeaningPlans.{plan, shared_subgoal}
+use Rattle.larch_prove_plans.specs.ProveMeaningPlans.{supposed_of, taken_beside, two_arguments, with_found}
+use Rattle.larch_prove_plans.proofs.ProveMeaningLevelSorts.{ok_inj}
 
 -- ---- plans
 

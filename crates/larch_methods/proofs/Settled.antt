@@ -13,16 +13,16 @@ use Rattle.larch_term.specs.declared.statement.Statement.TheVariants.{Equation}
 use Rattle.larch_term.specs.declared.substitution.Entry.{Entry}
 use Rattle.larch_calculus.specs.Formula.{falsity, implication}
 use Rattle.larch_calculus.specs.Generation.{only}
-use Rattle.larch_verify_meaning.specs.Matching.{all_different}
-use Rattle.larch_verify_meaning.specs.Rules.{row_says}
-use Rattle.larch_tables.specs.Spelling.{x}
+use Rattle.larch_derive.specs.VerifyMeaningMatching.{all_different}
+use Rattle.larch_derive.specs.VerifyMeaningRules.{row_says}
+use Rattle.larch_derive.specs.TablesSpelling.{x}
 use Rattle.std.specs.Prelude.{None, Some}
 use Rattle.larch_derive.specs.Predicates.{Extends, HasEquation, Known}
 use Rattle.larch_derive.specs.declared.builder.Builder.{Builder}
 use Rattle.larch_derive.proofs.Growth.{extends_trans, stays_known, stays_said}
 use Rattle.larch_derive_lines.specs.Rules.{variable_in, AreKnownEntries}
 use Rattle.larch_methods.specs.Methods.{IsKnownFormula}
-use Rattle.larch_certificate_text.specs.LineText.{IsWord}
+use Rattle.larch_derive.specs.CertificateTextLineText.{IsWord}
 use Rattle.larch_methods.specs.Rows.{IsSettledBy, of_formula}
 use Rattle.larch_methods.proofs.Connectives.{known_arguments}
 

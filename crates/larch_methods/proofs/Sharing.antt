@@ -14,12 +14,12 @@ use Rattle.larch_term.specs.declared.built_in.BuiltIn.TheVariants.{True, False}
 use Rattle.larch_term.specs.declared.statement.Statement.{Statement}
 use Rattle.larch_term.specs.declared.statement.Statement.TheVariants.{Equation}
 use Rattle.larch_term.specs.declared.variable.Variable.{Variable}
-use Rattle.larch_term_law.proofs.Occurring.{listed_occurs}
+use Rattle.larch_calculus.proofs.TermLawOccurring.{listed_occurs}
 use Rattle.larch_calculus.specs.Formula.{falsity}
 use Rattle.larch_calculus.specs.Freed.{constants_for}
 use Rattle.larch_calculus.proofs.Freeing.{constants_close}
 use Rattle.larch_certificate.specs.declared.line.CodedVar.{CodedVar}
-use Rattle.larch_verify_meaning.specs.Matching.{variable_of}
+use Rattle.larch_derive.specs.VerifyMeaningMatching.{variable_of}
 use Rattle.larch_derive.specs.Builder.{IsOpened, boxes_in}
 use Rattle.larch_derive.specs.Words.{IsWordedOperator}
 use Rattle.larch_derive.specs.Predicates.{Extends, Grows, HasEquation, Known, HasNoBadLine}
@@ -27,9 +27,9 @@ use Rattle.larch_derive.specs.declared.builder.Builder.{Builder}
 use Rattle.larch_derive.specs.declared.open_box.OpenBox.{OpenBox}
 use Rattle.larch_derive.proofs.Growth.{grows_alike, grows_trans, known_stands, stays_known}
 use Rattle.larch_derive.proofs.Start.{known_own}
-use Rattle.larch_derive_boxes.specs.Boxes.{MaySuppose, Opens, HasResult, AreOwnConstants, with_constants}
-use Rattle.larch_derive_boxes.proofs.Closing.{grown_result}
-use Rattle.larch_derive_boxes.proofs.Opening.{opens, may_suppose, opened_known}
+use Rattle.larch_derive_clauses.specs.DeriveBoxesBoxes.{MaySuppose, Opens, HasResult, AreOwnConstants, with_constants}
+use Rattle.larch_derive_clauses.proofs.DeriveBoxesClosing.{grown_result}
+use Rattle.larch_derive_clauses.proofs.DeriveBoxesOpening.{opens, may_suppose, opened_known}
 use Rattle.larch_methods.specs.Inside.{IsInside, ShowsUnder, closed_in, value_term, written_variable}
 use Rattle.larch_methods.specs.Methods.{IsKnownFormula}
 

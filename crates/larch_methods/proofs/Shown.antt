@@ -10,13 +10,13 @@ use Rattle.larch_term.specs.declared.statement.Theory.{Theory}
 use Rattle.larch_calculus.specs.Formula.{apply_one, constant}
 use Rattle.larch_calculus.specs.Generation.{generation_hypotheses, place_name}
 use Rattle.larch_calculus.specs.Observation.{observations}
-use Rattle.larch_verify_meaning.specs.ClauseRules.{own_operators}
+use Rattle.larch_derive.specs.VerifyMeaningClauseRules.{own_operators}
 use Rattle.larch_derive.specs.Builder.{theory_in}
 use Rattle.larch_derive.specs.OpenBox.{constant_of}
 use Rattle.larch_derive.specs.Predicates.{Grows, HasStatement}
 use Rattle.larch_derive.specs.declared.builder.Builder.{Builder}
 use Rattle.larch_derive.proofs.Growth.{grows_alike}
-use Rattle.larch_derive_boxes.specs.Boxes.{HasResult}
+use Rattle.larch_derive_clauses.specs.DeriveBoxesBoxes.{HasResult}
 use Rattle.larch_derive_clauses.specs.Showing.{ShowsGenerated, ShowsPartitioned}
 use Rattle.larch_methods.specs.Clauses.{ByConstants, ByPredicate}
 use Rattle.larch_methods.proofs.Numbered.{each_found}

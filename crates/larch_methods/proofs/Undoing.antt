@@ -2,7 +2,7 @@
 use Rattle.std.specs.Prelude.{◌≡◌, ℕ, length, Option, None, Some, Result, Ok, IfNone, IfOk, IfSome, OnOk}
 use Rattle.std.proofs.Common.{sym, subst}
 use Rattle.larch_term.specs.declared.statement.Statement.{Statement}
-use Rattle.larch_verify_meaning.specs.LastLine.{EndsWithoutStatedClause}
+use Rattle.larch_derive.specs.VerifyMeaningLastLine.{EndsWithoutStatedClause}
 use Rattle.larch_derive.specs.Predicates.{Grows, HasStatement}
 use Rattle.larch_derive.specs.declared.builder.Builder.{Builder}
 

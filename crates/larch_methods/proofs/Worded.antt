@@ -10,14 +10,14 @@ use Rattle.larch_term.specs.Operator.{PlainOperator}
 use Rattle.larch_term.specs.Tree.{Tree, Forest, var, app, none, more}
 use Rattle.larch_term.specs.Variable.{occurrences, occurrences_in, variables_of}
 use Rattle.larch_term.specs.declared.variable.Variable.{Variable}
-use Rattle.larch_term_law.proofs.Occurring.{listed_occurs}
+use Rattle.larch_calculus.proofs.TermLawOccurring.{listed_occurs}
 use Rattle.larch_certificate.specs.declared.line.CodedVar.{CodedVar}
-use Rattle.larch_certificate_text.specs.LineText.{IsWord}
-use Rattle.larch_certificate_text.specs.Parts.{Each}
+use Rattle.larch_derive.specs.CertificateTextLineText.{IsWord}
+use Rattle.larch_derive.specs.CertificateTextParts.{Each}
 use Rattle.larch_derive.specs.Words.{IsWordedOperator, AreWordedOperators, IsWordedTerm, AreWordedTerms}
-use Rattle.larch_prove_meaning.specs.NewNames.{new_constants}
-use Rattle.larch_prove_meaning.specs.Plans.{other_sorts}
-use Rattle.larch_prove_meaning.proofs.PlanParts.{new_are_constants}
+use Rattle.larch_prove_plans.specs.ProveMeaningNewNames.{new_constants}
+use Rattle.larch_prove_plans.specs.ProveMeaningPlans.{other_sorts}
+use Rattle.larch_prove_plans.proofs.ProveMeaningPlanParts.{new_are_constants}
 use Rattle.larch_methods.specs.Inside.{written_variable}
 use Rattle.larch_methods.specs.Observers.{variables_for, word_of}
 use Rattle.larch_methods.proofs.Planned.{new_sorts}

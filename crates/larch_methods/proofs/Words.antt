@@ -11,11 +11,11 @@ use Rattle.larch_term.specs.Tree.{Tree, var}
 use Rattle.larch_term.specs.Variable.{occurrences, same_variable}
 use Rattle.larch_term.specs.declared.substitution.Entry.{Entry}
 use Rattle.larch_term.specs.declared.variable.Variable.{Variable}
-use Rattle.larch_term_law.proofs.Agreement.{AgreeOn, same_by_agreement}
-use Rattle.larch_term_law.proofs.Substitutions.{substituted_nil}
+use Rattle.larch_calculus.proofs.TermLawAgreement.{AgreeOn, same_by_agreement}
+use Rattle.larch_calculus.proofs.TermLawSubstitutions.{substituted_nil}
 use Rattle.larch_calculus.specs.Formula.{constant}
 use Rattle.larch_calculus.specs.Freed.{constants_for}
-use Rattle.larch_verify_meaning.specs.Matching.{all_different, are_apart, occurs_in}
+use Rattle.larch_derive.specs.VerifyMeaningMatching.{all_different, are_apart, occurs_in}
 use Rattle.larch_methods.specs.Observers.{HasShorterNames, variables_for, word_of}
 
 -- ---- words

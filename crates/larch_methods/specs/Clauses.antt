@@ -13,7 +13,7 @@ use Rattle.larch_derive.specs.OpenBox.{constant_of}
 use Rattle.larch_derive.specs.Predicates.{Grows, HasEquation}
 use Rattle.larch_derive.specs.declared.builder.Builder.{Builder}
 use Rattle.larch_derive.specs.declared.open_box.OpenBox.{OpenBox}
-use Rattle.larch_derive_boxes.specs.Boxes.{Opens, AreOwnConstants}
+use Rattle.larch_derive_clauses.specs.DeriveBoxesBoxes.{Opens, AreOwnConstants}
 
 -- the second builder stands in a box that the first one opened, with these hypotheses
 pub record IsSupposing (a b : Builder) (x : OpenBox) (hs : List Statement) : Type 0 where

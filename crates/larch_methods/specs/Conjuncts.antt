@@ -9,7 +9,7 @@ use Rattle.larch_term.specs.Truth.{truth}
 use Rattle.larch_term.specs.declared.built_in.BuiltIn.TheVariants.{And}
 use Rattle.larch_derive.specs.Predicates.{HasEquation}
 use Rattle.larch_derive.specs.declared.builder.Builder.{Builder}
-use Rattle.larch_prove_meaning.specs.Plans.{conjuncts}
+use Rattle.larch_prove_plans.specs.ProveMeaningPlans.{conjuncts}
 use Rattle.larch_methods.specs.Methods.{IsKnownFormula}
 
 -- lines say that terms are true, one line for each

@@ -8,12 +8,12 @@ use Rattle.larch_term.specs.declared.variable.Variable.{Variable}
 use Rattle.larch_calculus.specs.Formula.{falsity}
 use Rattle.larch_calculus.specs.Freed.{constants_for}
 use Rattle.larch_certificate.specs.declared.line.CodedVar.{CodedVar}
-use Rattle.larch_certificate_text.specs.LineText.{IsWord}
+use Rattle.larch_derive.specs.CertificateTextLineText.{IsWord}
 use Rattle.larch_derive.specs.Builder.{boxes_in}
 use Rattle.larch_derive.specs.Predicates.{Grows}
 use Rattle.larch_derive.specs.declared.builder.Builder.{Builder}
 use Rattle.larch_derive.specs.declared.open_box.OpenBox.{OpenBox}
-use Rattle.larch_derive_boxes.specs.Boxes.{Opens, HasResult, AreOwnConstants}
+use Rattle.larch_derive_clauses.specs.DeriveBoxesBoxes.{Opens, HasResult, AreOwnConstants}
 
 -- a term with the constants of a box in the places of variables, in order
 abbrev pub closed_in : List Variable → OpenBox → Tree → Tree

@@ -12,7 +12,7 @@ use Rattle.larch_term.specs.declared.statement.Statement.{Statement}
 use Rattle.larch_term.specs.declared.statement.Statement.TheVariants.{Generated}
 use Rattle.larch_term.specs.declared.variable.Variable.{Variable}
 use Rattle.larch_calculus.specs.Formula.{implication}
-use Rattle.larch_certificate_text.specs.LineText.{IsWord}
+use Rattle.larch_derive.specs.CertificateTextLineText.{IsWord}
 use Rattle.larch_derive.specs.Builder.{theory_in}
 use Rattle.larch_derive.specs.Predicates.{Known}
 use Rattle.larch_derive.specs.declared.builder.Builder.{Builder}

@@ -8,13 +8,13 @@ use Rattle.larch_term.specs.Variable.{occurrences}
 use Rattle.larch_term.specs.declared.statement.Statement.TheVariants.{Equation, Partitioned}
 use Rattle.larch_term.specs.declared.variable.Variable.{Variable}
 use Rattle.larch_calculus.specs.Observation.{Observation, observations_of, observer_term}
-use Rattle.larch_certificate_text.specs.LineText.{IsWord}
+use Rattle.larch_derive.specs.CertificateTextLineText.{IsWord}
 use Rattle.larch_derive.specs.Builder.{boxes_in}
 use Rattle.larch_derive.specs.Predicates.{Known}
 use Rattle.larch_derive.specs.declared.builder.Builder.{Builder}
 use Rattle.larch_derive.specs.declared.open_box.OpenBox.{OpenBox}
-use Rattle.larch_derive_boxes.specs.Boxes.{HasResult, AreOwnConstants}
-use Rattle.larch_prove_meaning.specs.Plans.{other_sorts, shown}
+use Rattle.larch_derive_clauses.specs.DeriveBoxesBoxes.{HasResult, AreOwnConstants}
+use Rattle.larch_prove_plans.specs.ProveMeaningPlans.{other_sorts, shown}
 use Rattle.larch_methods.specs.Methods.{IsStated}
 
 -- a word of so many letters x

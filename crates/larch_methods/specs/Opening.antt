@@ -7,10 +7,10 @@ use Rattle.larch_derive.specs.Predicates.{AreOthers, HasNoBadLine}
 use Rattle.larch_derive.specs.Words.{AreWordedOperators}
 use Rattle.larch_derive.specs.declared.builder.Builder.{Builder}
 use Rattle.larch_derive.specs.declared.open_box.OpenBox.{OpenBox}
-use Rattle.larch_derive_boxes.specs.Boxes.{AreOwnConstants, HasResult, MaySuppose}
-use Rattle.larch_rewrite_meaning.specs.Sides.{Sides}
+use Rattle.larch_derive_clauses.specs.DeriveBoxesBoxes.{AreOwnConstants, HasResult, MaySuppose}
+use Rattle.larch_prove_plans.specs.RewriteMeaningSides.{Sides}
 use Rattle.larch_prove_plans.specs.Planning.{equate}
-use Rattle.larch_prove_meaning.specs.Plans.{Plan, Subgoal}
+use Rattle.larch_prove_plans.specs.ProveMeaningPlans.{Plan, Subgoal}
 
 -- a box with these constants and hypotheses may be opened: the constants are neither the theory's nor built in, their
 -- sorts are words, and each hypothesis may be supposed, whatever number the box gets

@@ -7,7 +7,7 @@ use Rattle.larch_term.specs.Tree.{Tree, app, forest_of}
 use Rattle.larch_term.specs.declared.statement.Statement.TheVariants.{Equation}
 use Rattle.larch_calculus.specs.Formula.{apply_two}
 use Rattle.larch_calculus.specs.Generation.{only}
-use Rattle.larch_verify_meaning.specs.Rules.{row_says}
+use Rattle.larch_derive.specs.VerifyMeaningRules.{row_says}
 use Rattle.larch_derive.specs.Predicates.{Known, HasEquation}
 use Rattle.larch_derive.specs.declared.builder.Builder.{Builder}
 use Rattle.larch_methods.specs.Methods.{IsKnownFormula}

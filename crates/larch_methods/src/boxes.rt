@@ -2,7 +2,7 @@ ghost use Rattle.std.specs.Prelude.{◌≡◌, [], ◌∷◌, map, true, IfOk, O
 ghost use Rattle.larch_derive.specs.Predicates.{Grows, HasEquation, Known};
 ghost use Rattle.larch_derive.specs.declared.builder.Builder.{Builder as Built};
 ghost use Rattle.larch_derive.specs.declared.open_box.OpenBox.{OpenBox};
-ghost use Rattle.larch_derive_boxes.specs.Boxes.{Opens};
+ghost use Rattle.larch_derive_clauses.specs.DeriveBoxesBoxes.{Opens};
 ghost use Rattle.larch_methods.specs.Inside.{IsInside, ShowsUnder, closed_in, value_term, written_variable};
 ghost use Rattle.larch_methods.specs.Methods.{IsKnownFormula};
 ghost use Rattle.larch_term.specs.Sorts.{sort_of};
@@ -13,7 +13,7 @@ use crate::refusals::undo_refused;
 use larch_base::{Memory, Sequence};
 use larch_certificate::{CodedVar, CodedVars};
 use larch_derive::Builder;
-use larch_derive_boxes::{close_box, push_fresh, push_hyp};
+use larch_derive_clauses::larch_derive_boxes::{close_box, push_fresh, push_hyp};
 use larch_term::{BuiltIn, Statement, Statements, Term, Variable, copy};
 use std::alloc::Global;
 

@@ -4,7 +4,7 @@ ghost use Rattle.larch_derive.specs.Predicates.{Extends, HasEquation};
 ghost use Rattle.larch_methods.specs.Conjuncts.{AreTrue, HasConjuncts, is_headed_by};
 ghost use Rattle.larch_methods.specs.Methods.{IsKnownFormula};
 ghost use Rattle.larch_methods.specs.Rows.{HasArguments};
-ghost use Rattle.larch_prove_meaning.specs.Plans.{conjuncts};
+ghost use Rattle.larch_prove_plans.specs.ProveMeaningPlans.{conjuncts};
 ghost use Rattle.larch_term.specs.Tree.{Tree, nodes};
 ghost use Rattle.larch_term.specs.Truth.{truth};
 

@@ -9,7 +9,7 @@ ghost use Rattle.larch_derive.specs.Predicates.{AreOthers, Grows, HasEquation, K
 ghost use Rattle.larch_derive.specs.Words.{AreWordedOperators, IsWordedStatement, IsWordedTerm};
 ghost use Rattle.larch_derive.specs.declared.builder.Builder.{Builder};
 ghost use Rattle.larch_derive.specs.declared.open_box.OpenBox.{OpenBox};
-ghost use Rattle.larch_derive_boxes.specs.Boxes.{AreOwnConstants, HasResult, Opens};
+ghost use Rattle.larch_derive_clauses.specs.DeriveBoxesBoxes.{AreOwnConstants, HasResult, Opens};
 ghost use Rattle.larch_methods.specs.Clauses.{ByConstants, ByPredicate, IsSupposing};
 ghost use Rattle.larch_methods.specs.Conjuncts.{AreTrue};
 ghost use Rattle.larch_methods.specs.Inside.{IsInside, closed_in};
@@ -17,12 +17,14 @@ ghost use Rattle.larch_methods.specs.Methods.{ByCases, ByContradiction, ByImplic
 ghost use Rattle.larch_methods.specs.Methods.{IsKnownFormula, IsStated};
 ghost use Rattle.larch_methods.specs.Observers.{ByObservers};
 ghost use Rattle.larch_methods.specs.Opening.{HasOtherConstants, HasOwnConstants, IsShownIn, MayBeginAll, MayOpen};
-ghost use Rattle.larch_rewrite_meaning.specs.Sides.{Sides};
+ghost use Rattle.larch_prove_plans.specs.RewriteMeaningSides.{Sides};
 ghost use Rattle.larch_prove_plans.specs.ClauseGoals.{generation_goal, partition_goal, predicate_named};
-ghost use Rattle.larch_prove_meaning.specs.NewNames.{constant_named};
-ghost use Rattle.larch_prove_meaning.specs.Plans.{Cases, Conjunction, Contradiction, Implication, Induction, Partition};
-ghost use Rattle.larch_prove_meaning.specs.Plans.{Plan, Setting, closed_by, conjuncts, generators, holds, observers, plan};
-ghost use Rattle.larch_prove_meaning.specs.Plans.{Subgoal, shown, two_arguments};
+ghost use Rattle.larch_prove_plans.specs.ProveMeaningNewNames.{constant_named};
+ghost use Rattle.larch_prove_plans.specs.ProveMeaningPlans.{Cases, Conjunction, Contradiction};
+ghost use Rattle.larch_prove_plans.specs.ProveMeaningPlans.{Implication, Induction, Partition};
+ghost use Rattle.larch_prove_plans.specs.ProveMeaningPlans.{Plan, Setting, closed_by, conjuncts};
+ghost use Rattle.larch_prove_plans.specs.ProveMeaningPlans.{generators, holds, observers, plan};
+ghost use Rattle.larch_prove_plans.specs.ProveMeaningPlans.{Subgoal, shown, two_arguments};
 ghost use Rattle.larch_term.specs.BuiltIn.{is_built_in_as};
 ghost use Rattle.larch_term.specs.Operator.{PlainOperator};
 ghost use Rattle.larch_term.specs.Sorts.{sort_of};

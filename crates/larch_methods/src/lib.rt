@@ -29,3 +29,8 @@ pub use induction::finish_induction;
 pub use opening::{open_constants, open_subgoal};
 pub use outside::push_outside;
 pub use partition::finish_partition;
+
+// Passed on to crates above, which then needn't list them.
+pub use larch_derive_clauses::larch_derive_boxes;
+pub use larch_prove_plans;
+pub use larch_prove_plans::larch_order;

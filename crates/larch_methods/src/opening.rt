@@ -1,7 +1,7 @@
 ghost use Rattle.std.specs.Prelude.{◌≡◌, [], List, map, All, IfOk, OnErr};
-ghost use Rattle.larch_certificate_text.specs.LineText.{IsWord};
+ghost use Rattle.larch_derive.specs.CertificateTextLineText.{IsWord};
 ghost use Rattle.larch_derive.specs.Builder.{boxes_in};
-ghost use Rattle.larch_derive_boxes.specs.Boxes.{AreOwnConstants, Opens};
+ghost use Rattle.larch_derive_clauses.specs.DeriveBoxesBoxes.{AreOwnConstants, Opens};
 ghost use Rattle.larch_methods.specs.Inside.{IsInside};
 ghost use Rattle.larch_methods.specs.Opening.{MayOpen};
 ghost use Rattle.larch_term.specs.declared.variable.Variable.{Variable};

@@ -2,7 +2,7 @@ ghost use Rattle.std.specs.Prelude.{◌≡◌, [], IfOk, OnOk, OnErr};
 ghost use Rattle.larch_derive.specs.Builder.{boxes_in};
 ghost use Rattle.larch_derive.specs.Predicates.{Grows, HasEquation, Known};
 ghost use Rattle.larch_derive.specs.declared.builder.Builder.{Builder as Built};
-ghost use Rattle.larch_derive_boxes.specs.Boxes.{AreOwnConstants};
+ghost use Rattle.larch_derive_clauses.specs.DeriveBoxesBoxes.{AreOwnConstants};
 ghost use Rattle.larch_methods.specs.Clauses.{IsSupposing};
 ghost use Rattle.larch_term.specs.Sorts.{sort_of};
 
@@ -10,7 +10,7 @@ use crate::naming::{letters_above, variables_for};
 use crate::refusals::undo_refused;
 use larch_base::Memory;
 use larch_derive::{Builder, OpenBox};
-use larch_derive_boxes::{close_box, push_fresh};
+use larch_derive_clauses::larch_derive_boxes::{close_box, push_fresh};
 use larch_term::Term;
 use std::alloc::Global;
 

@@ -1,7 +1,7 @@
 ghost use Rattle.std.specs.Prelude.{◌≡◌, None, Some, codes, IfOk};
 ghost use Rattle.larch_calculus.specs.Generation.{only};
 ghost use Rattle.larch_derive.specs.Predicates.{Extends, HasEquation, Known};
-ghost use Rattle.larch_verify_meaning.specs.Rules.{row_says};
+ghost use Rattle.larch_derive.specs.VerifyMeaningRules.{row_says};
 ghost use Rattle.larch_methods.specs.Methods.{IsKnownFormula};
 ghost use Rattle.larch_methods.specs.Rows.{IsSettledBy, of_formula};
 ghost use Rattle.larch_term.specs.BuiltIn.{bool_sort};

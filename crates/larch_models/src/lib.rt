@@ -17,3 +17,6 @@ mod truth;
 
 pub use model_text::{ModelRefusal, read_model};
 pub use truth::{MAX_ASSIGNMENTS, ModelAnswer, check_model, fits, holds};
+
+// Passed on to crates above, which then needn't list them.
+pub use larch_soundness;

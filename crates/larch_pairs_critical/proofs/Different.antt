@@ -16,7 +16,7 @@ use Rattle.larch_term.specs.Tree.{Tree, Forest, var, app, none, more}
 use Rattle.larch_term.specs.Variable.{occurrences, occurrences_in, same_variable, with_variable}
 use Rattle.larch_term.specs.declared.substitution.Entry.{Entry}
 use Rattle.larch_term.specs.declared.variable.Variable.{Variable}
-use Rattle.larch_term_law.proofs.Occurring.{listed_once, variable_Decides}
+use Rattle.larch_pairs.proofs.TermLawOccurring.{listed_once, variable_Decides}
 use Rattle.larch_pairs_critical.specs.Pairs.{marking, number_variables, pair_variables}
 use Rattle.larch_pairs.specs.Unify.{entries_under, variables_of_both}
 use Rattle.larch_pairs_critical.specs.declared.pair.Pair.{Pair}

@@ -17,9 +17,9 @@ use Rattle.larch_term.specs.Tree.{Tree, Forest, var, app, none, more}
 use Rattle.larch_term.specs.Variable.{occurrences, occurrences_in, same_variable, variables_of, with_variable}
 use Rattle.larch_term.specs.declared.substitution.Entry.{Entry}
 use Rattle.larch_term.specs.declared.variable.Variable.{Variable}
-use Rattle.larch_term_law.proofs.Agreement.{AgreeOn, agreement_by_same, same_by_agreement}
-use Rattle.larch_term_law.proofs.Occurring.{all_have, all_keep, occurs_in_subterm, variable_Decides}
-use Rattle.larch_term_law.proofs.Substitutions.{image_holds, substituted_nil}
+use Rattle.larch_pairs.proofs.TermLawAgreement.{AgreeOn, agreement_by_same, same_by_agreement}
+use Rattle.larch_pairs.proofs.TermLawOccurring.{all_have, all_keep, occurs_in_subterm, variable_Decides}
+use Rattle.larch_pairs.proofs.TermLawSubstitutions.{image_holds, substituted_nil}
 use Rattle.larch_pairs.proofs.Kept.{Among}
 use Rattle.larch_pairs.proofs.Solving.{left_listed, most_general, right_listed, unifier_unifies}
 use Rattle.larch_pairs.specs.Unify.{entries_under, unify, variables_of_both}

@@ -9,8 +9,8 @@ use Rattle.larch_term.specs.Sorts.{IsOver}
 use Rattle.larch_term.specs.Tree.{Tree, var}
 use Rattle.larch_term.specs.declared.substitution.Entry.{Entry}
 use Rattle.larch_term.specs.declared.variable.Variable.{Variable}
-use Rattle.larch_term_law.proofs.Places.{at_over, put_over}
-use Rattle.larch_term_law.proofs.Substitutions.{substituted_over}
+use Rattle.larch_pairs.proofs.TermLawPlaces.{at_over, put_over}
+use Rattle.larch_pairs.proofs.TermLawSubstitutions.{substituted_over}
 use Rattle.larch_pairs.proofs.OverOperators.{unifier_over}
 use Rattle.larch_pairs.specs.Unify.{unify, variables_of_both}
 use Rattle.larch_pairs_critical.proofs.Every.{all_pairs, pair_from}

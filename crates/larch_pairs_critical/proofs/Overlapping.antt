@@ -9,9 +9,9 @@ use Rattle.larch_term.specs.Tree.{Tree, var}
 use Rattle.larch_term.specs.Variable.{occurrences}
 use Rattle.larch_term.specs.declared.substitution.Entry.{Entry}
 use Rattle.larch_term.specs.declared.variable.Variable.{Variable}
-use Rattle.larch_term_law.proofs.Agreement.{AgreeOn, same_by_agreement}
-use Rattle.larch_term_law.proofs.Occurring.{variable_Decides}
-use Rattle.larch_term_law.proofs.Substitutions.{at_substituted, substituted_composed, substituted_put}
+use Rattle.larch_pairs.proofs.TermLawAgreement.{AgreeOn, same_by_agreement}
+use Rattle.larch_pairs.proofs.TermLawOccurring.{variable_Decides}
+use Rattle.larch_pairs.proofs.TermLawSubstitutions.{at_substituted, substituted_composed, substituted_put}
 use Rattle.larch_term.specs.Substitution.{compose}
 use Rattle.larch_pairs.proofs.Kept.{Among, variable_of}
 use Rattle.larch_pairs_critical.proofs.Every.{all_pairs, pair_from}

@@ -8,8 +8,8 @@ use Rattle.larch_term.specs.Sorts.{IsOver}
 use Rattle.larch_term.specs.Substitution.{Fits, instance_of, is_entry_of}
 use Rattle.larch_term.specs.Tree.{Tree}
 use Rattle.larch_term.specs.declared.substitution.Entry.{Entry}
-use Rattle.larch_term_law.proofs.Places.{at_over, at_well_sorted}
-use Rattle.larch_term_law.proofs.Substitutions.{substituted_over}
+use Rattle.larch_pairs.proofs.TermLawPlaces.{at_over, at_well_sorted}
+use Rattle.larch_pairs.proofs.TermLawSubstitutions.{substituted_over}
 use Rattle.larch_pairs.proofs.Fitting.{entries_fit}
 use Rattle.larch_pairs.proofs.OverOperators.{unifier_over}
 use Rattle.larch_pairs.specs.Unify.{entries_under, unify, variables_of_both}

@@ -14,8 +14,8 @@ use Rattle.larch_term.specs.Substitution.{instance_of, Fits}
 use Rattle.larch_term.specs.Tree.{Tree, Forest, var, app, none, more}
 use Rattle.larch_term.specs.declared.substitution.Entry.{Entry}
 use Rattle.larch_term.specs.declared.variable.Variable.{Variable}
-use Rattle.larch_term_law.proofs.Places.{at_well_sorted, put_sort, put_well_sorted}
-use Rattle.larch_term_law.proofs.Substitutions.{substituted_sort, substituted_well_sorted}
+use Rattle.larch_pairs.proofs.TermLawPlaces.{at_well_sorted, put_sort, put_well_sorted}
+use Rattle.larch_pairs.proofs.TermLawSubstitutions.{substituted_sort, substituted_well_sorted}
 use Rattle.larch_pairs.proofs.Fitting.{application_unifier_fits}
 use Rattle.larch_pairs.proofs.Solving.{unifier_unifies}
 use Rattle.larch_pairs.specs.Unify.{unify, variables_of_both}

@@ -12,3 +12,6 @@ mod pairs;
 
 pub use pair::{Pair, Pairs, Place, Rule};
 pub use pairs::critical_pairs;
+
+// Passed on to crates above, which then needn't list them.
+pub use larch_pairs;

@@ -1,7 +1,7 @@
 -- Terms, statements and operators as texts.
 use Rattle.std.specs.Prelude.{ℕ, ◌==◌, ◌&&◌, ◌||◌, if◌then◌else◌, Bool, true, false, List, [], ◌∷◌, ◌++◌, drop, codes}
 use Rattle.std.specs.List.{join_by}
-use Rattle.larch_base.specs.Word.{is_word}
+use Rattle.larch_term.specs.BaseWord.{is_word}
 use Rattle.larch_term.specs.Operator.{PlainOperator, name_bytes}
 use Rattle.larch_term.specs.Tree.{Tree, Forest, var, app, none, more}
 use Rattle.larch_term.specs.Truth.{is_truth}

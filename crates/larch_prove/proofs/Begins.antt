@@ -22,12 +22,12 @@ use Rattle.larch_prove_beginning.specs.Beginning.{IsFirst, IsUnopened, unopened_
 use Rattle.larch_prove_beginning.specs.declared.duty.FirstDraft.{FirstDraft}
 use Rattle.larch_prove_beginning.specs.declared.duty.Preamble.{Preamble}
 use Rattle.larch_prove_beginning.specs.declared.duty.WholeDuty.{WholeDuty}
-use Rattle.larch_prove_draft.specs.Draft.{IsProofOf}
-use Rattle.larch_prove_draft.specs.Proving.{IsProvable}
-use Rattle.larch_prove_draft.specs.declared.draft.Draft.{Draft}
-use Rattle.larch_prove_invariant.proofs.ReadWords.{theory_in_words}
-use Rattle.larch_prove_invariant.specs.Holding.{theory_for}
-use Rattle.larch_prove_levels.specs.Supposing.{TellsCode}
+use Rattle.larch_prove_resuming.specs.ProveDraftDraft.{IsProofOf}
+use Rattle.larch_prove_resuming.specs.ProveDraftProving.{IsProvable}
+use Rattle.larch_prove_resuming.specs.ProveDraftDraftDraft.{Draft}
+use Rattle.larch_prove_resuming.proofs.ProveInvariantReadWords.{theory_in_words}
+use Rattle.larch_prove_resuming.specs.ProveInvariantHolding.{theory_for}
+use Rattle.larch_prove_resuming.specs.ProveLevelsSupposing.{TellsCode}
 use Rattle.larch_prove_meaning.proofs.OpeningNames.{begun_named}
 use Rattle.larch_prove_meaning.proofs.OpeningSorts.{begun_sorted}
 use Rattle.larch_prove_meaning.proofs.StepScopes.{begun_words}
@@ -35,23 +35,23 @@ use Rattle.larch_prove_meaning.specs.InWords.{IsStatementInWords}
 use Rattle.larch_prove_meaning.specs.Levels.{EarlierDuty, Proof}
 use Rattle.larch_prove_meaning.specs.Replays.{AtOpening, Refusal, all_prepared, begun_with, blank, duty_opened}
 use Rattle.larch_prove_meaning.specs.Replays.{locate}
-use Rattle.larch_prove_opening.specs.Stating.{duties_of, what_state}
-use Rattle.larch_prove_settings.specs.Settings.{AreSettingsOf}
-use Rattle.larch_prove_work.specs.Work.{IsReached, IsWorkOf}
-use Rattle.larch_prove_work.specs.declared.work.Claim.{Claim}
-use Rattle.larch_prove_work.specs.declared.work.Work.{Work}
+use Rattle.larch_prove_beginning.specs.ProveOpeningStating.{duties_of, what_state}
+use Rattle.larch_prove_beginning.specs.ProveSettingsSettings.{AreSettingsOf}
+use Rattle.larch_prove_resuming.specs.ProveWorkWork.{IsReached, IsWorkOf}
+use Rattle.larch_prove_resuming.specs.ProveWorkWorkClaim.{Claim}
+use Rattle.larch_prove_resuming.specs.ProveWorkWorkWork.{Work}
 use Rattle.larch_script_commands.specs.Worded.{WordedKind}
 use Rattle.larch_script_commands.specs.declared.command.CommandKind.{CommandKind}
 use Rattle.larch_sorts_known.specs.Sorts.{existing_sorts}
-use Rattle.larch_rewrite.specs.declared.refusal.RewriteRefusal.{RewriteRefusal}
+use Rattle.larch_prove_resuming.specs.RewriteRefusalRewriteRefusal.{RewriteRefusal}
 use Rattle.larch_sorts_meaning.specs.Scope.{Variables}
 use Rattle.larch_store.specs.Numbered.{Numbered}
 use Rattle.larch_term.specs.Operator.{PlainOperator}
 use Rattle.larch_term.specs.Statement.{IsStatementOver}
 use Rattle.larch_term.specs.declared.statement.Statement.{Statement}
 use Rattle.larch_term.specs.declared.statement.Theory.{Theory}
-use Rattle.larch_traits_items.proofs.Kept.{ok_inj}
-use Rattle.larch_traits_items.specs.Steps.{after}
+use Rattle.larch_prove_resuming.proofs.TraitsItemsKept.{ok_inj}
+use Rattle.larch_base_meaning.specs.Steps.{after}
 
 -- ---- a duty
 

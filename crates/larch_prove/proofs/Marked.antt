@@ -7,9 +7,9 @@ use Rattle.std.specs.declared.alloc.Global.{Global}
 use Rattle.std.proofs.Common.{ap, arith, subst, sym, true≢false, ◌∙◌}
 use Rattle.larch_base.proofs.Options.{some_inj}
 use Rattle.larch_base.specs.declared.code.Code.TheVariants as refusal
-use Rattle.larch_prove_draft.proofs.Alike.{alike_same}
-use Rattle.larch_prove_draft.specs.Draft.{Counts, IsProofBy, IsProofOf, Leads}
-use Rattle.larch_prove_draft.specs.declared.draft.Draft.{Draft}
+use Rattle.larch_prove_resuming.proofs.ProveDraftAlike.{alike_same}
+use Rattle.larch_prove_resuming.specs.ProveDraftDraft.{Counts, IsProofBy, IsProofOf, Leads}
+use Rattle.larch_prove_resuming.specs.ProveDraftDraftDraft.{Draft}
 use Rattle.larch_prove_meaning.specs.Levels.{Proof, unless}
 use Rattle.larch_prove_meaning.specs.Replays.{mark_command, mark_taken}
 use Rattle.larch_prove_meaning.specs.Steps.{check_boxes}

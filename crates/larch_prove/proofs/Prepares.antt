@@ -16,18 +16,18 @@ use Rattle.larch_prove_meaning.specs.Levels.{Proof}
 use Rattle.larch_prove_meaning.specs.Replays.{Duty, InPreamble, Refusal, all_prepared, blank, locate, prepare}
 use Rattle.larch_prove_meaning.specs.Replays.{told_number}
 use Rattle.larch_prove_meaning.specs.Steps.{carried_out}
-use Rattle.larch_prove_settings.specs.Changing.{ChangesSettings}
-use Rattle.larch_prove_settings.specs.Settings.{AreSettingsOf, with_settings}
-use Rattle.larch_prove_settings.specs.Telling.{Tells}
-use Rattle.larch_prove_settings.specs.declared.refusal.CommandRefusal.{CommandRefusal}
-use Rattle.larch_prove_settings.specs.declared.settings.Settings.{Settings}
+use Rattle.larch_prove_beginning.specs.ProveSettingsChanging.{ChangesSettings}
+use Rattle.larch_prove_beginning.specs.ProveSettingsSettings.{AreSettingsOf, with_settings}
+use Rattle.larch_prove_beginning.specs.ProveSettingsTelling.{Tells}
+use Rattle.larch_prove_beginning.specs.ProveSettingsRefusalCommandRefusal.{CommandRefusal}
+use Rattle.larch_prove_beginning.specs.ProveSettingsSettingsSettings.{Settings}
 use Rattle.larch_raw.specs.declared.declared.RawOpRef.{RawOpRef}
 use Rattle.larch_raw.specs.declared.declared.RawWord.{RawWord}
 use Rattle.larch_script_commands.specs.declared.command.CommandKind.{CommandKind}
 use Rattle.larch_script_commands.specs.declared.command.CommandKind.TheVariants as command
 use Rattle.larch_script_commands.specs.declared.command.RawCommand.{RawCommand}
 use Rattle.larch_sorts_known.specs.Sorts.{existing_sorts}
-use Rattle.larch_traits_items.specs.Steps.{after}
+use Rattle.larch_base_meaning.specs.Steps.{after}
 
 -- ---- before a preamble
 

@@ -11,23 +11,23 @@ use Rattle.larch_prove.proofs.Turns.{counted, quiet_so, told_as}
 use Rattle.larch_prove.specs.Kinds.{IsCommand}
 use Rattle.larch_prove.specs.State.{IsGoingFor, MakesFor, StepsTo, Works}
 use Rattle.larch_prove.specs.declared.going.Going.{Going}
-use Rattle.larch_prove_draft.specs.Draft.{IsAlike, IsProofBy, IsProofOf, Leads}
-use Rattle.larch_prove_draft.specs.declared.draft.Draft.{Draft}
-use Rattle.larch_prove_draft.specs.Proving.{IsProvable}
-use Rattle.larch_prove_invariant.specs.Holding.{theory_for}
+use Rattle.larch_prove_resuming.specs.ProveDraftDraft.{IsAlike, IsProofBy, IsProofOf, Leads}
+use Rattle.larch_prove_resuming.specs.ProveDraftDraftDraft.{Draft}
+use Rattle.larch_prove_resuming.specs.ProveDraftProving.{IsProvable}
+use Rattle.larch_prove_resuming.specs.ProveInvariantHolding.{theory_for}
 use Rattle.larch_prove_meaning.proofs.OpeningSorts.{step_sorted}
 use Rattle.larch_prove_meaning.proofs.StepNames.{step_named}
 use Rattle.larch_prove_meaning.proofs.StepScopes.{step_words}
 use Rattle.larch_prove_meaning.specs.Levels.{EarlierDuty, Proof}
 use Rattle.larch_prove_meaning.specs.Replays.{by_kind, is_quiet, mark_command, step}
 use Rattle.larch_prove_meaning.specs.Steps.{carried_out, check_boxes}
-use Rattle.larch_prove_settings.specs.Settings.{AreSettingsOf, with_settings}
-use Rattle.larch_prove_settings.specs.Telling.{Tells}
-use Rattle.larch_prove_settings.specs.declared.refusal.CommandRefusal.{CommandRefusal}
-use Rattle.larch_prove_settings.specs.declared.settings.Settings.{Settings}
-use Rattle.larch_prove_work.specs.Work.{IsReached, IsWorkOf, Makes, MayWork}
-use Rattle.larch_prove_work.specs.declared.work.Claim.{Claim}
-use Rattle.larch_prove_work.specs.declared.work.Work.{Work}
+use Rattle.larch_prove_beginning.specs.ProveSettingsSettings.{AreSettingsOf, with_settings}
+use Rattle.larch_prove_beginning.specs.ProveSettingsTelling.{Tells}
+use Rattle.larch_prove_beginning.specs.ProveSettingsRefusalCommandRefusal.{CommandRefusal}
+use Rattle.larch_prove_beginning.specs.ProveSettingsSettingsSettings.{Settings}
+use Rattle.larch_prove_resuming.specs.ProveWorkWork.{IsReached, IsWorkOf, Makes, MayWork}
+use Rattle.larch_prove_resuming.specs.ProveWorkWorkClaim.{Claim}
+use Rattle.larch_prove_resuming.specs.ProveWorkWorkWork.{Work}
 use Rattle.larch_script_commands.specs.Worded.{WordedKind}
 use Rattle.larch_script_commands.specs.declared.command.CommandKind.{CommandKind}
 use Rattle.larch_script_commands.specs.declared.command.CommandKind.TheVariants as command

@@ -12,9 +12,9 @@ use Rattle.larch_prove.specs.declared.outcome.Outcome.TheVariants.{Refused}
 use Rattle.larch_prove.specs.declared.outcome.Place.{Place}
 use Rattle.larch_prove.specs.declared.state.Stage.{Stage}
 use Rattle.larch_prove.specs.declared.state.Stage.TheVariants as stage
-use Rattle.larch_prove_draft.specs.Draft.{IsProofBy}
-use Rattle.larch_prove_draft.specs.declared.draft.Draft.{Draft}
-use Rattle.larch_prove_invariant.specs.Holding.{theory_for}
+use Rattle.larch_prove_resuming.specs.ProveDraftDraft.{IsProofBy}
+use Rattle.larch_prove_resuming.specs.ProveDraftDraftDraft.{Draft}
+use Rattle.larch_prove_resuming.specs.ProveInvariantHolding.{theory_for}
 use Rattle.larch_prove_meaning.specs.Levels.{Proof}
 use Rattle.larch_prove_meaning.specs.Replays as defined
 use Rattle.larch_prove_meaning.specs.Replays.{Refusal, outcome_of}

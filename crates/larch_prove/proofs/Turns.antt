@@ -11,9 +11,9 @@ use Rattle.larch_prove.specs.Kinds.{HasTurn, IsCommand, WorksOnProof, in_turn}
 use Rattle.larch_prove_meaning.specs.Levels.{Proof, unless}
 use Rattle.larch_prove_meaning.specs.Replays.{by_kind, is_quiet, step, unless_marks_wait, unless_proved}
 use Rattle.larch_prove_meaning.specs.Steps.{carried_out, check_boxes}
-use Rattle.larch_prove_settings.specs.Telling.{Tells}
-use Rattle.larch_prove_settings.specs.declared.refusal.CommandRefusal.{CommandRefusal}
-use Rattle.larch_prove_settings.specs.declared.refusal.CommandRefusal.TheVariants.{Wrong, Memory}
+use Rattle.larch_prove_beginning.specs.ProveSettingsTelling.{Tells}
+use Rattle.larch_prove_beginning.specs.ProveSettingsRefusalCommandRefusal.{CommandRefusal}
+use Rattle.larch_prove_beginning.specs.ProveSettingsRefusalCommandRefusal.TheVariants.{Wrong, Memory}
 use Rattle.larch_raw.specs.declared.declared.RawOpRef.{RawOpRef}
 use Rattle.larch_raw.specs.declared.declared.RawWord.{RawWord}
 use Rattle.larch_script_commands.specs.declared.command.CommandKind.{CommandKind}

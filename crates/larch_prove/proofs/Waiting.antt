@@ -13,21 +13,21 @@ use Rattle.std.proofs.lemmas.List.Sums.{sum_by-cons, sum_by_more}
 use Rattle.larch_derive.specs.declared.builder.Builder.{Builder}
 use Rattle.larch_prove.proofs.Marked.{end_of}
 use Rattle.larch_prove.specs.State.{waiting_for, waiting_in}
-use Rattle.larch_prove_boxes.specs.Leave.{left_of}
-use Rattle.larch_prove_draft.specs.Draft.{IsProofBy, IsProofOf, Stands, below_in}
-use Rattle.larch_prove_draft.specs.declared.draft.Draft.{Draft}
-use Rattle.larch_prove_invariant.specs.Book as kept
-use Rattle.larch_prove_invariant.specs.Book.{Done, Kept, levels_of}
-use Rattle.larch_prove_invariant.specs.Holding.{Holds, RunsIfAny}
-use Rattle.larch_prove_levels.specs.Level.{IsKept, RunsLikeAny}
-use Rattle.larch_prove_levels.specs.declared.level.Level.{Level}
-use Rattle.larch_prove_levels.specs.declared.level.Running.{Running}
+use Rattle.larch_prove_resuming.specs.ProveBoxesLeave.{left_of}
+use Rattle.larch_prove_resuming.specs.ProveDraftDraft.{IsProofBy, IsProofOf, Stands, below_in}
+use Rattle.larch_prove_resuming.specs.ProveDraftDraftDraft.{Draft}
+use Rattle.larch_prove_resuming.specs.ProveInvariantBook as kept
+use Rattle.larch_prove_resuming.specs.ProveInvariantBook.{Done, Kept, levels_of}
+use Rattle.larch_prove_resuming.specs.ProveInvariantHolding.{Holds, RunsIfAny}
+use Rattle.larch_prove_resuming.specs.ProveLevelsLevel.{IsKept, RunsLikeAny}
+use Rattle.larch_prove_resuming.specs.ProveLevelsLevelLevel.{Level}
+use Rattle.larch_prove_resuming.specs.ProveLevelsLevelRunning.{Running}
 use Rattle.larch_prove_meaning.specs.Levels as defined
 use Rattle.larch_prove_meaning.specs.Levels.{Proof, open_goals}
 use Rattle.larch_prove_meaning.specs.Plans as planned
 use Rattle.larch_prove_meaning.specs.Replays.{Proved, Suspended, outcome_of, told_number}
-use Rattle.larch_prove_plans.specs.Planning.{subgoal_of}
-use Rattle.larch_prove_plans.specs.declared.subgoals.Plan.{Plan}
+use Rattle.larch_prove_resuming.specs.ProvePlansPlanning.{subgoal_of}
+use Rattle.larch_prove_resuming.specs.ProvePlansSubgoalsPlan.{Plan}
 use Rattle.larch_store.specs.Numbered.{Numbered, term_of}
 use Rattle.larch_term.specs.Tree.{Tree}
 use Rattle.larch_term.specs.declared.statement.Statement.{Statement}

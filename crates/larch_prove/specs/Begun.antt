@@ -9,14 +9,14 @@ use Rattle.larch_prove.specs.declared.going.Going.{Going}
 use Rattle.larch_prove.specs.declared.state.Stage.{Stage}
 use Rattle.larch_prove.specs.declared.state.Stage.TheVariants as stage
 use Rattle.larch_prove_beginning.specs.declared.duty.FirstDraft.{FirstDraft}
-use Rattle.larch_prove_draft.specs.Draft.{IsProofOf}
+use Rattle.larch_prove_resuming.specs.ProveDraftDraft.{IsProofOf}
 use Rattle.larch_prove_meaning.specs.Levels.{Proof}
 use Rattle.larch_prove_meaning.specs.Replays.{Refusal}
-use Rattle.larch_prove_opening.specs.Stating.{duties_of, what_state}
-use Rattle.larch_prove_settings.specs.declared.settings.Settings.{Settings}
-use Rattle.larch_prove_work.specs.Work.{IsWorkOf}
-use Rattle.larch_prove_work.specs.declared.work.Claim.{Claim}
-use Rattle.larch_prove_work.specs.declared.work.Work.{Work}
+use Rattle.larch_prove_beginning.specs.ProveOpeningStating.{duties_of, what_state}
+use Rattle.larch_prove_beginning.specs.ProveSettingsSettingsSettings.{Settings}
+use Rattle.larch_prove_resuming.specs.ProveWorkWork.{IsWorkOf}
+use Rattle.larch_prove_resuming.specs.ProveWorkWorkClaim.{Claim}
+use Rattle.larch_prove_resuming.specs.ProveWorkWorkWork.{Work}
 use Rattle.larch_sorts_meaning.specs.Scope.{Variables}
 use Rattle.larch_store.specs.Numbered.{Numbered}
 use Rattle.larch_term.specs.Operator.{PlainOperator}

@@ -11,10 +11,11 @@ use Rattle.larch_prove_meaning.specs.Levels.{Proof}
 use Rattle.larch_prove_meaning.specs.Named.{HaveDifferentNumbers}
 use Rattle.larch_prove_meaning.specs.Replays.{Duty, Refusal}
 use Rattle.larch_prove_meaning.specs.WellSorted.{IsWellSortedDuty}
-use Rattle.larch_prove_opening.specs.Stating.{duties_of, what_state}
-use Rattle.larch_prove_settings.specs.Settings.{AreSettingsOf}
+use Rattle.larch_prove_beginning.specs.ProveOpeningStating.{duties_of, what_state}
+use Rattle.larch_prove_beginning.specs.ProveSettingsSettings.{AreSettingsOf}
 use Rattle.larch_sorts_meaning.specs.Laws.{OperatorSorts}
-use Rattle.larch_traits_items.specs.Laws.{IsWord, NamesOwn}
+use Rattle.larch_base_meaning.specs.Word.{IsWord}
+use Rattle.larch_prove_resuming.specs.TraitsItemsLaws.{NamesOwn}
 
 -- what a replay starts from, as the definitions have it
 abbrev pub duty_of : ProofDuty → Duty

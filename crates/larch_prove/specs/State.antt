@@ -9,13 +9,13 @@ use Rattle.larch_prove.specs.declared.outcome.Place.TheVariants as place
 use Rattle.larch_prove.specs.declared.state.Stage.{Stage}
 use Rattle.larch_prove.specs.declared.state.Stage.TheVariants as stage
 use Rattle.larch_prove.specs.declared.state.ProofState.{ProofState}
-use Rattle.larch_prove_draft.specs.Proving.{IsProvable}
-use Rattle.larch_prove_levels.specs.declared.level.Level.{Level}
-use Rattle.larch_prove_levels.specs.declared.level.Running.{Running}
+use Rattle.larch_prove_resuming.specs.ProveDraftProving.{IsProvable}
+use Rattle.larch_prove_resuming.specs.ProveLevelsLevelLevel.{Level}
+use Rattle.larch_prove_resuming.specs.ProveLevelsLevelRunning.{Running}
 use Rattle.larch_prove_meaning.specs.Levels.{Proof}
 use Rattle.larch_prove_meaning.specs.Replays as defined
 use Rattle.larch_prove_meaning.specs.Replays.{AtCommand, AtOpening, InPreamble, Refusal, RefusalPlace}
-use Rattle.larch_prove_work.specs.Work.{IsReached, IsWorkOf, Makes}
+use Rattle.larch_prove_resuming.specs.ProveWorkWork.{IsReached, IsWorkOf, Makes}
 use Rattle.larch_term.specs.declared.statement.Statement.{Statement}
 
 -- a place as the definitions have it

@@ -4,7 +4,7 @@ ghost use Rattle.larch_prove.specs.Begun.{AreOpenedSettings, HaveConstants, IsBe
 ghost use Rattle.larch_prove.specs.Begun.{IsOpened, IsWorkFor};
 ghost use Rattle.larch_prove.specs.State.{IsStateOf};
 ghost use Rattle.larch_prove_beginning.specs.Beginning.{unopened_proof};
-ghost use Rattle.larch_prove_levels.specs.Supposing.{TellsCode};
+ghost use Rattle.larch_prove_resuming.specs.ProveLevelsSupposing.{TellsCode};
 ghost use Rattle.larch_prove_meaning.specs.Replays.{AtOpening, begun_with, duty_opened, locate};
 ghost use Rattle.larch_script_commands.specs.Worded.{WordedCommand};
 
@@ -15,10 +15,10 @@ use crate::preparing::{Prepared, prepare_all};
 use crate::state::{ProofState, Stage};
 use larch_base::{Memory, Steps, let_go};
 use larch_order::Precedence;
+use larch_prove_beginning::larch_prove_settings::{CommandRefusal, OrderedScope, Settings};
 use larch_prove_beginning::{FirstDraft, Preamble, WholeDuty, open_duty};
-use larch_prove_settings::{CommandRefusal, OrderedScope, Settings};
-use larch_prove_work::{Claim, Work, command_refusal};
-use larch_rewrite::RewriteRefusal;
+use larch_prove_resuming::larch_prove_work::{Claim, Work, command_refusal};
+use larch_prove_resuming::larch_rewrite::RewriteRefusal;
 use larch_script_commands::RawCommand;
 use larch_store::Store;
 use larch_term::{Operator, Operators};

@@ -1,25 +1,36 @@
 ghost use Rattle.std.specs.Prelude.{◌≡◌, ◌+◌, ◌∷◌, IfOk, Ok, sum_by};
 ghost use Rattle.larch_prove.specs.State.{IsGoingFor, told_outcome, waiting_in};
-ghost use Rattle.larch_prove_draft.specs.Draft.{below_in};
+ghost use Rattle.larch_prove_resuming.specs.ProveDraftDraft.{below_in};
 ghost use Rattle.larch_prove_meaning.specs.Levels.{Proof};
 ghost use Rattle.larch_prove_meaning.specs.Replays.{outcome_of, told_number};
 ghost use Rattle.larch_term.specs.declared.statement.Statement.{Statement as is_statement};
 
 use crate::outcome::Outcome;
 use larch_base::Memory;
-use larch_prove_draft::Draft;
-use larch_prove_levels::Level;
-use larch_prove_work::{Claim, Work};
+use larch_prove_resuming::larch_prove_draft::Draft;
+use larch_prove_resuming::larch_prove_levels::Level;
+use larch_prove_resuming::larch_prove_work::{Claim, Work};
 use std::alloc::Global;
 use std::rc::Rc;
 
 // A block that isn't refused: what is proved, what commands work on, and how many there were.
-#[derive(Drop)]
 pub(crate) struct Going {
     pub(crate) alloc: Global,
     pub(crate) claim: Rc<Claim>,
     pub(crate) work: Work,
     pub(crate) commands: u32,
+}
+
+// By a call, so that a proof takes one apart in one place alone.
+impl Drop for Going {
+    fn drop(self) {
+        let Going {
+            alloc: _alloc,
+            claim: _claim,
+            work: _work,
+            commands: _commands,
+        } = self;
+    }
 }
 
 impl Going {

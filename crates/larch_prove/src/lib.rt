@@ -5,13 +5,12 @@ mod beginning;
 mod duty;
 mod going;
 mod marks;
-mod methods;
 mod outcome;
 mod preparing;
 mod state;
 mod stepping;
 
 pub use duty::ProofDuty;
-pub use larch_prove_opening::Lemma;
+pub use larch_prove_beginning::larch_prove_opening::Lemma;
 pub use outcome::{Outcome, Place};
 pub use state::ProofState;

@@ -1,16 +1,16 @@
 ghost use Rattle.std.specs.Prelude.{IfErr, List, None, OnErr, OnOk, ◌≡◌};
-ghost use Rattle.larch_prove_draft.specs.Draft.{IsProofOf, Leads};
+ghost use Rattle.larch_prove_resuming.specs.ProveDraftDraft.{IsProofOf, Leads};
 ghost use Rattle.larch_prove_meaning.specs.Levels.{Proof};
 ghost use Rattle.larch_prove_meaning.specs.Replays.{mark_command};
 ghost use Rattle.larch_prove_meaning.specs.Steps.{check_boxes};
-ghost use Rattle.larch_prove_settings.specs.Telling.{Tells};
+ghost use Rattle.larch_prove_beginning.specs.ProveSettingsTelling.{Tells};
 ghost use Rattle.larch_store.specs.Numbered.{Numbered};
 ghost use Rattle.larch_term.specs.declared.statement.Statement.{Statement};
 ghost use Rattle.larch_term.specs.declared.statement.Theory.{Theory};
 
 use larch_base::Code;
-use larch_prove_draft::Draft;
-use larch_prove_settings::CommandRefusal;
+use larch_prove_beginning::larch_prove_settings::CommandRefusal;
+use larch_prove_resuming::larch_prove_draft::Draft;
 
 // A mark: where boxes are checked, it must be the next one that waits.
 pub(crate) fn take_mark(draft: &mut Draft, is_proved: bool) -> Result<(), CommandRefusal>

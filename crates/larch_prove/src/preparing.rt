@@ -1,19 +1,28 @@
 ghost use Rattle.std.specs.Prelude.{◌≡◌, ◌+◌, IfErr, IfOk, OnOk, Ok, map};
 ghost use Rattle.larch_prove.specs.Prepared.{ComesTo, IsPreparedFor, prepared_proof};
 ghost use Rattle.larch_prove_meaning.specs.Replays.{Duty, all_prepared, prepare, told_number};
-ghost use Rattle.larch_prove_settings.specs.Telling.{Tells};
+ghost use Rattle.larch_prove_beginning.specs.ProveSettingsTelling.{Tells};
 
 use crate::outcome::Place;
 use larch_base::{Code, Memory};
-use larch_prove_settings::{CommandRefusal, Settings};
+use larch_prove_beginning::larch_prove_settings::{CommandRefusal, Settings};
 use larch_script_commands::{CommandKind, RawCommand};
 use std::alloc::Global;
 
 // What a preamble sets.
-#[derive(Drop)]
 pub(crate) struct Prepared {
     pub(crate) settings: Settings,
     pub(crate) checking: bool,
+}
+
+// By a call, so that a proof takes one apart in one place alone.
+impl Drop for Prepared {
+    fn drop(self) {
+        let Prepared {
+            settings: _settings,
+            checking: _checking,
+        } = self;
+    }
 }
 
 // Carries the commands of a preamble out, in order; or the place and the code of the first that is refused.

@@ -1,7 +1,7 @@
 ghost use Rattle.std.specs.Prelude.{◌≡◌, ◌+◌, true, IfOk, OnErr, OnOk, Ok, Result};
 ghost use Rattle.larch_derive.specs.Finished.{IsFinished};
 ghost use Rattle.larch_prove.specs.State.{IsGoing, IsProvedState, IsStateOf, told_outcome};
-ghost use Rattle.larch_prove_invariant.specs.Holding.{theory_for};
+ghost use Rattle.larch_prove_resuming.specs.ProveInvariantHolding.{theory_for};
 ghost use Rattle.larch_prove_meaning.specs.Levels.{Proof};
 ghost use Rattle.larch_prove_meaning.specs.Replays.{Refusal, outcome_of, step_command};
 ghost use Rattle.larch_script_commands.specs.Worded.{WordedKind};
@@ -11,7 +11,7 @@ use crate::going::Going;
 use crate::outcome::{Outcome, Place};
 use larch_base::{Code, Memory, Steps};
 use larch_certificate::Certificate;
-use larch_prove_settings::CommandRefusal;
+use larch_prove_beginning::larch_prove_settings::CommandRefusal;
 use larch_script_commands::RawCommand;
 use std::sync::ledger::Ledger;
 
@@ -23,9 +23,15 @@ pub(crate) enum Stage {
 }
 
 /// A proof as it is behind its opening or a command, with the certificate so far; or that it is refused.
-#[derive(Drop)]
 pub struct ProofState {
     pub(crate) stage: Stage,
+}
+
+// By a call, so that a proof takes one apart in one place alone.
+impl Drop for ProofState {
+    fn drop(self) {
+        let ProofState { stage: _stage } = self;
+    }
 }
 
 impl ProofState {

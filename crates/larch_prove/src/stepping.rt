@@ -4,20 +4,21 @@ ghost use Rattle.larch_prove.specs.State.{IsClaimed, IsGoingFor, IsSomeGoing, Is
 ghost use Rattle.larch_prove_meaning.specs.Levels.{Proof};
 ghost use Rattle.larch_prove_meaning.specs.Replays.{by_kind, step};
 ghost use Rattle.larch_prove_meaning.specs.Steps.{carried_out};
-ghost use Rattle.larch_prove_draft.specs.Proving.{IsProvable};
-ghost use Rattle.larch_prove_settings.specs.Telling.{Tells};
-ghost use Rattle.larch_prove_work.specs.Work.{IsSomeWork, Makes, MayWork};
+ghost use Rattle.larch_prove_resuming.specs.ProveDraftProving.{IsProvable};
+ghost use Rattle.larch_prove_beginning.specs.ProveSettingsTelling.{Tells};
+ghost use Rattle.larch_prove_resuming.specs.ProveWorkWork.{IsSomeWork, Makes, MayWork};
 ghost use Rattle.larch_script_commands.specs.declared.command.CommandKind.TheVariants.{BoxChecking, Qed};
 ghost use Rattle.larch_script_commands.specs.Worded.{WordedKind};
 ghost use Rattle.larch_term.specs.declared.statement.Statement.{Statement as is_statement};
 
 use crate::going::Going;
 use crate::marks::{check_boxes, take_mark};
-use crate::methods::carry_out_method;
 use larch_base::Code;
 use larch_base::limits::MAX_COMMANDS;
-use larch_prove_settings::CommandRefusal;
-use larch_prove_work::{Claim, Work, prove};
+use larch_prove_beginning::larch_prove_settings::CommandRefusal;
+use larch_prove_facts::{instantiate, normalize, pair_facts};
+use larch_prove_resuming::larch_prove_work::{Claim, Work, prove};
+use larch_prove_resuming::resume_by;
 use larch_script_commands::CommandKind;
 use std::alloc::Global;
 
@@ -225,6 +226,17 @@ fn carry_out_on(
 {
     match kind {
         CommandKind::Prove(equation) => prove(alloc, claim, work, equation),
-        _ => carry_out_method(alloc, claim, work, kind),
+        CommandKind::Instantiate(instances, fact) => {
+            instantiate(alloc, claim, work, instances.as_slice(), fact)
+        }
+        CommandKind::CriticalPairs(first, second) => pair_facts(alloc, claim, work, first, second),
+        CommandKind::Normalize(fact) => normalize(alloc, claim, work, fact),
+        CommandKind::Cases(_)
+        | CommandKind::Implication
+        | CommandKind::Conjunction
+        | CommandKind::Contradiction
+        | CommandKind::Induction(_)
+        | CommandKind::Partition => resume_by(alloc, claim, work, kind),
+        _ => unreachable!(),
     }
 }

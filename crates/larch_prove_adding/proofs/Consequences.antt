@@ -7,14 +7,14 @@ use Rattle.std.proofs.lemmas.List.Elements.{All-cons, All-nil}
 use Rattle.larch_base.specs.ByNumber.{numbered}
 use Rattle.larch_derive.specs.Predicates.{HasStatement}
 use Rattle.larch_derive.specs.declared.builder.Builder.{Builder}
-use Rattle.larch_derive_formulas.specs.Consequences.{Follows}
+use Rattle.larch_prove_invariant.specs.DeriveFormulasConsequences.{Follows}
 use Rattle.larch_prove_adding.specs.Deductions.{Deduction, deductions, first_right, found_by, left_by, only_right}
 use Rattle.larch_prove_adding.specs.Deductions.{second_right}
 use Rattle.larch_prove_adding.specs.Equation.{IsSaid, sides_in, waiting_in}
 use Rattle.larch_prove_adding.specs.declared.equation.SaidEquation.{SaidEquation}
 use Rattle.larch_prove_adding.proofs.Deductions.{nothing_deduced}
 use Rattle.larch_prove_adding.proofs.Numbers.{both_found, follows_deduced, has_deduction, only_found, reads}
-use Rattle.larch_prove_meaning.specs.Facts.{deduce}
+use Rattle.larch_prove_invariant.specs.ProveMeaningFacts.{deduce}
 use Rattle.larch_rewrite_meaning.specs.Sides.{sides_of}
 use Rattle.larch_term.specs.Sorts.{WellSorted}
 use Rattle.larch_term.specs.Tree.{Tree}

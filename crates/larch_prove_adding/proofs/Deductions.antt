@@ -19,19 +19,20 @@ use Rattle.larch_term.specs.declared.statement.Statement.{Statement}
 use Rattle.larch_term.specs.declared.statement.Statement.TheVariants.{Equation}
 use Rattle.larch_term.specs.declared.substitution.Entry.{Entry}
 use Rattle.larch_term.proofs.Decided.{operator_Decides}
-use Rattle.larch_calculus.specs.Formula.{conjunction, disjunction, equality, equivalence, falsity, implication}
-use Rattle.larch_calculus.specs.Formula.{negation}
-use Rattle.larch_tables.specs.Row.{PlainRow}
-use Rattle.larch_tables.specs.Spelling.{a, b, x, y}
-use Rattle.larch_tables.specs.Tables.{deduction_rows}
+use Rattle.larch_prove_invariant.specs.CalculusFormula.{conjunction, disjunction, equality}
+use Rattle.larch_prove_invariant.specs.CalculusFormula.{equivalence, falsity, implication}
+use Rattle.larch_prove_invariant.specs.CalculusFormula.{negation}
+use Rattle.larch_rewrite_meaning.specs.TablesRow.{PlainRow}
+use Rattle.larch_rewrite_meaning.specs.TablesSpelling.{a, b, x, y}
+use Rattle.larch_rewrite_meaning.specs.TablesTables.{deduction_rows}
 use Rattle.larch_rewrite_meaning.specs.Matching.{bound, match_term, matched_all}
 use Rattle.larch_rewrite_meaning.specs.Sides.{Sides, sides_of, sides_under}
 use Rattle.larch_rewrite_meaning.proofs.Matches.{match_is_right}
-use Rattle.larch_derive_formulas.specs.Consequences.{Follows}
+use Rattle.larch_prove_invariant.specs.DeriveFormulasConsequences.{Follows}
 use Rattle.larch_prove_adding.specs.Deductions.{Deduction, Conjunction, Disjunction, Negation, Implication, Equality}
 use Rattle.larch_prove_adding.specs.Deductions.{Equivalence, found_by, left_by}
 use Rattle.larch_prove_adding.specs.Deductions.{right_by}
-use Rattle.larch_prove_meaning.specs.Facts.{consequences_by, deduce, first_consequences, sort_within}
+use Rattle.larch_prove_invariant.specs.ProveMeaningFacts.{consequences_by, deduce, first_consequences, sort_within}
 
 -- ---- rows one by one
 

@@ -8,7 +8,7 @@ use Rattle.larch_base.specs.declared.limits.TheConstants.{MAX_FACTS}
 use Rattle.larch_derive.specs.declared.builder.Builder.{Builder}
 use Rattle.larch_prove_adding.specs.KeptFacts.{fact_by}
 use Rattle.larch_prove_invariant.specs.Holding.{HasFacts}
-use Rattle.larch_prove_meaning.specs.Facts.{is_full, rules_of}
+use Rattle.larch_prove_invariant.specs.ProveMeaningFacts.{is_full, rules_of}
 use Rattle.larch_rewrite.specs.RuleSet.{IsSaid, PlainRule, sides_of_plain}
 
 -- the rules of facts are the rules

@@ -15,15 +15,15 @@ use Rattle.larch_prove_adding.specs.Equation.{sides_in}
 use Rattle.larch_prove_adding.specs.KeptFacts.{AreCounted, AreSaid, KeptFacts, fact_by, facts_of}
 use Rattle.larch_prove_adding.specs.declared.equation.SaidEquation.{SaidEquation}
 use Rattle.larch_prove_adding.proofs.FactLists.{named_length}
-use Rattle.larch_prove_meaning.specs.Facts.{Fact, Facts, is_full}
-use Rattle.larch_prove_meaning.specs.Steps.{serves_beside}
-use Rattle.larch_prove_meaning.specs.Steps.{has_name as has_fact_name}
+use Rattle.larch_prove_invariant.specs.ProveMeaningFacts.{Fact, Facts, is_full}
+use Rattle.larch_prove_invariant.specs.ProveMeaningSteps.{serves_beside}
+use Rattle.larch_prove_invariant.specs.ProveMeaningSteps.{has_name as has_fact_name}
 use Rattle.larch_rewrite.specs.RuleSet.{IsSaid, PlainRule, RuleSet, has_name, sides_of_plain, without}
 use Rattle.larch_rewrite.specs.declared.refusal.RewriteRefusal.{RewriteRefusal}
 use Rattle.larch_rewrite.specs.declared.refusal.RewriteRefusal.TheVariants.{Limit, TooLarge, Memory}
 use Rattle.larch_rewrite.proofs.PlainRules.{name_Decides}
 use Rattle.larch_rewrite_meaning.specs.Sides.{Sides}
-use Rattle.larch_script_commands.proofs.Decided.{fact_Decides}
+use Rattle.larch_prove_invariant.proofs.ScriptCommandsDecided.{fact_Decides}
 
 -- ---- places in a list
 

@@ -13,14 +13,14 @@ use Rattle.larch_term.specs.Tree.{Tree}
 use Rattle.larch_term.specs.Truth.{truth}
 use Rattle.larch_term.specs.declared.statement.Statement.{Statement}
 use Rattle.larch_term.specs.declared.statement.Statement.TheVariants.{Equation}
-use Rattle.larch_calculus.specs.Formula.{falsity}
-use Rattle.larch_tables.specs.Row.{PlainRow}
+use Rattle.larch_prove_invariant.specs.CalculusFormula.{falsity}
+use Rattle.larch_rewrite_meaning.specs.TablesRow.{PlainRow}
 use Rattle.larch_rewrite_meaning.specs.Sides.{Sides, sides_of}
-use Rattle.larch_derive_formulas.specs.Consequences.{Follows}
+use Rattle.larch_prove_invariant.specs.DeriveFormulasConsequences.{Follows}
 use Rattle.larch_prove_adding.specs.Deductions.{Deduction, Conjunction, Disjunction, Negation, Implication, Equality}
 use Rattle.larch_prove_adding.specs.Deductions.{Equivalence, deductions, first_right, found_by, left_by, only_right}
 use Rattle.larch_prove_adding.specs.Deductions.{right_by, second_right}
-use Rattle.larch_prove_meaning.specs.Facts.{deduce}
+use Rattle.larch_prove_invariant.specs.ProveMeaningFacts.{deduce}
 use Rattle.larch_prove_adding.proofs.Deductions.{deduced_by, not_some}
 
 -- ---- numbers

@@ -10,18 +10,20 @@ use Rattle.larch_base.proofs.Members.{contains_left}
 use Rattle.larch_base.specs.declared.fact_name.FactName.{FactName}
 use Rattle.larch_base.specs.declared.limits.TheConstants.{MAX_FACTS}
 use Rattle.larch_derive.specs.declared.builder.Builder.{Builder}
-use Rattle.larch_order.specs.declared.precedence.Ranked.{Ranked}
+use Rattle.larch_prove_invariant.specs.OrderPrecedenceRanked.{Ranked}
 use Rattle.larch_prove_adding.specs.Equation.{IsSaid}
 use Rattle.larch_prove_adding.specs.declared.equation.SaidEquation.{SaidEquation}
 use Rattle.larch_prove_adding.proofs.FactLists.{more_told}
 use Rattle.larch_prove_adding.proofs.Turning.{Goes, all_serving, goes_turn}
-use Rattle.larch_prove_meaning.specs.Facts.{Contradict, Drop, Fact, Facts, Keep, Manner, Replace, Treatment, is_full}
-use Rattle.larch_prove_meaning.specs.Facts.{normal_sides, rules_of, serving, treatment, with_contradiction, with_rule}
-use Rattle.larch_prove_meaning.specs.Levels.{all_serve}
-use Rattle.larch_prove_meaning.specs.Steps.{has_name, serves_beside}
+use Rattle.larch_prove_invariant.specs.ProveMeaningFacts.{Contradict, Drop, Fact, Facts, Keep}
+use Rattle.larch_prove_invariant.specs.ProveMeaningFacts.{Manner, Replace, Treatment, is_full}
+use Rattle.larch_prove_invariant.specs.ProveMeaningFacts.{normal_sides, rules_of, serving}
+use Rattle.larch_prove_invariant.specs.ProveMeaningFacts.{treatment, with_contradiction, with_rule}
+use Rattle.larch_prove_invariant.specs.ProveMeaningLevels.{all_serve}
+use Rattle.larch_prove_invariant.specs.ProveMeaningSteps.{has_name, serves_beside}
 use Rattle.larch_rewrite_meaning.specs.Sides.{Sides}
 use Rattle.larch_rewrite_meaning.specs.Work.{Made, Work, is_large}
-use Rattle.larch_script_commands.proofs.Decided.{fact_Decides}
+use Rattle.larch_prove_invariant.proofs.ScriptCommandsDecided.{fact_Decides}
 use Rattle.larch_prove_adding.specs.Turns.{Course, IsStopped, IsTaken, Leads, MayRefuse, Tells, manner_of}
 use Rattle.larch_rewrite.specs.declared.refusal.RewriteRefusal.{RewriteRefusal}
 use Rattle.larch_rewrite.specs.declared.refusal.RewriteRefusal.TheVariants.{Limit, TooLarge, Memory}

@@ -6,7 +6,7 @@ use Rattle.std.proofs.lemmas.List.Elements.{All-weaker}
 use Rattle.larch_derive.specs.Predicates.{Extends, HasEquation}
 use Rattle.larch_derive.specs.declared.builder.Builder.{Builder}
 use Rattle.larch_derive.proofs.Growth.{known_left, stays_said}
-use Rattle.larch_derive_lines.proofs.Ways.{leads_stays}
+use Rattle.larch_rewrite.proofs.DeriveLinesWays.{leads_stays}
 use Rattle.larch_prove_adding.specs.Equation.{IsSaid, sides_in, waiting_in}
 use Rattle.larch_prove_adding.specs.KeptFacts.{AreSaid, KeptFacts, SaysAbsurd}
 use Rattle.larch_prove_adding.specs.declared.equation.SaidEquation.{SaidEquation}

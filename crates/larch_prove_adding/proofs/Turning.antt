@@ -5,16 +5,19 @@ use Rattle.std.proofs.Common.{inl, inr, ap, arith, sym, subst, ◌∙◌}
 use Rattle.std.proofs.lemmas.List.{append-nil}
 use Rattle.larch_base.specs.declared.fact_name.FactName.{FactName}
 use Rattle.larch_base.specs.declared.limits.TheConstants.{MAX_TERM_NODES}
-use Rattle.larch_order.specs.declared.precedence.Ranked.{Ranked}
+use Rattle.larch_prove_invariant.specs.OrderPrecedenceRanked.{Ranked}
 use Rattle.larch_prove_adding.specs.Turns.{Course, IsStopped, IsTaken, Leads, MayRefuse, Tells}
 use Rattle.larch_prove_adding.proofs.FactLists.{more_told}
-use Rattle.larch_prove_meaning.specs.Facts.{Contradict, Drop, Fact, Facts, Keep, Manner, Replace, Treatment, add}
-use Rattle.larch_prove_meaning.specs.Facts.{add_waiting, by_treatment, is_full, max_fact_number, most_taken}
-use Rattle.larch_prove_meaning.specs.Facts.{normal_sides, serving, treatment, with_contradiction, with_rule}
-use Rattle.larch_prove_meaning.specs.Levels.{all_serve, work_result}
-use Rattle.larch_prove_meaning.specs.Taking.{enough}
-use Rattle.larch_prove_meaning.proofs.NormalSides.{sides_found}
-use Rattle.larch_prove_meaning.proofs.Taking.{first_enough, goes_on, lighter, lighter_instead, starts}
+use Rattle.larch_prove_invariant.specs.ProveMeaningFacts.{Contradict, Drop, Fact, Facts, Keep}
+use Rattle.larch_prove_invariant.specs.ProveMeaningFacts.{Manner, Replace, Treatment, add}
+use Rattle.larch_prove_invariant.specs.ProveMeaningFacts.{add_waiting, by_treatment, is_full}
+use Rattle.larch_prove_invariant.specs.ProveMeaningFacts.{max_fact_number, most_taken}
+use Rattle.larch_prove_invariant.specs.ProveMeaningFacts.{normal_sides, serving, treatment}
+use Rattle.larch_prove_invariant.specs.ProveMeaningFacts.{with_contradiction, with_rule}
+use Rattle.larch_prove_invariant.specs.ProveMeaningLevels.{all_serve, work_result}
+use Rattle.larch_prove_invariant.specs.ProveMeaningTaking.{enough}
+use Rattle.larch_prove_invariant.proofs.ProveMeaningNormalSides.{sides_found}
+use Rattle.larch_prove_invariant.proofs.ProveMeaningTaking.{first_enough, goes_on, lighter, lighter_instead, starts}
 use Rattle.larch_rewrite.specs.declared.refusal.RewriteRefusal.{RewriteRefusal}
 use Rattle.larch_rewrite.specs.declared.refusal.RewriteRefusal.TheVariants.{Limit, TooLarge, Memory}
 use Rattle.larch_rewrite_meaning.specs.Sides.{Sides}

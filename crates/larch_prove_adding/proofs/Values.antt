@@ -1,11 +1,12 @@
 -- Truth values, and what becomes of equations that have some.
 use Rattle.std.specs.Prelude.{◌≡◌, ◌⊎◌, ◌↔◌, ◌&&◌, ◌||◌, Bool, true, false, cond, List, not, IsTrue, refl}
 use Rattle.std.proofs.Common.{inl, inr, ap, sym, ◌∙◌}
-use Rattle.larch_calculus.specs.Formula.{falsity}
-use Rattle.larch_order.specs.declared.precedence.Ranked.{Ranked}
+use Rattle.larch_prove_invariant.specs.CalculusFormula.{falsity}
+use Rattle.larch_prove_invariant.specs.OrderPrecedenceRanked.{Ranked}
 use Rattle.larch_prove_adding.specs.Turns.{IsOpposite}
-use Rattle.larch_prove_meaning.specs.Facts.{Contradict, Drop, deduce, is_value, replaced_or_kept, treatment}
-use Rattle.larch_prove_meaning.specs.Facts.{treatment_of, truth_to_right}
+use Rattle.larch_prove_invariant.specs.ProveMeaningFacts.{Contradict, Drop, deduce}
+use Rattle.larch_prove_invariant.specs.ProveMeaningFacts.{is_value, replaced_or_kept, treatment}
+use Rattle.larch_prove_invariant.specs.ProveMeaningFacts.{treatment_of, truth_to_right}
 use Rattle.larch_rewrite_meaning.specs.Sides.{Sides, flip}
 use Rattle.larch_term.specs.Equality.{same_tree}
 use Rattle.larch_term.specs.Tree.{Tree}

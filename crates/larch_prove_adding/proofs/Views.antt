@@ -6,7 +6,7 @@ use Rattle.larch_base.specs.declared.fact_name.FactName.{FactName}
 use Rattle.larch_base.specs.declared.limits.TheConstants.{MAX_FACTS, MAX_TERM_NODES}
 use Rattle.larch_derive.specs.Predicates.{HasEquation}
 use Rattle.larch_derive.specs.declared.builder.Builder.{Builder}
-use Rattle.larch_order.specs.declared.precedence.Ranked.{Ranked}
+use Rattle.larch_prove_invariant.specs.OrderPrecedenceRanked.{Ranked}
 use Rattle.larch_prove_adding.specs.Equation.{waiting_in}
 use Rattle.larch_prove_adding.specs.KeptFacts.{AreCounted, AreSaid, KeptFacts, SaysAbsurd, fact_by, facts_of, lines_of}
 use Rattle.larch_prove_adding.specs.KeptFacts.{with_one}
@@ -16,12 +16,12 @@ use Rattle.larch_prove_adding.proofs.FactLists.{full_told, less_told, named_push
 use Rattle.larch_prove_adding.proofs.FactLists.{said_named}
 use Rattle.larch_prove_adding.proofs.Turning.{all_serving}
 use Rattle.larch_prove_invariant.specs.Holding.{HasAbsurd, HasFacts}
-use Rattle.larch_prove_meaning.specs.Facts.{Facts, is_full, normal_sides, rules_of, serving, treatment}
-use Rattle.larch_prove_meaning.specs.Facts.{with_contradiction}
+use Rattle.larch_prove_invariant.specs.ProveMeaningFacts.{Facts, is_full, normal_sides, rules_of, serving, treatment}
+use Rattle.larch_prove_invariant.specs.ProveMeaningFacts.{with_contradiction}
 use Rattle.larch_rewrite.specs.Refusal.{IsMade, TellsEvent, from_store}
 use Rattle.larch_rewrite.specs.RuleSet.{BelongsTo, IsSaid, RuleSet, Serves, rule_by, sides_in}
 use Rattle.larch_rewrite.specs.declared.refusal.RewriteRefusal.{RewriteRefusal}
-use Rattle.larch_rewrite_law.proofs.Turns.{begins_large}
+use Rattle.larch_rewrite.proofs.RewriteLawTurns.{begins_large}
 use Rattle.larch_rewrite_meaning.specs.NormalForm.{normal}
 use Rattle.larch_rewrite_meaning.specs.Sides.{Sides}
 use Rattle.larch_rewrite_meaning.specs.Work.{Made}

@@ -1,9 +1,9 @@
 -- Adding while the facts of a name don't serve as rules.
 use Rattle.std.specs.Prelude.{◌≡◌, ℕ, List, [], ◌∷◌, ◌++◌, filter, length, Option, None, Some, slice_get, true, false}
 use Rattle.larch_base.specs.declared.fact_name.FactName.{FactName}
-use Rattle.larch_order.specs.declared.precedence.Ranked.{Ranked}
-use Rattle.larch_prove_meaning.specs.Facts.{Fact, Facts, Manner, is_full}
-use Rattle.larch_prove_meaning.specs.Steps.{serves_beside}
+use Rattle.larch_prove_invariant.specs.OrderPrecedenceRanked.{Ranked}
+use Rattle.larch_prove_invariant.specs.ProveMeaningFacts.{Fact, Facts, Manner, is_full}
+use Rattle.larch_prove_invariant.specs.ProveMeaningSteps.{serves_beside}
 use Rattle.larch_rewrite.specs.declared.refusal.RewriteRefusal.{RewriteRefusal}
 use Rattle.larch_rewrite.specs.declared.refusal.RewriteRefusal.TheVariants.{Limit, TooLarge, Memory}
 

@@ -1,8 +1,9 @@
 -- The deduction rows with terms for their variables: by which equation something follows, and what.
 use Rattle.std.specs.Prelude.{◌==◌, ℕ, Bool, true, false, not, List, [], ◌∷◌}
 use Rattle.std.specs.Prelude.{if◌then◌else◌}
-use Rattle.larch_calculus.specs.Formula.{conjunction, disjunction, equality, equivalence, falsity, implication}
-use Rattle.larch_calculus.specs.Formula.{negation}
+use Rattle.larch_prove_invariant.specs.CalculusFormula.{conjunction, disjunction, equality}
+use Rattle.larch_prove_invariant.specs.CalculusFormula.{equivalence, falsity, implication}
+use Rattle.larch_prove_invariant.specs.CalculusFormula.{negation}
 use Rattle.larch_term.specs.Tree.{Tree}
 use Rattle.larch_term.specs.Truth.{truth}
 use Rattle.larch_term.specs.declared.statement.Statement.{Statement}

@@ -1,10 +1,10 @@
 -- The facts of a level with the lines that say them.
 use Rattle.std.specs.Prelude.{◌≡◌, ℕ, List, [], ◌∷◌, ◌++◌, All, map, length, is_some, Option, None, Some}
 use Rattle.larch_base.specs.declared.fact_name.FactName.{FactName}
-use Rattle.larch_calculus.specs.Formula.{falsity}
+use Rattle.larch_prove_invariant.specs.CalculusFormula.{falsity}
 use Rattle.larch_derive.specs.Predicates.{HasEquation}
 use Rattle.larch_derive.specs.declared.builder.Builder.{Builder}
-use Rattle.larch_prove_meaning.specs.Facts.{Fact, Facts}
+use Rattle.larch_prove_invariant.specs.ProveMeaningFacts.{Fact, Facts}
 use Rattle.larch_rewrite.specs.Kept.{IsLed}
 use Rattle.larch_rewrite.specs.RuleSet.{IsSaid, PlainRule, RuleSet, sides_of_plain}
 use Rattle.larch_rewrite_meaning.specs.Sides.{Sides}

@@ -1,14 +1,16 @@
 -- What becomes of an equation that is taken, and what is refused.
 use Rattle.std.specs.Prelude.{◌≡◌, ◌⊎◌, ◌<◌, ◌≤◌, ◌||◌, ℕ, suc, true, false, List, ◌++◌, length}
 use Rattle.larch_base.specs.declared.fact_name.FactName.{FactName}
-use Rattle.larch_calculus.specs.Formula.{falsity}
-use Rattle.larch_order.specs.declared.precedence.Ranked.{Ranked}
+use Rattle.larch_prove_invariant.specs.CalculusFormula.{falsity}
+use Rattle.larch_prove_invariant.specs.OrderPrecedenceRanked.{Ranked}
 use Rattle.larch_prove_adding.specs.Equation.{waiting_in}
 use Rattle.larch_prove_adding.specs.KeptFacts.{KeptFacts, facts_of}
 use Rattle.larch_prove_adding.specs.declared.equation.SaidEquation.{SaidEquation}
-use Rattle.larch_prove_meaning.specs.Facts.{Contradict, Drop, Facts, Keep, Manner, Replace, Treatment, is_full}
-use Rattle.larch_prove_meaning.specs.Facts.{normal_sides, serving, treatment, with_contradiction, with_rule}
-use Rattle.larch_prove_meaning.specs.Levels.{all_serve}
+use Rattle.larch_prove_invariant.specs.ProveMeaningFacts.{Contradict, Drop, Facts, Keep}
+use Rattle.larch_prove_invariant.specs.ProveMeaningFacts.{Manner, Replace, Treatment, is_full}
+use Rattle.larch_prove_invariant.specs.ProveMeaningFacts.{normal_sides, serving, treatment}
+use Rattle.larch_prove_invariant.specs.ProveMeaningFacts.{with_contradiction, with_rule}
+use Rattle.larch_prove_invariant.specs.ProveMeaningLevels.{all_serve}
 use Rattle.larch_rewrite.specs.declared.refusal.RewriteRefusal.{RewriteRefusal}
 use Rattle.larch_rewrite.specs.declared.refusal.RewriteRefusal.TheVariants.{Limit, TooLarge, Memory}
 use Rattle.larch_rewrite_meaning.specs.Sides.{Sides}

@@ -3,8 +3,8 @@ ghost use Rattle.larch_derive.specs.Predicates.{Extends};
 ghost use Rattle.larch_prove_adding.specs.Equation.{IsSaid, sides_in};
 ghost use Rattle.larch_prove_adding.specs.KeptFacts.{AreSaid, facts_of};
 ghost use Rattle.larch_prove_adding.specs.Turns.{HasRoom, IsStopped, IsTaken, Tells, course_of, manner_of};
-ghost use Rattle.larch_prove_meaning.specs.Facts.{add, max_fact_number};
-ghost use Rattle.larch_prove_meaning.specs.Levels.{work_result};
+ghost use Rattle.larch_prove_invariant.specs.ProveMeaningFacts.{add, max_fact_number};
+ghost use Rattle.larch_prove_invariant.specs.ProveMeaningLevels.{work_result};
 ghost use Rattle.larch_rewrite.specs.RuleSet.{BelongsTo};
 ghost use Rattle.larch_store.specs.Stored.{Grows};
 

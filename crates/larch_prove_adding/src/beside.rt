@@ -4,8 +4,8 @@ ghost use Rattle.larch_prove_adding.specs.Beside.{IsApart, manner_beside};
 ghost use Rattle.larch_prove_adding.specs.Equation.{IsSaid, sides_in};
 ghost use Rattle.larch_prove_adding.specs.KeptFacts.{AreSaid, facts_of};
 ghost use Rattle.larch_prove_adding.specs.Turns.{Tells};
-ghost use Rattle.larch_prove_meaning.specs.Facts.{add};
-ghost use Rattle.larch_prove_meaning.specs.Levels.{work_result};
+ghost use Rattle.larch_prove_invariant.specs.ProveMeaningFacts.{add};
+ghost use Rattle.larch_prove_invariant.specs.ProveMeaningLevels.{work_result};
 ghost use Rattle.larch_rewrite.specs.RuleSet.{BelongsTo};
 ghost use Rattle.larch_store.specs.Stored.{Grows};
 

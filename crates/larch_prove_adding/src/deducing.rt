@@ -2,14 +2,15 @@ ghost use Rattle.std.specs.Prelude.{◌≡◌, ◌↔◌, ◌++◌, ◌∷◌, [
 ghost use Rattle.std.specs.Prelude.{IfOk, IfSome, IfNone, IsSome, OnOk};
 ghost use Rattle.std.specs.List.{AllZip, flat_map};
 ghost use Rattle.larch_base.specs.ByNumber.{numbered};
-ghost use Rattle.larch_calculus.specs.Formula.{falsity};
+ghost use Rattle.larch_prove_invariant.specs.CalculusFormula.{falsity};
 ghost use Rattle.larch_derive.specs.Predicates.{Extends, HasStatement};
 ghost use Rattle.larch_derive.specs.declared.builder.Builder.{Builder as is_builder};
-ghost use Rattle.larch_derive_formulas.specs.Consequences.{Follows, lines_of};
+ghost use Rattle.larch_prove_invariant.specs.DeriveFormulasConsequences.{Follows, lines_of};
 ghost use Rattle.larch_prove_adding.specs.Equation.{IsSaid, sides_in, waiting_in};
-ghost use Rattle.larch_prove_adding.specs.Deductions.{Deduction, deductions, first_right, found_by, left_by, only_right};
+ghost use Rattle.larch_prove_adding.specs.Deductions.{Deduction, deductions, first_right};
+ghost use Rattle.larch_prove_adding.specs.Deductions.{found_by, left_by, only_right};
 ghost use Rattle.larch_prove_adding.specs.Deductions.{second_right};
-ghost use Rattle.larch_prove_meaning.specs.Facts.{deduce};
+ghost use Rattle.larch_prove_invariant.specs.ProveMeaningFacts.{deduce};
 ghost use Rattle.larch_rewrite_meaning.specs.Sides.{sides_of};
 ghost use Rattle.larch_term.specs.Tree.{Tree};
 ghost use Rattle.larch_term.specs.Truth.{truth};
@@ -19,7 +20,7 @@ ghost use Rattle.larch_term.specs.declared.statement.Statement.{Statement};
 use crate::equation::SaidEquation;
 use larch_base::Memory;
 use larch_derive::Builder;
-use larch_derive_formulas::{BothLines, Consequences, deduce};
+use larch_prove_invariant::larch_derive_formulas::{BothLines, Consequences, deduce};
 use larch_term::{BuiltIn, Node, Term, copy};
 use std::alloc::Global;
 

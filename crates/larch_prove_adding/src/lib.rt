@@ -16,3 +16,8 @@ pub use equation::SaidEquation;
 pub use facts::Facts;
 pub use normal::{LevelGoal, normal_goal};
 pub use treating::Manner;
+
+// Passed on to crates above, which then needn't list them.
+pub use larch_prove_invariant::larch_prove_plans;
+pub use larch_rewrite;
+pub use larch_rewrite::larch_derive_lines;

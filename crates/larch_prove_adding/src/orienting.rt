@@ -1,8 +1,8 @@
 ghost use Rattle.std.specs.Prelude.{◌≡◌, ◌≤◌, bytes_eq, if◌then◌else◌, IfOk};
-ghost use Rattle.larch_calculus.specs.Formula.{apply_two};
+ghost use Rattle.larch_prove_invariant.specs.CalculusFormula.{apply_two};
 ghost use Rattle.larch_derive.specs.Predicates.{Extends};
 ghost use Rattle.larch_prove_adding.specs.Equation.{IsSaid, IsSmall, sides_in};
-ghost use Rattle.larch_prove_meaning.specs.Facts.{equality_term, orient};
+ghost use Rattle.larch_prove_invariant.specs.ProveMeaningFacts.{equality_term, orient};
 ghost use Rattle.larch_store.specs.Stored.{most_nodes};
 ghost use Rattle.larch_term.specs.BuiltIn.{bool_sort, built_in};
 ghost use Rattle.larch_term.specs.Sorts.{sort_of};
@@ -12,8 +12,8 @@ ghost use Rattle.larch_term.specs.Truth.{truth};
 use crate::equation::{SaidEquation, exchange_sides};
 use larch_base::Memory;
 use larch_derive::Builder;
-use larch_derive_formulas::push_equality;
-use larch_order::Precedence;
+use larch_prove_invariant::larch_derive_formulas::push_equality;
+use larch_prove_invariant::larch_order::Precedence;
 use larch_term::{BuiltIn, Operator, Term, Terms, sort_of};
 use std::alloc::Global;
 

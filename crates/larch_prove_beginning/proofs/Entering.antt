@@ -2,12 +2,12 @@
 use Rattle.std.specs.Prelude.{◌≡◌, ℕ, List, [], Ok, refl}
 use Rattle.larch_order.specs.declared.precedence.Ranked.{Ranked}
 use Rattle.larch_prove_beginning.specs.Level.{level_by}
-use Rattle.larch_prove_levels.specs.Supposing.{TellsCode, with_hypotheses}
+use Rattle.larch_prove_settling.specs.ProveLevelsSupposing.{TellsCode, with_hypotheses}
 use Rattle.larch_prove_meaning.specs.Facts.{Facts, rules_of}
 use Rattle.larch_prove_meaning.specs.Levels.{work_result}
 use Rattle.larch_prove_meaning.specs.Plans.{Subgoal}
 use Rattle.larch_prove_settling.proofs.Hypotheses.{goal_refused, hypotheses_refused, opened_as}
-use Rattle.larch_rewrite.specs.declared.refusal.RewriteRefusal.{RewriteRefusal}
+use Rattle.larch_prove_opening.specs.RewriteRefusalRewriteRefusal.{RewriteRefusal}
 use Rattle.larch_rewrite_meaning.specs.NormalForm.{normal}
 use Rattle.larch_rewrite_meaning.specs.Sides.{Sides}
 use Rattle.larch_term.specs.Tree.{Tree}

@@ -8,18 +8,18 @@ use Rattle.larch_prove_beginning.specs.Opening.{IsStarted, first_opened, first_p
 use Rattle.larch_prove_beginning.specs.declared.duty.FirstDraft.{FirstDraft}
 use Rattle.larch_prove_beginning.specs.declared.duty.Preamble.{Preamble}
 use Rattle.larch_prove_beginning.specs.declared.duty.WholeDuty.{WholeDuty}
-use Rattle.larch_prove_draft.specs.Draft.{Leads, Stands}
-use Rattle.larch_prove_draft.specs.Proving.{IsOver}
-use Rattle.larch_prove_draft.specs.declared.draft.Draft.{Draft}
-use Rattle.larch_prove_invariant.specs.Book.{Kept}
-use Rattle.larch_prove_levels.proofs.Telling.{tells_first, tells_same}
-use Rattle.larch_prove_levels.specs.Supposing.{TellsCode}
+use Rattle.larch_prove_settling.specs.ProveDraftDraft.{Leads, Stands}
+use Rattle.larch_prove_settling.specs.ProveDraftProving.{IsOver}
+use Rattle.larch_prove_settling.specs.ProveDraftDraftDraft.{Draft}
+use Rattle.larch_prove_opening.specs.ProveInvariantBook.{Kept}
+use Rattle.larch_prove_settling.proofs.ProveLevelsTelling.{tells_first, tells_same}
+use Rattle.larch_prove_settling.specs.ProveLevelsSupposing.{TellsCode}
 use Rattle.larch_prove_meaning.specs.Levels.{Proof, settle_goal}
 use Rattle.larch_prove_meaning.specs.Replays.{duty_opened}
 use Rattle.larch_prove_settling.specs.Rising.{IsSomeStanding}
-use Rattle.larch_rewrite.specs.declared.refusal.RewriteRefusal.{RewriteRefusal}
+use Rattle.larch_prove_opening.specs.RewriteRefusalRewriteRefusal.{RewriteRefusal}
 use Rattle.larch_store.specs.Numbered.{Numbered}
-use Rattle.larch_traits_items.specs.Steps.{after}
+use Rattle.larch_base_meaning.specs.Steps.{after}
 
 module _ (d : WholeDuty) (m : Preamble) (before : List Ranked) (p : Proof) (u : IsUnopened d m before p) where
   opening_is : duty_opened d.statement.now p

@@ -12,9 +12,9 @@ use Rattle.larch_prove_beginning.specs.Beginning.{unopened_proof}
 use Rattle.larch_prove_beginning.specs.Goal.{Posed, goal_of, taken_by}
 use Rattle.larch_prove_beginning.specs.Opening.{first_opened, first_proof, opened_with, posed_in, proof_with}
 use Rattle.larch_prove_beginning.specs.Opening.{ranks_with}
-use Rattle.larch_prove_levels.proofs.Opening.{all_supposed_by}
-use Rattle.larch_prove_levels.specs.Opened.{normal_by, with_supposed}
-use Rattle.larch_prove_levels.specs.Supposing.{Supposed, with_hypotheses}
+use Rattle.larch_prove_settling.proofs.ProveLevelsOpening.{all_supposed_by}
+use Rattle.larch_prove_settling.specs.ProveLevelsOpened.{normal_by, with_supposed}
+use Rattle.larch_prove_settling.specs.ProveLevelsSupposing.{Supposed, with_hypotheses}
 use Rattle.larch_prove_meaning.specs.Facts.{Facts, no_facts, rules_of}
 use Rattle.larch_prove_meaning.specs.Levels.{Next, Proof, all_supposed, normal_goal, settle_goal, with_constants}
 use Rattle.larch_prove_meaning.specs.Levels.{with_facts, with_goal, work_result}
@@ -23,7 +23,7 @@ use Rattle.larch_prove_meaning.specs.Plans.{holds}
 use Rattle.larch_prove_meaning.specs.Replays.{Duty, duty_opened, goal_made}
 use Rattle.larch_prove_opening.proofs.ByFacts.{opening_by}
 use Rattle.larch_prove_opening.specs.FirstFacts.{first_facts}
-use Rattle.larch_prove_plans.specs.ClauseGoals.{predicate_named}
+use Rattle.larch_prove_opening.specs.ProvePlansClauseGoals.{predicate_named}
 use Rattle.larch_rewrite_meaning.specs.NormalForm.{normal}
 use Rattle.larch_rewrite_meaning.specs.Sides.{sides_of}
 use Rattle.larch_sorts_meaning.specs.Scope.{Variables}
@@ -31,7 +31,7 @@ use Rattle.larch_term.specs.Operator.{PlainOperator, name_bytes}
 use Rattle.larch_term.specs.Tree.{Tree, var}
 use Rattle.larch_term.specs.declared.statement.Statement.{Statement}
 use Rattle.larch_term.specs.declared.statement.Statement.TheVariants.{Equation, Generated, Partitioned}
-use Rattle.larch_traits_items.specs.Steps.{after}
+use Rattle.larch_base_meaning.specs.Steps.{after}
 
 -- the proof in which a goal stands, before anything is supposed for it
 abbrev goal_proof : Proof → Facts → Posed → Proof

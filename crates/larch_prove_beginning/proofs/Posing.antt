@@ -9,21 +9,21 @@ use Rattle.larch_calculus.specs.Formula.{apply_two, constant}
 use Rattle.larch_calculus.specs.Theories.{AreNew}
 use Rattle.larch_derive.specs.Words.{AreWordedOperators, IsWordedOperator, IsWordedStatement}
 use Rattle.larch_derive.specs.declared.builder.Builder.{Builder}
-use Rattle.larch_prove_adding.specs.Equation.{IsSaid, sides_in}
+use Rattle.larch_prove_opening.specs.ProveAddingEquation.{IsSaid, sides_in}
 use Rattle.larch_prove_beginning.proofs.Saying.{equations_said, sides_all}
 use Rattle.larch_prove_beginning.specs.Goal.{AreTaken, IsPosed, MayPose, generation_for, partition_for, goal_of}
 use Rattle.larch_prove_beginning.specs.Goal.{posed_by}
 use Rattle.larch_prove_beginning.specs.Hypotheses.{all_said}
 use Rattle.larch_prove_beginning.specs.declared.goal.FirstGoal.{FirstGoal}
-use Rattle.larch_prove_boxes.specs.Lowest.{AreSaidBy, IsBegun}
-use Rattle.larch_prove_invariant.proofs.BlockConstants.{shapes_made}
-use Rattle.larch_prove_invariant.specs.Book.{Book, SupposingBox, made_in}
-use Rattle.larch_prove_invariant.specs.Holding.{IsStart, Shape, shape_of, stated_shape}
+use Rattle.larch_prove_settling.specs.ProveBoxesLowest.{AreSaidBy, IsBegun}
+use Rattle.larch_prove_opening.proofs.ProveInvariantBlockConstants.{shapes_made}
+use Rattle.larch_prove_opening.specs.ProveInvariantBook.{Book, SupposingBox, made_in}
+use Rattle.larch_prove_opening.specs.ProveInvariantHolding.{IsStart, Shape, shape_of, stated_shape}
 use Rattle.larch_prove_meaning.proofs.NewConstants.{grown_new, none_are_new, predicate_new, two_new}
 use Rattle.larch_prove_meaning.proofs.PartitionPlans.{formula_over}
 use Rattle.larch_prove_meaning.specs.NewNames.{constant_named, free_name}
-use Rattle.larch_prove_plans.specs.ClauseGoals.{generation_goal, partition_goal, predicate_named}
-use Rattle.larch_prove_plans.specs.declared.subgoals.Subgoal as stated
+use Rattle.larch_prove_opening.specs.ProvePlansClauseGoals.{generation_goal, partition_goal, predicate_named}
+use Rattle.larch_prove_opening.specs.ProvePlansSubgoalsSubgoal as stated
 use Rattle.larch_sorts_meaning.specs.Scope.{Variables}
 use Rattle.larch_term.specs.BuiltIn.{bool_sort}
 use Rattle.larch_term.specs.Operator.{PlainOperator, name_bytes, plain}

@@ -8,10 +8,10 @@ use Rattle.std.proofs.lemmas.List.Elements.{All-cons, All-nil}
 use Rattle.larch_base.proofs.Options.{some_inj}
 use Rattle.larch_derive.specs.Predicates.{HasStatement}
 use Rattle.larch_derive.specs.declared.builder.Builder.{Builder}
-use Rattle.larch_prove_adding.specs.Equation.{IsSaid, sides_in}
-use Rattle.larch_prove_adding.specs.declared.equation.SaidEquation.{SaidEquation}
+use Rattle.larch_prove_opening.specs.ProveAddingEquation.{IsSaid, sides_in}
+use Rattle.larch_prove_opening.specs.ProveAddingEquationSaidEquation.{SaidEquation}
 use Rattle.larch_prove_beginning.specs.Hypotheses.{all_said, said_by}
-use Rattle.larch_prove_boxes.specs.Lowest.{AreSaidBy}
+use Rattle.larch_prove_settling.specs.ProveBoxesLowest.{AreSaidBy}
 use Rattle.larch_rewrite_meaning.specs.Sides.{Sides, sides_of}
 use Rattle.larch_term.specs.declared.statement.Statement.{Statement}
 use Rattle.larch_term.specs.declared.statement.Statement.TheVariants.{Equation, Generated, Partitioned}

@@ -14,8 +14,8 @@ use Rattle.larch_derive.specs.Builder.{IsEmpty}
 use Rattle.larch_derive.specs.Words.{AreWordedOperators}
 use Rattle.larch_derive.specs.declared.builder.Builder.{Builder}
 use Rattle.larch_order.specs.declared.precedence.Ranked.{Ranked}
-use Rattle.larch_prove_adding.proofs.FactLists.{named_said}
-use Rattle.larch_prove_adding.specs.KeptFacts.{AreSaid, KeptFacts, SaysAbsurd, facts_of, lines_of}
+use Rattle.larch_prove_opening.proofs.ProveAddingFactLists.{named_said}
+use Rattle.larch_prove_opening.specs.ProveAddingKeptFacts.{AreSaid, KeptFacts, SaysAbsurd, facts_of, lines_of}
 use Rattle.larch_prove_beginning.specs.Beginning.{CanBegin, duty_in}
 use Rattle.larch_prove_beginning.specs.Goal.{IsPosed, MayPose, goal_of, taken_by}
 use Rattle.larch_prove_beginning.specs.Level.{HasAll, level_by, opened_in}
@@ -26,28 +26,28 @@ use Rattle.larch_prove_beginning.specs.declared.duty.Preamble.{Preamble}
 use Rattle.larch_prove_beginning.specs.declared.duty.WholeDuty.{WholeDuty}
 use Rattle.larch_prove_beginning.specs.declared.goal.FirstGoal.{FirstGoal}
 use Rattle.larch_prove_beginning.specs.declared.level.GoalLevel.{GoalLevel}
-use Rattle.larch_prove_boxes.specs.BoxLists.{box_list}
-use Rattle.larch_prove_draft.specs.Draft.{AreBelow, Stands}
-use Rattle.larch_prove_draft.specs.Proving.{IsProvable}
-use Rattle.larch_prove_draft.specs.declared.draft.Draft.{Draft}
-use Rattle.larch_prove_invariant.proofs.Boxes.{said_through, through_grows}
-use Rattle.larch_prove_invariant.proofs.Held.{level_entered, zip_kept}
-use Rattle.larch_prove_invariant.proofs.LevelConstants.{levels_start}
-use Rattle.larch_prove_invariant.specs.Book.{Kept, SupposingBox}
-use Rattle.larch_prove_invariant.specs.Holding.{HasAbsurd, HoldsLevels, IsStart, Through}
-use Rattle.larch_prove_levels.proofs.Telling.{tells_first, tells_next, tells_same}
-use Rattle.larch_prove_levels.specs.Level.{IsKept, IsReady, IsStored, RunsLikeAny, purpose_of}
-use Rattle.larch_prove_levels.specs.Opened.{Opened}
-use Rattle.larch_prove_levels.specs.Supposing.{TellsCode}
-use Rattle.larch_prove_levels.specs.declared.level.Level.{Level}
+use Rattle.larch_prove_settling.specs.ProveBoxesBoxLists.{box_list}
+use Rattle.larch_prove_settling.specs.ProveDraftDraft.{AreBelow, Stands}
+use Rattle.larch_prove_settling.specs.ProveDraftProving.{IsProvable}
+use Rattle.larch_prove_settling.specs.ProveDraftDraftDraft.{Draft}
+use Rattle.larch_prove_opening.proofs.ProveInvariantBoxes.{said_through, through_grows}
+use Rattle.larch_prove_opening.proofs.ProveInvariantHeld.{level_entered, zip_kept}
+use Rattle.larch_prove_opening.proofs.ProveInvariantLevelConstants.{levels_start}
+use Rattle.larch_prove_opening.specs.ProveInvariantBook.{Kept, SupposingBox}
+use Rattle.larch_prove_opening.specs.ProveInvariantHolding.{HasAbsurd, HoldsLevels, IsStart, Through}
+use Rattle.larch_prove_settling.proofs.ProveLevelsTelling.{tells_first, tells_next, tells_same}
+use Rattle.larch_prove_settling.specs.ProveLevelsLevel.{IsKept, IsReady, IsStored, RunsLikeAny, purpose_of}
+use Rattle.larch_prove_settling.specs.ProveLevelsOpened.{Opened}
+use Rattle.larch_prove_settling.specs.ProveLevelsSupposing.{TellsCode}
+use Rattle.larch_prove_settling.specs.ProveLevelsLevelLevel.{Level}
 use Rattle.larch_prove_meaning.specs.Facts.{Fact, Facts, no_facts}
 use Rattle.larch_prove_meaning.specs.Levels as defined
 use Rattle.larch_prove_opening.specs.FirstFacts.{first_facts}
 use Rattle.larch_prove_opening.specs.Stating as stating
-use Rattle.larch_prove_plans.specs.Planning.{names_of_operators}
+use Rattle.larch_prove_opening.specs.ProvePlansPlanning.{names_of_operators}
 use Rattle.larch_prove_settling.proofs.EntersUpon.{level_says}
-use Rattle.larch_rewrite.specs.declared.refusal.RewriteRefusal.{RewriteRefusal}
-use Rattle.larch_rewrite.specs.declared.refusal.RewriteRefusal.TheVariants.{Limit, TooLarge, Memory}
+use Rattle.larch_prove_opening.specs.RewriteRefusalRewriteRefusal.{RewriteRefusal}
+use Rattle.larch_prove_opening.specs.RewriteRefusalRewriteRefusal.TheVariants.{Limit, TooLarge, Memory}
 use Rattle.larch_rewrite_meaning.specs.Sides.{Sides}
 use Rattle.larch_sorts_meaning.specs.Scope.{Variables}
 use Rattle.larch_store.specs.Numbered.{Numbered, term_of}
@@ -58,8 +58,8 @@ use Rattle.larch_term.specs.Tree.{Tree}
 use Rattle.larch_term.specs.Truth.{truth}
 use Rattle.larch_term.specs.declared.statement.Statement.TheVariants.{Equation}
 use Rattle.larch_term.specs.declared.statement.Theory.{Theory}
-use Rattle.larch_traits_items.specs.Laws.{NamesOwn}
-use Rattle.larch_traits_items.specs.Steps.{after}
+use Rattle.larch_prove_settling.specs.TraitsItemsLaws.{NamesOwn}
+use Rattle.larch_base_meaning.specs.Steps.{after}
 
 -- ---- duties
 

@@ -6,14 +6,14 @@ use Rattle.larch_order.specs.declared.precedence.Ranked.{Ranked}
 use Rattle.larch_prove_beginning.specs.declared.duty.FirstDraft.{FirstDraft}
 use Rattle.larch_prove_beginning.specs.declared.duty.Preamble.{Preamble}
 use Rattle.larch_prove_beginning.specs.declared.duty.WholeDuty.{WholeDuty}
-use Rattle.larch_prove_draft.specs.Draft.{IsProofOf}
+use Rattle.larch_prove_settling.specs.ProveDraftDraft.{IsProofOf}
 use Rattle.larch_prove_meaning.specs.Levels.{Proof}
 use Rattle.larch_prove_meaning.specs.Replays.{Duty, blank}
 use Rattle.larch_prove_meaning.specs.WellSorted.{IsWellSortedDuty}
 use Rattle.larch_prove_opening.specs.Stating.{duties_of, what_state}
 use Rattle.larch_sorts_meaning.specs.Scope.{Variables}
 use Rattle.larch_store.specs.Numbered.{Numbered}
-use Rattle.larch_traits_items.specs.Laws.{NamesOwn}
+use Rattle.larch_prove_settling.specs.TraitsItemsLaws.{NamesOwn}
 
 -- the duty, as a replay starts from it
 abbrev pub duty_in : WholeDuty → Duty

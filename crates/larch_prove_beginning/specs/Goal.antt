@@ -5,17 +5,17 @@ use Rattle.larch_calculus.specs.Formula.{formula}
 use Rattle.larch_calculus.specs.Theories.{AreNew}
 use Rattle.larch_derive.specs.Words.{AreWordedOperators, IsWordedStatement}
 use Rattle.larch_derive.specs.declared.builder.Builder.{Builder}
-use Rattle.larch_prove_adding.specs.Equation.{IsSaid, sides_in}
+use Rattle.larch_prove_opening.specs.ProveAddingEquation.{IsSaid, sides_in}
 use Rattle.larch_prove_beginning.specs.declared.goal.FirstGoal.{FirstGoal}
-use Rattle.larch_prove_boxes.specs.Lowest.{IsBegun}
-use Rattle.larch_prove_invariant.specs.Book.{made_in}
-use Rattle.larch_prove_invariant.specs.Holding.{IsStart}
+use Rattle.larch_prove_settling.specs.ProveBoxesLowest.{IsBegun}
+use Rattle.larch_prove_opening.specs.ProveInvariantBook.{made_in}
+use Rattle.larch_prove_opening.specs.ProveInvariantHolding.{IsStart}
 use Rattle.larch_prove_meaning.specs.NewNames.{free_name}
 use Rattle.larch_prove_meaning.specs.Replays.{scope_of}
 use Rattle.larch_prove_meaning.specs.Steps.{with_all_new}
-use Rattle.larch_prove_plans.specs.ClauseGoals.{generation_goal, partition_goal}
-use Rattle.larch_prove_plans.specs.Planning.{names_of_operators}
-use Rattle.larch_prove_plans.specs.declared.subgoals.Subgoal as stated
+use Rattle.larch_prove_opening.specs.ProvePlansClauseGoals.{generation_goal, partition_goal}
+use Rattle.larch_prove_opening.specs.ProvePlansPlanning.{names_of_operators}
+use Rattle.larch_prove_opening.specs.ProvePlansSubgoalsSubgoal as stated
 use Rattle.larch_rewrite_meaning.specs.Sides.{Sides, sides_of}
 use Rattle.larch_sorts_meaning.specs.Scope.{Variables}
 use Rattle.larch_term.specs.BuiltIn.{bool_sort}

@@ -1,6 +1,6 @@
 -- Hypotheses with the lines that say them.
 use Rattle.std.specs.Prelude.{ℕ, List, [], ◌∷◌, ◌++◌}
-use Rattle.larch_prove_adding.specs.declared.equation.SaidEquation.{SaidEquation}
+use Rattle.larch_prove_opening.specs.ProveAddingEquationSaidEquation.{SaidEquation}
 use Rattle.larch_term.specs.declared.statement.Statement.{Statement}
 use Rattle.larch_term.specs.declared.statement.Statement.TheVariants.{Equation, Generated, Partitioned}
 

@@ -4,22 +4,22 @@ use Rattle.larch_base.specs.declared.code.Code.{Code}
 use Rattle.larch_derive.specs.Predicates.{HasEquation}
 use Rattle.larch_derive.specs.declared.builder.Builder.{Builder}
 use Rattle.larch_order.specs.declared.precedence.Ranked.{Ranked}
-use Rattle.larch_prove_adding.specs.Equation.{IsSaid}
-use Rattle.larch_prove_adding.specs.KeptFacts.{KeptFacts, facts_of, lines_of}
-use Rattle.larch_prove_adding.specs.declared.equation.SaidEquation.{SaidEquation}
-use Rattle.larch_prove_boxes.specs.declared.beginning.Beginning.{Beginning}
-use Rattle.larch_prove_invariant.specs.Holding.{HasAbsurd, HasFacts}
-use Rattle.larch_prove_levels.specs.Level.{IsReady}
-use Rattle.larch_prove_levels.specs.Opened.{Opened, normal_by}
-use Rattle.larch_prove_levels.specs.Supposing.{with_hypotheses}
-use Rattle.larch_prove_levels.specs.declared.level.Level.{Level}
-use Rattle.larch_prove_levels.specs.declared.level.Purpose.TheVariants.{OfDuty}
+use Rattle.larch_prove_opening.specs.ProveAddingEquation.{IsSaid}
+use Rattle.larch_prove_opening.specs.ProveAddingKeptFacts.{KeptFacts, facts_of, lines_of}
+use Rattle.larch_prove_opening.specs.ProveAddingEquationSaidEquation.{SaidEquation}
+use Rattle.larch_prove_settling.specs.ProveBoxesBeginningBeginning.{Beginning}
+use Rattle.larch_prove_opening.specs.ProveInvariantHolding.{HasAbsurd, HasFacts}
+use Rattle.larch_prove_settling.specs.ProveLevelsLevel.{IsReady}
+use Rattle.larch_prove_settling.specs.ProveLevelsOpened.{Opened, normal_by}
+use Rattle.larch_prove_settling.specs.ProveLevelsSupposing.{with_hypotheses}
+use Rattle.larch_prove_settling.specs.ProveLevelsLevelLevel.{Level}
+use Rattle.larch_prove_settling.specs.ProveLevelsLevelPurpose.TheVariants.{OfDuty}
 use Rattle.larch_prove_meaning.specs.Facts.{Facts}
 use Rattle.larch_rewrite_meaning.specs.Sides.{Sides}
 use Rattle.larch_store.specs.Numbered.{Numbered, term_of}
 use Rattle.larch_store.specs.Stored.{Belongs}
 use Rattle.larch_term.specs.Tree.{Tree}
-use Rattle.larch_traits_items.specs.Steps.{after}
+use Rattle.larch_base_meaning.specs.Steps.{after}
 
 -- with facts, hypotheses are supposed from the first number on, and the goal gets its normal form
 abbrev pub level_by : List Ranked → ℕ → Facts → List Sides → Tree → Result Opened Code

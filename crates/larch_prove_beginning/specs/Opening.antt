@@ -14,18 +14,18 @@ use Rattle.larch_derive.specs.declared.builder.Builder.{Builder}
 use Rattle.larch_prove_beginning.specs.declared.goal.FirstGoal.{FirstGoal}
 use Rattle.larch_prove_beginning.specs.declared.level.FirstLevel.{FirstLevel}
 use Rattle.larch_prove_beginning.specs.declared.level.GoalLevel.{GoalLevel}
-use Rattle.larch_prove_draft.specs.Draft.{Stands}
-use Rattle.larch_prove_draft.specs.declared.draft.Draft.{Draft}
-use Rattle.larch_prove_invariant.specs.Book.{Kept}
-use Rattle.larch_prove_invariant.specs.Holding.{IsStart}
-use Rattle.larch_prove_levels.specs.Opened.{Opened}
+use Rattle.larch_prove_settling.specs.ProveDraftDraft.{Stands}
+use Rattle.larch_prove_settling.specs.ProveDraftDraftDraft.{Draft}
+use Rattle.larch_prove_opening.specs.ProveInvariantBook.{Kept}
+use Rattle.larch_prove_opening.specs.ProveInvariantHolding.{IsStart}
+use Rattle.larch_prove_settling.specs.ProveLevelsOpened.{Opened}
 use Rattle.larch_prove_meaning.specs.Facts.{Facts, no_facts}
 use Rattle.larch_prove_meaning.specs.Levels.{OfDuty, Proof}
 use Rattle.larch_prove_meaning.specs.Replays.{Duty}
 use Rattle.larch_prove_opening.specs.FirstFacts.{first_facts}
 use Rattle.larch_sorts_meaning.specs.Scope.{Variables}
 use Rattle.larch_store.specs.Numbered.{Numbered}
-use Rattle.larch_traits_items.specs.Steps.{after}
+use Rattle.larch_base_meaning.specs.Steps.{after}
 
 -- the goal of a duty, where variables are in scope
 abbrev pub posed_in : Duty → Variables → Posed

@@ -1,12 +1,12 @@
 ghost use Rattle.std.specs.Prelude.{◌≡◌, Ok, IfErr, IfOk, map};
 ghost use Rattle.larch_derive.specs.Predicates.{Extends, HasEquation};
-ghost use Rattle.larch_prove_adding.specs.Equation.{sides_in};
-ghost use Rattle.larch_prove_adding.specs.KeptFacts.{AreSaid, facts_of};
+ghost use Rattle.larch_prove_opening.specs.ProveAddingEquation.{sides_in};
+ghost use Rattle.larch_prove_opening.specs.ProveAddingKeptFacts.{AreSaid, facts_of};
 ghost use Rattle.larch_prove_beginning.specs.Level.{IsForGoal, MayEnter, level_by, opened_in};
-ghost use Rattle.larch_prove_levels.specs.Supposing.{TellsCode};
+ghost use Rattle.larch_prove_settling.specs.ProveLevelsSupposing.{TellsCode};
 ghost use Rattle.larch_prove_meaning.specs.Facts.{rules_of};
 ghost use Rattle.larch_prove_meaning.specs.Levels.{work_result};
-ghost use Rattle.larch_rewrite.specs.RuleSet.{BelongsTo};
+ghost use Rattle.larch_prove_opening.specs.RewriteRuleSet.{BelongsTo};
 ghost use Rattle.larch_rewrite_meaning.specs.NormalForm.{normal};
 ghost use Rattle.larch_store.specs.Numbered.{term_of};
 ghost use Rattle.larch_store.specs.Stored.{Grows};
@@ -14,11 +14,13 @@ ghost use Rattle.larch_store.specs.Stored.{Grows};
 use crate::goal::FirstGoal;
 use larch_base::Sequence;
 use larch_derive::Builder;
-use larch_prove_adding::{Facts, LevelGoal, SaidEquation};
-use larch_prove_boxes::Beginning;
-use larch_prove_levels::{Around, Level, Purpose, normalise_goal, suppose_all};
+use larch_prove_opening::larch_prove_adding::{Facts, LevelGoal, SaidEquation};
+use larch_prove_opening::larch_rewrite::RewriteRefusal;
 use larch_prove_settings::OrderedScope;
-use larch_rewrite::RewriteRefusal;
+use larch_prove_settling::larch_prove_boxes::Beginning;
+use larch_prove_settling::larch_prove_levels::{
+    Around, Level, Purpose, normalise_goal, suppose_all,
+};
 use larch_store::Store;
 use larch_term::Operators;
 

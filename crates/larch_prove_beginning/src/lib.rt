@@ -11,3 +11,7 @@ mod opening;
 
 pub use duty::{FirstDraft, Preamble, WholeDuty};
 pub use opening::open_duty;
+
+// Passed on to crates above, which then needn't list them.
+pub use larch_prove_opening;
+pub use larch_prove_settings;

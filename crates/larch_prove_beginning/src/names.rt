@@ -1,6 +1,6 @@
 ghost use Rattle.std.specs.Prelude.{◌≡◌, ◌++◌, map, IfOk, OnOk};
 ghost use Rattle.larch_prove_settings.specs.Scope.{pair_of};
-ghost use Rattle.larch_prove_plans.specs.Planning.{names_of_operators};
+ghost use Rattle.larch_prove_opening.specs.ProvePlansPlanning.{names_of_operators};
 
 use larch_base::{Memory, Name};
 use larch_term::{Operator, Variable};

@@ -18,7 +18,7 @@ use Rattle.larch_term.specs.declared.statement.Statement.TheVariants.{Equation, 
 use Rattle.larch_term.specs.declared.statement.Theory.{Theory}
 use Rattle.larch_calculus.specs.Formula.{formula}
 use Rattle.larch_calculus.specs.Theories.{AreNew}
-use Rattle.larch_certificate_text.specs.LineText.{IsWord}
+use Rattle.larch_derive.specs.CertificateTextLineText.{IsWord}
 use Rattle.larch_derive.specs.Builder.{theory_in}
 use Rattle.larch_derive.specs.Predicates.{AreOthers, Extends, HasEquation, HasNoBadLine, HasStatement, Known}
 use Rattle.larch_derive.specs.Words.{IsWordedStatement, IsWordedTerm}
@@ -26,15 +26,15 @@ use Rattle.larch_derive.specs.declared.builder.Builder.{Builder}
 use Rattle.larch_derive.specs.declared.open_box.OpenBox.{OpenBox}
 use Rattle.larch_derive.proofs.Growth.{extends_grows, extends_trans, grows_same, stays_said}
 use Rattle.larch_derive.proofs.Start.{known_own as known_there}
-use Rattle.larch_derive_boxes.specs.Boxes.{IsOpen, IsPart, Opens}
-use Rattle.larch_derive_boxes.proofs.Inside.{known_own, opened_known_inside}
-use Rattle.larch_derive_boxes.proofs.Supposing.{grown_open, opens_is_open}
-use Rattle.larch_prove_meaning.specs.NewNames.{constant_named}
-use Rattle.larch_prove_meaning.proofs.PartitionPlans.{formula_over}
-use Rattle.larch_prove_plans.specs.ClauseGoals.{generation_goal, partition_goal, predicate_named}
-use Rattle.larch_prove_plans.specs.declared.subgoals.Subgoal as stated
-use Rattle.larch_methods.specs.Opening.{MayOpen}
-use Rattle.larch_methods.proofs.Begun.{generation_begins, partition_goal_begins}
+use Rattle.larch_prove_invariant.specs.DeriveBoxesBoxes.{IsOpen, IsPart, Opens}
+use Rattle.larch_prove_invariant.proofs.DeriveBoxesInside.{known_own, opened_known_inside}
+use Rattle.larch_prove_invariant.proofs.DeriveBoxesSupposing.{grown_open, opens_is_open}
+use Rattle.larch_prove_invariant.specs.ProveMeaningNewNames.{constant_named}
+use Rattle.larch_prove_invariant.proofs.ProveMeaningPartitionPlans.{formula_over}
+use Rattle.larch_prove_invariant.specs.ProvePlansClauseGoals.{generation_goal, partition_goal, predicate_named}
+use Rattle.larch_prove_invariant.specs.ProvePlansSubgoalsSubgoal as stated
+use Rattle.larch_prove_invariant.specs.MethodsOpening.{MayOpen}
+use Rattle.larch_prove_invariant.proofs.MethodsBegun.{generation_begins, partition_goal_begins}
 use Rattle.larch_prove_boxes.specs.Lowest.{AreSaidBy, IsBegun}
 use Rattle.larch_prove_boxes.specs.BoxLists.{box_list}
 use Rattle.larch_prove_boxes.specs.declared.beginning.Beginning.{Beginning}

@@ -13,10 +13,11 @@ use Rattle.larch_derive.specs.Predicates.{Extends, Grows, HasEquation}
 use Rattle.larch_derive.specs.declared.builder.Builder.{Builder}
 use Rattle.larch_derive.specs.declared.open_box.OpenBox.{OpenBox}
 use Rattle.larch_derive.proofs.Growth.{extends_grows, grows_same, grows_trans}
-use Rattle.larch_derive_boxes.specs.Boxes.{HasResult, Opens}
-use Rattle.larch_prove_meaning.specs.Levels.{Level}
-use Rattle.larch_prove_meaning.specs.Plans.{Cases, Conjunction, Contradiction, Implication, Induction, Method}
-use Rattle.larch_prove_meaning.specs.Plans.{Partition, plan}
+use Rattle.larch_prove_invariant.specs.DeriveBoxesBoxes.{HasResult, Opens}
+use Rattle.larch_prove_invariant.specs.ProveMeaningLevels.{Level}
+use Rattle.larch_prove_invariant.specs.ProveMeaningPlans.{Cases, Conjunction, Contradiction}
+use Rattle.larch_prove_invariant.specs.ProveMeaningPlans.{Implication, Induction, Method}
+use Rattle.larch_prove_invariant.specs.ProveMeaningPlans.{Partition, plan}
 use Rattle.larch_prove_invariant.specs.Book.{AtLine, Done, InBox, Kept, Running, SupposingBox, levels_of}
 use Rattle.larch_prove_invariant.specs.Holding.{HasLeft, HoldsLevels, IsThere, Runs, said_of, shape_of}
 use Rattle.larch_prove_invariant.specs.Leaving.{Leaving}

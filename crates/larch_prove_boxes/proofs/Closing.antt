@@ -15,10 +15,10 @@ use Rattle.larch_derive.specs.Predicates.{Grows, HasEquation, Known}
 use Rattle.larch_derive.specs.declared.builder.Builder.{Builder}
 use Rattle.larch_derive.specs.declared.open_box.OpenBox.{OpenBox}
 use Rattle.larch_derive.proofs.Growth.{known_stands}
-use Rattle.larch_derive_boxes.specs.Boxes.{AreOwnConstants}
-use Rattle.larch_methods.specs.Clauses.{IsSupposing}
-use Rattle.larch_methods.proofs.Sharing.{value_known}
-use Rattle.larch_prove_meaning.specs.Levels.{Level}
+use Rattle.larch_prove_invariant.specs.DeriveBoxesBoxes.{AreOwnConstants}
+use Rattle.larch_prove_invariant.specs.MethodsClauses.{IsSupposing}
+use Rattle.larch_prove_invariant.proofs.MethodsSharing.{value_known}
+use Rattle.larch_prove_invariant.specs.ProveMeaningLevels.{Level}
 use Rattle.larch_prove_boxes.specs.BoxLists.{boxes_with}
 use Rattle.larch_prove_invariant.specs.Book.{Kept, SupposingBox, own_boxes}
 use Rattle.larch_prove_invariant.specs.Holding.{HoldsLevels}

@@ -23,12 +23,14 @@ use Rattle.larch_derive.specs.Builder.{theory_in}
 use Rattle.larch_derive.specs.Predicates.{Grows}
 use Rattle.larch_derive.specs.declared.builder.Builder.{Builder}
 use Rattle.larch_derive.specs.declared.open_box.OpenBox.{OpenBox}
-use Rattle.larch_prove_meaning.specs.Plans.{Cases, Conjunction, Contradiction, Implication, Induction, Method}
-use Rattle.larch_prove_meaning.specs.Plans.{Partition}
-use Rattle.larch_prove_meaning.specs.Plans.{closed_by, conjuncts, generators, observers, two_arguments}
-use Rattle.larch_methods.specs.Conjuncts.{AreTrue}
-use Rattle.larch_methods.specs.Methods.{ByCases, ByContradiction, ByImplication, ByInduction, IsKnownFormula, IsStated}
-use Rattle.larch_methods.specs.Observers.{ByObservers}
+use Rattle.larch_prove_invariant.specs.ProveMeaningPlans.{Cases, Conjunction, Contradiction}
+use Rattle.larch_prove_invariant.specs.ProveMeaningPlans.{Implication, Induction, Method}
+use Rattle.larch_prove_invariant.specs.ProveMeaningPlans.{Partition}
+use Rattle.larch_prove_invariant.specs.ProveMeaningPlans.{closed_by, conjuncts, generators, observers, two_arguments}
+use Rattle.larch_prove_invariant.specs.MethodsConjuncts.{AreTrue}
+use Rattle.larch_prove_invariant.specs.MethodsMethods.{ByCases, ByContradiction, ByImplication}
+use Rattle.larch_prove_invariant.specs.MethodsMethods.{ByInduction, IsKnownFormula, IsStated}
+use Rattle.larch_prove_invariant.specs.MethodsObservers.{ByObservers}
 use Rattle.larch_prove_invariant.specs.Book.{AtLine, InBox, Left}
 use Rattle.larch_prove_invariant.specs.Ending.{EndsByCases, EndsByContradiction, EndsByImplication}
 use Rattle.larch_prove_invariant.specs.Ending.{EndsByInduction, EndsByPartition, SharedBox}

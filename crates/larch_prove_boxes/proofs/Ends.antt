@@ -10,7 +10,7 @@ use Rattle.larch_term.specs.declared.statement.Statement.{Statement}
 use Rattle.larch_term.specs.declared.statement.Statement.TheVariants.{Equation, Generated, Partitioned}
 use Rattle.larch_term.specs.declared.statement.Theory.{Theory}
 use Rattle.larch_calculus.specs.Formula.{formula}
-use Rattle.larch_verify_meaning.specs.LastLine.{EndsWithoutStatedClause}
+use Rattle.larch_derive.specs.VerifyMeaningLastLine.{EndsWithoutStatedClause}
 use Rattle.larch_derive.specs.Builder.{lines_in, theory_in}
 use Rattle.larch_derive.specs.Finished.{IsFinished}
 use Rattle.larch_derive.specs.Predicates.{Extends, Grows, HasEquation, HasStatement}
@@ -18,10 +18,10 @@ use Rattle.larch_derive.specs.declared.builder.Builder.{Builder}
 use Rattle.larch_derive.specs.declared.open_box.OpenBox.{OpenBox}
 use Rattle.larch_derive.proofs.Growth.{extends_grows}
 use Rattle.larch_traits_items.specs.Laws.{NamesOwn}
-use Rattle.larch_prove_plans.specs.ClauseGoals.{generation_goal, partition_goal}
-use Rattle.larch_prove_plans.specs.declared.subgoals.Subgoal as stated
-use Rattle.larch_methods.specs.Clauses.{ByConstants, ByPredicate}
-use Rattle.larch_methods.proofs.Undoing.{missing_so}
+use Rattle.larch_prove_invariant.specs.ProvePlansClauseGoals.{generation_goal, partition_goal}
+use Rattle.larch_prove_invariant.specs.ProvePlansSubgoalsSubgoal as stated
+use Rattle.larch_prove_invariant.specs.MethodsClauses.{ByConstants, ByPredicate}
+use Rattle.larch_prove_invariant.proofs.MethodsUndoing.{missing_so}
 use Rattle.larch_prove_boxes.specs.BoxLists.{box_list, boxes_with}
 use Rattle.larch_prove_boxes.specs.Finishing.{HasEntrance}
 use Rattle.larch_prove_invariant.specs.Book.{Book, Kept, SupposingBox}

@@ -13,16 +13,17 @@ use Rattle.larch_derive.specs.Predicates.{Extends, Grows, HasEquation, HasStatem
 use Rattle.larch_derive.specs.declared.builder.Builder.{Builder}
 use Rattle.larch_derive.specs.declared.open_box.OpenBox.{OpenBox}
 use Rattle.larch_derive.proofs.Growth.{extends_grows, extends_trans, grows_same, stays_said}
-use Rattle.larch_derive_boxes.specs.Boxes.{IsOpen, Opens}
-use Rattle.larch_derive_boxes.proofs.Supposing.{grown_open, opens_is_open}
-use Rattle.larch_rewrite_meaning.specs.Sides.{Sides}
-use Rattle.larch_prove_meaning.specs.Levels.{Level}
-use Rattle.larch_prove_meaning.specs.Plans.{Cases, Conjunction, Contradiction, Implication, Induction, Method}
-use Rattle.larch_prove_meaning.specs.Plans.{Partition, Subgoal, conjuncts, plan, shared_subgoal}
-use Rattle.larch_prove_plans.specs.Planning.{equate, subgoal_of}
-use Rattle.larch_prove_plans.specs.declared.subgoals.Subgoal as stated
-use Rattle.larch_methods.specs.Opening.{MayBegin, MayOpen}
-use Rattle.larch_methods.proofs.Planned.{conjunction_planned}
+use Rattle.larch_prove_invariant.specs.DeriveBoxesBoxes.{IsOpen, Opens}
+use Rattle.larch_prove_invariant.proofs.DeriveBoxesSupposing.{grown_open, opens_is_open}
+use Rattle.larch_prove_invariant.specs.RewriteMeaningSides.{Sides}
+use Rattle.larch_prove_invariant.specs.ProveMeaningLevels.{Level}
+use Rattle.larch_prove_invariant.specs.ProveMeaningPlans.{Cases, Conjunction, Contradiction}
+use Rattle.larch_prove_invariant.specs.ProveMeaningPlans.{Implication, Induction, Method}
+use Rattle.larch_prove_invariant.specs.ProveMeaningPlans.{Partition, Subgoal, conjuncts, plan, shared_subgoal}
+use Rattle.larch_prove_invariant.specs.ProvePlansPlanning.{equate, subgoal_of}
+use Rattle.larch_prove_invariant.specs.ProvePlansSubgoalsSubgoal as stated
+use Rattle.larch_prove_invariant.specs.MethodsOpening.{MayBegin, MayOpen}
+use Rattle.larch_prove_invariant.proofs.MethodsPlanned.{conjunction_planned}
 use Rattle.larch_prove_invariant.specs.Book.{Kept, Running, SupposingBox}
 use Rattle.larch_prove_invariant.specs.Holding.{HoldsLevels, IsPlanned, Shape, entrances, own_shape}
 use Rattle.larch_prove_invariant.proofs.Begin.{subgoals_may_begin}

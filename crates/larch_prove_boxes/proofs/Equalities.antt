@@ -15,18 +15,18 @@ use Rattle.larch_term.specs.declared.built_in.BuiltIn.TheVariants.{Equal}
 use Rattle.larch_term.specs.declared.statement.Statement.{Statement}
 use Rattle.larch_term.specs.declared.statement.Statement.TheVariants.{Equation}
 use Rattle.larch_term.specs.declared.substitution.Entry.{Entry}
-use Rattle.larch_tables.specs.Spelling.{a}
+use Rattle.larch_derive.specs.TablesSpelling.{a}
 use Rattle.larch_calculus.specs.Formula.{apply_two, equality}
-use Rattle.larch_certificate_text.specs.LineText.{IsWord}
-use Rattle.larch_verify_meaning.specs.Matching.{all_different}
-use Rattle.larch_verify_meaning.specs.Rules.{row_says}
+use Rattle.larch_derive.specs.CertificateTextLineText.{IsWord}
+use Rattle.larch_derive.specs.VerifyMeaningMatching.{all_different}
+use Rattle.larch_derive.specs.VerifyMeaningRules.{row_says}
 use Rattle.larch_derive.specs.Predicates.{Extends, HasEquation, HasNoBadLine, HasStatement, Known}
 use Rattle.larch_derive.specs.declared.builder.Builder.{Builder}
 use Rattle.larch_derive.proofs.Growth.{extends_trans, known_left, known_stands, stays_known, stays_said}
 use Rattle.larch_derive.proofs.Words.{known_sort}
-use Rattle.larch_derive_lines.specs.Rules.{variable_in, AreKnownEntries, IsWordedSort}
-use Rattle.larch_prove_meaning.specs.Plans.{two_arguments}
-use Rattle.larch_prove_meaning.proofs.CasePlans.{arguments_found}
+use Rattle.larch_prove_invariant.specs.DeriveLinesRules.{variable_in, AreKnownEntries, IsWordedSort}
+use Rattle.larch_prove_invariant.specs.ProveMeaningPlans.{two_arguments}
+use Rattle.larch_prove_invariant.proofs.ProveMeaningCasePlans.{arguments_found}
 use Rattle.larch_prove_invariant.proofs.Knowing.{known_over}
 
 -- a term for the variable a of its sort

@@ -16,11 +16,11 @@ use Rattle.larch_derive.specs.Words.{AreWordedOperators, IsWordedOperator, IsWor
 use Rattle.larch_derive.specs.declared.builder.Builder.{Builder}
 use Rattle.larch_derive.specs.declared.open_box.OpenBox.{OpenBox}
 use Rattle.larch_derive.proofs.Growth.{grown_known, grows_same}
-use Rattle.larch_derive_boxes.specs.Boxes.{Opens}
-use Rattle.larch_derive_boxes.proofs.Opening.{opened_known}
-use Rattle.larch_methods.specs.Opening.{MayOpen}
-use Rattle.larch_methods.proofs.Opened.{may_open_bare}
-use Rattle.larch_prove_meaning.specs.Levels.{Level}
+use Rattle.larch_prove_invariant.specs.DeriveBoxesBoxes.{Opens}
+use Rattle.larch_prove_invariant.proofs.DeriveBoxesOpening.{opened_known}
+use Rattle.larch_prove_invariant.specs.MethodsOpening.{MayOpen}
+use Rattle.larch_prove_invariant.proofs.MethodsOpened.{may_open_bare}
+use Rattle.larch_prove_invariant.specs.ProveMeaningLevels.{Level}
 use Rattle.larch_prove_invariant.specs.Book.{Kept, SupposingBox, made_in, with_extra}
 use Rattle.larch_prove_invariant.specs.Holding.{AreOwn, HoldsLevels, Through, open_constants}
 use Rattle.larch_prove_invariant.specs.Unopened.{unopened_in}

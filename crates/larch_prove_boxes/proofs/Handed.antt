@@ -18,18 +18,21 @@ use Rattle.larch_term.specs.declared.statement.Theory.{Theory}
 use Rattle.larch_term.specs.declared.substitution.Entry.{Entry}
 use Rattle.larch_term.specs.declared.variable.Variable.{Variable}
 use Rattle.larch_calculus.specs.Formula.{equality, implication}
-use Rattle.larch_verify_meaning.specs.Matching.{all_different}
+use Rattle.larch_derive.specs.VerifyMeaningMatching.{all_different}
 use Rattle.larch_derive.specs.Builder.{theory_in}
 use Rattle.larch_derive.specs.Predicates.{Extends, Grows, HasEquation, Known}
 use Rattle.larch_derive.specs.declared.builder.Builder.{Builder}
 use Rattle.larch_derive.specs.declared.open_box.OpenBox.{OpenBox}
 use Rattle.larch_derive.proofs.Growth.{extends_grows, extends_trans, grows_trans}
-use Rattle.larch_derive_lines.specs.Rules.{variable_in, AreKnownEntries}
-use Rattle.larch_prove_meaning.specs.Plans.{Cases, Conjunction, Contradiction, Implication, Induction, Method}
-use Rattle.larch_prove_meaning.specs.Plans.{Partition, closed_by, conjuncts, generators, observers, two_arguments}
-use Rattle.larch_methods.specs.Conjuncts.{AreTrue}
-use Rattle.larch_methods.specs.Methods.{ByCases, ByContradiction, ByImplication, ByInduction, IsKnownFormula}
-use Rattle.larch_methods.specs.Observers.{ByObservers}
+use Rattle.larch_prove_invariant.specs.DeriveLinesRules.{variable_in, AreKnownEntries}
+use Rattle.larch_prove_invariant.specs.ProveMeaningPlans.{Cases, Conjunction, Contradiction}
+use Rattle.larch_prove_invariant.specs.ProveMeaningPlans.{Implication, Induction, Method}
+use Rattle.larch_prove_invariant.specs.ProveMeaningPlans.{Partition, closed_by, conjuncts}
+use Rattle.larch_prove_invariant.specs.ProveMeaningPlans.{generators, observers, two_arguments}
+use Rattle.larch_prove_invariant.specs.MethodsConjuncts.{AreTrue}
+use Rattle.larch_prove_invariant.specs.MethodsMethods.{ByCases, ByContradiction, ByImplication}
+use Rattle.larch_prove_invariant.specs.MethodsMethods.{ByInduction, IsKnownFormula}
+use Rattle.larch_prove_invariant.specs.MethodsObservers.{ByObservers}
 use Rattle.larch_prove_invariant.specs.Book.{InBox, Kept}
 use Rattle.larch_prove_invariant.specs.Ending.{StandsAt}
 use Rattle.larch_prove_invariant.proofs.Left.{stands_grow}

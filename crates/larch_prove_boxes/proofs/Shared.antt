@@ -13,13 +13,13 @@ use Rattle.larch_derive.specs.Words.{IsWordedOperator}
 use Rattle.larch_derive.specs.declared.builder.Builder.{Builder}
 use Rattle.larch_derive.specs.declared.open_box.OpenBox.{OpenBox}
 use Rattle.larch_derive.proofs.Growth.{grows_same}
-use Rattle.larch_derive_boxes.specs.Boxes.{Opens}
-use Rattle.larch_methods.specs.Opening.{MayOpen}
-use Rattle.larch_methods.proofs.Opened.{may_open_bare}
-use Rattle.larch_prove_meaning.specs.Levels.{Proof, all_constants}
-use Rattle.larch_prove_meaning.specs.Plans.{Method, Plan, Subgoal, plan}
-use Rattle.larch_prove_meaning.specs.Steps.{setting_of}
-use Rattle.larch_prove_meaning.specs.WellSorted.{IsWellSortedProof}
+use Rattle.larch_prove_invariant.specs.DeriveBoxesBoxes.{Opens}
+use Rattle.larch_prove_invariant.specs.MethodsOpening.{MayOpen}
+use Rattle.larch_prove_invariant.proofs.MethodsOpened.{may_open_bare}
+use Rattle.larch_prove_invariant.specs.ProveMeaningLevels.{Proof, all_constants}
+use Rattle.larch_prove_invariant.specs.ProveMeaningPlans.{Method, Plan, Subgoal, plan}
+use Rattle.larch_prove_invariant.specs.ProveMeaningSteps.{setting_of}
+use Rattle.larch_prove_invariant.specs.ProveMeaningWellSorted.{IsWellSortedProof}
 use Rattle.larch_prove_invariant.specs.Book.{Kept, SupposingBox}
 use Rattle.larch_prove_invariant.specs.Holding.{HoldsProof, IsKnownFor, Through, making, shape_of, shared_shapes}
 use Rattle.larch_prove_invariant.specs.Holding.{theory_for}

@@ -11,7 +11,7 @@ use Rattle.larch_term.specs.declared.statement.Theory.{Theory}
 use Rattle.larch_calculus.proofs.Sorted.{zero_over}
 use Rattle.larch_derive.specs.Builder.{theory_in}
 use Rattle.larch_derive.specs.declared.builder.Builder.{Builder}
-use Rattle.larch_methods.specs.Methods.{IsStated}
+use Rattle.larch_prove_invariant.specs.MethodsMethods.{IsStated}
 
 pub stated : (b : Builder) (t : Theory) (clause : ℕ) (s : Statement) → t ≡ theory_in b → IsWellSortedTheory t
     → slice_get (statement_zero ∷ t.statements) clause ≡ Some s → IsStated b clause s

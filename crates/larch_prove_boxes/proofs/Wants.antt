@@ -11,11 +11,11 @@ use Rattle.larch_term.specs.declared.statement.Statement.TheVariants.{Equation, 
 use Rattle.larch_calculus.specs.Formula.{formula}
 use Rattle.larch_derive.specs.Predicates.{Extends, HasEquation}
 use Rattle.larch_derive.specs.declared.builder.Builder.{Builder}
-use Rattle.larch_rewrite_meaning.specs.Sides.{Sides}
-use Rattle.larch_prove_meaning.specs.Plans.{Subgoal, holds}
-use Rattle.larch_prove_plans.specs.Planning.{equate, method_of, subgoal_of}
-use Rattle.larch_prove_plans.specs.declared.subgoals.Method as stated
-use Rattle.larch_prove_plans.specs.declared.subgoals.Subgoal as planned
+use Rattle.larch_prove_invariant.specs.RewriteMeaningSides.{Sides}
+use Rattle.larch_prove_invariant.specs.ProveMeaningPlans.{Subgoal, holds}
+use Rattle.larch_prove_invariant.specs.ProvePlansPlanning.{equate, method_of, subgoal_of}
+use Rattle.larch_prove_invariant.specs.ProvePlansSubgoalsMethod as stated
+use Rattle.larch_prove_invariant.specs.ProvePlansSubgoalsSubgoal as planned
 use Rattle.larch_prove_invariant.specs.Holding.{said_of, sides_within}
 use Rattle.larch_prove_boxes.specs.Saying.{MaySay}
 

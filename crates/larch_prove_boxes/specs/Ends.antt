@@ -3,7 +3,7 @@ use Rattle.std.specs.Prelude.{◌≡◌, ℕ, List, map, Option}
 use Rattle.larch_term.specs.Tree.{Tree}
 use Rattle.larch_derive.specs.declared.builder.Builder.{Builder}
 use Rattle.larch_derive.specs.declared.open_box.OpenBox.{OpenBox}
-use Rattle.larch_prove_meaning.specs.Plans.{Method}
+use Rattle.larch_prove_invariant.specs.ProveMeaningPlans.{Method}
 use Rattle.larch_prove_invariant.specs.Book.{Running}
 use Rattle.larch_prove_invariant.specs.Ending.{HasAllLeft}
 use Rattle.larch_prove_boxes.specs.BoxLists.{box_list, boxes_with}

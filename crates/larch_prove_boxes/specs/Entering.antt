@@ -3,7 +3,7 @@ use Rattle.std.specs.Prelude.{◌≡◌, List, [], ◌∷◌, map}
 use Rattle.std.specs.List.{AllZip}
 use Rattle.larch_derive.specs.Predicates.{HasEquation, Known}
 use Rattle.larch_derive.specs.declared.builder.Builder.{Builder}
-use Rattle.larch_prove_meaning.specs.Plans.{Method, Subgoal}
+use Rattle.larch_prove_invariant.specs.ProveMeaningPlans.{Method, Subgoal}
 use Rattle.larch_prove_invariant.specs.Book.{SupposingBox}
 use Rattle.larch_prove_invariant.specs.Holding.{Through, entrances, own_shape, shape_of}
 use Rattle.larch_prove_boxes.specs.BoxLists.{box_list, boxes_with}

@@ -9,11 +9,12 @@ use Rattle.larch_calculus.specs.Formula.{falsity, formula, implication}
 use Rattle.larch_derive.specs.Predicates.{HasEquation}
 use Rattle.larch_derive.specs.declared.builder.Builder.{Builder}
 use Rattle.larch_derive.specs.declared.open_box.OpenBox.{OpenBox}
-use Rattle.larch_derive_boxes.specs.Boxes.{IsOpen}
-use Rattle.larch_prove_meaning.specs.Levels.{Level}
-use Rattle.larch_prove_meaning.specs.Plans.{Cases, Conjunction, Contradiction, Implication, Induction, Method}
-use Rattle.larch_prove_meaning.specs.Plans.{Partition, Subgoal}
-use Rattle.larch_methods.specs.Methods.{IsKnownFormula}
+use Rattle.larch_prove_invariant.specs.DeriveBoxesBoxes.{IsOpen}
+use Rattle.larch_prove_invariant.specs.ProveMeaningLevels.{Level}
+use Rattle.larch_prove_invariant.specs.ProveMeaningPlans.{Cases, Conjunction, Contradiction}
+use Rattle.larch_prove_invariant.specs.ProveMeaningPlans.{Implication, Induction, Method}
+use Rattle.larch_prove_invariant.specs.ProveMeaningPlans.{Partition, Subgoal}
+use Rattle.larch_prove_invariant.specs.MethodsMethods.{IsKnownFormula}
 use Rattle.larch_prove_invariant.specs.Book.{Kept, Running}
 use Rattle.larch_prove_invariant.specs.Holding.{EntersSubgoal, HoldsLevels, premise, sides_within}
 use Rattle.larch_prove_invariant.specs.Leaving.{Leaving}

@@ -2,7 +2,7 @@ ghost use Rattle.std.specs.Prelude.{option_map, IfOk, OnOk};
 ghost use Rattle.larch_derive.specs.Predicates.{Grows, HasEquation};
 ghost use Rattle.larch_derive.specs.declared.builder.Builder.{Builder as Built};
 ghost use Rattle.larch_prove_boxes.specs.Ends.{AreLeft};
-ghost use Rattle.larch_prove_meaning.specs.Plans.{Cases};
+ghost use Rattle.larch_prove_invariant.specs.ProveMeaningPlans.{Cases};
 ghost use Rattle.larch_term.specs.Tree.{Tree};
 ghost use Rattle.larch_term.specs.Truth.{truth};
 
@@ -10,7 +10,7 @@ use crate::leave::Leave;
 use crate::lefts::{both_numbers, shared_box};
 use larch_base::Memory;
 use larch_derive::{Builder, OpenBox};
-use larch_methods::finish_cases;
+use larch_prove_invariant::larch_methods::finish_cases;
 use larch_term::Term;
 use std::alloc::Global;
 

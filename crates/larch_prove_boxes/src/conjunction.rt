@@ -3,14 +3,14 @@ ghost use Rattle.larch_derive.specs.Predicates.{Grows, HasEquation};
 ghost use Rattle.larch_derive.specs.declared.builder.Builder.{Builder as Built};
 ghost use Rattle.larch_derive.specs.declared.open_box.OpenBox.{OpenBox};
 ghost use Rattle.larch_prove_boxes.specs.Ends.{AreLeft};
-ghost use Rattle.larch_prove_meaning.specs.Plans.{Conjunction};
+ghost use Rattle.larch_prove_invariant.specs.ProveMeaningPlans.{Conjunction};
 ghost use Rattle.larch_term.specs.Truth.{truth};
 
 use crate::leave::Leave;
 use crate::lefts::numbers_of;
 use larch_base::Memory;
 use larch_derive::Builder;
-use larch_methods::finish_conjunction;
+use larch_prove_invariant::larch_methods::finish_conjunction;
 use larch_term::Term;
 use std::alloc::Global;
 

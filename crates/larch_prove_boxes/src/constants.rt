@@ -5,7 +5,7 @@ ghost use Rattle.larch_prove_boxes.specs.Extras.{AreToOpen, MakeEach, bare_box, 
 ghost use Rattle.larch_prove_invariant.specs.Book.{Kept, with_extra};
 ghost use Rattle.larch_prove_invariant.specs.Holding.{HoldsLevels, Through, open_constants};
 ghost use Rattle.larch_prove_invariant.specs.Unopened.{unopened_in};
-ghost use Rattle.larch_prove_meaning.specs.Levels.{Level};
+ghost use Rattle.larch_prove_invariant.specs.ProveMeaningLevels.{Level};
 ghost use Rattle.larch_term.specs.Operator.{PlainOperator};
 ghost use Rattle.larch_term.specs.Sorts.{IsTermOver};
 ghost use Rattle.larch_term.specs.declared.statement.Statement.{Statement};
@@ -15,7 +15,7 @@ ghost use Rattle.larch_term.specs.Tree.{Tree};
 use crate::to_open::constants_to_open;
 use larch_base::{Memory, Sequence};
 use larch_derive::{Builder, OpenBox, OpenBoxes};
-use larch_methods::open_constants;
+use larch_prove_invariant::larch_methods::open_constants;
 use larch_term::{Operator, Operators, Term};
 use std::alloc::Global;
 

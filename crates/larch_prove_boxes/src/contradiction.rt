@@ -2,15 +2,15 @@ ghost use Rattle.std.specs.Prelude.{option_map, IfOk, OnOk};
 ghost use Rattle.larch_derive.specs.Predicates.{Grows, HasEquation};
 ghost use Rattle.larch_derive.specs.declared.builder.Builder.{Builder as Built};
 ghost use Rattle.larch_prove_boxes.specs.Ends.{AreLeft};
-ghost use Rattle.larch_prove_meaning.specs.Plans.{Contradiction};
+ghost use Rattle.larch_prove_invariant.specs.ProveMeaningPlans.{Contradiction};
 ghost use Rattle.larch_term.specs.Truth.{truth};
 
 use crate::leave::Leave;
 use crate::lefts::{only_number, shared_box};
 use larch_base::Memory;
 use larch_derive::{Builder, OpenBox};
-use larch_methods::finish_contradiction;
-use larch_prove_plans::closed_by;
+use larch_prove_invariant::larch_methods::finish_contradiction;
+use larch_prove_invariant::larch_prove_plans::closed_by;
 use larch_term::Term;
 use std::alloc::Global;
 

@@ -5,7 +5,7 @@ ghost use Rattle.larch_derive.specs.declared.builder.Builder.{Builder as Built};
 ghost use Rattle.larch_prove_boxes.specs.Ends.{AreLeft};
 ghost use Rattle.larch_prove_invariant.specs.Book.{Kept};
 ghost use Rattle.larch_prove_invariant.specs.Ending.{StandsAt};
-ghost use Rattle.larch_prove_plans.specs.Planning.{method_of};
+ghost use Rattle.larch_prove_invariant.specs.ProvePlansPlanning.{method_of};
 ghost use Rattle.larch_term.specs.Statement.{IsWellSortedTheory};
 ghost use Rattle.larch_term.specs.Truth.{truth};
 ghost use Rattle.larch_term.specs.declared.statement.Statement.{Statement};
@@ -20,7 +20,7 @@ use crate::leave::Leave;
 use crate::partition::end_partition;
 use larch_base::Memory;
 use larch_derive::{Builder, OpenBox};
-use larch_prove_plans::Method;
+use larch_prove_invariant::larch_prove_plans::Method;
 use larch_term::{Term, Theory};
 use std::alloc::Global;
 

@@ -10,7 +10,7 @@ ghost use Rattle.larch_prove_boxes.specs.Finishing.{HasEntrance};
 ghost use Rattle.larch_prove_invariant.specs.Book.{Book, Kept, SupposingBox};
 ghost use Rattle.larch_prove_invariant.specs.Holding.{EntersClause, IsEntered};
 ghost use Rattle.larch_prove_invariant.specs.Leaving.{Leaving};
-ghost use Rattle.larch_prove_plans.specs.ClauseGoals.{generation_goal, partition_goal};
+ghost use Rattle.larch_prove_invariant.specs.ProvePlansClauseGoals.{generation_goal, partition_goal};
 ghost use Rattle.larch_term.specs.Statement.{IsStatementOver};
 ghost use Rattle.larch_term.specs.Truth.{truth};
 ghost use Rattle.larch_term.specs.declared.statement.Statement.{Statement as IsStatement};
@@ -20,9 +20,9 @@ ghost use Rattle.larch_traits_items.specs.Laws.{NamesOwn};
 
 use larch_base::Memory;
 use larch_derive::{Builder, OpenBox};
-use larch_derive_formulas::push_equation;
-use larch_derive_lines::push_again;
-use larch_methods::{Clause, finish_generated, finish_partitioned};
+use larch_prove_invariant::larch_derive_formulas::push_equation;
+use larch_prove_invariant::larch_derive_lines::push_again;
+use larch_prove_invariant::larch_methods::{Clause, finish_generated, finish_partitioned};
 use larch_term::{Statement, Term, Theory};
 use std::alloc::Global;
 

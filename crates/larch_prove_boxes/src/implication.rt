@@ -3,7 +3,7 @@ ghost use Rattle.larch_calculus.specs.Formula.{implication};
 ghost use Rattle.larch_derive.specs.Predicates.{Grows, HasEquation};
 ghost use Rattle.larch_derive.specs.declared.builder.Builder.{Builder as Built};
 ghost use Rattle.larch_prove_boxes.specs.Ends.{AreLeft};
-ghost use Rattle.larch_prove_meaning.specs.Plans.{Implication, closed_by};
+ghost use Rattle.larch_prove_invariant.specs.ProveMeaningPlans.{Implication, closed_by};
 ghost use Rattle.larch_term.specs.Tree.{Tree};
 ghost use Rattle.larch_term.specs.Truth.{truth};
 
@@ -11,8 +11,8 @@ use crate::leave::Leave;
 use crate::lefts::{only_number, shared_box};
 use larch_base::Memory;
 use larch_derive::{Builder, OpenBox};
-use larch_methods::finish_implication;
-use larch_prove_plans::closed_implication;
+use larch_prove_invariant::larch_methods::finish_implication;
+use larch_prove_invariant::larch_prove_plans::closed_implication;
 use larch_term::{Operator, Term};
 use std::alloc::Global;
 

@@ -3,8 +3,8 @@ ghost use Rattle.larch_term.specs.Operator.{PlainOperator};
 ghost use Rattle.larch_term.specs.declared.statement.Statement.{Statement};
 ghost use Rattle.larch_term.specs.declared.statement.Theory.{Theory};
 ghost use Rattle.larch_derive.specs.declared.builder.Builder.{Builder as Built};
-ghost use Rattle.larch_prove_meaning.specs.Levels.{Level};
-ghost use Rattle.larch_prove_plans.specs.Planning.{method_of, subgoal_of};
+ghost use Rattle.larch_prove_invariant.specs.ProveMeaningLevels.{Level};
+ghost use Rattle.larch_prove_invariant.specs.ProvePlansPlanning.{method_of, subgoal_of};
 ghost use Rattle.larch_prove_invariant.specs.Book.{InBox, Kept, Running, SupposingBox};
 ghost use Rattle.larch_prove_invariant.specs.Holding.{HasLeft};
 ghost use Rattle.larch_prove_invariant.specs.Leaving.{Leaving};
@@ -15,8 +15,8 @@ ghost use Rattle.larch_prove_boxes.specs.Saying.{ShowsSubgoal};
 use crate::saying::say_left;
 use larch_base::Memory;
 use larch_derive::{Builder, OpenBox};
-use larch_derive_boxes::close_box;
-use larch_prove_plans::{Method, Subgoal};
+use larch_prove_invariant::larch_derive_boxes::close_box;
+use larch_prove_invariant::larch_prove_plans::{Method, Subgoal};
 use std::alloc::Global;
 
 /// How a subgoal was left.

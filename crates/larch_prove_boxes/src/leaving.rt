@@ -5,7 +5,7 @@ ghost use Rattle.larch_prove_boxes.specs.BoxLists.{boxes_with};
 ghost use Rattle.larch_prove_invariant.specs.Book.{Kept, own_boxes};
 ghost use Rattle.larch_prove_invariant.specs.Holding.{HoldsLevels};
 ghost use Rattle.larch_prove_invariant.specs.Leaving.{Leaving};
-ghost use Rattle.larch_prove_meaning.specs.Levels.{Level};
+ghost use Rattle.larch_prove_invariant.specs.ProveMeaningLevels.{Level};
 ghost use Rattle.larch_term.specs.Operator.{PlainOperator};
 ghost use Rattle.larch_term.specs.Truth.{truth};
 ghost use Rattle.larch_term.specs.declared.statement.Statement.{Statement};
@@ -13,7 +13,7 @@ ghost use Rattle.larch_term.specs.declared.statement.Theory.{Theory};
 
 use larch_base::Memory;
 use larch_derive::{Builder, OpenBox};
-use larch_methods::push_outside;
+use larch_prove_invariant::larch_methods::push_outside;
 use larch_term::Term;
 use std::alloc::Global;
 

@@ -28,3 +28,9 @@ pub use finishing::{clauses_have_boxes, end_duty};
 pub use leave::{Leave, leave_subgoal};
 pub use leaving::close_extras;
 pub use sharing::open_shared;
+
+// Passed on to crates above, which then needn't list them.
+pub use larch_derive;
+pub use larch_prove_invariant::{
+    larch_derive_formulas, larch_derive_lines, larch_order, larch_prove_plans,
+};

@@ -2,18 +2,18 @@ ghost use Rattle.std.specs.Prelude.{◌≡◌, [], List, map, IfOk, IfSome, IfNo
 ghost use Rattle.larch_term.specs.Truth.{truth};
 ghost use Rattle.larch_calculus.specs.Formula.{formula, implication};
 ghost use Rattle.larch_derive.specs.Predicates.{Extends, HasEquation};
-ghost use Rattle.larch_methods.specs.Methods.{IsKnownFormula};
-ghost use Rattle.larch_prove_meaning.specs.Plans.{Subgoal as PlainSubgoal};
-ghost use Rattle.larch_prove_plans.specs.Planning.{equate, method_of, subgoal_of};
+ghost use Rattle.larch_prove_invariant.specs.MethodsMethods.{IsKnownFormula};
+ghost use Rattle.larch_prove_invariant.specs.ProveMeaningPlans.{Subgoal as PlainSubgoal};
+ghost use Rattle.larch_prove_invariant.specs.ProvePlansPlanning.{equate, method_of, subgoal_of};
 ghost use Rattle.larch_prove_invariant.specs.Holding.{premise, said_of, sides_within};
 ghost use Rattle.larch_prove_boxes.specs.Saying.{MaySay};
-ghost use Rattle.larch_rewrite_meaning.specs.Sides.{Sides};
+ghost use Rattle.larch_prove_invariant.specs.RewriteMeaningSides.{Sides};
 
 use larch_base::Memory;
 use larch_derive::Builder;
-use larch_derive_formulas::push_equation;
-use larch_methods::{push_contradicted, push_implied};
-use larch_prove_plans::{Method, Subgoal, truth};
+use larch_prove_invariant::larch_derive_formulas::push_equation;
+use larch_prove_invariant::larch_methods::{push_contradicted, push_implied};
+use larch_prove_invariant::larch_prove_plans::{Method, Subgoal, truth};
 use larch_term::{BuiltIn, Statement, Term, Terms, bool_sort, copy, two_arguments};
 use std::alloc::Global;
 

@@ -2,17 +2,17 @@ ghost use Rattle.std.specs.Prelude.{◌≡◌, ◌∷◌, [], if◌then◌else�
 ghost use Rattle.larch_prove_boxes.specs.BoxLists.{box_list, boxes_with};
 ghost use Rattle.larch_prove_invariant.specs.Book.{Kept, SupposingBox};
 ghost use Rattle.larch_prove_invariant.specs.Holding.{HoldsProof, IsKnownFor, Through, making, shape_of, shared_shapes};
-ghost use Rattle.larch_prove_meaning.specs.Levels.{Proof};
-ghost use Rattle.larch_prove_meaning.specs.Plans as defined;
-ghost use Rattle.larch_prove_meaning.specs.Steps.{setting_of};
-ghost use Rattle.larch_prove_meaning.specs.WellSorted.{IsWellSortedProof};
-ghost use Rattle.larch_prove_plans.specs.Planning.{method_of, plan_of};
+ghost use Rattle.larch_prove_invariant.specs.ProveMeaningLevels.{Proof};
+ghost use Rattle.larch_prove_invariant.specs.ProveMeaningPlans as defined;
+ghost use Rattle.larch_prove_invariant.specs.ProveMeaningSteps.{setting_of};
+ghost use Rattle.larch_prove_invariant.specs.ProveMeaningWellSorted.{IsWellSortedProof};
+ghost use Rattle.larch_prove_invariant.specs.ProvePlansPlanning.{method_of, plan_of};
 ghost use Rattle.larch_term.specs.declared.statement.Statement.{Statement};
 
 use larch_base::Memory;
 use larch_derive::{Builder, OpenBox};
-use larch_methods::open_constants;
-use larch_prove_plans::{Method, Plan};
+use larch_prove_invariant::larch_methods::open_constants;
+use larch_prove_invariant::larch_prove_plans::{Method, Plan};
 use std::alloc::Global;
 
 /// Opens the box that all subgoals of a plan share, if the method has one, and answers it: it makes the plan's shared

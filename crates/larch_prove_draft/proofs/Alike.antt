@@ -3,12 +3,12 @@ use Rattle.std.specs.Prelude.{◌≡◌, ℕ, Bool, true, false, List, [], ◌�
 use Rattle.std.specs.Prelude.{Result, Ok, refl}
 use Rattle.std.proofs.Common.{ap, ap₂, subst, sym, ◌∙◌}
 use Rattle.larch_base.specs.declared.code.Code.{Code}
-use Rattle.larch_calculus.specs.Theories.{with_statements}
-use Rattle.larch_order.specs.declared.precedence.Ranked.{Ranked}
+use Rattle.larch_prove_levels.specs.CalculusTheories.{with_statements}
+use Rattle.larch_prove_levels.specs.OrderPrecedenceRanked.{Ranked}
 use Rattle.larch_prove_draft.specs.Draft.{IsAlike, Leads}
 use Rattle.larch_prove_draft.specs.Proving.{IsOver}
 use Rattle.larch_prove_draft.specs.declared.draft.Draft.{Draft}
-use Rattle.larch_prove_meaning.specs.Levels.{EarlierDuty, Proof}
+use Rattle.larch_prove_levels.specs.ProveMeaningLevels.{EarlierDuty, Proof}
 use Rattle.larch_store.specs.Numbered.{Numbered}
 use Rattle.larch_term.specs.declared.statement.Statement.{Statement}
 use Rattle.larch_term.specs.declared.statement.Theory.{Theory}

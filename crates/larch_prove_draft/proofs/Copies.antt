@@ -1,28 +1,28 @@
 -- A copy of a level is that level.
 use Rattle.std.specs.Prelude.{◌≡◌, Bool, true, false, IsTrue, List, ◌∷◌, Option, None, Some, map, refl, reverse}
 use Rattle.std.proofs.Common.{ap, ap₂, subst, sym, ◌∙◌}
-use Rattle.larch_derive.specs.Builder.{lines_in}
-use Rattle.larch_derive.specs.Finished.{IsFinished}
-use Rattle.larch_derive.specs.Predicates.{HasEquation}
-use Rattle.larch_derive.specs.declared.builder.Builder.{Builder}
-use Rattle.larch_prove_adding.specs.KeptFacts.{AreSaid, facts_of, lines_of}
-use Rattle.larch_prove_boxes.specs.BoxLists.{box_list}
-use Rattle.larch_prove_boxes.specs.Leave.{left_of}
-use Rattle.larch_prove_invariant.specs.Book as kept
-use Rattle.larch_prove_invariant.specs.Book.{Kept}
+use Rattle.larch_prove_levels.specs.DeriveBuilder.{lines_in}
+use Rattle.larch_prove_levels.specs.DeriveFinished.{IsFinished}
+use Rattle.larch_prove_levels.specs.DerivePredicates.{HasEquation}
+use Rattle.larch_prove_levels.specs.DeriveBuilderBuilder.{Builder}
+use Rattle.larch_prove_levels.specs.ProveAddingKeptFacts.{AreSaid, facts_of, lines_of}
+use Rattle.larch_prove_levels.specs.ProveBoxesBoxLists.{box_list}
+use Rattle.larch_prove_levels.specs.ProveBoxesLeave.{left_of}
+use Rattle.larch_prove_levels.specs.ProveInvariantBook as kept
+use Rattle.larch_prove_levels.specs.ProveInvariantBook.{Kept}
 use Rattle.larch_prove_draft.specs.Draft.{AreBelow, Counts, IsProofBy, IsProofOf, Stands}
 use Rattle.larch_prove_draft.specs.declared.draft.Draft.{Draft}
-use Rattle.larch_prove_invariant.proofs.Held.{current_said}
-use Rattle.larch_prove_invariant.specs.Holding.{HasAbsurd, HasFacts, Holds, HoldsLevels, Says}
+use Rattle.larch_prove_levels.proofs.ProveInvariantHeld.{current_said}
+use Rattle.larch_prove_levels.specs.ProveInvariantHolding.{HasAbsurd, HasFacts, Holds, HoldsLevels, Says}
 use Rattle.larch_prove_levels.specs.Level.{AreSameMethods, IsCopy, IsKept, IsLevel, IsReady, IsStored, RunsLikeAny}
 use Rattle.larch_prove_levels.specs.Level.{purpose_of}
 use Rattle.larch_prove_levels.specs.declared.level.Level.{Level}
 use Rattle.larch_prove_levels.specs.declared.level.Running.{Running}
-use Rattle.larch_prove_meaning.specs.Facts.{Facts}
-use Rattle.larch_prove_meaning.specs.Levels.{Proof}
-use Rattle.larch_prove_meaning.specs.Plans.{Subgoal}
-use Rattle.larch_prove_plans.specs.Planning.{method_of}
-use Rattle.larch_rewrite.specs.RuleSet.{BelongsTo}
+use Rattle.larch_prove_levels.specs.ProveMeaningFacts.{Facts}
+use Rattle.larch_prove_levels.specs.ProveMeaningLevels.{Proof}
+use Rattle.larch_prove_levels.specs.ProveMeaningPlans.{Subgoal}
+use Rattle.larch_prove_levels.specs.ProvePlansPlanning.{method_of}
+use Rattle.larch_prove_levels.specs.RewriteRuleSet.{BelongsTo}
 use Rattle.larch_store.specs.Numbered.{Numbered, term_of}
 use Rattle.larch_store.specs.Stored.{Belongs}
 use Rattle.larch_term.specs.BuiltIn.{bool_sort}

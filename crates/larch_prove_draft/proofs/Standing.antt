@@ -2,21 +2,21 @@
 use Rattle.std.specs.Prelude.{◌≡◌, ℕ, Bool, true, false, List, [], ◌∷◌, All, refl}
 use Rattle.std.proofs.Common.{ap, ap₂, subst, sym, ◌∙◌}
 use Rattle.std.proofs.lemmas.List.Elements.{All-weaker}
-use Rattle.larch_derive.proofs.Growth.{extends_grows, stays_said}
-use Rattle.larch_derive.specs.Predicates.{Extends, HasEquation}
-use Rattle.larch_derive.specs.declared.builder.Builder.{Builder}
-use Rattle.larch_prove_adding.proofs.Staying.{belongs_further, said_stays}
-use Rattle.larch_prove_adding.specs.KeptFacts.{facts_of}
+use Rattle.larch_prove_levels.proofs.DeriveGrowth.{extends_grows, stays_said}
+use Rattle.larch_prove_levels.specs.DerivePredicates.{Extends, HasEquation}
+use Rattle.larch_prove_levels.specs.DeriveBuilderBuilder.{Builder}
+use Rattle.larch_prove_levels.proofs.ProveAddingStaying.{belongs_further, said_stays}
+use Rattle.larch_prove_levels.specs.ProveAddingKeptFacts.{facts_of}
 use Rattle.larch_prove_draft.specs.Draft.{AreBelow, IsProofBy, IsProofOf, IsShown, Stands}
 use Rattle.larch_prove_draft.specs.declared.draft.Draft.{Draft}
-use Rattle.larch_prove_invariant.proofs.Left.{idle_stands, leaving_grows}
-use Rattle.larch_prove_invariant.proofs.LevelConstants.{levels_grow}
-use Rattle.larch_prove_invariant.specs.Book.{Kept, own_boxes}
+use Rattle.larch_prove_levels.proofs.ProveInvariantLeft.{idle_stands, leaving_grows}
+use Rattle.larch_prove_levels.proofs.ProveInvariantLevelConstants.{levels_grow}
+use Rattle.larch_prove_levels.specs.ProveInvariantBook.{Kept, own_boxes}
 use Rattle.larch_prove_levels.specs.Level.{IsLevel, IsReady, IsStored}
 use Rattle.larch_prove_levels.specs.Settled.{is_settled_by}
 use Rattle.larch_prove_levels.specs.declared.level.Level.{Level}
-use Rattle.larch_prove_meaning.specs.Levels as defined
-use Rattle.larch_prove_meaning.specs.Levels.{Proof, is_settled}
+use Rattle.larch_prove_levels.specs.ProveMeaningLevels as defined
+use Rattle.larch_prove_levels.specs.ProveMeaningLevels.{Proof, is_settled}
 use Rattle.larch_store.proofs.Growth.{belongs_stays}
 use Rattle.larch_store.specs.Numbered.{Numbered, term_of}
 use Rattle.larch_store.specs.Stored.{Grows}

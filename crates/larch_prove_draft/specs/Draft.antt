@@ -3,18 +3,18 @@ use Rattle.std.specs.Prelude.{◌≡◌, ℕ, Bool, true, false, List, ◌∷◌
 use Rattle.std.specs.Prelude.{Option, None, Some, Result, Ok}
 use Rattle.std.specs.List.{AllZip}
 use Rattle.larch_base.specs.declared.code.Code.{Code}
-use Rattle.larch_derive.specs.Builder.{lines_in}
-use Rattle.larch_derive.specs.Finished.{IsFinished}
-use Rattle.larch_derive.specs.Predicates.{HasEquation}
-use Rattle.larch_derive.specs.declared.builder.Builder.{Builder}
-use Rattle.larch_prove_invariant.specs.Book.{Book, Kept, SupposingBox, levels_of, own_boxes}
-use Rattle.larch_prove_invariant.specs.Holding.{HoldsLevels}
-use Rattle.larch_prove_invariant.specs.Leaving.{Leaving}
+use Rattle.larch_prove_levels.specs.DeriveBuilder.{lines_in}
+use Rattle.larch_prove_levels.specs.DeriveFinished.{IsFinished}
+use Rattle.larch_prove_levels.specs.DerivePredicates.{HasEquation}
+use Rattle.larch_prove_levels.specs.DeriveBuilderBuilder.{Builder}
+use Rattle.larch_prove_levels.specs.ProveInvariantBook.{Book, Kept, SupposingBox, levels_of, own_boxes}
+use Rattle.larch_prove_levels.specs.ProveInvariantHolding.{HoldsLevels}
+use Rattle.larch_prove_levels.specs.ProveInvariantLeaving.{Leaving}
 use Rattle.larch_prove_levels.specs.Level.{IsKept, IsLevel, IsReady, IsStored}
 use Rattle.larch_prove_draft.specs.declared.draft.Draft.{Draft}
 use Rattle.larch_prove_levels.specs.declared.level.Level.{Level}
-use Rattle.larch_prove_meaning.specs.Levels as defined
-use Rattle.larch_prove_meaning.specs.Levels.{Proof, all_constants, rise}
+use Rattle.larch_prove_levels.specs.ProveMeaningLevels as defined
+use Rattle.larch_prove_levels.specs.ProveMeaningLevels.{Proof, all_constants, rise}
 use Rattle.larch_store.specs.Numbered.{Numbered}
 use Rattle.larch_term.specs.Operator.{PlainOperator}
 use Rattle.larch_term.specs.Truth.{truth}

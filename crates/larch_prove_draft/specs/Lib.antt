@@ -1,2 +1,47 @@
 pub mod Draft
 pub mod Proving
+-- passed on to crates above, which then needn't list the crates that these are of
+pub use Rattle.larch_prove_levels.specs.DeriveLinesWay as DeriveLinesWay
+pub use Rattle.larch_prove_levels.specs.OrderPrecedenceRanked as OrderPrecedenceRanked
+pub use Rattle.larch_prove_levels.specs.ProveAddingBeside as ProveAddingBeside
+pub use Rattle.larch_prove_levels.specs.ProveAddingEquation as ProveAddingEquation
+pub use Rattle.larch_prove_levels.specs.ProveAddingEquationSaidEquation as ProveAddingEquationSaidEquation
+pub use Rattle.larch_prove_levels.specs.ProveAddingKeptFacts as ProveAddingKeptFacts
+pub use Rattle.larch_prove_levels.specs.ProveAddingTurns as ProveAddingTurns
+pub use Rattle.larch_prove_levels.specs.ProveBoxesBeginningBeginning as ProveBoxesBeginningBeginning
+pub use Rattle.larch_prove_levels.specs.ProveBoxesBoxLists as ProveBoxesBoxLists
+pub use Rattle.larch_prove_levels.specs.ProveBoxesEnds as ProveBoxesEnds
+pub use Rattle.larch_prove_levels.specs.ProveBoxesEntering as ProveBoxesEntering
+pub use Rattle.larch_prove_levels.specs.ProveBoxesEnteringEntrance as ProveBoxesEnteringEntrance
+pub use Rattle.larch_prove_levels.specs.ProveBoxesExtras as ProveBoxesExtras
+pub use Rattle.larch_prove_levels.specs.ProveBoxesLeave as ProveBoxesLeave
+pub use Rattle.larch_prove_levels.specs.ProveBoxesLeaveLeave as ProveBoxesLeaveLeave
+pub use Rattle.larch_prove_levels.specs.ProveBoxesLowest as ProveBoxesLowest
+pub use Rattle.larch_prove_levels.specs.ProveBoxesSaying as ProveBoxesSaying
+pub use Rattle.larch_prove_levels.specs.ProveInvariantBook as ProveInvariantBook
+pub use Rattle.larch_prove_levels.specs.ProveInvariantEnding as ProveInvariantEnding
+pub use Rattle.larch_prove_levels.specs.ProveInvariantHolding as ProveInvariantHolding
+pub use Rattle.larch_prove_levels.specs.ProveInvariantLeaving as ProveInvariantLeaving
+pub use Rattle.larch_prove_levels.specs.ProveInvariantSetting as ProveInvariantSetting
+pub use Rattle.larch_prove_levels.specs.Derived as ProveLevelsDerived
+pub use Rattle.larch_prove_levels.specs.Level as ProveLevelsLevel
+pub use Rattle.larch_prove_levels.specs.declared.level.Level as ProveLevelsLevelLevel
+pub use Rattle.larch_prove_levels.specs.declared.level.Planned as ProveLevelsLevelPlanned
+pub use Rattle.larch_prove_levels.specs.declared.level.Purpose as ProveLevelsLevelPurpose
+pub use Rattle.larch_prove_levels.specs.declared.level.Running as ProveLevelsLevelRunning
+pub use Rattle.larch_prove_levels.specs.Opened as ProveLevelsOpened
+pub use Rattle.larch_prove_levels.specs.Settled as ProveLevelsSettled
+pub use Rattle.larch_prove_levels.specs.Supposing as ProveLevelsSupposing
+pub use Rattle.larch_prove_levels.specs.ProveMeaningFacts as ProveMeaningFacts
+pub use Rattle.larch_prove_levels.specs.ProveMeaningLevels as ProveMeaningLevels
+pub use Rattle.larch_prove_levels.specs.ProveMeaningPlans as ProveMeaningPlans
+pub use Rattle.larch_prove_levels.specs.ProvePlansPlanning as ProvePlansPlanning
+pub use Rattle.larch_prove_levels.specs.ProvePlansSubgoalsMethod as ProvePlansSubgoalsMethod
+pub use Rattle.larch_prove_levels.specs.ProvePlansSubgoalsSubgoal as ProvePlansSubgoalsSubgoal
+pub use Rattle.larch_prove_levels.specs.RewriteKept as RewriteKept
+pub use Rattle.larch_prove_levels.specs.RewriteKeptKeptForm as RewriteKeptKeptForm
+pub use Rattle.larch_prove_levels.specs.RewriteMeaningNormalForm as RewriteMeaningNormalForm
+pub use Rattle.larch_prove_levels.specs.RewriteMeaningSides as RewriteMeaningSides
+pub use Rattle.larch_prove_levels.specs.RewriteRefusalRewriteRefusal as RewriteRefusalRewriteRefusal
+pub use Rattle.larch_prove_levels.specs.RewriteRuleSet as RewriteRuleSet
+pub use Rattle.larch_prove_levels.specs.TraitsItemsLaws as TraitsItemsLaws

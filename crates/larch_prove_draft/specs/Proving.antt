@@ -1,13 +1,13 @@
 -- What a proof is of.
 use Rattle.std.specs.Prelude.{◌≡◌}
-use Rattle.larch_order.specs.declared.precedence.Ranked.{Ranked}
+use Rattle.larch_prove_levels.specs.OrderPrecedenceRanked.{Ranked}
 use Rattle.std.specs.Prelude.{ℕ, List}
-use Rattle.larch_prove_invariant.specs.Holding.{theory_for}
-use Rattle.larch_prove_meaning.specs.Levels.{Proof}
+use Rattle.larch_prove_levels.specs.ProveInvariantHolding.{theory_for}
+use Rattle.larch_prove_levels.specs.ProveMeaningLevels.{Proof}
 use Rattle.larch_term.specs.Statement.{IsStatementOver, IsWellSortedTheory}
 use Rattle.larch_term.specs.declared.statement.Statement.{Statement}
 use Rattle.larch_term.specs.declared.statement.Theory.{Theory}
-use Rattle.larch_traits_items.specs.Laws.{NamesOwn}
+use Rattle.larch_prove_levels.specs.TraitsItemsLaws.{NamesOwn}
 
 -- the theory with the lemmas is well sorted, and so is the statement over it; a clause names the theory's operators
 pub record IsProvable (t : Theory) (s : Statement) : Type 0 where

@@ -1,19 +1,18 @@
 ghost use Rattle.std.specs.Prelude.{◌≡◌, ◌++◌, ◌∷◌, [], List, OnOk, if◌then◌else◌, IfOk};
 ghost use Rattle.larch_prove_draft.specs.Draft.{IsProofOf};
-ghost use Rattle.larch_prove_meaning.specs.Levels.{Proof};
+ghost use Rattle.larch_prove_levels.specs.ProveMeaningLevels.{Proof};
 ghost use Rattle.larch_store.specs.Numbered.{Numbered};
 ghost use Rattle.larch_term.specs.declared.statement.Statement.{Statement};
 ghost use Rattle.larch_term.specs.declared.statement.Theory.{Theory};
 
 use larch_base::Memory;
-use larch_derive::Builder;
 use larch_prove_levels::Level;
+use larch_prove_levels::larch_derive::Builder;
 use larch_store::share_layers;
 use std::alloc::Global;
 use std::rc::Rc;
 
 /// A proof as a command works on it: what a command makes goes away with it where the command is refused.
-#[derive(Drop)]
 pub struct Draft {
     pub builder: Builder,
     pub current: Level,
@@ -28,6 +27,22 @@ pub struct Draft {
     pub next_hypothesis: u64,
     /// The number of the next fact that a command derives.
     pub next_derived: u64,
+}
+
+// By a call, so that a proof takes one apart in one place alone.
+impl Drop for Draft {
+    fn drop(self) {
+        let Draft {
+            builder: _builder,
+            current: _current,
+            below: _below,
+            is_proved: _is_proved,
+            checking: _checking,
+            waiting: _waiting,
+            next_hypothesis: _next_hypothesis,
+            next_derived: _next_derived,
+        } = self;
+    }
 }
 
 impl Draft {

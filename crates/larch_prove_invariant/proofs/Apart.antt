@@ -15,7 +15,7 @@ use Rattle.larch_term.specs.OperatorKey.{operator_Decides, same_operator}
 use Rattle.larch_calculus.specs.Theories.{AreConstants}
 use Rattle.larch_derive.specs.OpenBox.{constant_of, place_from}
 use Rattle.larch_derive.specs.declared.open_box.OpenBox.{OpenBox}
-use Rattle.larch_derive_boxes.specs.Boxes.{AreOwnConstants}
+use Rattle.larch_methods.specs.DeriveBoxesBoxes.{AreOwnConstants}
 
 not_placed_by : (k : ℕ) (g f : PlainOperator) (gs : List PlainOperator) (b : Bool) → (b ≡ true → ⊥)
     → place_from (suc k) gs f ≡ None → cond b (Some k) (place_from (suc k) gs f) ≡ None

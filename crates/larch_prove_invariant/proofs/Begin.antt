@@ -12,9 +12,9 @@ use Rattle.larch_derive.specs.Predicates.{HasNoBadLine}
 use Rattle.larch_derive.specs.Words.{IsWordedOperator, IsWordedTerm}
 use Rattle.larch_derive.specs.declared.builder.Builder.{Builder}
 use Rattle.larch_derive.proofs.Words.{known_worded}
-use Rattle.larch_prove_meaning.specs.Plans.{Cases, Conjunction, Contradiction, Implication, Induction, Method}
-use Rattle.larch_prove_meaning.specs.Plans.{Partition}
-use Rattle.larch_prove_meaning.specs.Plans.{conjuncts, plan, shared_subgoal}
+use Rattle.larch_methods.specs.ProveMeaningPlans.{Cases, Conjunction, Contradiction, Implication, Induction, Method}
+use Rattle.larch_methods.specs.ProveMeaningPlans.{Partition}
+use Rattle.larch_methods.specs.ProveMeaningPlans.{conjuncts, plan, shared_subgoal}
 use Rattle.larch_methods.specs.Methods.{IsKnownFormula}
 use Rattle.larch_methods.specs.Opening.{MayBegin, MayBeginAll}
 use Rattle.larch_methods.proofs.Begun.{cases_begin, cases_inside, contradiction_begins, contradiction_inside}

@@ -20,9 +20,9 @@ use Rattle.larch_derive.specs.Words.{AreWordedOperators, IsWordedOperator}
 use Rattle.larch_derive.specs.declared.builder.Builder.{Builder}
 use Rattle.larch_derive.specs.declared.open_box.OpenBox.{OpenBox}
 use Rattle.larch_derive.proofs.Codes.{place_none}
-use Rattle.larch_derive_boxes.specs.Boxes.{IsPart}
-use Rattle.larch_prove_plans.specs.ClauseGoals.{generation_goal, partition_goal}
-use Rattle.larch_prove_plans.specs.declared.subgoals.Subgoal as stated
+use Rattle.larch_methods.specs.DeriveBoxesBoxes.{IsPart}
+use Rattle.larch_methods.specs.ProvePlansClauseGoals.{generation_goal, partition_goal}
+use Rattle.larch_methods.specs.ProvePlansSubgoalsSubgoal as stated
 use Rattle.larch_prove_invariant.specs.Book.{Book, Kept, SupposingBox, all_boxes, boxes_of, made_first, made_in}
 use Rattle.larch_prove_invariant.specs.Book.{shared_boxes}
 use Rattle.larch_prove_invariant.specs.Holding.{AreOwn, Begins, EntersClause, HasConstants, Holds, Shape}

@@ -10,10 +10,10 @@ use Rattle.larch_derive.specs.Builder.{boxes_in, theory_in}
 use Rattle.larch_derive.specs.Predicates.{Grows, HasNoBadLine, HasStatement}
 use Rattle.larch_derive.specs.declared.builder.Builder.{Builder}
 use Rattle.larch_derive.proofs.Growth.{grown_said, grown_stands, grows_alike, grows_trans}
-use Rattle.larch_derive_boxes.specs.Boxes.{Closes, HasResult, Opens}
-use Rattle.larch_derive_boxes.proofs.Closing.{closes_grows, closes_result}
-use Rattle.larch_derive_boxes.proofs.Opening.{opened_boxes, opened_said, opened_stands}
-use Rattle.larch_derive_boxes.proofs.Supposing.{grown_open, opened_open, opens_is_open}
+use Rattle.larch_methods.specs.DeriveBoxesBoxes.{Closes, HasResult, Opens}
+use Rattle.larch_methods.proofs.DeriveBoxesClosing.{closes_grows, closes_result}
+use Rattle.larch_methods.proofs.DeriveBoxesOpening.{opened_boxes, opened_said, opened_stands}
+use Rattle.larch_methods.proofs.DeriveBoxesSupposing.{grown_open, opened_open, opens_is_open}
 use Rattle.larch_prove_invariant.specs.Book.{SupposingBox}
 use Rattle.larch_prove_invariant.specs.Holding.{IsThere, Through}
 use Rattle.larch_prove_invariant.specs.Leaving.{IsClosedWith}

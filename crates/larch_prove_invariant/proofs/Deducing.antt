@@ -19,14 +19,14 @@ use Rattle.larch_term.specs.declared.statement.Statement.TheVariants.{Equation}
 use Rattle.larch_term.specs.declared.substitution.Entry.{Entry}
 use Rattle.larch_calculus.specs.Formula.{conjunction, disjunction, equality, equivalence, falsity, implication}
 use Rattle.larch_calculus.specs.Formula.{negation}
-use Rattle.larch_tables.specs.Row.{PlainRow}
-use Rattle.larch_tables.specs.Spelling.{a, b, x, y}
-use Rattle.larch_tables.specs.Tables.{deduced_at_bool, deduced_at_each, deduction_rows}
+use Rattle.larch_derive.specs.TablesRow.{PlainRow}
+use Rattle.larch_derive.specs.TablesSpelling.{a, b, x, y}
+use Rattle.larch_derive.specs.TablesTables.{deduced_at_bool, deduced_at_each, deduction_rows}
 use Rattle.larch_derive_formulas.specs.Consequences.{Follows}
-use Rattle.larch_rewrite_meaning.specs.Matching.{match_term, matched_all}
-use Rattle.larch_rewrite_meaning.specs.Sides.{Sides, sides_under}
-use Rattle.larch_prove_meaning.specs.Facts.{consequences_by, deduce, first_consequences}
-use Rattle.larch_prove_plans.specs.Planning.{equate}
+use Rattle.larch_methods.specs.RewriteMeaningMatching.{match_term, matched_all}
+use Rattle.larch_methods.specs.RewriteMeaningSides.{Sides, sides_under}
+use Rattle.larch_methods.specs.ProveMeaningFacts.{consequences_by, deduce, first_consequences}
+use Rattle.larch_methods.specs.ProvePlansPlanning.{equate}
 
 -- ---- rows in turn
 

@@ -3,8 +3,8 @@ use Rattle.std.specs.Prelude.{◌≡◌, List, [], ◌∷◌, map, Option, None,
 use Rattle.std.proofs.Common.{ap, subst, sym, ◌∙◌}
 use Rattle.larch_term.specs.declared.statement.Statement.{Statement}
 use Rattle.larch_term.specs.declared.statement.Statement.TheVariants.{Equation, Generated, Partitioned}
-use Rattle.larch_prove_meaning.specs.Levels.{OfDuty, OfProof, OfSubgoal, Purpose}
-use Rattle.larch_prove_plans.specs.declared.subgoals.Subgoal as stated
+use Rattle.larch_methods.specs.ProveMeaningLevels.{OfDuty, OfProof, OfSubgoal, Purpose}
+use Rattle.larch_methods.specs.ProvePlansSubgoalsSubgoal as stated
 use Rattle.larch_prove_invariant.specs.Book.{Book, Kept, Running}
 use Rattle.larch_prove_invariant.specs.Holding.{Begins, Enters, EntersClause, IsEntered, IsForSubgoal, shape_of}
 

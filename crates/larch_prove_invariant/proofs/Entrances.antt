@@ -14,13 +14,13 @@ use Rattle.larch_derive.specs.OpenBox.{constant_of}
 use Rattle.larch_derive.specs.Predicates.{HasEquation}
 use Rattle.larch_derive.specs.declared.builder.Builder.{Builder}
 use Rattle.larch_derive.specs.declared.open_box.OpenBox.{OpenBox}
-use Rattle.larch_derive_boxes.specs.Boxes.{AreOwnConstants, HasResult}
-use Rattle.larch_prove_meaning.specs.NewNames.{constant_named}
-use Rattle.larch_prove_meaning.specs.Plans.{Cases, Conjunction, Contradiction, Implication, Induction, Method}
-use Rattle.larch_prove_meaning.specs.Plans.{Partition}
-use Rattle.larch_prove_meaning.specs.Plans.{Subgoal}
-use Rattle.larch_prove_plans.specs.ClauseGoals.{generation_goal, partition_goal, predicate_named}
-use Rattle.larch_prove_plans.specs.declared.subgoals.Subgoal as stated
+use Rattle.larch_methods.specs.DeriveBoxesBoxes.{AreOwnConstants, HasResult}
+use Rattle.larch_methods.specs.ProveMeaningNewNames.{constant_named}
+use Rattle.larch_methods.specs.ProveMeaningPlans.{Cases, Conjunction, Contradiction, Implication, Induction, Method}
+use Rattle.larch_methods.specs.ProveMeaningPlans.{Partition}
+use Rattle.larch_methods.specs.ProveMeaningPlans.{Subgoal}
+use Rattle.larch_methods.specs.ProvePlansClauseGoals.{generation_goal, partition_goal, predicate_named}
+use Rattle.larch_methods.specs.ProvePlansSubgoalsSubgoal as stated
 use Rattle.larch_methods.specs.Clauses.{IsSupposing}
 use Rattle.larch_methods.proofs.Left.{generation_left, partition_goal_left}
 use Rattle.larch_prove_invariant.specs.Book.{AtLine, Book, InBox, Running, SupposingBox}

@@ -15,9 +15,9 @@ use Rattle.larch_term.specs.Variable.{occurrences, same_variable}
 use Rattle.larch_term.specs.declared.statement.Statement.{Statement}
 use Rattle.larch_term.specs.declared.statement.Theory.{Theory}
 use Rattle.larch_term.specs.declared.variable.Variable.{Variable}
-use Rattle.larch_term_law.proofs.Agreement.{AgreeOn, same_by_agreement}
-use Rattle.larch_term_law.proofs.Occurring.{variable_Decides}
-use Rattle.larch_term_law.proofs.Substitutions.{substituted_nil}
+use Rattle.larch_calculus.proofs.TermLawAgreement.{AgreeOn, same_by_agreement}
+use Rattle.larch_calculus.proofs.TermLawOccurring.{variable_Decides}
+use Rattle.larch_calculus.proofs.TermLawSubstitutions.{substituted_nil}
 use Rattle.larch_calculus.specs.Formula.{constant}
 use Rattle.larch_calculus.specs.Freed.{constants_for}
 use Rattle.larch_calculus.proofs.Sorted.{knows_more, term_over_more}
@@ -25,8 +25,8 @@ use Rattle.larch_derive.specs.Builder.{boxes_in, theory_in}
 use Rattle.larch_derive.specs.Predicates.{Known}
 use Rattle.larch_derive.specs.declared.builder.Builder.{Builder}
 use Rattle.larch_derive.specs.declared.open_box.OpenBox.{OpenBox}
-use Rattle.larch_derive_boxes.specs.Boxes.{AreOwnConstants, IsPart}
-use Rattle.larch_prove_meaning.specs.Levels.{Level}
+use Rattle.larch_methods.specs.DeriveBoxesBoxes.{AreOwnConstants, IsPart}
+use Rattle.larch_methods.specs.ProveMeaningLevels.{Level}
 use Rattle.larch_methods.specs.Inside.{closed_in}
 use Rattle.larch_prove_invariant.specs.Book.{Kept, SupposingBox, all_boxes, boxes_of, made_first, made_in}
 use Rattle.larch_prove_invariant.specs.Book.{shared_boxes}

@@ -17,10 +17,10 @@ use Rattle.larch_derive.specs.Words.{IsWordedTerm}
 use Rattle.larch_derive.specs.declared.builder.Builder.{Builder}
 use Rattle.larch_derive.proofs.Growth.{grown_said, grown_stands, grows_alike, grows_same, known_left, said_stands}
 use Rattle.larch_derive.proofs.Words.{known_worded}
-use Rattle.larch_derive_boxes.specs.Boxes.{AreOwnConstants}
-use Rattle.larch_prove_meaning.specs.Facts.{Fact}
-use Rattle.larch_prove_meaning.specs.Levels.{Level}
-use Rattle.larch_prove_meaning.specs.Plans.{Plan, Subgoal}
+use Rattle.larch_methods.specs.DeriveBoxesBoxes.{AreOwnConstants}
+use Rattle.larch_methods.specs.ProveMeaningFacts.{Fact}
+use Rattle.larch_methods.specs.ProveMeaningLevels.{Level}
+use Rattle.larch_methods.specs.ProveMeaningPlans.{Plan, Subgoal}
 use Rattle.larch_methods.specs.Opening.{HasOtherConstants, HasOwnConstants}
 use Rattle.larch_methods.proofs.Left.{shown_stays}
 use Rattle.larch_prove_invariant.specs.Book.{AtLine, Book, Done, InBox, IsWorkedOn, Kept, Left, Rests, Running}

@@ -12,11 +12,11 @@ use Rattle.larch_derive.specs.declared.builder.Builder.{Builder}
 use Rattle.larch_derive.specs.declared.open_box.OpenBox.{OpenBox}
 use Rattle.larch_derive.proofs.Growth.{known_left, known_right}
 use Rattle.larch_derive.proofs.Words.{known_worded, theory_worded}
-use Rattle.larch_derive_boxes.specs.Boxes.{MaySuppose}
-use Rattle.larch_rewrite_meaning.specs.Sides.{Sides}
-use Rattle.larch_prove_meaning.specs.Facts.{Fact}
-use Rattle.larch_prove_meaning.specs.Levels.{Level, Proof}
-use Rattle.larch_prove_plans.specs.Planning.{equate}
+use Rattle.larch_methods.specs.DeriveBoxesBoxes.{MaySuppose}
+use Rattle.larch_methods.specs.RewriteMeaningSides.{Sides}
+use Rattle.larch_methods.specs.ProveMeaningFacts.{Fact}
+use Rattle.larch_methods.specs.ProveMeaningLevels.{Level, Proof}
+use Rattle.larch_methods.specs.ProvePlansPlanning.{equate}
 use Rattle.larch_methods.specs.Opening.{MayBegin}
 use Rattle.larch_prove_invariant.specs.Book.{Done, Kept, Running, levels_of}
 use Rattle.larch_prove_invariant.specs.Holding.{HasFacts, Holds, HoldsLevels, HoldsProof, Runs, theory_for}

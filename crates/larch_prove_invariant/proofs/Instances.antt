@@ -17,18 +17,19 @@ use Rattle.larch_term.specs.declared.built_in.BuiltIn.TheVariants.{Unequal}
 use Rattle.larch_term.specs.declared.statement.Statement.TheVariants.{Equation}
 use Rattle.larch_term.specs.declared.substitution.Entry.{Entry}
 use Rattle.larch_term.specs.declared.variable.Variable.{Variable}
-use Rattle.larch_pairs.specs.Unify.{variables_of_both}
-use Rattle.larch_pairs_critical.specs.Overlap.{AreSorted, IsApplication}
-use Rattle.larch_pairs_critical.specs.Pairs.{critical_pairs}
-use Rattle.larch_pairs_critical.specs.Variables.{HasNumbered, IsNumbered, IsNumberedPair, sorts_of_rules, variable_in}
-use Rattle.larch_pairs_critical.specs.declared.pair.Pair.{Pair}
-use Rattle.larch_pairs_critical.specs.declared.pair.Rule.{Rule}
-use Rattle.larch_pairs_critical.proofs.Numbering.{all_numbered, both_have}
-use Rattle.larch_pairs_critical.proofs.OverOperators.{pairs_over}
-use Rattle.larch_pairs_critical.proofs.Replacements.{all_fit, all_over, first_variables, second_variables}
-use Rattle.larch_pairs_critical.proofs.Sorting.{all_sorted}
-use Rattle.larch_certificate_text.specs.LineText.{IsWord}
-use Rattle.larch_certificate_text.specs.Parts.{Each}
+use Rattle.larch_methods.specs.PairsUnify.{variables_of_both}
+use Rattle.larch_methods.specs.PairsCriticalOverlap.{AreSorted, IsApplication}
+use Rattle.larch_methods.specs.PairsCriticalPairs.{critical_pairs}
+use Rattle.larch_methods.specs.PairsCriticalVariables.{HasNumbered, IsNumbered, IsNumberedPair}
+use Rattle.larch_methods.specs.PairsCriticalVariables.{sorts_of_rules, variable_in}
+use Rattle.larch_methods.specs.PairsCriticalPairPair.{Pair}
+use Rattle.larch_methods.specs.PairsCriticalPairRule.{Rule}
+use Rattle.larch_methods.proofs.PairsCriticalNumbering.{all_numbered, both_have}
+use Rattle.larch_methods.proofs.PairsCriticalOverOperators.{pairs_over}
+use Rattle.larch_methods.proofs.PairsCriticalReplacements.{all_fit, all_over, first_variables, second_variables}
+use Rattle.larch_methods.proofs.PairsCriticalSorting.{all_sorted}
+use Rattle.larch_derive.specs.CertificateTextLineText.{IsWord}
+use Rattle.larch_derive.specs.CertificateTextParts.{Each}
 use Rattle.larch_derive.specs.Builder.{boxes_in, theory_in}
 use Rattle.larch_derive.specs.Predicates.{HasEquation, HasNoBadLine, HasStatement, Known, written_term}
 use Rattle.larch_derive.specs.Words.{AreWordedOperators, AreWordedTerms, IsWordedOperator, IsWordedTerm}
@@ -36,9 +37,9 @@ use Rattle.larch_derive.specs.declared.builder.Builder.{Builder}
 use Rattle.larch_derive.specs.declared.open_box.OpenBox.{OpenBox}
 use Rattle.larch_derive.proofs.Growth.{known_left, known_right, said_stands}
 use Rattle.larch_derive.proofs.Words.{known_worded, theory_worded, worded_sort}
-use Rattle.larch_derive_boxes.specs.Boxes.{IsPart}
-use Rattle.larch_derive_boxes.proofs.Words.{place_worded}
-use Rattle.larch_derive_lines.specs.Rules.{AreKnownEntries}
+use Rattle.larch_methods.specs.DeriveBoxesBoxes.{IsPart}
+use Rattle.larch_methods.proofs.DeriveBoxesWords.{place_worded}
+use Rattle.larch_derive_formulas.specs.DeriveLinesRules.{AreKnownEntries}
 use Rattle.larch_prove_invariant.specs.Holding.{open_constants}
 use Rattle.larch_prove_invariant.proofs.Knowing.{known_over, open_known}
 

@@ -11,11 +11,11 @@ use Rattle.larch_term.specs.Operator.{PlainOperator}
 use Rattle.larch_term.specs.Sorts.{AllOver, AllWellSorted, IsKnown, IsOver, IsTermOver, WellSorted}
 use Rattle.larch_term.specs.Tree.{Forest, Tree, var, app, none, more}
 use Rattle.larch_term.specs.declared.statement.Theory.{Theory}
-use Rattle.larch_renaming.specs.Renaming.{Carries, rename_tree, renamed_all}
-use Rattle.larch_renaming.proofs.Renamed.{renamed_term_over}
+use Rattle.larch_calculus.specs.RenamingRenaming.{Carries, rename_tree, renamed_all}
+use Rattle.larch_calculus.proofs.RenamingRenamed.{renamed_term_over}
 use Rattle.larch_calculus.specs.Renaming.{HasPlainNames}
-use Rattle.larch_verify_meaning.specs.Context.{theory_of}
-use Rattle.larch_verify_meaning.specs.Events.{Event, start}
+use Rattle.larch_derive.specs.VerifyMeaningContext.{theory_of}
+use Rattle.larch_derive.specs.VerifyMeaningEvents.{Event, start}
 use Rattle.larch_derive.specs.Builder.{shape_of}
 use Rattle.larch_derive.specs.OpenBox.{constant_of, in_lines, naming, place_from}
 use Rattle.larch_derive.specs.Predicates.{AreOthers, Known, HasNoBadLine, operators_at, shapes_of}
@@ -26,8 +26,8 @@ use Rattle.larch_derive.proofs.Codes.{place_got}
 use Rattle.larch_derive.proofs.Decoding.{known_plain, plain_own, sorts_in_lines, stays_in_lines}
 use Rattle.larch_derive.proofs.Runs.{GoDown, down_run}
 use Rattle.larch_derive.proofs.Unchanged.{known_in_boxes, naming_faithful, own_in_lines}
-use Rattle.larch_derive_boxes.specs.Boxes.{IsPart}
-use Rattle.larch_derive_boxes.proofs.Knowing.{part_there}
+use Rattle.larch_methods.specs.DeriveBoxesBoxes.{IsPart}
+use Rattle.larch_methods.proofs.DeriveBoxesKnowing.{part_there}
 use Rattle.larch_prove_invariant.specs.Holding.{open_constants}
 
 -- the constants of boxes

@@ -8,14 +8,14 @@ use Rattle.larch_term.specs.Tree.{Tree}
 use Rattle.larch_term.specs.declared.statement.Statement.{Statement}
 use Rattle.larch_term.specs.declared.statement.Statement.TheVariants.{Equation}
 use Rattle.larch_term.specs.declared.statement.Theory.{Theory}
-use Rattle.larch_verify_meaning.specs.Acceptance.{Accepts}
-use Rattle.larch_verify_meaning.specs.LastLine.{EndsWithoutStatedClause}
+use Rattle.larch_derive.specs.VerifyMeaningAcceptance.{Accepts}
+use Rattle.larch_derive.specs.VerifyMeaningLastLine.{EndsWithoutStatedClause}
 use Rattle.larch_derive.specs.Builder.{lines_in, theory_in}
 use Rattle.larch_derive.specs.Finished.{IsFinished}
 use Rattle.larch_derive.specs.Predicates.{Grows, HasEquation, HasStatement}
 use Rattle.larch_derive.specs.declared.builder.Builder.{Builder}
 use Rattle.larch_derive.proofs.Accepting.{accepted, clause_finished, equation_finished}
-use Rattle.larch_derive_boxes.specs.Boxes.{HasResult}
+use Rattle.larch_methods.specs.DeriveBoxesBoxes.{HasResult}
 use Rattle.larch_methods.specs.Clauses.{IsSupposing}
 use Rattle.larch_prove_invariant.specs.Book.{Done, Kept, Left, Running, SupposingBox, all_left, own_boxes}
 use Rattle.larch_prove_invariant.specs.Ending.{HasAllLeft, StandsAt}

@@ -11,8 +11,8 @@ use Rattle.larch_calculus.specs.Theories.{AreConstants, AreNew}
 use Rattle.larch_derive.specs.Predicates.{Grows}
 use Rattle.larch_derive.specs.Words.{AreWordedOperators}
 use Rattle.larch_derive.specs.declared.builder.Builder.{Builder}
-use Rattle.larch_prove_meaning.specs.Levels.{Level}
-use Rattle.larch_prove_meaning.specs.Plans.{Subgoal}
+use Rattle.larch_methods.specs.ProveMeaningLevels.{Level}
+use Rattle.larch_methods.specs.ProveMeaningPlans.{Subgoal}
 use Rattle.larch_prove_invariant.specs.Book.{Book, IsWorkedOn, Kept, Left, Rests, Running, SupposingBox, all_boxes}
 use Rattle.larch_prove_invariant.specs.Book.{boxes_of, levels_of, made_first, made_in, next_running, own_boxes}
 use Rattle.larch_prove_invariant.specs.Book.{shared_boxes, with_extra, with_running}

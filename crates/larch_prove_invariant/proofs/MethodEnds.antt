@@ -11,8 +11,9 @@ use Rattle.larch_derive.specs.Words.{IsWordedTerm}
 use Rattle.larch_derive.specs.declared.builder.Builder.{Builder}
 use Rattle.larch_derive.specs.declared.open_box.OpenBox.{OpenBox}
 use Rattle.larch_derive.proofs.Words.{known_worded}
-use Rattle.larch_prove_meaning.specs.Plans.{Cases, Conjunction, Contradiction, Implication, Induction, Method}
-use Rattle.larch_prove_meaning.specs.Plans.{Plan, Subgoal, closed_by, constants_of, fails, holds, plan, shared_subgoal}
+use Rattle.larch_methods.specs.ProveMeaningPlans.{Cases, Conjunction, Contradiction, Implication, Induction, Method}
+use Rattle.larch_methods.specs.ProveMeaningPlans.{Plan, Subgoal, closed_by, constants_of}
+use Rattle.larch_methods.specs.ProveMeaningPlans.{fails, holds, plan, shared_subgoal}
 use Rattle.larch_methods.specs.Methods.{IsKnownFormula}
 use Rattle.larch_methods.specs.Opening.{IsShownIn}
 use Rattle.larch_methods.proofs.Begun.{cases_inside, contradiction_inside, implication_inside}

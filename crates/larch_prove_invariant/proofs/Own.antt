@@ -17,12 +17,12 @@ use Rattle.larch_derive.specs.OpenBox.{constant_of}
 use Rattle.larch_derive.specs.Predicates.{AreOthers}
 use Rattle.larch_derive.specs.declared.builder.Builder.{Builder}
 use Rattle.larch_derive.specs.declared.open_box.OpenBox.{OpenBox}
-use Rattle.larch_prove_meaning.specs.Levels.{Proof, all_constants}
-use Rattle.larch_prove_meaning.specs.Plans.{Cases, Conjunction, Contradiction, Implication, Induction, Method}
-use Rattle.larch_prove_meaning.specs.Plans.{Partition, Plan, Subgoal, plan}
-use Rattle.larch_prove_meaning.specs.Steps.{setting_of, taken_names}
-use Rattle.larch_prove_meaning.proofs.NewConstants.{grown_new, own_taken, plan_constants, plan_names_differ}
-use Rattle.larch_prove_meaning.proofs.NewConstants.{plan_names_free, plan_new}
+use Rattle.larch_methods.specs.ProveMeaningLevels.{Proof, all_constants}
+use Rattle.larch_methods.specs.ProveMeaningPlans.{Cases, Conjunction, Contradiction, Implication, Induction, Method}
+use Rattle.larch_methods.specs.ProveMeaningPlans.{Partition, Plan, Subgoal, plan}
+use Rattle.larch_methods.specs.ProveMeaningSteps.{setting_of, taken_names}
+use Rattle.larch_methods.proofs.ProveMeaningNewConstants.{grown_new, own_taken, plan_constants, plan_names_differ}
+use Rattle.larch_methods.proofs.ProveMeaningNewConstants.{plan_names_free, plan_new}
 use Rattle.larch_methods.specs.Opening.{HasOwnConstants}
 use Rattle.larch_prove_invariant.specs.Book.{Kept, Running, SupposingBox, all_boxes, made_in}
 use Rattle.larch_prove_invariant.specs.Holding.{AreOwn, HoldsProof, Shape, open_constants, shape_of}

@@ -19,12 +19,13 @@ use Rattle.larch_calculus.proofs.Observed.{observation_is}
 use Rattle.larch_derive.specs.Predicates.{Known}
 use Rattle.larch_derive.specs.declared.builder.Builder.{Builder}
 use Rattle.larch_derive.specs.declared.open_box.OpenBox.{OpenBox}
-use Rattle.larch_derive_boxes.specs.Boxes.{HasResult}
-use Rattle.larch_rewrite_meaning.specs.Sides.{Sides}
-use Rattle.larch_prove_meaning.specs.NewNames.{constant_named, free_name, new_constants}
-use Rattle.larch_prove_meaning.specs.Plans.{Partition, Plan, Setting, Subgoal, a_variable, arguments_around, names_of}
-use Rattle.larch_prove_meaning.specs.Plans.{other_sorts, partition_subgoals, plan, shown, taken_beside}
-use Rattle.larch_prove_meaning.proofs.CasePlans.{arguments_found}
+use Rattle.larch_methods.specs.DeriveBoxesBoxes.{HasResult}
+use Rattle.larch_methods.specs.RewriteMeaningSides.{Sides}
+use Rattle.larch_methods.specs.ProveMeaningNewNames.{constant_named, free_name, new_constants}
+use Rattle.larch_methods.specs.ProveMeaningPlans.{Partition, Plan, Setting, Subgoal}
+use Rattle.larch_methods.specs.ProveMeaningPlans.{a_variable, arguments_around, names_of}
+use Rattle.larch_methods.specs.ProveMeaningPlans.{other_sorts, partition_subgoals, plan, shown, taken_beside}
+use Rattle.larch_methods.proofs.ProveMeaningCasePlans.{arguments_found}
 use Rattle.larch_methods.specs.Opening.{IsShownIn}
 use Rattle.larch_methods.proofs.Left.{partition_left}
 use Rattle.larch_methods.proofs.Planned.{partition_planned}

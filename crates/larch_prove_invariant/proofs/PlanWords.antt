@@ -19,13 +19,13 @@ use Rattle.larch_term.specs.declared.statement.Statement.{Statement}
 use Rattle.larch_term.specs.declared.statement.Statement.TheVariants.{Equation, Generated, Partitioned}
 use Rattle.larch_term.specs.declared.substitution.Entry.{Entry}
 use Rattle.larch_term.specs.declared.variable.Variable.{Variable}
-use Rattle.larch_term_law.proofs.Occurring.{listed_occurs}
+use Rattle.larch_calculus.proofs.TermLawOccurring.{listed_occurs}
 use Rattle.larch_calculus.specs.Formula.{constant, equality, equivalence, falsity, formula}
 use Rattle.larch_calculus.specs.Freed.{constants_for}
 use Rattle.larch_calculus.specs.Generation.{constant_terms, only}
 use Rattle.larch_calculus.specs.Observation.{Observation, observations_of}
 use Rattle.larch_calculus.proofs.Observed.{observation_is}
-use Rattle.larch_certificate_text.specs.LineText.{IsWord}
+use Rattle.larch_derive.specs.CertificateTextLineText.{IsWord}
 use Rattle.larch_derive.specs.Builder.{theory_in}
 use Rattle.larch_derive.specs.Predicates.{HasNoBadLine}
 use Rattle.larch_derive.specs.Words.{AreWordedOperators, AreWordedStatements, AreWordedTerms, IsWordedOperator}
@@ -33,15 +33,17 @@ use Rattle.larch_derive.specs.Words.{IsWordedStatement, IsWordedTerm}
 use Rattle.larch_derive.specs.declared.builder.Builder.{Builder}
 use Rattle.larch_derive.proofs.Growth.{known_stands}
 use Rattle.larch_derive.proofs.Words.{instance_worded, known_worded, theory_worded}
-use Rattle.larch_prove_meaning.specs.NewNames.{constant_named, free_name, new_constants}
-use Rattle.larch_prove_meaning.specs.Plans.{Cases, Conjunction, Contradiction, Implication, Induction, Method}
-use Rattle.larch_prove_meaning.specs.Plans.{Partition}
-use Rattle.larch_prove_meaning.specs.Plans.{Plan, Setting, Subgoal, a_variable, argument_variables, arguments_around}
-use Rattle.larch_prove_meaning.specs.Plans.{cases_plan, closed_by, conjuncts, conjuncts_in, constants_of}
-use Rattle.larch_prove_meaning.specs.Plans.{contradiction_plan, fails, generators, goal_at, holds, implication_of}
-use Rattle.larch_prove_meaning.specs.Plans.{induction_subgoals, names_of, observers, other_sorts, partition_subgoals}
-use Rattle.larch_prove_meaning.specs.Plans.{plan, shared_subgoal, shown, supposed_of, taken_beside}
-use Rattle.larch_prove_meaning.proofs.CasePlans.{arguments_found}
+use Rattle.larch_methods.specs.ProveMeaningNewNames.{constant_named, free_name, new_constants}
+use Rattle.larch_methods.specs.ProveMeaningPlans.{Cases, Conjunction, Contradiction, Implication, Induction, Method}
+use Rattle.larch_methods.specs.ProveMeaningPlans.{Partition}
+use Rattle.larch_methods.specs.ProveMeaningPlans.{Plan, Setting, Subgoal}
+use Rattle.larch_methods.specs.ProveMeaningPlans.{a_variable, argument_variables, arguments_around}
+use Rattle.larch_methods.specs.ProveMeaningPlans.{cases_plan, closed_by, conjuncts, conjuncts_in, constants_of}
+use Rattle.larch_methods.specs.ProveMeaningPlans.{contradiction_plan, fails, generators, goal_at, holds, implication_of}
+use Rattle.larch_methods.specs.ProveMeaningPlans.{induction_subgoals, names_of, observers}
+use Rattle.larch_methods.specs.ProveMeaningPlans.{other_sorts, partition_subgoals}
+use Rattle.larch_methods.specs.ProveMeaningPlans.{plan, shared_subgoal, shown, supposed_of, taken_beside}
+use Rattle.larch_methods.proofs.ProveMeaningCasePlans.{arguments_found}
 use Rattle.larch_methods.proofs.Planned.{argument_sorts, cases_planned, conjunction_planned, contradiction_planned}
 use Rattle.larch_methods.proofs.Planned.{implication_planned, induction_planned, other_are, partition_planned}
 use Rattle.larch_methods.proofs.Worded.{new_worded, others_worded}

@@ -27,17 +27,18 @@ use Rattle.larch_derive.specs.Words.{AreWordedOperators, AreWordedStatements, Is
 use Rattle.larch_derive.specs.declared.builder.Builder.{Builder}
 use Rattle.larch_derive.proofs.Growth.{known_right}
 use Rattle.larch_derive.proofs.Words.{known_worded}
-use Rattle.larch_derive_boxes.specs.Boxes.{IsPart}
-use Rattle.larch_prove_meaning.specs.Levels.{EarlierDuty, Level, Proof, all_constants}
-use Rattle.larch_prove_meaning.specs.Plans.{Cases, Conjunction, Contradiction, Implication, Induction, IsFormulaOver}
-use Rattle.larch_prove_meaning.specs.Plans.{IsMethodOver, IsPlanOver, Method, Partition, Plan, Setting, Subgoal}
-use Rattle.larch_prove_meaning.specs.Plans.{conjuncts, found_or, generators, induction_subgoals, observers}
-use Rattle.larch_prove_meaning.specs.Plans.{partition_subgoals, plan, shared_subgoal, taken_beside, two_arguments}
-use Rattle.larch_prove_meaning.specs.Plans.{with_found}
-use Rattle.larch_prove_meaning.specs.Steps.{own_operators, setting_of}
-use Rattle.larch_prove_meaning.specs.WellSorted.{IsLevelOver, IsWellSortedProof}
-use Rattle.larch_prove_meaning.proofs.PlanParts.{ok_same}
-use Rattle.larch_prove_meaning.proofs.PlanSorts.{plan_over}
+use Rattle.larch_methods.specs.DeriveBoxesBoxes.{IsPart}
+use Rattle.larch_methods.specs.ProveMeaningLevels.{EarlierDuty, Level, Proof, all_constants}
+use Rattle.larch_methods.specs.ProveMeaningPlans.{Cases, Conjunction, Contradiction}
+use Rattle.larch_methods.specs.ProveMeaningPlans.{Implication, Induction, IsFormulaOver}
+use Rattle.larch_methods.specs.ProveMeaningPlans.{IsMethodOver, IsPlanOver, Method, Partition, Plan, Setting, Subgoal}
+use Rattle.larch_methods.specs.ProveMeaningPlans.{conjuncts, found_or, generators, induction_subgoals, observers}
+use Rattle.larch_methods.specs.ProveMeaningPlans.{partition_subgoals, plan, shared_subgoal, taken_beside, two_arguments}
+use Rattle.larch_methods.specs.ProveMeaningPlans.{with_found}
+use Rattle.larch_methods.specs.ProveMeaningSteps.{own_operators, setting_of}
+use Rattle.larch_methods.specs.ProveMeaningWellSorted.{IsLevelOver, IsWellSortedProof}
+use Rattle.larch_methods.proofs.ProveMeaningPlanParts.{ok_same}
+use Rattle.larch_methods.proofs.ProveMeaningPlanSorts.{plan_over}
 use Rattle.larch_methods.specs.Methods.{IsKnownFormula}
 use Rattle.larch_methods.proofs.Planned.{cases_planned, conjunction_planned, contradiction_planned}
 use Rattle.larch_methods.proofs.Planned.{implication_planned}

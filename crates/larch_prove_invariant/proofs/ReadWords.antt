@@ -4,7 +4,7 @@ use Rattle.std.proofs.Common.{subst}
 use Rattle.std.proofs.Math.Seq.{drop-append_seam, take-append_seam}
 use Rattle.std.proofs.lemmas.List.Elements.{All-append, All-cons, All-drop, All-head, All-nil, All-push, All-tail}
 use Rattle.std.proofs.lemmas.List.Elements.{All-take, All-weaker}
-use Rattle.larch_raw.specs.declared.equation.RawEquation.{RawEquation}
+use Rattle.larch_methods.specs.RawEquationRawEquation.{RawEquation}
 use Rattle.larch_term.specs.Operator.{PlainOperator}
 use Rattle.larch_term.specs.Tree.{Tree, Forest, var, app, none, more}
 use Rattle.larch_term.specs.Variable.{occurrences, occurrences_in}
@@ -12,18 +12,18 @@ use Rattle.larch_term.specs.declared.statement.Statement.{Statement}
 use Rattle.larch_term.specs.declared.statement.Statement.TheVariants.{Equation, Generated, Partitioned}
 use Rattle.larch_term.specs.declared.statement.Theory.{Theory}
 use Rattle.larch_term.specs.declared.variable.Variable.{Variable}
-use Rattle.larch_certificate_text.specs.Parts.{Each}
+use Rattle.larch_derive.specs.CertificateTextParts.{Each}
 use Rattle.larch_derive.specs.Words.{AreWordedOperators, AreWordedTerms, IsWordedOperator, IsWordedStatement}
 use Rattle.larch_derive.specs.Words.{IsWordedTerm, IsWordedTheory}
 use Rattle.larch_derive.specs.declared.builder.Builder.{Builder}
 use Rattle.larch_derive.proofs.Words.{theory_worded}
-use Rattle.larch_rewrite_meaning.specs.Sides.{Sides}
-use Rattle.larch_sorts_meaning.specs.Laws.{ForestSorts, OperatorSorts, TermSorts}
-use Rattle.larch_traits_items.specs.Laws.{IsWord}
-use Rattle.larch_prove_meaning.specs.InWords.{AreVariablesInWords, IsStatementInWords, IsTermInWords, NamesWords}
-use Rattle.larch_prove_meaning.specs.Levels.{Proof}
-use Rattle.larch_prove_meaning.specs.Steps.{read_lone, read_sides}
-use Rattle.larch_prove_meaning.proofs.ReadWords.{equation_words, term_words}
+use Rattle.larch_methods.specs.RewriteMeaningSides.{Sides}
+use Rattle.larch_methods.specs.SortsMeaningLaws.{ForestSorts, OperatorSorts, TermSorts}
+use Rattle.larch_methods.specs.BaseMeaningWord.{IsWord}
+use Rattle.larch_methods.specs.ProveMeaningInWords.{AreVariablesInWords, IsStatementInWords, IsTermInWords, NamesWords}
+use Rattle.larch_methods.specs.ProveMeaningLevels.{Proof}
+use Rattle.larch_methods.specs.ProveMeaningSteps.{read_lone, read_sides}
+use Rattle.larch_methods.proofs.ProveMeaningReadWords.{equation_words, term_words}
 use Rattle.larch_prove_invariant.specs.Book.{Kept}
 use Rattle.larch_prove_invariant.specs.Holding.{HoldsProof, theory_for}
 use Rattle.larch_prove_invariant.proofs.Held.{boxes_held, holding_stands}

@@ -16,12 +16,13 @@ use Rattle.larch_derive.specs.Builder.{theory_in}
 use Rattle.larch_derive.specs.Words.{IsWordedTerm}
 use Rattle.larch_derive.specs.declared.builder.Builder.{Builder}
 use Rattle.larch_derive.proofs.Words.{known_worded}
-use Rattle.larch_derive_boxes.specs.Boxes.{IsOpen}
-use Rattle.larch_rewrite_meaning.specs.Sides.{AreSidesOver}
-use Rattle.larch_prove_meaning.specs.Levels.{Level}
-use Rattle.larch_prove_meaning.specs.Plans.{Contradiction, Implication, Plan, Setting, Subgoal, closed_by, constants_of}
-use Rattle.larch_prove_meaning.specs.Plans.{fails, holds, plan, shared_subgoal}
-use Rattle.larch_prove_plans.specs.Planning.{equate}
+use Rattle.larch_methods.specs.DeriveBoxesBoxes.{IsOpen}
+use Rattle.larch_methods.specs.RewriteMeaningSides.{AreSidesOver}
+use Rattle.larch_methods.specs.ProveMeaningLevels.{Level}
+use Rattle.larch_methods.specs.ProveMeaningPlans.{Contradiction, Implication, Plan, Setting}
+use Rattle.larch_methods.specs.ProveMeaningPlans.{Subgoal, closed_by, constants_of}
+use Rattle.larch_methods.specs.ProveMeaningPlans.{fails, holds, plan, shared_subgoal}
+use Rattle.larch_methods.specs.ProvePlansPlanning.{equate}
 use Rattle.larch_methods.specs.Methods.{IsKnownFormula}
 use Rattle.larch_methods.proofs.Planned.{contradiction_planned, implication_planned}
 use Rattle.larch_prove_invariant.specs.Book.{Book, Kept, Running, SupposingBox}

@@ -20,11 +20,13 @@ use Rattle.larch_derive.specs.Predicates.{Grows}
 use Rattle.larch_derive.specs.declared.builder.Builder.{Builder}
 use Rattle.larch_derive.specs.declared.open_box.OpenBox.{OpenBox}
 use Rattle.larch_derive.proofs.Growth.{grown_known, grows_alike}
-use Rattle.larch_derive_boxes.specs.Boxes.{AreOwnConstants, Opens}
-use Rattle.larch_prove_meaning.specs.Plans.{Implication, Induction, Partition, Plan, Setting, found_or, generators}
-use Rattle.larch_prove_meaning.specs.Plans.{implication_of, induction_subgoals, observers, partition_subgoals, plan}
-use Rattle.larch_prove_meaning.specs.Plans.{taken_beside, two_arguments, with_found}
-use Rattle.larch_prove_meaning.proofs.CasePlans.{arguments_found}
+use Rattle.larch_methods.specs.DeriveBoxesBoxes.{AreOwnConstants, Opens}
+use Rattle.larch_methods.specs.ProveMeaningPlans.{Implication, Induction, Partition, Plan}
+use Rattle.larch_methods.specs.ProveMeaningPlans.{Setting, found_or, generators}
+use Rattle.larch_methods.specs.ProveMeaningPlans.{implication_of, induction_subgoals, observers}
+use Rattle.larch_methods.specs.ProveMeaningPlans.{partition_subgoals, plan}
+use Rattle.larch_methods.specs.ProveMeaningPlans.{taken_beside, two_arguments, with_found}
+use Rattle.larch_methods.proofs.ProveMeaningCasePlans.{arguments_found}
 use Rattle.larch_methods.specs.Methods.{IsKnownFormula}
 use Rattle.larch_prove_invariant.specs.Book.{SupposingBox}
 use Rattle.larch_prove_invariant.specs.Ending.{SharedBox}

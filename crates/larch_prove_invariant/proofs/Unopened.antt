@@ -18,7 +18,7 @@ use Rattle.larch_derive.specs.OpenBox.{constant_of}
 use Rattle.larch_derive.specs.Predicates.{Known}
 use Rattle.larch_derive.specs.Words.{IsWordedTerm}
 use Rattle.larch_derive.specs.declared.builder.Builder.{Builder}
-use Rattle.larch_prove_meaning.specs.Levels.{Level}
+use Rattle.larch_methods.specs.ProveMeaningLevels.{Level}
 use Rattle.larch_prove_invariant.specs.Book.{Kept, made_first}
 use Rattle.larch_prove_invariant.specs.Holding.{AreOwn, HoldsLevels, open_constants}
 use Rattle.larch_prove_invariant.specs.Unopened.{is_among, operators_in, operators_in_all, unopened_in, unopened_of}

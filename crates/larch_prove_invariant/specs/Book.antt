@@ -5,8 +5,8 @@ use Rattle.larch_term.specs.Operator.{PlainOperator}
 use Rattle.larch_term.specs.Tree.{Tree}
 use Rattle.larch_term.specs.declared.statement.Statement.{Statement}
 use Rattle.larch_derive.specs.declared.open_box.OpenBox.{OpenBox}
-use Rattle.larch_prove_meaning.specs.Levels.{Level}
-use Rattle.larch_prove_meaning.specs.Plans.{Method, Plan, Setting, Subgoal}
+use Rattle.larch_methods.specs.ProveMeaningLevels.{Level}
+use Rattle.larch_methods.specs.ProveMeaningPlans.{Method, Plan, Setting, Subgoal}
 
 -- an open box with its hypotheses
 pub record SupposingBox : Type 0 where

@@ -15,7 +15,7 @@ use Rattle.larch_calculus.specs.Formula.{implication}
 use Rattle.larch_derive.specs.Predicates.{Grows}
 use Rattle.larch_derive.specs.declared.builder.Builder.{Builder}
 use Rattle.larch_derive.specs.declared.open_box.OpenBox.{OpenBox}
-use Rattle.larch_prove_meaning.specs.Plans.{Setting, closed_by, conjuncts, generators, observers, two_arguments}
+use Rattle.larch_methods.specs.ProveMeaningPlans.{Setting, closed_by, conjuncts, generators, observers, two_arguments}
 use Rattle.larch_methods.specs.Clauses.{ByConstants, ByPredicate}
 use Rattle.larch_methods.specs.Conjuncts.{AreTrue}
 use Rattle.larch_methods.specs.Methods.{ByCases, ByContradiction, ByImplication, ByInduction, IsKnownFormula, IsStated}

@@ -17,15 +17,15 @@ use Rattle.larch_derive.specs.Finished.{IsFinished}
 use Rattle.larch_derive.specs.Predicates.{Grows, HasEquation, HasNoBadLine}
 use Rattle.larch_derive.specs.Words.{AreWordedOperators, IsWordedTerm}
 use Rattle.larch_derive.specs.declared.builder.Builder.{Builder}
-use Rattle.larch_derive_boxes.specs.Boxes.{AreOwnConstants, IsOpen, Opens}
-use Rattle.larch_rewrite_meaning.specs.Sides.{Sides}
-use Rattle.larch_prove_meaning.specs.Facts.{Fact}
-use Rattle.larch_prove_meaning.specs.Levels.{Level, OfDuty, OfProof, OfSubgoal, Proof, Purpose}
-use Rattle.larch_prove_meaning.specs.Plans.{Cases, Conjunction, Contradiction, Implication, Induction, Method}
-use Rattle.larch_prove_meaning.specs.Plans.{IsPlanOver, Partition, Plan, Subgoal, holds, plan}
-use Rattle.larch_prove_plans.specs.ClauseGoals.{generation_goal, partition_goal}
-use Rattle.larch_prove_plans.specs.Planning.{equate}
-use Rattle.larch_prove_plans.specs.declared.subgoals.Subgoal as stated
+use Rattle.larch_methods.specs.DeriveBoxesBoxes.{AreOwnConstants, IsOpen, Opens}
+use Rattle.larch_methods.specs.RewriteMeaningSides.{Sides}
+use Rattle.larch_methods.specs.ProveMeaningFacts.{Fact}
+use Rattle.larch_methods.specs.ProveMeaningLevels.{Level, OfDuty, OfProof, OfSubgoal, Proof, Purpose}
+use Rattle.larch_methods.specs.ProveMeaningPlans.{Cases, Conjunction, Contradiction, Implication, Induction, Method}
+use Rattle.larch_methods.specs.ProveMeaningPlans.{IsPlanOver, Partition, Plan, Subgoal, holds, plan}
+use Rattle.larch_methods.specs.ProvePlansClauseGoals.{generation_goal, partition_goal}
+use Rattle.larch_methods.specs.ProvePlansPlanning.{equate}
+use Rattle.larch_methods.specs.ProvePlansSubgoalsSubgoal as stated
 use Rattle.larch_methods.specs.Methods.{IsKnownFormula}
 use Rattle.larch_methods.specs.Opening.{HasOtherConstants, HasOwnConstants, IsShownIn}
 use Rattle.larch_prove_invariant.specs.Book.{AtLine, Book, InBox, Kept, Left, Running, SupposingBox, all_boxes}

@@ -1,10 +1,10 @@
 -- Proofs in words: where all that stands in their levels can be written.
 use Rattle.std.specs.Prelude.{◌∷◌, All}
 use Rattle.larch_derive.specs.Words.{AreWordedOperators, IsWordedTerm, IsWordedTheory}
-use Rattle.larch_rewrite_meaning.specs.Sides.{Sides}
-use Rattle.larch_prove_meaning.specs.Facts.{Fact}
-use Rattle.larch_prove_meaning.specs.Levels.{Level, Proof}
-use Rattle.larch_prove_meaning.specs.Plans.{Subgoal}
+use Rattle.larch_methods.specs.RewriteMeaningSides.{Sides}
+use Rattle.larch_methods.specs.ProveMeaningFacts.{Fact}
+use Rattle.larch_methods.specs.ProveMeaningLevels.{Level, Proof}
+use Rattle.larch_methods.specs.ProveMeaningPlans.{Subgoal}
 use Rattle.larch_prove_invariant.specs.Holding.{theory_for}
 
 -- both sides are in words

@@ -2,7 +2,7 @@
 use Rattle.std.specs.Prelude.{ℕ, List, []}
 use Rattle.larch_term.specs.declared.statement.Statement.{Statement}
 use Rattle.larch_term.specs.declared.statement.Theory.{Theory}
-use Rattle.larch_certificate.specs.declared.line.Line.TheVariants.{Inst, Done}
+use Rattle.larch_methods.specs.CertificateLineLine.TheVariants.{Inst, Done}
 use Rattle.larch_derive.specs.Builder.{IsPushed}
 use Rattle.larch_derive.specs.declared.builder.Builder.{Builder}
 use Rattle.larch_prove_invariant.specs.Book.{Kept, SupposingBox}

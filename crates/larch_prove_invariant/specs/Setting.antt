@@ -1,7 +1,7 @@
 -- Names that are taken beside those of the theory's operators.
 use Rattle.std.specs.Prelude.{ℕ, List, ◌++◌, map}
-use Rattle.larch_prove_meaning.specs.Levels.{Proof}
-use Rattle.larch_prove_plans.specs.Planning.{names_of_operators}
+use Rattle.larch_methods.specs.ProveMeaningLevels.{Proof}
+use Rattle.larch_methods.specs.ProvePlansPlanning.{names_of_operators}
 
 -- the names of the constants of the block, and of what is in scope
 abbrev pub names_beside : Proof → List (List ℕ)

@@ -2,18 +2,18 @@
 ghost use Rattle.std.specs.Prelude.{◌≡◌, ◌<◌, ◌≤◌, ℕ, Bool, List, All, map, None, Ok, Some};
 ghost use Rattle.larch_term.specs.Sorts.{WellSorted};
 ghost use Rattle.larch_term.specs.declared.statement.Statement.{Statement};
-ghost use Rattle.larch_pairs_critical.specs.Overlap.{IsApplication};
-ghost use Rattle.larch_pairs_critical.specs.Pairs.{critical_pairs};
-ghost use Rattle.larch_pairs_critical.specs.declared.pair.Pair.{Pair};
-ghost use Rattle.larch_pairs_critical.specs.declared.pair.Rule.{Rule};
+ghost use Rattle.larch_methods.specs.PairsCriticalOverlap.{IsApplication};
+ghost use Rattle.larch_methods.specs.PairsCriticalPairs.{critical_pairs};
+ghost use Rattle.larch_methods.specs.PairsCriticalPairPair.{Pair};
+ghost use Rattle.larch_methods.specs.PairsCriticalPairRule.{Rule};
 ghost use Rattle.larch_derive.specs.Predicates.{HasEquation, Known};
 ghost use Rattle.larch_derive.specs.declared.builder.Builder.{Builder};
-ghost use Rattle.larch_derive_boxes.specs.Boxes.{IsPart};
+ghost use Rattle.larch_methods.specs.DeriveBoxesBoxes.{IsPart};
 ghost use Rattle.larch_derive_formulas.specs.Consequences.{Follows};
-ghost use Rattle.larch_derive_lines.specs.Rules.{AreKnownEntries};
-ghost use Rattle.larch_rewrite_meaning.specs.Sides.{Sides};
-ghost use Rattle.larch_prove_meaning.specs.Facts.{deduce};
-ghost use Rattle.larch_prove_plans.specs.Planning.{equate};
+ghost use Rattle.larch_derive_formulas.specs.DeriveLinesRules.{AreKnownEntries};
+ghost use Rattle.larch_methods.specs.RewriteMeaningSides.{Sides};
+ghost use Rattle.larch_methods.specs.ProveMeaningFacts.{deduce};
+ghost use Rattle.larch_methods.specs.ProvePlansPlanning.{equate};
 ghost use Rattle.larch_prove_invariant.specs.Holding.{open_constants};
 
 /// What the definition deduces from an equation and what the lines of `larch_derive_formulas` say agree: whichever

@@ -26,3 +26,9 @@ pub use terms::{
     unopened_constants,
 };
 pub use words::{what_commands_read_is_in_words, words_are_words};
+
+// Passed on to crates above, which then needn't list them.
+pub use larch_derive_formulas;
+pub use larch_derive_formulas::larch_derive_lines;
+pub use larch_methods;
+pub use larch_methods::{larch_derive_boxes, larch_order, larch_prove_plans};

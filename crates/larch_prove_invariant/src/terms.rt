@@ -13,12 +13,12 @@ ghost use Rattle.larch_derive.specs.Predicates.{HasEquation, HasNoBadLine, Known
 ghost use Rattle.larch_derive.specs.Words.{AreWordedOperators, IsWordedTerm};
 ghost use Rattle.larch_derive.specs.declared.builder.Builder.{Builder};
 ghost use Rattle.larch_derive.specs.declared.open_box.OpenBox.{OpenBox};
-ghost use Rattle.larch_derive_boxes.specs.Boxes.{AreOwnConstants, IsPart};
+ghost use Rattle.larch_methods.specs.DeriveBoxesBoxes.{AreOwnConstants, IsPart};
 ghost use Rattle.larch_methods.specs.Inside.{closed_in};
 ghost use Rattle.larch_methods.specs.Methods.{IsKnownFormula};
-ghost use Rattle.larch_prove_meaning.specs.Levels.{Level, Proof};
-ghost use Rattle.larch_prove_meaning.specs.Plans.{Subgoal};
-ghost use Rattle.larch_prove_meaning.specs.WellSorted.{IsWellSortedProof};
+ghost use Rattle.larch_methods.specs.ProveMeaningLevels.{Level, Proof};
+ghost use Rattle.larch_methods.specs.ProveMeaningPlans.{Subgoal};
+ghost use Rattle.larch_methods.specs.ProveMeaningWellSorted.{IsWellSortedProof};
 ghost use Rattle.larch_prove_invariant.specs.Book.{Kept, Running, SupposingBox};
 ghost use Rattle.larch_prove_invariant.specs.Holding.{AreOwn, HoldsLevels, HoldsProof, Through, entrances};
 ghost use Rattle.larch_prove_invariant.specs.Holding.{open_constants, shape_of};

@@ -2,16 +2,16 @@
 ghost use Rattle.std.specs.Prelude.{◌≡◌, ℕ, List, All, Ok};
 ghost use Rattle.larch_derive.specs.Words.{IsWordedStatement, IsWordedTerm, IsWordedTheory};
 ghost use Rattle.larch_derive.specs.declared.builder.Builder.{Builder};
-ghost use Rattle.larch_raw.specs.declared.equation.RawEquation.{RawEquation};
-ghost use Rattle.larch_rewrite_meaning.specs.Sides.{Sides};
-ghost use Rattle.larch_sorts_meaning.specs.Laws.{OperatorSorts};
+ghost use Rattle.larch_methods.specs.RawEquationRawEquation.{RawEquation};
+ghost use Rattle.larch_methods.specs.RewriteMeaningSides.{Sides};
+ghost use Rattle.larch_methods.specs.SortsMeaningLaws.{OperatorSorts};
 ghost use Rattle.larch_term.specs.Tree.{Tree};
 ghost use Rattle.larch_term.specs.declared.statement.Statement.{Statement};
 ghost use Rattle.larch_term.specs.declared.statement.Theory.{Theory};
-ghost use Rattle.larch_traits_items.specs.Laws.{IsWord};
-ghost use Rattle.larch_prove_meaning.specs.InWords.{AreVariablesInWords, IsStatementInWords, IsTermInWords};
-ghost use Rattle.larch_prove_meaning.specs.Levels.{Proof};
-ghost use Rattle.larch_prove_meaning.specs.Steps.{read_lone, read_sides};
+ghost use Rattle.larch_methods.specs.BaseMeaningWord.{IsWord};
+ghost use Rattle.larch_methods.specs.ProveMeaningInWords.{AreVariablesInWords, IsStatementInWords, IsTermInWords};
+ghost use Rattle.larch_methods.specs.ProveMeaningLevels.{Proof};
+ghost use Rattle.larch_methods.specs.ProveMeaningSteps.{read_lone, read_sides};
 ghost use Rattle.larch_prove_invariant.specs.Book.{Kept};
 ghost use Rattle.larch_prove_invariant.specs.Holding.{HoldsProof};
 

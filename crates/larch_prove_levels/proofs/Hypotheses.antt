@@ -4,14 +4,14 @@ use Rattle.std.proofs.Common.{ap, sym, ◌∙◌}
 use Rattle.std.proofs.lemmas.Bool.{lt-ltb}
 use Rattle.std.proofs.lemmas.List.{append_assoc}
 use Rattle.larch_base.specs.declared.code.Code.{Code}
-use Rattle.larch_order.specs.declared.precedence.Ranked.{Ranked}
+use Rattle.larch_prove_boxes.specs.OrderPrecedenceRanked.{Ranked}
 use Rattle.larch_prove_levels.specs.Supposing.{Supposed, TellsCode, with_hypotheses, with_hypothesis}
 use Rattle.larch_prove_levels.proofs.Telling.{tells_first, tells_same}
-use Rattle.larch_prove_meaning.specs.Facts.{Facts, Manner, add, add_waiting, max_fact_number, most_taken}
-use Rattle.larch_rewrite.specs.declared.refusal.RewriteRefusal.{RewriteRefusal}
-use Rattle.larch_rewrite_meaning.specs.Sides.{Sides}
-use Rattle.larch_rewrite_meaning.specs.Work.{OverSize, within_size}
-use Rattle.larch_traits_items.specs.Steps.{after}
+use Rattle.larch_prove_boxes.specs.ProveMeaningFacts.{Facts, Manner, add, add_waiting, max_fact_number, most_taken}
+use Rattle.larch_prove_adding.specs.RewriteRefusalRewriteRefusal.{RewriteRefusal}
+use Rattle.larch_prove_adding.specs.RewriteMeaningSides.{Sides}
+use Rattle.larch_prove_adding.specs.RewriteMeaningWork.{OverSize, within_size}
+use Rattle.larch_base_meaning.specs.Steps.{after}
 
 -- a number that no name may have is refused as too large
 pub too_many : (manner : Manner) (e : Sides) (facts : Facts) (b : ℕ) → max_fact_number < manner.name.number

@@ -4,14 +4,14 @@ use Rattle.std.proofs.Common.{ap, ◌∙◌}
 use Rattle.larch_base.specs.declared.code.Code.{Code}
 use Rattle.larch_prove_levels.specs.Opened.{normal_by, opened_by, supposing_in, with_level, with_opened, with_supposed}
 use Rattle.larch_prove_levels.specs.Supposing.{Supposed, with_hypotheses}
-use Rattle.larch_prove_meaning.specs.Facts.{Facts, rules_of}
-use Rattle.larch_prove_meaning.specs.Levels.{Level, Proof, all_supposed, normal_goal, open_subgoal}
-use Rattle.larch_prove_meaning.specs.Levels.{with_facts, work_result}
-use Rattle.larch_prove_meaning.specs.Plans.{Subgoal}
-use Rattle.larch_rewrite_meaning.specs.NormalForm.{normal}
-use Rattle.larch_rewrite_meaning.specs.Sides.{Sides}
+use Rattle.larch_prove_boxes.specs.ProveMeaningFacts.{Facts, rules_of}
+use Rattle.larch_prove_boxes.specs.ProveMeaningLevels.{Level, Proof, all_supposed, normal_goal, open_subgoal}
+use Rattle.larch_prove_boxes.specs.ProveMeaningLevels.{with_facts, work_result}
+use Rattle.larch_prove_boxes.specs.ProveMeaningPlans.{Subgoal}
+use Rattle.larch_prove_adding.specs.RewriteMeaningNormalForm.{normal}
+use Rattle.larch_prove_adding.specs.RewriteMeaningSides.{Sides}
 use Rattle.larch_term.specs.Tree.{Tree}
-use Rattle.larch_traits_items.specs.Steps.{after}
+use Rattle.larch_base_meaning.specs.Steps.{after}
 
 supposed_further : (es : List Sides) (p : Proof) (w : Result Facts Code)
     → ((facts : Facts) → all_supposed es (record p {

@@ -6,15 +6,16 @@ use Rattle.larch_prove_levels.specs.Derived.{Worked, derived_in, if_settled, wit
 use Rattle.larch_prove_levels.specs.Derived.{worked_in}
 use Rattle.larch_prove_levels.specs.Opened.{Opened, opened_by, with_next}
 use Rattle.larch_prove_levels.proofs.Opening.{subgoal_opened}
-use Rattle.larch_prove_meaning.specs.Facts.{Facts, rules_of}
-use Rattle.larch_prove_meaning.specs.Levels.{Level, Next, OfProof, OfSubgoal, Proof, derive, is_settled}
-use Rattle.larch_prove_meaning.specs.Levels.{normal_goal, open_subgoal, opened_from, rise, settle_goal, with_facts}
-use Rattle.larch_prove_meaning.specs.Levels.{with_mark, work_result}
-use Rattle.larch_prove_meaning.specs.Plans.{Subgoal, holds}
-use Rattle.larch_rewrite_meaning.specs.NormalForm.{normal}
-use Rattle.larch_rewrite_meaning.specs.Sides.{Sides}
+use Rattle.larch_prove_boxes.specs.ProveMeaningFacts.{Facts, rules_of}
+use Rattle.larch_prove_boxes.specs.ProveMeaningLevels.{Level, Next, OfProof, OfSubgoal, Proof, derive, is_settled}
+use Rattle.larch_prove_boxes.specs.ProveMeaningLevels.{normal_goal, open_subgoal, opened_from}
+use Rattle.larch_prove_boxes.specs.ProveMeaningLevels.{rise, settle_goal, with_facts}
+use Rattle.larch_prove_boxes.specs.ProveMeaningLevels.{with_mark, work_result}
+use Rattle.larch_prove_boxes.specs.ProveMeaningPlans.{Subgoal, holds}
+use Rattle.larch_prove_adding.specs.RewriteMeaningNormalForm.{normal}
+use Rattle.larch_prove_adding.specs.RewriteMeaningSides.{Sides}
 use Rattle.larch_term.specs.Tree.{Tree}
-use Rattle.larch_traits_items.specs.Steps.{after}
+use Rattle.larch_base_meaning.specs.Steps.{after}
 
 -- what remains of a level plays no part where it is proved
 pub rise_remaining : (below : List Level) (level : Level) (ss : List Subgoal) (p : Proof)

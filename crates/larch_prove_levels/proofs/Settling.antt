@@ -1,15 +1,15 @@
 -- Whether a level is proved.
 use Rattle.std.specs.Prelude.{◌≡◌, ◌<◌, ◌||◌, Bool, true, false, refl, ℕ, List, Some}
 use Rattle.std.proofs.Common.{ap, arith, subst, sym, ◌∙◌}
-use Rattle.larch_calculus.specs.Formula.{falsity}
-use Rattle.larch_derive.proofs.Growth.{known_left}
-use Rattle.larch_derive.specs.Predicates.{HasEquation, Known}
-use Rattle.larch_derive.specs.declared.builder.Builder.{Builder}
+use Rattle.larch_prove_boxes.specs.CalculusFormula.{falsity}
+use Rattle.larch_prove_boxes.proofs.DeriveGrowth.{known_left}
+use Rattle.larch_prove_boxes.specs.DerivePredicates.{HasEquation, Known}
+use Rattle.larch_prove_boxes.specs.DeriveBuilderBuilder.{Builder}
 use Rattle.larch_prove_adding.specs.KeptFacts.{SaysAbsurd}
 use Rattle.larch_prove_levels.specs.Level.{IsReady, IsStored}
 use Rattle.larch_prove_levels.specs.Settled.{is_settled_by}
 use Rattle.larch_prove_levels.specs.declared.level.Level.{Level}
-use Rattle.larch_prove_meaning.specs.Facts.{Facts}
+use Rattle.larch_prove_boxes.specs.ProveMeaningFacts.{Facts}
 use Rattle.larch_store.specs.Numbered.{Numbered, term_of}
 use Rattle.larch_term.proofs.Decided.{tree_Decides}
 use Rattle.larch_term.proofs.TruthTest.{is_truth_Decides}

@@ -4,11 +4,11 @@ use Rattle.std.proofs.Common.{ap, subst, sym}
 use Rattle.larch_base.specs.declared.code.Code.{Code}
 use Rattle.larch_prove_adding.specs.Turns.{Tells}
 use Rattle.larch_prove_levels.specs.Supposing.{TellsCode}
-use Rattle.larch_prove_meaning.specs.Levels.{work_result}
-use Rattle.larch_rewrite.specs.declared.refusal.RewriteRefusal.{RewriteRefusal}
-use Rattle.larch_rewrite.specs.declared.refusal.RewriteRefusal.TheVariants.{Limit, TooLarge, Memory}
-use Rattle.larch_rewrite_meaning.specs.Work.{Work}
-use Rattle.larch_traits_items.specs.Steps.{after}
+use Rattle.larch_prove_boxes.specs.ProveMeaningLevels.{work_result}
+use Rattle.larch_prove_adding.specs.RewriteRefusalRewriteRefusal.{RewriteRefusal}
+use Rattle.larch_prove_adding.specs.RewriteRefusalRewriteRefusal.TheVariants.{Limit, TooLarge, Memory}
+use Rattle.larch_prove_adding.specs.RewriteMeaningWork.{Work}
+use Rattle.larch_base_meaning.specs.Steps.{after}
 
 -- the event in which work ends is the code of the step
 pub tells_code : {A : Type 0} (w : Work A) (r : RewriteRefusal) → Tells w r → TellsCode (work_result w) r

@@ -2,13 +2,14 @@
 use Rattle.std.specs.Prelude.{ℕ, ◌+◌, List, Result, Ok, true, false}
 use Rattle.larch_base.specs.declared.code.Code.{Code}
 use Rattle.larch_base.specs.declared.fact_name.FactLetter.TheVariants.{Derived}
-use Rattle.larch_order.specs.declared.precedence.Ranked.{Ranked}
-use Rattle.larch_prove_meaning.specs.Facts.{Facts, add, rules_of, whole_name}
-use Rattle.larch_prove_meaning.specs.Levels.{Level, Next, Proof, all_serve, is_settled, with_mark, work_result}
-use Rattle.larch_rewrite_meaning.specs.NormalForm.{normal}
-use Rattle.larch_rewrite_meaning.specs.Sides.{Sides}
+use Rattle.larch_prove_boxes.specs.OrderPrecedenceRanked.{Ranked}
+use Rattle.larch_prove_boxes.specs.ProveMeaningFacts.{Facts, add, rules_of, whole_name}
+use Rattle.larch_prove_boxes.specs.ProveMeaningLevels.{Level, Next, Proof, all_serve}
+use Rattle.larch_prove_boxes.specs.ProveMeaningLevels.{is_settled, with_mark, work_result}
+use Rattle.larch_prove_adding.specs.RewriteMeaningNormalForm.{normal}
+use Rattle.larch_prove_adding.specs.RewriteMeaningSides.{Sides}
 use Rattle.larch_term.specs.Tree.{Tree}
-use Rattle.larch_traits_items.specs.Steps.{after}
+use Rattle.larch_base_meaning.specs.Steps.{after}
 
 -- facts and a goal
 pub record Worked : Type 0 where

@@ -1,20 +1,20 @@
 -- Levels as the code has them: what is kept of them.
 use Rattle.std.specs.Prelude.{◌≡◌, List, [], map, All, Option, Some, None}
-use Rattle.larch_derive.specs.Predicates.{HasEquation}
-use Rattle.larch_derive.specs.declared.builder.Builder.{Builder}
+use Rattle.larch_prove_boxes.specs.DerivePredicates.{HasEquation}
+use Rattle.larch_prove_boxes.specs.DeriveBuilderBuilder.{Builder}
 use Rattle.larch_prove_adding.specs.KeptFacts.{AreSaid, facts_of, lines_of}
 use Rattle.larch_prove_boxes.specs.BoxLists.{box_list, boxes_with}
 use Rattle.larch_prove_boxes.specs.Leave.{left_of}
-use Rattle.larch_prove_invariant.specs.Book as kept
-use Rattle.larch_prove_invariant.specs.Book.{Kept}
+use Rattle.larch_prove_boxes.specs.ProveInvariantBook as kept
+use Rattle.larch_prove_boxes.specs.ProveInvariantBook.{Kept}
 use Rattle.larch_prove_levels.specs.declared.level.Level.{Level}
 use Rattle.larch_prove_levels.specs.declared.level.Purpose.{Purpose}
 use Rattle.larch_prove_levels.specs.declared.level.Purpose.TheVariants as purpose
 use Rattle.larch_prove_levels.specs.declared.level.Running.{Running}
-use Rattle.larch_prove_meaning.specs.Levels as defined
-use Rattle.larch_prove_meaning.specs.Plans.{Subgoal}
-use Rattle.larch_prove_plans.specs.Planning.{method_of, plan_of}
-use Rattle.larch_rewrite.specs.RuleSet.{BelongsTo}
+use Rattle.larch_prove_boxes.specs.ProveMeaningLevels as defined
+use Rattle.larch_prove_boxes.specs.ProveMeaningPlans.{Subgoal}
+use Rattle.larch_prove_boxes.specs.ProvePlansPlanning.{method_of, plan_of}
+use Rattle.larch_prove_adding.specs.RewriteRuleSet.{BelongsTo}
 use Rattle.larch_store.specs.Numbered.{Numbered, term_of}
 use Rattle.larch_store.specs.Stored.{Belongs}
 use Rattle.larch_term.specs.BuiltIn.{bool_sort}

@@ -1,14 +1,14 @@
 -- How a level is opened, by its facts and the number of the next hypothesis alone.
 use Rattle.std.specs.Prelude.{ℕ, List, ◌∷◌, Result, Ok, false}
 use Rattle.larch_base.specs.declared.code.Code.{Code}
-use Rattle.larch_order.specs.declared.precedence.Ranked.{Ranked}
+use Rattle.larch_prove_boxes.specs.OrderPrecedenceRanked.{Ranked}
 use Rattle.larch_prove_levels.specs.Supposing.{Supposed, with_hypotheses}
-use Rattle.larch_prove_meaning.specs.Facts.{rules_of}
-use Rattle.larch_prove_meaning.specs.Levels.{Level, OfSubgoal, Proof, level_for, with_mark, work_result}
-use Rattle.larch_prove_meaning.specs.Plans.{Subgoal}
-use Rattle.larch_rewrite_meaning.specs.NormalForm.{normal}
+use Rattle.larch_prove_boxes.specs.ProveMeaningFacts.{rules_of}
+use Rattle.larch_prove_boxes.specs.ProveMeaningLevels.{Level, OfSubgoal, Proof, level_for, with_mark, work_result}
+use Rattle.larch_prove_boxes.specs.ProveMeaningPlans.{Subgoal}
+use Rattle.larch_prove_adding.specs.RewriteMeaningNormalForm.{normal}
 use Rattle.larch_term.specs.Tree.{Tree}
-use Rattle.larch_traits_items.specs.Steps.{after}
+use Rattle.larch_base_meaning.specs.Steps.{after}
 
 -- what was supposed for a goal, and its normal form
 pub record Opened : Type 0 where

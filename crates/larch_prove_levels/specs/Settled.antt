@@ -1,6 +1,6 @@
 -- When a level is proved, by its facts and its goal.
 use Rattle.std.specs.Prelude.{Bool, ◌||◌}
-use Rattle.larch_prove_meaning.specs.Facts.{Facts}
+use Rattle.larch_prove_boxes.specs.ProveMeaningFacts.{Facts}
 use Rattle.larch_term.specs.Equality.{same_tree}
 use Rattle.larch_term.specs.Tree.{Tree}
 use Rattle.larch_term.specs.Truth.{truth}

@@ -3,13 +3,13 @@ use Rattle.std.specs.Prelude.{◌≡◌, ℕ, ◌+◌, List, [], ◌∷◌, Resu
 use Rattle.larch_base.specs.declared.code.Code.{Code}
 use Rattle.larch_base.specs.declared.code.Code.TheVariants as code
 use Rattle.larch_base.specs.declared.fact_name.FactLetter.TheVariants.{Hypothesis}
-use Rattle.larch_order.specs.declared.precedence.Ranked.{Ranked}
-use Rattle.larch_prove_meaning.specs.Facts.{Facts, add, whole_name}
-use Rattle.larch_prove_meaning.specs.Levels.{all_serve, work_result}
-use Rattle.larch_rewrite.specs.declared.refusal.RewriteRefusal.{RewriteRefusal}
-use Rattle.larch_rewrite.specs.declared.refusal.RewriteRefusal.TheVariants.{Limit, TooLarge, Memory}
-use Rattle.larch_rewrite_meaning.specs.Sides.{Sides}
-use Rattle.larch_traits_items.specs.Steps.{after}
+use Rattle.larch_prove_boxes.specs.OrderPrecedenceRanked.{Ranked}
+use Rattle.larch_prove_boxes.specs.ProveMeaningFacts.{Facts, add, whole_name}
+use Rattle.larch_prove_boxes.specs.ProveMeaningLevels.{all_serve, work_result}
+use Rattle.larch_prove_adding.specs.RewriteRefusalRewriteRefusal.{RewriteRefusal}
+use Rattle.larch_prove_adding.specs.RewriteRefusalRewriteRefusal.TheVariants.{Limit, TooLarge, Memory}
+use Rattle.larch_prove_adding.specs.RewriteMeaningSides.{Sides}
+use Rattle.larch_base_meaning.specs.Steps.{after}
 
 -- facts, and the number of the next hypothesis
 pub record Supposed : Type 0 where

@@ -1,20 +1,20 @@
 ghost use Rattle.std.specs.Prelude.{◌≡◌, ◌+◌, Ok, IfErr, IfOk, OnOk};
-ghost use Rattle.larch_derive.specs.Predicates.{Extends};
+ghost use Rattle.larch_prove_boxes.specs.DerivePredicates.{Extends};
 ghost use Rattle.larch_prove_adding.specs.Equation.{IsSaid, sides_in};
 ghost use Rattle.larch_prove_adding.specs.KeptFacts.{facts_of};
 ghost use Rattle.larch_prove_levels.specs.Derived.{derived_in};
 ghost use Rattle.larch_prove_levels.specs.Level.{IsReady};
 ghost use Rattle.larch_prove_levels.specs.Supposing.{TellsCode};
-ghost use Rattle.larch_prove_meaning.specs.Plans.{holds};
+ghost use Rattle.larch_prove_boxes.specs.ProveMeaningPlans.{holds};
 ghost use Rattle.larch_store.specs.Numbered.{term_of};
 ghost use Rattle.larch_store.specs.Stored.{Grows};
 
 use crate::level::Level;
 use crate::supposing::{Around, normalise_goal};
 use larch_base::{FactLetter, Memory};
-use larch_derive::Builder;
 use larch_prove_adding::SaidEquation;
-use larch_rewrite::RewriteRefusal;
+use larch_prove_adding::larch_rewrite::RewriteRefusal;
+use larch_prove_boxes::larch_derive::Builder;
 use larch_store::{Shared, Store};
 use larch_term::BuiltIn;
 use std::alloc::Global;

@@ -3,12 +3,13 @@ ghost use Rattle.std.specs.Prelude.{◌≡◌, ◌∷◌, List, Ok, Err, true, f
 ghost use Rattle.larch_base.specs.declared.code.Code.{Code};
 ghost use Rattle.larch_prove_levels.specs.Derived.{Worked, derived_in, if_settled, on_parent, with_derived, worked_in};
 ghost use Rattle.larch_prove_levels.specs.Opened.{Opened, opened_by, with_next};
-ghost use Rattle.larch_prove_meaning.specs.Levels.{Level, OfProof, OfSubgoal, Proof, derive, is_settled, opened_from, rise};
-ghost use Rattle.larch_prove_meaning.specs.Levels.{settle_goal, with_mark};
-ghost use Rattle.larch_prove_meaning.specs.Plans.{Subgoal, holds};
-ghost use Rattle.larch_rewrite_meaning.specs.Sides.{Sides};
+ghost use Rattle.larch_prove_boxes.specs.ProveMeaningLevels.{Level, OfProof, OfSubgoal, Proof};
+ghost use Rattle.larch_prove_boxes.specs.ProveMeaningLevels.{derive, is_settled, opened_from, rise};
+ghost use Rattle.larch_prove_boxes.specs.ProveMeaningLevels.{settle_goal, with_mark};
+ghost use Rattle.larch_prove_boxes.specs.ProveMeaningPlans.{Subgoal, holds};
+ghost use Rattle.larch_prove_adding.specs.RewriteMeaningSides.{Sides};
 ghost use Rattle.larch_term.specs.Tree.{Tree};
-ghost use Rattle.larch_traits_items.specs.Steps.{after};
+ghost use Rattle.larch_base_meaning.specs.Steps.{after};
 
 /// The next subgoal of a method is opened by its parent's facts and the number of the next hypothesis: it stays open,
 /// or is proved at once, so that the levels rise, or opening it is refused.

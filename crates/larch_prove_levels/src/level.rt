@@ -1,17 +1,17 @@
 ghost use Rattle.std.specs.Option.{option_copied};
 ghost use Rattle.std.specs.Prelude.{◌≡◌, IfOk, IsTrue, List};
-ghost use Rattle.larch_derive.specs.declared.builder.Builder.{Builder as is_builder};
+ghost use Rattle.larch_prove_boxes.specs.DeriveBuilderBuilder.{Builder as is_builder};
 ghost use Rattle.larch_prove_adding.specs.KeptFacts.{AreSaid, facts_of, lines_of};
-ghost use Rattle.larch_prove_invariant.specs.Holding.{HasAbsurd, HasFacts};
+ghost use Rattle.larch_prove_boxes.specs.ProveInvariantHolding.{HasAbsurd, HasFacts};
 ghost use Rattle.larch_prove_levels.specs.Level.{AreSameMethods, IsCopy};
-ghost use Rattle.larch_rewrite.specs.RuleSet.{BelongsTo};
+ghost use Rattle.larch_prove_adding.specs.RewriteRuleSet.{BelongsTo};
 ghost use Rattle.larch_store.specs.Numbered.{Numbered};
 
 use larch_base::{Memory, Sequence};
-use larch_derive::{OpenBox, OpenBoxes};
 use larch_prove_adding::{Facts, LevelGoal};
 use larch_prove_boxes::Leave;
-use larch_prove_plans::{Method, Plan};
+use larch_prove_boxes::larch_derive::{OpenBox, OpenBoxes};
+use larch_prove_boxes::larch_prove_plans::{Method, Plan};
 use larch_store::Shared;
 use larch_term::copy_operators;
 use std::alloc::Global;

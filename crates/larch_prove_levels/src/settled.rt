@@ -1,5 +1,5 @@
 ghost use Rattle.std.specs.Prelude.{◌≡◌, false, true, IfOk, IfSome, IfNone};
-ghost use Rattle.larch_derive.specs.Predicates.{Extends, HasEquation};
+ghost use Rattle.larch_prove_boxes.specs.DerivePredicates.{Extends, HasEquation};
 ghost use Rattle.larch_prove_adding.specs.KeptFacts.{facts_of};
 ghost use Rattle.larch_prove_levels.specs.Level.{IsReady, IsStored};
 ghost use Rattle.larch_prove_levels.specs.Settled.{is_settled_by};
@@ -9,8 +9,8 @@ ghost use Rattle.larch_term.specs.Truth.{truth, is_truth};
 
 use crate::level::Level;
 use larch_base::Memory;
-use larch_derive::Builder;
-use larch_derive_formulas::absurd;
+use larch_prove_boxes::larch_derive::Builder;
+use larch_prove_boxes::larch_derive_formulas::absurd;
 use larch_store::{Shared, Store};
 use larch_term::{BuiltIn, is_truth};
 use std::alloc::Global;

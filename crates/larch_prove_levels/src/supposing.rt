@@ -1,22 +1,22 @@
 ghost use Rattle.std.specs.Prelude.{◌≡◌, All, Ok, OnOk, IfErr, map};
-ghost use Rattle.larch_derive.specs.Predicates.{Extends};
+ghost use Rattle.larch_prove_boxes.specs.DerivePredicates.{Extends};
 ghost use Rattle.larch_prove_adding.specs.Equation.{IsSaid, sides_in};
 ghost use Rattle.larch_prove_adding.specs.KeptFacts.{AreSaid, facts_of};
 ghost use Rattle.larch_prove_levels.specs.Level.{IsReady};
 ghost use Rattle.larch_prove_levels.specs.Supposing.{TellsCode, with_hypothesis, with_hypotheses};
-ghost use Rattle.larch_prove_meaning.specs.Facts.{rules_of, whole_name};
-ghost use Rattle.larch_prove_meaning.specs.Levels.{work_result};
-ghost use Rattle.larch_rewrite_meaning.specs.NormalForm.{normal};
-ghost use Rattle.larch_rewrite.specs.RuleSet.{BelongsTo};
+ghost use Rattle.larch_prove_boxes.specs.ProveMeaningFacts.{rules_of, whole_name};
+ghost use Rattle.larch_prove_boxes.specs.ProveMeaningLevels.{work_result};
+ghost use Rattle.larch_prove_adding.specs.RewriteMeaningNormalForm.{normal};
+ghost use Rattle.larch_prove_adding.specs.RewriteRuleSet.{BelongsTo};
 ghost use Rattle.larch_store.specs.Numbered.{term_of};
 ghost use Rattle.larch_store.specs.Stored.{Grows};
 
 use crate::level::Level;
 use larch_base::{FactLetter, FactName};
-use larch_derive::Builder;
-use larch_order::Precedence;
+use larch_prove_adding::larch_rewrite::RewriteRefusal;
 use larch_prove_adding::{Facts, Manner, SaidEquation, normal_goal};
-use larch_rewrite::RewriteRefusal;
+use larch_prove_boxes::larch_derive::Builder;
+use larch_prove_boxes::larch_order::Precedence;
 use larch_store::Store;
 use std::alloc::Global;
 

@@ -18,11 +18,12 @@ use Rattle.larch_term.specs.Sorts.{sort_of, WellSorted, IsOver, IsTermOver}
 use Rattle.larch_term.specs.Truth.{truth}
 use Rattle.larch_term.specs.declared.built_in.BuiltIn.TheVariants.{True, False, Iff, Equal}
 use Rattle.larch_term.specs.declared.substitution.Entry.{Entry}
-use Rattle.larch_term_law.proofs.Substitutions.{substituted_sort, substituted_well_sorted, substituted_over}
-use Rattle.larch_calculus.specs.Formula.{falsity, equivalence, equality}
-use Rattle.larch_tables.specs.Row.{PlainRow}
-use Rattle.larch_tables.specs.Spelling.{x, y, b}
-use Rattle.larch_tables.specs.Tables.{deduction_rows}
+use Rattle.larch_pairs_critical.proofs.TermLawSubstitutions.{substituted_sort, substituted_well_sorted}
+use Rattle.larch_pairs_critical.proofs.TermLawSubstitutions.{substituted_over}
+use Rattle.larch_rewrite_meaning.specs.CalculusFormula.{falsity, equivalence, equality}
+use Rattle.larch_rewrite_meaning.specs.TablesRow.{PlainRow}
+use Rattle.larch_rewrite_meaning.specs.TablesSpelling.{x, y, b}
+use Rattle.larch_rewrite_meaning.specs.TablesTables.{deduction_rows}
 use Rattle.larch_order.specs.Greater.{greater}
 use Rattle.larch_order.specs.declared.precedence.Ranked.{Ranked}
 use Rattle.larch_rewrite_meaning.specs.Matching.{match_term}

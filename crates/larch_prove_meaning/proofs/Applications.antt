@@ -10,7 +10,7 @@ use Rattle.larch_term.specs.Equality.{same_tree}
 use Rattle.larch_term.specs.Sorts.{sort_of}
 use Rattle.larch_term.specs.Truth.{truth}
 use Rattle.larch_term.specs.Tree.{Tree, var, app}
-use Rattle.larch_calculus.specs.Formula.{equivalence, equality}
+use Rattle.larch_rewrite_meaning.specs.CalculusFormula.{equivalence, equality}
 use Rattle.larch_pairs_critical.specs.Overlap.{IsApplication}
 use Rattle.larch_order.specs.Greater.{greater}
 use Rattle.larch_order.specs.declared.precedence.Ranked.{Ranked}

@@ -1,7 +1,7 @@
 -- Blocks in parts.
 use Rattle.std.specs.Prelude.{◌≡◌, List, [], ◌∷◌, ◌++◌, Result, Ok, Err, refl}
 use Rattle.std.proofs.Common.{◌∙◌, sym}
-use Rattle.larch_traits_items.specs.Steps.{after}
+use Rattle.larch_base_meaning.specs.Steps.{after}
 use Rattle.larch_script_commands.specs.declared.command.CommandKind.{CommandKind}
 use Rattle.larch_prove_meaning.specs.Levels.{Proof}
 use Rattle.larch_prove_meaning.specs.Replays.{all_stepped, step_command}

@@ -12,8 +12,8 @@ use Rattle.larch_term.specs.Equality.{same_operator}
 use Rattle.larch_term.specs.OperatorKey.{operator_Decides}
 use Rattle.larch_term.specs.Sorts.{sort_of, sorts_of, AllWellSorted, AllOver, IsTermOver}
 use Rattle.larch_term.specs.declared.built_in.BuiltIn.TheVariants.{And, Implies}
-use Rattle.larch_calculus.specs.Formula.{falsity, apply_two}
-use Rattle.larch_calculus.proofs.Sorted.{term_over_more, knows_more, sides_over}
+use Rattle.larch_rewrite_meaning.specs.CalculusFormula.{falsity, apply_two}
+use Rattle.larch_rewrite_meaning.proofs.CalculusSorted.{term_over_more, knows_more, sides_over}
 use Rattle.larch_rewrite_meaning.specs.Sides.{AreSidesOver}
 use Rattle.larch_prove_meaning.specs.Plans.{Subgoal, Plan, holds, fails, shared_subgoal, taken_beside, constants_of}
 use Rattle.larch_prove_meaning.specs.Plans.{closed_by, cases_plan, two_arguments, implication_of, conjuncts}

@@ -12,11 +12,12 @@ use Rattle.larch_term.specs.Statement.{IsStatementOver}
 use Rattle.larch_term.specs.declared.statement.Statement.{Statement}
 use Rattle.larch_term.specs.declared.statement.Statement.TheVariants.{Equation, Generated, Partitioned}
 use Rattle.larch_term.specs.declared.variable.Variable.{Variable}
-use Rattle.larch_term_law.proofs.Substitutions.{substituted_sort, substituted_well_sorted, substituted_over}
-use Rattle.larch_calculus.specs.Formula.{constant}
-use Rattle.larch_calculus.specs.Generation.{only, constant_terms}
-use Rattle.larch_calculus.specs.Theories.{AreConstants}
-use Rattle.larch_calculus.proofs.Sorted.{Knows, over_more, only_fits}
+use Rattle.larch_pairs_critical.proofs.TermLawSubstitutions.{substituted_sort, substituted_well_sorted}
+use Rattle.larch_pairs_critical.proofs.TermLawSubstitutions.{substituted_over}
+use Rattle.larch_rewrite_meaning.specs.CalculusFormula.{constant}
+use Rattle.larch_rewrite_meaning.specs.CalculusGeneration.{only, constant_terms}
+use Rattle.larch_rewrite_meaning.specs.CalculusTheories.{AreConstants}
+use Rattle.larch_rewrite_meaning.proofs.CalculusSorted.{Knows, over_more, only_fits}
 use Rattle.larch_rewrite_meaning.specs.Sides.{AreSidesOver}
 use Rattle.larch_prove_meaning.specs.NewNames.{new_constants}
 use Rattle.larch_prove_meaning.specs.Plans.{Subgoal, holds, generators, observers, a_variable, argument_variables}

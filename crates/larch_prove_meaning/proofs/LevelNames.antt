@@ -4,7 +4,7 @@ use Rattle.std.proofs.Common.{ap, arith, subst, sym}
 use Rattle.std.proofs.lemmas.List.Elements.{All-cons, All-head, All-tail, All-weaker}
 use Rattle.larch_base.specs.declared.fact_name.FactLetter.TheVariants.{Derived, Hypothesis}
 use Rattle.larch_base.specs.declared.fact_name.FactName.{FactName}
-use Rattle.larch_traits_items.specs.Steps.{after}
+use Rattle.larch_base_meaning.specs.Steps.{after}
 use Rattle.larch_rewrite_meaning.specs.NormalForm.{normal}
 use Rattle.larch_rewrite_meaning.specs.Sides.{Sides}
 use Rattle.larch_rewrite_meaning.specs.Work.{Work, Made, OverLimit, OverSize}

@@ -13,8 +13,8 @@ use Rattle.larch_base.proofs.Members.{contained_in_map}
 use Rattle.larch_term.specs.Operator.{PlainOperator}
 use Rattle.larch_term.specs.Tree.{Tree}
 use Rattle.larch_term.specs.declared.statement.Theory.{Theory}
-use Rattle.larch_traits_items.specs.Steps.{after}
-use Rattle.larch_calculus.proofs.Sorted.{Knows, term_over_more}
+use Rattle.larch_base_meaning.specs.Steps.{after}
+use Rattle.larch_rewrite_meaning.proofs.CalculusSorted.{Knows, term_over_more}
 use Rattle.larch_sorts_meaning.specs.Scope.{Variables}
 use Rattle.larch_pairs_critical.specs.Overlap.{IsApplication}
 use Rattle.larch_rewrite_meaning.specs.NormalForm.{normal}

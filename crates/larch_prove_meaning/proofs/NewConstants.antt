@@ -26,8 +26,8 @@ use Rattle.larch_term.specs.declared.built_in.BuiltIn.TheVariants.{True, False, 
 use Rattle.larch_term.specs.declared.built_in.BuiltIn.TheVariants.{Unequal, If}
 use Rattle.larch_term.specs.declared.statement.Theory.{Theory}
 use Rattle.larch_term.specs.declared.variable.Variable.{Variable}
-use Rattle.larch_calculus.specs.Observation.{Observation, observations_of}
-use Rattle.larch_calculus.specs.Theories.{AreConstants, AreNew, IsFront, IsNewName}
+use Rattle.larch_rewrite_meaning.specs.CalculusObservation.{Observation, observations_of}
+use Rattle.larch_rewrite_meaning.specs.CalculusTheories.{AreConstants, AreNew, IsFront, IsNewName}
 use Rattle.larch_prove_meaning.specs.Levels.{Proof, all_constants}
 use Rattle.larch_prove_meaning.specs.NewNames.{all_bytes, constant_named, free_name, new_constants, numbered_from}
 use Rattle.larch_prove_meaning.specs.NewNames.{variable_names}

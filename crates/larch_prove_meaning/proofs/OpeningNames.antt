@@ -13,10 +13,10 @@ use Rattle.larch_term.specs.Operator.{PlainOperator, plain}
 use Rattle.larch_term.specs.Tree.{var}
 use Rattle.larch_term.specs.declared.statement.Statement.{Statement}
 use Rattle.larch_term.specs.declared.statement.Statement.TheVariants.{Equation, Generated, Partitioned}
-use Rattle.larch_calculus.specs.Formula.{apply_one, constant, equality}
-use Rattle.larch_calculus.specs.Generation.{generation_formula, place_name}
-use Rattle.larch_calculus.specs.Observation.{observations}
-use Rattle.larch_traits_items.specs.Steps.{after}
+use Rattle.larch_rewrite_meaning.specs.CalculusFormula.{apply_one, constant, equality}
+use Rattle.larch_rewrite_meaning.specs.CalculusGeneration.{generation_formula, place_name}
+use Rattle.larch_rewrite_meaning.specs.CalculusObservation.{observations}
+use Rattle.larch_base_meaning.specs.Steps.{after}
 use Rattle.larch_rewrite_meaning.specs.Sides.{Sides, sides_of}
 use Rattle.larch_prove_meaning.specs.Facts.{Fact, whole_name}
 use Rattle.larch_prove_meaning.specs.Levels.{EarlierDuty, Proof, add_equation, all_serve}

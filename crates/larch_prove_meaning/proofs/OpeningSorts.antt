@@ -16,14 +16,14 @@ use Rattle.larch_term.specs.Tree.{var}
 use Rattle.larch_term.specs.declared.statement.Statement.{Statement}
 use Rattle.larch_term.specs.declared.statement.Statement.TheVariants.{Equation, Generated, Partitioned}
 use Rattle.larch_term.specs.declared.statement.Theory.{Theory}
-use Rattle.larch_calculus.specs.Formula.{apply_one, constant, equality, formula}
-use Rattle.larch_calculus.specs.Generation.{generation_formula, generation_hypotheses, place_name}
-use Rattle.larch_calculus.specs.Theories.{AreConstants, AreNew}
+use Rattle.larch_rewrite_meaning.specs.CalculusFormula.{apply_one, constant, equality, formula}
+use Rattle.larch_rewrite_meaning.specs.CalculusGeneration.{generation_formula, generation_hypotheses, place_name}
+use Rattle.larch_rewrite_meaning.specs.CalculusTheories.{AreConstants, AreNew}
 use Rattle.larch_term.specs.Truth.{truth}
-use Rattle.larch_calculus.specs.Observation.{observations}
-use Rattle.larch_calculus.proofs.Observed.{partition_over}
-use Rattle.larch_calculus.proofs.Sorted.{generation_over, knows_more, statement_over_more}
-use Rattle.larch_traits_items.specs.Steps.{after}
+use Rattle.larch_rewrite_meaning.specs.CalculusObservation.{observations}
+use Rattle.larch_rewrite_meaning.proofs.CalculusObserved.{partition_over}
+use Rattle.larch_rewrite_meaning.proofs.CalculusSorted.{generation_over, knows_more, statement_over_more}
+use Rattle.larch_base_meaning.specs.Steps.{after}
 use Rattle.larch_rewrite_meaning.specs.Sides.{Sides, AreSidesOver, sides_of}
 use Rattle.larch_script_commands.specs.declared.command.CommandKind.{CommandKind}
 use Rattle.larch_script_commands.specs.declared.command.CommandKind.TheVariants as command

@@ -11,12 +11,12 @@ use Rattle.larch_term.specs.BuiltIn.{bool_sort}
 use Rattle.larch_term.specs.Sorts.{sort_of, sorts_of, AllWellSorted, AllOver, IsKnown, IsTermOver}
 use Rattle.larch_term.specs.Truth.{truth, is_truth}
 use Rattle.larch_term.proofs.TruthTest.{is_truth_Decides}
-use Rattle.larch_calculus.specs.Formula.{constant, formula, equivalence, equality}
-use Rattle.larch_calculus.specs.Generation.{place_name}
-use Rattle.larch_calculus.specs.Observation.{Observation, arguments_with, places_of_sort}
-use Rattle.larch_calculus.specs.Theories.{AreConstants, IsTermOf}
-use Rattle.larch_calculus.proofs.Observed.{sorts_with}
-use Rattle.larch_calculus.proofs.Sorted.{Knows, term_over_more}
+use Rattle.larch_rewrite_meaning.specs.CalculusFormula.{constant, formula, equivalence, equality}
+use Rattle.larch_rewrite_meaning.specs.CalculusGeneration.{place_name}
+use Rattle.larch_rewrite_meaning.specs.CalculusObservation.{Observation, arguments_with, places_of_sort}
+use Rattle.larch_rewrite_meaning.specs.CalculusTheories.{AreConstants, IsTermOf}
+use Rattle.larch_rewrite_meaning.proofs.CalculusObserved.{sorts_with}
+use Rattle.larch_rewrite_meaning.proofs.CalculusSorted.{Knows, term_over_more}
 use Rattle.larch_rewrite_meaning.specs.Sides.{AreSidesOver}
 use Rattle.larch_prove_meaning.specs.NewNames.{new_constants}
 use Rattle.larch_prove_meaning.specs.Plans.{Subgoal, a_variable, names_of, arguments_around, other_sorts, shown}

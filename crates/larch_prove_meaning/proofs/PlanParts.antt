@@ -9,11 +9,12 @@ use Rattle.larch_term.specs.Tree.{Tree}
 use Rattle.larch_term.specs.Sorts.{sort_of, IsTermOver}
 use Rattle.larch_term.specs.Variable.{variables_of}
 use Rattle.larch_term.specs.declared.variable.Variable.{Variable}
-use Rattle.larch_term_law.proofs.Substitutions.{substituted_sort, substituted_well_sorted, substituted_over}
-use Rattle.larch_calculus.specs.Freed.{constants_for}
-use Rattle.larch_calculus.specs.Theories.{AreConstants}
-use Rattle.larch_calculus.proofs.Freeing.{constants_fit, constants_over}
-use Rattle.larch_calculus.proofs.Sorted.{Knows, over_more, knows_more}
+use Rattle.larch_pairs_critical.proofs.TermLawSubstitutions.{substituted_sort, substituted_well_sorted}
+use Rattle.larch_pairs_critical.proofs.TermLawSubstitutions.{substituted_over}
+use Rattle.larch_rewrite_meaning.specs.CalculusFreed.{constants_for}
+use Rattle.larch_rewrite_meaning.specs.CalculusTheories.{AreConstants}
+use Rattle.larch_rewrite_meaning.proofs.CalculusFreeing.{constants_fit, constants_over}
+use Rattle.larch_rewrite_meaning.proofs.CalculusSorted.{Knows, over_more, knows_more}
 use Rattle.larch_rewrite_meaning.specs.Sides.{Sides, AreSidesOver}
 use Rattle.larch_prove_meaning.specs.NewNames.{constant_named, free_name, new_constants}
 use Rattle.larch_prove_meaning.specs.Plans.{Subgoal, Plan, holds, fails, shared_subgoal, closed_by, IsFormulaOver}

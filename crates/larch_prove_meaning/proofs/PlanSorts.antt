@@ -12,10 +12,10 @@ use Rattle.larch_term.specs.Statement.{IsStatementOver}
 use Rattle.larch_term.specs.Variable.{variables_of}
 use Rattle.larch_term.specs.declared.built_in.BuiltIn.TheVariants.{And, Implies, Equal}
 use Rattle.larch_term.specs.declared.variable.Variable.{Variable}
-use Rattle.larch_calculus.specs.Observation.{Observation, observations_of, places_of_sort}
-use Rattle.larch_calculus.specs.Theories.{IsTermOf}
-use Rattle.larch_calculus.proofs.Observed.{observation_is}
-use Rattle.larch_calculus.proofs.Sorted.{sides_over}
+use Rattle.larch_rewrite_meaning.specs.CalculusObservation.{Observation, observations_of, places_of_sort}
+use Rattle.larch_rewrite_meaning.specs.CalculusTheories.{IsTermOf}
+use Rattle.larch_rewrite_meaning.proofs.CalculusObserved.{observation_is}
+use Rattle.larch_rewrite_meaning.proofs.CalculusSorted.{sides_over}
 use Rattle.larch_prove_meaning.specs.Plans.{Plan, Setting, Method, Cases, Implication, Conjunction, Contradiction}
 use Rattle.larch_prove_meaning.specs.Plans.{Induction, Partition, taken_beside, two_arguments, generators, observers}
 use Rattle.larch_prove_meaning.specs.Plans.{induction_subgoals, partition_subgoals, with_found, plan, IsFormulaOver}

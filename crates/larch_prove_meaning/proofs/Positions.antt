@@ -29,9 +29,9 @@ use Rattle.larch_term.specs.Tree.{Tree, more}
 use Rattle.larch_term.specs.Equality.{same_name, same_operator, same_statement, same_tree}
 use Rattle.larch_term.specs.Sorts.{sort_of}
 use Rattle.larch_term.specs.declared.statement.Statement.TheVariants.{Equation}
-use Rattle.larch_calculus.specs.Formula.{formula}
-use Rattle.larch_traits_items.specs.Steps.{after}
-use Rattle.larch_sorts_known.specs.Sorts.{exists_sort}
+use Rattle.larch_rewrite_meaning.specs.CalculusFormula.{formula}
+use Rattle.larch_base_meaning.specs.Steps.{after}
+use Rattle.larch_order.specs.SortsKnownSorts.{exists_sort}
 use Rattle.larch_sorts_meaning.specs.Faults.{fault, fault_at, unless}
 use Rattle.larch_sorts_meaning.specs.Parts.{parts, parts_of, sides, in_sides, right_sides, head_of}
 use Rattle.larch_sorts_meaning.specs.Read.{is_empty, unread_in, first_unread, only, answer, read_equation, read_term}

@@ -14,7 +14,7 @@ use Rattle.larch_sorts_meaning.specs.Readings.{Reads, ReadsEquation}
 use Rattle.larch_sorts_meaning.proofs.ReadAnswers.{equation_ok, term_ok}
 use Rattle.larch_sorts_meaning.proofs.Sorted.{statement_in_scope}
 use Rattle.larch_sorts_meaning.proofs.SortsRead.{statement_names, statement_so}
-use Rattle.larch_traits_items.specs.Laws.{IsWord}
+use Rattle.larch_base_meaning.specs.Word.{IsWord}
 use Rattle.larch_rewrite_meaning.specs.Sides.{Sides}
 use Rattle.larch_prove_meaning.specs.InWords.{IsStatementInWords, IsTermInWords, NamesWords}
 use Rattle.larch_prove_meaning.specs.Levels.{Proof}

@@ -16,8 +16,8 @@ use Rattle.larch_script_commands.specs.declared.command.CommandKind.TheVariants 
 use Rattle.larch_script_commands.specs.declared.command.RawInstance.{RawInstance}
 use Rattle.larch_term.specs.BuiltIn.{bool_sort}
 use Rattle.larch_term.specs.Tree.{Tree}
-use Rattle.larch_calculus.specs.Formula.{formula}
-use Rattle.larch_traits_items.specs.Steps.{after}
+use Rattle.larch_rewrite_meaning.specs.CalculusFormula.{formula}
+use Rattle.larch_base_meaning.specs.Steps.{after}
 use Rattle.larch_sorts_meaning.specs.Scope.{Variables}
 use Rattle.larch_pairs_critical.specs.Pairs.{critical_pairs}
 use Rattle.larch_rewrite_meaning.specs.Sides.{Sides, sides_under}

@@ -25,12 +25,12 @@ use Rattle.larch_term.specs.Tree.{Tree, Forest, var, app, none, more}
 use Rattle.larch_term.specs.Variable.{occurrences, occurrences_in, variables_of}
 use Rattle.larch_term.specs.declared.statement.Statement.{Statement}
 use Rattle.larch_term.specs.declared.statement.Statement.TheVariants.{Equation, Generated, Partitioned}
-use Rattle.larch_term_law.proofs.Occurring.{listed_occurs}
-use Rattle.larch_calculus.specs.Formula.{apply_one, constant, equality, formula}
-use Rattle.larch_calculus.specs.Generation.{generation_formula, place_name}
-use Rattle.larch_calculus.specs.Observation.{observations}
-use Rattle.larch_traits_items.specs.Laws.{IsWord}
-use Rattle.larch_traits_items.specs.Steps.{after}
+use Rattle.larch_pairs_critical.proofs.TermLawOccurring.{listed_occurs}
+use Rattle.larch_rewrite_meaning.specs.CalculusFormula.{apply_one, constant, equality, formula}
+use Rattle.larch_rewrite_meaning.specs.CalculusGeneration.{generation_formula, place_name}
+use Rattle.larch_rewrite_meaning.specs.CalculusObservation.{observations}
+use Rattle.larch_base_meaning.specs.Word.{IsWord}
+use Rattle.larch_base_meaning.specs.Steps.{after}
 use Rattle.larch_sorts_meaning.specs.Laws.{ForestSorts, TermSorts}
 use Rattle.larch_sorts_meaning.specs.Scope.{Variables, sort_in, with_variable}
 use Rattle.larch_pairs_critical.specs.Pairs.{critical_pairs}

@@ -28,10 +28,10 @@ use Rattle.larch_term.specs.declared.statement.Statement.TheVariants.{Equation, 
 use Rattle.larch_term.specs.declared.statement.Theory.{Theory}
 use Rattle.larch_term.specs.declared.substitution.Entry.{Entry}
 use Rattle.larch_term.specs.declared.variable.Variable.{Variable}
-use Rattle.larch_calculus.specs.Formula.{formula}
-use Rattle.larch_calculus.specs.Theories.{AreNew, IsFront}
-use Rattle.larch_calculus.proofs.Sorted.{knows_more, statement_over_more, zero_over}
-use Rattle.larch_traits_items.specs.Steps.{after}
+use Rattle.larch_rewrite_meaning.specs.CalculusFormula.{formula}
+use Rattle.larch_rewrite_meaning.specs.CalculusTheories.{AreNew, IsFront}
+use Rattle.larch_rewrite_meaning.proofs.CalculusSorted.{knows_more, statement_over_more, zero_over}
+use Rattle.larch_base_meaning.specs.Steps.{after}
 use Rattle.larch_sorts_meaning.specs.Read.{read_equation, read_term}
 use Rattle.larch_sorts_meaning.proofs.ReadAnswers.{equation_ok, term_ok}
 use Rattle.larch_sorts_meaning.proofs.Sorted.{statement_over, well_sorted}
@@ -42,7 +42,7 @@ use Rattle.larch_pairs_critical.specs.Pairs.{critical_pairs}
 use Rattle.larch_pairs_critical.specs.declared.pair.Pair.{Pair}
 use Rattle.larch_pairs_critical.proofs.OverOperators.{pairs_over}
 use Rattle.larch_pairs_critical.proofs.Sorting.{all_sorted}
-use Rattle.larch_pairs.specs.Unify.{Oversize}
+use Rattle.larch_pairs_critical.specs.PairsUnify.{Oversize}
 use Rattle.larch_prove_meaning.specs.Facts.{Fact}
 use Rattle.larch_prove_meaning.specs.Levels.{EarlierDuty, OfProof, Proof, all_constants, all_serve, begun, derive}
 use Rattle.larch_prove_meaning.specs.Levels.{derived_by, is_settled, level_for, normal_goal, settle_goal, unless}

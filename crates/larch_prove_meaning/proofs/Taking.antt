@@ -11,9 +11,9 @@ use Rattle.larch_term.specs.Equality.{same_operator, same_tree}
 use Rattle.larch_term.specs.Substitution.{instance_of}
 use Rattle.larch_term.specs.declared.built_in.BuiltIn.TheVariants.{True, False}
 use Rattle.larch_term.specs.declared.substitution.Entry.{Entry}
-use Rattle.larch_tables.specs.Row.{PlainRow}
-use Rattle.larch_tables.specs.Spelling.{a, b, x, y}
-use Rattle.larch_tables.specs.Tables.{deduction_rows}
+use Rattle.larch_rewrite_meaning.specs.TablesRow.{PlainRow}
+use Rattle.larch_rewrite_meaning.specs.TablesSpelling.{a, b, x, y}
+use Rattle.larch_rewrite_meaning.specs.TablesTables.{deduction_rows}
 use Rattle.larch_order.specs.declared.precedence.Ranked.{Ranked}
 use Rattle.larch_rewrite_meaning.specs.Matching.{match_term}
 use Rattle.larch_rewrite_meaning.specs.Sides.{Sides, flip, sides_of, sides_under}

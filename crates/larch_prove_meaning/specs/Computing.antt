@@ -8,7 +8,7 @@ use Rattle.larch_sorts_meaning.specs.ReadingLists.{readings}
 use Rattle.larch_sorts_meaning.specs.Unknown.{unknown_among}
 use Rattle.larch_rewrite_meaning.specs.NormalForm.{normal}
 use Rattle.larch_pairs_critical.specs.Pairs.{critical_pairs, pair_at}
-use Rattle.larch_pairs.specs.Unify.{unify, unify_from}
+use Rattle.larch_pairs_critical.specs.PairsUnify.{unify, unify_from}
 use Rattle.larch_prove_meaning.specs.Facts.{add}
 use Rattle.larch_prove_meaning.specs.Plans.{plan}
 use Rattle.larch_prove_meaning.specs.Replays.{step, duty_opened, all_prepared}

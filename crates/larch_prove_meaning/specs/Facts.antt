@@ -12,9 +12,9 @@ use Rattle.larch_term.specs.Equality.{same_tree}
 use Rattle.larch_term.specs.Sorts.{sort_of}
 use Rattle.larch_term.specs.Truth.{truth}
 use Rattle.larch_term.specs.declared.substitution.Entry.{Entry}
-use Rattle.larch_calculus.specs.Formula.{falsity, equivalence, equality}
-use Rattle.larch_tables.specs.Row.{PlainRow}
-use Rattle.larch_tables.specs.Tables.{deduction_rows}
+use Rattle.larch_rewrite_meaning.specs.CalculusFormula.{falsity, equivalence, equality}
+use Rattle.larch_rewrite_meaning.specs.TablesRow.{PlainRow}
+use Rattle.larch_rewrite_meaning.specs.TablesTables.{deduction_rows}
 use Rattle.larch_order.specs.Greater.{greater}
 use Rattle.larch_order.specs.declared.precedence.Ranked.{Ranked}
 use Rattle.larch_rewrite_meaning.specs.Work.{Work, Made, OverLimit, then_work, within_size, is_large}

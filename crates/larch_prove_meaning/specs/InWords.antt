@@ -5,7 +5,7 @@ use Rattle.larch_term.specs.Variable.{occurrences}
 use Rattle.larch_term.specs.declared.statement.Statement.{Statement}
 use Rattle.larch_sorts_meaning.specs.Laws.{OperatorSorts, StatementSorts, StatementVariables, TermSorts}
 use Rattle.larch_sorts_meaning.specs.Scope.{Variables}
-use Rattle.larch_traits_items.specs.Laws.{IsWord}
+use Rattle.larch_base_meaning.specs.Word.{IsWord}
 use Rattle.larch_prove_meaning.specs.Levels.{Proof}
 use Rattle.larch_prove_meaning.specs.Steps.{own_operators}
 

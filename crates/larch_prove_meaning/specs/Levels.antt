@@ -12,7 +12,7 @@ use Rattle.larch_term.specs.Equality.{same_tree}
 use Rattle.larch_term.specs.Truth.{truth}
 use Rattle.larch_term.specs.declared.statement.Statement.{Statement}
 use Rattle.larch_term.specs.declared.statement.Theory.{Theory}
-use Rattle.larch_traits_items.specs.Steps.{after}
+use Rattle.larch_base_meaning.specs.Steps.{after}
 use Rattle.larch_sorts_meaning.specs.Scope.{Variables}
 use Rattle.larch_order.specs.Precedence.{with_constant}
 use Rattle.larch_order.specs.declared.precedence.Ranked.{Ranked}

@@ -15,10 +15,10 @@ use Rattle.larch_term.specs.declared.variable.Variable.{Variable}
 use Rattle.larch_term.specs.declared.built_in.BuiltIn.TheVariants.{And, Implies, Equal}
 use Rattle.larch_term.specs.declared.statement.Statement.{Statement}
 use Rattle.larch_term.specs.declared.statement.Statement.TheVariants.{Equation, Generated, Partitioned}
-use Rattle.larch_calculus.specs.Formula.{falsity, constant, formula}
-use Rattle.larch_calculus.specs.Freed.{constants_for}
-use Rattle.larch_calculus.specs.Generation.{only, constant_terms}
-use Rattle.larch_calculus.specs.Observation.{Observation, observations_of}
+use Rattle.larch_rewrite_meaning.specs.CalculusFormula.{falsity, constant, formula}
+use Rattle.larch_rewrite_meaning.specs.CalculusFreed.{constants_for}
+use Rattle.larch_rewrite_meaning.specs.CalculusGeneration.{only, constant_terms}
+use Rattle.larch_rewrite_meaning.specs.CalculusObservation.{Observation, observations_of}
 use Rattle.larch_rewrite_meaning.specs.Sides.{Sides, AreSidesOver}
 use Rattle.larch_prove_meaning.specs.NewNames.{new_constants, variable_names}
 

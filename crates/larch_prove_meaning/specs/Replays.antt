@@ -18,10 +18,10 @@ use Rattle.larch_term.specs.Variable.{variables_of}
 use Rattle.larch_term.specs.declared.statement.Statement.{Statement}
 use Rattle.larch_term.specs.declared.statement.Statement.TheVariants.{Equation, Generated, Partitioned}
 use Rattle.larch_term.specs.declared.statement.Theory.{Theory}
-use Rattle.larch_calculus.specs.Formula.{constant, apply_one, equality, formula}
-use Rattle.larch_calculus.specs.Generation.{place_name, generation_formula}
-use Rattle.larch_calculus.specs.Observation.{observations}
-use Rattle.larch_traits_items.specs.Steps.{after}
+use Rattle.larch_rewrite_meaning.specs.CalculusFormula.{constant, apply_one, equality, formula}
+use Rattle.larch_rewrite_meaning.specs.CalculusGeneration.{place_name, generation_formula}
+use Rattle.larch_rewrite_meaning.specs.CalculusObservation.{observations}
+use Rattle.larch_base_meaning.specs.Steps.{after}
 use Rattle.larch_sorts_meaning.specs.Scope.{Variables}
 use Rattle.larch_order.specs.Precedence.{precedence_of}
 use Rattle.larch_rewrite_meaning.specs.Sides.{Sides, sides_of}

@@ -25,15 +25,15 @@ use Rattle.larch_term.specs.declared.substitution.Entry.{Entry}
 use Rattle.larch_term.specs.declared.variable.Variable.{Variable}
 use Rattle.larch_term.specs.declared.statement.Statement.{Statement}
 use Rattle.larch_term.specs.declared.statement.Statement.TheVariants.{Equation, Generated, Partitioned}
-use Rattle.larch_sorts_known.specs.Sorts.{exists_sort}
-use Rattle.larch_calculus.specs.Formula.{formula}
-use Rattle.larch_traits_items.specs.Steps.{after}
+use Rattle.larch_order.specs.SortsKnownSorts.{exists_sort}
+use Rattle.larch_rewrite_meaning.specs.CalculusFormula.{formula}
+use Rattle.larch_base_meaning.specs.Steps.{after}
 use Rattle.larch_sorts_meaning.specs.Read.{read_equation, read_term}
 use Rattle.larch_sorts_meaning.specs.Scope.{Variables, sort_in, with_variable}
 use Rattle.larch_order.specs.Precedence.{raise, with_status}
 use Rattle.larch_rewrite_meaning.specs.Sides.{Sides, sides_under}
 use Rattle.larch_pairs_critical.specs.Pairs.{critical_pairs}
-use Rattle.larch_pairs.specs.Unify.{Oversize}
+use Rattle.larch_pairs_critical.specs.PairsUnify.{Oversize}
 use Rattle.larch_pairs_critical.specs.declared.pair.Pair.{Pair}
 use Rattle.larch_pairs_critical.specs.declared.pair.Rule.{Rule}
 use Rattle.larch_prove_meaning.specs.Facts.{Fact}

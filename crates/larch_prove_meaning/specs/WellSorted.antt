@@ -3,7 +3,7 @@ use Rattle.std.specs.Prelude.{◌≡◌, ◌≢◌, List, ◌∷◌, All}
 use Rattle.std.specs.List.{AllPairs}
 use Rattle.larch_term.specs.Operator.{PlainOperator}
 use Rattle.larch_term.specs.Statement.{IsStatementOver, IsWellSortedTheory}
-use Rattle.larch_calculus.specs.Theories.{IsFront}
+use Rattle.larch_rewrite_meaning.specs.CalculusTheories.{IsFront}
 use Rattle.larch_sorts_meaning.specs.Scope.{Variables}
 use Rattle.larch_pairs_critical.specs.Overlap.{IsApplication}
 use Rattle.larch_rewrite_meaning.specs.Sides.{AreSidesOver}

@@ -1,5 +1,6 @@
 //! What holds of all replays, for crates above to cite. No function here does anything.
-ghost use Rattle.std.specs.Prelude.{◌≡◌, ◌≢◌, ◌<◌, ◌≤◌, ◌+◌, ◌++◌, ◌∷◌, [], ℕ, false, List, Option, length, sum_by, bytes_eq};
+ghost use Rattle.std.specs.Prelude.{◌≡◌, ◌≢◌, ◌<◌, ◌≤◌, ◌+◌, ◌++◌, ◌∷◌, []};
+ghost use Rattle.std.specs.Prelude.{ℕ, false, List, Option, length, sum_by, bytes_eq};
 ghost use Rattle.std.specs.Prelude.{◌↔◌, IsTrue, All, Contains, Ok, map};
 ghost use Rattle.std.specs.Cmp.Lexicographic.{pointwise};
 ghost use Rattle.std.specs.List.{list_any, AllPairs};
@@ -10,8 +11,8 @@ ghost use Rattle.larch_term.specs.Operator.{PlainOperator, name_bytes};
 ghost use Rattle.larch_term.specs.Statement.{IsStatementOver};
 ghost use Rattle.larch_term.specs.Tree.{Tree};
 ghost use Rattle.larch_term.specs.declared.statement.Theory.{Theory};
-ghost use Rattle.larch_calculus.specs.Theories.{AreConstants, AreNew};
-ghost use Rattle.larch_traits_items.specs.Steps.{after};
+ghost use Rattle.larch_rewrite_meaning.specs.CalculusTheories.{AreConstants, AreNew};
+ghost use Rattle.larch_base_meaning.specs.Steps.{after};
 ghost use Rattle.larch_pairs_critical.specs.Overlap.{IsApplication};
 ghost use Rattle.larch_rewrite_meaning.specs.Sides.{AreSidesOver, Sides};
 ghost use Rattle.larch_rewrite_meaning.specs.Work.{Made, then_work};

@@ -4,14 +4,14 @@ use Rattle.std.proofs.Common.{ap, ◌∙◌}
 use Rattle.larch_base.specs.declared.code.Code.{Code}
 use Rattle.larch_base.specs.declared.fact_name.FactLetter.{FactLetter}
 use Rattle.larch_base.specs.declared.fact_name.FactLetter.TheVariants.{Axiom, Lemma}
-use Rattle.larch_prove_meaning.specs.Facts.{Facts, whole_name}
-use Rattle.larch_prove_meaning.specs.Levels.{EarlierDuty, Next, Proof, normal_goal, settle_goal, with_facts}
-use Rattle.larch_prove_meaning.specs.Replays.{duty_opened, each_added, goal_made, lemmas_added, theory_added}
+use Rattle.larch_prove_adding.specs.ProveMeaningFacts.{Facts, whole_name}
+use Rattle.larch_prove_adding.specs.ProveMeaningLevels.{EarlierDuty, Next, Proof, normal_goal, settle_goal, with_facts}
+use Rattle.larch_prove_adding.specs.ProveMeaningReplays.{duty_opened, each_added, goal_made, lemmas_added, theory_added}
 use Rattle.larch_prove_opening.specs.FirstFacts.{facts_with, facts_with_axioms, facts_with_each, facts_with_lemmas}
 use Rattle.larch_prove_opening.specs.FirstFacts.{first_facts}
 use Rattle.larch_rewrite_meaning.specs.Sides.{Sides, sides_of}
 use Rattle.larch_term.specs.declared.statement.Statement.{Statement}
-use Rattle.larch_traits_items.specs.Steps.{after}
+use Rattle.larch_base_meaning.specs.Steps.{after}
 
 -- a step changes the facts of a proof alone
 abbrev IsByFacts : (Facts → Result Facts Code) → Next → Proof → Type 0

@@ -16,14 +16,14 @@ use Rattle.larch_derive.specs.declared.builder.Builder.{Builder}
 use Rattle.larch_derive.proofs.Growth.{extends_grows, grown_stands, grows_alike}
 use Rattle.larch_order.specs.declared.precedence.Ranked.{Ranked}
 use Rattle.larch_prove_adding.specs.Turns.{Tells, manner_of}
-use Rattle.larch_prove_meaning.specs.Facts.{Facts, add, add_waiting, max_fact_number, most_taken, whole_name}
-use Rattle.larch_prove_meaning.specs.Levels.{EarlierDuty, work_result}
-use Rattle.larch_prove_meaning.specs.WellSorted.{AreLemmasOver}
+use Rattle.larch_prove_adding.specs.ProveMeaningFacts.{Facts, add, add_waiting, max_fact_number, most_taken, whole_name}
+use Rattle.larch_prove_adding.specs.ProveMeaningLevels.{EarlierDuty, work_result}
+use Rattle.larch_prove_adding.specs.ProveMeaningWellSorted.{AreLemmasOver}
 use Rattle.larch_prove_opening.specs.FirstFacts.{facts_with_each}
 use Rattle.larch_prove_opening.specs.Stating.{AreStated, IsStated, TellsCode, duties_of, what_state}
 use Rattle.larch_prove_opening.specs.declared.opening.Lemma.{Lemma}
-use Rattle.larch_rewrite.specs.declared.refusal.RewriteRefusal.{RewriteRefusal}
-use Rattle.larch_rewrite.specs.declared.refusal.RewriteRefusal.TheVariants.{Limit, TooLarge, Memory}
+use Rattle.larch_prove_adding.specs.RewriteRefusalRewriteRefusal.{RewriteRefusal}
+use Rattle.larch_prove_adding.specs.RewriteRefusalRewriteRefusal.TheVariants.{Limit, TooLarge, Memory}
 use Rattle.larch_rewrite_meaning.specs.Sides.{sides_of}
 use Rattle.larch_rewrite_meaning.specs.Work.{Work, within_size}
 use Rattle.larch_term.specs.Statement.{IsStatementOver, IsWellSortedTheory, statement_zero}
@@ -31,7 +31,7 @@ use Rattle.larch_term.specs.Tree.{Tree}
 use Rattle.larch_term.specs.declared.statement.Statement.{Statement}
 use Rattle.larch_term.specs.declared.statement.Statement.TheVariants.{Equation}
 use Rattle.larch_term.specs.declared.statement.Theory.{Theory}
-use Rattle.larch_traits_items.specs.Steps.{after}
+use Rattle.larch_base_meaning.specs.Steps.{after}
 
 -- ---- axioms
 

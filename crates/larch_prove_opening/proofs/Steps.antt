@@ -10,19 +10,19 @@ use Rattle.larch_order.specs.declared.precedence.Ranked.{Ranked}
 use Rattle.larch_prove_adding.specs.Equation.{sides_in}
 use Rattle.larch_prove_adding.specs.Turns.{Tells, manner_of}
 use Rattle.larch_prove_adding.specs.declared.equation.SaidEquation.{SaidEquation}
-use Rattle.larch_prove_meaning.specs.Facts.{Facts, add, no_facts, whole_name}
-use Rattle.larch_prove_meaning.specs.Levels.{EarlierDuty, work_result}
+use Rattle.larch_prove_adding.specs.ProveMeaningFacts.{Facts, add, no_facts, whole_name}
+use Rattle.larch_prove_adding.specs.ProveMeaningLevels.{EarlierDuty, work_result}
 use Rattle.larch_prove_opening.proofs.Stating.{code_told, first_told, same_told}
 use Rattle.larch_prove_opening.specs.FirstFacts.{facts_with, facts_with_axioms, facts_with_each, facts_with_lemmas}
 use Rattle.larch_prove_opening.specs.FirstFacts.{first_facts}
 use Rattle.larch_prove_opening.specs.Stating.{TellsCode, duties_of}
 use Rattle.larch_prove_opening.specs.declared.opening.Lemma.{Lemma}
-use Rattle.larch_rewrite.specs.declared.refusal.RewriteRefusal.{RewriteRefusal}
+use Rattle.larch_prove_adding.specs.RewriteRefusalRewriteRefusal.{RewriteRefusal}
 use Rattle.larch_rewrite_meaning.specs.Sides.{sides_of}
 use Rattle.larch_term.specs.Tree.{Tree}
 use Rattle.larch_term.specs.declared.statement.Statement.{Statement}
 use Rattle.larch_term.specs.declared.statement.Statement.TheVariants.{Equation}
-use Rattle.larch_traits_items.specs.Steps.{after}
+use Rattle.larch_base_meaning.specs.Steps.{after}
 
 -- ---- one statement
 

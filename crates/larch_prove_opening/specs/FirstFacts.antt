@@ -6,11 +6,11 @@ use Rattle.larch_base.specs.declared.fact_name.FactLetter.TheVariants.{Axiom, Le
 use Rattle.larch_base.specs.declared.fact_name.FactName.{FactName}
 use Rattle.larch_order.specs.declared.precedence.Ranked.{Ranked}
 use Rattle.larch_prove_adding.specs.Turns.{manner_of}
-use Rattle.larch_prove_meaning.specs.Facts.{Facts, add, whole_name}
-use Rattle.larch_prove_meaning.specs.Levels.{EarlierDuty, work_result}
+use Rattle.larch_prove_adding.specs.ProveMeaningFacts.{Facts, add, whole_name}
+use Rattle.larch_prove_adding.specs.ProveMeaningLevels.{EarlierDuty, work_result}
 use Rattle.larch_rewrite_meaning.specs.Sides.{Sides, sides_of}
 use Rattle.larch_term.specs.declared.statement.Statement.{Statement}
-use Rattle.larch_traits_items.specs.Steps.{after}
+use Rattle.larch_base_meaning.specs.Steps.{after}
 
 -- the facts with an equation more
 abbrev pub facts_with : List Ranked → ℕ → FactName → Sides → Facts → Result Facts Code

@@ -6,10 +6,10 @@ use Rattle.larch_base.specs.declared.code.Code.TheVariants as code
 use Rattle.larch_derive.specs.Builder.{theory_in}
 use Rattle.larch_derive.specs.Predicates.{HasNoBadLine}
 use Rattle.larch_derive.specs.declared.builder.Builder.{Builder}
-use Rattle.larch_prove_meaning.specs.Levels.{EarlierDuty}
+use Rattle.larch_prove_adding.specs.ProveMeaningLevels.{EarlierDuty}
 use Rattle.larch_prove_opening.specs.declared.opening.Lemma.{Lemma}
-use Rattle.larch_rewrite.specs.declared.refusal.RewriteRefusal.{RewriteRefusal}
-use Rattle.larch_rewrite.specs.declared.refusal.RewriteRefusal.TheVariants.{Limit, TooLarge, Memory}
+use Rattle.larch_prove_adding.specs.RewriteRefusalRewriteRefusal.{RewriteRefusal}
+use Rattle.larch_prove_adding.specs.RewriteRefusalRewriteRefusal.TheVariants.{Limit, TooLarge, Memory}
 use Rattle.larch_term.specs.Statement.{IsStatementOver, statement_zero}
 use Rattle.larch_term.specs.declared.statement.Statement.{Statement}
 

@@ -1,10 +1,10 @@
 //! What a proof opens with, for crates above to cite. No function here does anything.
 ghost use Rattle.std.specs.Prelude.{◌≡◌, ℕ, List, Ok};
-ghost use Rattle.larch_prove_meaning.specs.Levels.{EarlierDuty, Proof, normal_goal, settle_goal, with_facts};
-ghost use Rattle.larch_prove_meaning.specs.Replays.{duty_opened, goal_made, lemmas_added, theory_added};
+ghost use Rattle.larch_prove_adding.specs.ProveMeaningLevels.{EarlierDuty, Proof, normal_goal, settle_goal, with_facts};
+ghost use Rattle.larch_prove_adding.specs.ProveMeaningReplays.{duty_opened, goal_made, lemmas_added, theory_added};
 ghost use Rattle.larch_prove_opening.specs.FirstFacts.{facts_with_axioms, facts_with_lemmas, first_facts};
 ghost use Rattle.larch_term.specs.declared.statement.Statement.{Statement};
-ghost use Rattle.larch_traits_items.specs.Steps.{after};
+ghost use Rattle.larch_base_meaning.specs.Steps.{after};
 
 /// What the theory and the lemmas add to a proof are facts alone, and these go by its facts, precedence and limit; so a
 /// duty opens with them, and goes on to its goal.

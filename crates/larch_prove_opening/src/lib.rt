@@ -7,3 +7,7 @@ mod statements;
 
 pub use laws::openings_go_by_facts;
 pub use opening::{Lemma, Opening, open_facts};
+
+// Passed on to crates above, which then needn't list them.
+pub use larch_prove_adding;
+pub use larch_prove_adding::{larch_prove_plans, larch_rewrite};

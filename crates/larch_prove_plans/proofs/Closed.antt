@@ -10,7 +10,7 @@ use Rattle.larch_term.specs.Tree.{Tree}
 use Rattle.larch_term.specs.Variable.{same_variable, variables_of}
 use Rattle.larch_term.specs.declared.substitution.Entry.{Entry}
 use Rattle.larch_term.specs.declared.variable.Variable.{Variable}
-use Rattle.larch_term_law.proofs.Occurring.{listed_once, variable_Decides}
+use Rattle.larch_calculus.proofs.TermLawOccurring.{listed_once, variable_Decides}
 use Rattle.larch_calculus.specs.Formula.{constant}
 use Rattle.larch_calculus.specs.Freed.{constants_for}
 

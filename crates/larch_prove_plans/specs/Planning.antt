@@ -9,7 +9,7 @@ use Rattle.larch_term.specs.Tree.{Tree}
 use Rattle.larch_term.specs.declared.statement.Statement.{Statement}
 use Rattle.larch_term.specs.declared.statement.Statement.TheVariants.{Equation}
 use Rattle.larch_term.specs.declared.statement.Theory.{Theory}
-use Rattle.larch_rewrite_meaning.specs.Sides.{Sides, sides_of}
+use Rattle.larch_prove_meaning.specs.RewriteMeaningSides.{Sides, sides_of}
 use Rattle.larch_prove_meaning.specs.Plans as defined
 use Rattle.larch_prove_plans.specs.declared.subgoals.Method.{Method}
 use Rattle.larch_prove_plans.specs.declared.subgoals.Method.TheVariants.{Cases, Implication, Conjunction, Contradiction}

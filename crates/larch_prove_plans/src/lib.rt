@@ -34,3 +34,6 @@ pub use same_shown::partition_goal;
 pub use shapes::{BinaryTerm, equality_in};
 pub use subgoals::{Method, Plan, Subgoal, Subgoals};
 pub use terms::{constant, falsity, formula, truth};
+
+// Passed on to crates above, which then needn't list them.
+pub use larch_prove_meaning::larch_order;

@@ -15,29 +15,30 @@ use Rattle.larch_derive.specs.Builder.{boxes_in}
 use Rattle.larch_derive.specs.OpenBox.{constant_of}
 use Rattle.larch_derive.specs.Predicates.{Extends, HasEquation}
 use Rattle.larch_derive.specs.declared.builder.Builder.{Builder}
-use Rattle.larch_prove_adding.proofs.FactLists.{named_said}
-use Rattle.larch_prove_adding.specs.KeptFacts.{SaysAbsurd, facts_of, lines_of}
-use Rattle.larch_prove_boxes.specs.BoxLists.{box_list}
-use Rattle.larch_prove_boxes.specs.Entering.{IsEntrance}
-use Rattle.larch_prove_boxes.specs.declared.entering.Entrance.{Entrance}
-use Rattle.larch_prove_invariant.proofs.BlockConstants.{shapes_made}
-use Rattle.larch_prove_invariant.proofs.Boxes.{through_grows}
-use Rattle.larch_prove_invariant.proofs.Held.{running_is}
-use Rattle.larch_prove_invariant.proofs.LevelConstants.{levels_entered}
-use Rattle.larch_prove_invariant.specs.Book.{Book, Done, Kept, Running, SupposingBox, made_in}
-use Rattle.larch_prove_invariant.specs.Holding.{AreOwn, HasAbsurd, HasFacts, IsForSubgoal, Runs}
-use Rattle.larch_prove_invariant.specs.Holding.{Says, Shape}
-use Rattle.larch_prove_invariant.specs.Holding.{Through, entrances, own_shape, shape_of}
-use Rattle.larch_prove_levels.specs.Level.{IsReady, IsStored, RunsLikeAny, purpose_of}
-use Rattle.larch_prove_levels.specs.declared.level.Level.{Level}
-use Rattle.larch_prove_levels.specs.declared.level.Purpose.TheVariants.{OfSubgoal}
-use Rattle.larch_prove_meaning.specs.Facts.{Facts}
-use Rattle.larch_prove_meaning.specs.Levels as defined
-use Rattle.larch_prove_meaning.specs.Levels.{all_constants}
-use Rattle.larch_prove_meaning.specs.Plans as planned
-use Rattle.larch_prove_meaning.specs.Plans.{Cases, Conjunction, Contradiction, Implication, Induction, Partition, Plan}
-use Rattle.larch_prove_plans.specs.declared.subgoals.Method.{Method}
-use Rattle.larch_prove_plans.specs.declared.subgoals.Subgoal.{Subgoal}
+use Rattle.larch_prove_draft.proofs.ProveAddingFactLists.{named_said}
+use Rattle.larch_prove_draft.specs.ProveAddingKeptFacts.{SaysAbsurd, facts_of, lines_of}
+use Rattle.larch_prove_draft.specs.ProveBoxesBoxLists.{box_list}
+use Rattle.larch_prove_draft.specs.ProveBoxesEntering.{IsEntrance}
+use Rattle.larch_prove_draft.specs.ProveBoxesEnteringEntrance.{Entrance}
+use Rattle.larch_prove_draft.proofs.ProveInvariantBlockConstants.{shapes_made}
+use Rattle.larch_prove_draft.proofs.ProveInvariantBoxes.{through_grows}
+use Rattle.larch_prove_draft.proofs.ProveInvariantHeld.{running_is}
+use Rattle.larch_prove_draft.proofs.ProveInvariantLevelConstants.{levels_entered}
+use Rattle.larch_prove_draft.specs.ProveInvariantBook.{Book, Done, Kept, Running, SupposingBox, made_in}
+use Rattle.larch_prove_draft.specs.ProveInvariantHolding.{AreOwn, HasAbsurd, HasFacts, IsForSubgoal, Runs}
+use Rattle.larch_prove_draft.specs.ProveInvariantHolding.{Says, Shape}
+use Rattle.larch_prove_draft.specs.ProveInvariantHolding.{Through, entrances, own_shape, shape_of}
+use Rattle.larch_prove_draft.specs.ProveLevelsLevel.{IsReady, IsStored, RunsLikeAny, purpose_of}
+use Rattle.larch_prove_draft.specs.ProveLevelsLevelLevel.{Level}
+use Rattle.larch_prove_draft.specs.ProveLevelsLevelPurpose.TheVariants.{OfSubgoal}
+use Rattle.larch_prove_draft.specs.ProveMeaningFacts.{Facts}
+use Rattle.larch_prove_draft.specs.ProveMeaningLevels as defined
+use Rattle.larch_prove_draft.specs.ProveMeaningLevels.{all_constants}
+use Rattle.larch_prove_draft.specs.ProveMeaningPlans as planned
+use Rattle.larch_prove_draft.specs.ProveMeaningPlans.{Cases, Conjunction, Contradiction, Implication}
+use Rattle.larch_prove_draft.specs.ProveMeaningPlans.{Induction, Partition, Plan}
+use Rattle.larch_prove_draft.specs.ProvePlansSubgoalsMethod.{Method}
+use Rattle.larch_prove_draft.specs.ProvePlansSubgoalsSubgoal.{Subgoal}
 use Rattle.larch_prove_settling.specs.Entered.{Awaits, IsUpon, entered_level}
 use Rattle.larch_store.specs.Numbered.{Numbered, term_of}
 

@@ -6,24 +6,24 @@ use Rattle.std.proofs.Common.{add-one, ap, ap₂, arith, subst, sym, ◌∙◌}
 use Rattle.std.proofs.lemmas.List.{length-append, length-map, map-append}
 use Rattle.larch_base.proofs.Options.{some_inj}
 use Rattle.larch_derive.specs.declared.builder.Builder.{Builder}
-use Rattle.larch_prove_boxes.specs.Leave.{left_of}
-use Rattle.larch_prove_boxes.specs.Saying.{ShowsSubgoal}
-use Rattle.larch_prove_boxes.specs.declared.leave.Leave.{Leave}
+use Rattle.larch_prove_draft.specs.ProveBoxesLeave.{left_of}
+use Rattle.larch_prove_draft.specs.ProveBoxesSaying.{ShowsSubgoal}
+use Rattle.larch_prove_draft.specs.ProveBoxesLeaveLeave.{Leave}
 use Rattle.larch_prove_draft.specs.declared.draft.Draft.{Draft}
-use Rattle.larch_prove_invariant.proofs.Held.{running_is}
-use Rattle.larch_prove_invariant.proofs.LevelConstants.{levels_left}
-use Rattle.larch_prove_invariant.specs.Book.{Book, Done, Kept, Running}
-use Rattle.larch_prove_invariant.specs.Holding.{Enters, EntersSubgoal, HasLeft, HoldsLevels, IsForSubgoal}
-use Rattle.larch_prove_invariant.specs.Leaving.{Leaving}
-use Rattle.larch_prove_levels.specs.Level.{RunsLike, RunsLikeAny}
-use Rattle.larch_prove_levels.specs.declared.level.Planned.{Planned}
-use Rattle.larch_prove_levels.specs.declared.level.Running.{Running as RunningHere}
-use Rattle.larch_prove_meaning.specs.Levels as defined
-use Rattle.larch_prove_meaning.specs.Levels.{Proof}
-use Rattle.larch_prove_meaning.specs.Plans as planned
-use Rattle.larch_prove_plans.specs.Planning.{method_of, subgoal_of}
-use Rattle.larch_prove_plans.specs.declared.subgoals.Method.{Method}
-use Rattle.larch_prove_plans.specs.declared.subgoals.Subgoal.{Subgoal}
+use Rattle.larch_prove_draft.proofs.ProveInvariantHeld.{running_is}
+use Rattle.larch_prove_draft.proofs.ProveInvariantLevelConstants.{levels_left}
+use Rattle.larch_prove_draft.specs.ProveInvariantBook.{Book, Done, Kept, Running}
+use Rattle.larch_prove_draft.specs.ProveInvariantHolding.{Enters, EntersSubgoal, HasLeft, HoldsLevels, IsForSubgoal}
+use Rattle.larch_prove_draft.specs.ProveInvariantLeaving.{Leaving}
+use Rattle.larch_prove_draft.specs.ProveLevelsLevel.{RunsLike, RunsLikeAny}
+use Rattle.larch_prove_draft.specs.ProveLevelsLevelPlanned.{Planned}
+use Rattle.larch_prove_draft.specs.ProveLevelsLevelRunning.{Running as RunningHere}
+use Rattle.larch_prove_draft.specs.ProveMeaningLevels as defined
+use Rattle.larch_prove_draft.specs.ProveMeaningLevels.{Proof}
+use Rattle.larch_prove_draft.specs.ProveMeaningPlans as planned
+use Rattle.larch_prove_draft.specs.ProvePlansPlanning.{method_of, subgoal_of}
+use Rattle.larch_prove_draft.specs.ProvePlansSubgoalsMethod.{Method}
+use Rattle.larch_prove_draft.specs.ProvePlansSubgoalsSubgoal.{Subgoal}
 use Rattle.larch_prove_settling.specs.Rising.{EndsWith, Follows, FollowsWith, IsRunning, Rises, unleft}
 use Rattle.larch_store.specs.Numbered.{Numbered}
 use Rattle.larch_term.specs.declared.statement.Statement.{Statement}

@@ -6,36 +6,36 @@ use Rattle.std.proofs.lemmas.List.Elements.{All-cons, All-nil}
 use Rattle.larch_base.specs.declared.code.Code.{Code}
 use Rattle.larch_derive.specs.Predicates.{HasEquation}
 use Rattle.larch_derive.specs.declared.builder.Builder.{Builder}
-use Rattle.larch_order.specs.declared.precedence.Ranked.{Ranked}
-use Rattle.larch_prove_adding.specs.Equation.{IsSaid, sides_in}
-use Rattle.larch_prove_adding.specs.KeptFacts.{AreSaid, KeptFacts, facts_of, lines_of}
-use Rattle.larch_prove_adding.specs.declared.equation.SaidEquation.{SaidEquation}
-use Rattle.larch_prove_boxes.specs.Entering.{IsEntrance}
-use Rattle.larch_prove_boxes.specs.declared.entering.Entrance.{Entrance}
-use Rattle.larch_prove_invariant.proofs.Held.{current_said, says_through}
-use Rattle.larch_prove_invariant.specs.Book.{Kept, Running}
-use Rattle.larch_prove_invariant.specs.Holding.{HasAbsurd, HasFacts, Says}
-use Rattle.larch_prove_levels.proofs.Telling.{tells_first, tells_next, tells_same}
-use Rattle.larch_prove_levels.specs.Opened.{normal_by, opened_by}
-use Rattle.larch_prove_levels.specs.Supposing.{Supposed, TellsCode, with_hypotheses}
-use Rattle.larch_prove_levels.specs.declared.level.Level.{Level}
-use Rattle.larch_prove_meaning.specs.Facts.{Facts, rules_of}
-use Rattle.larch_prove_meaning.specs.Levels as defined
-use Rattle.larch_prove_meaning.specs.Levels.{work_result}
-use Rattle.larch_prove_meaning.specs.Plans.{Subgoal}
-use Rattle.larch_prove_plans.specs.Planning.{equate}
-use Rattle.larch_prove_plans.specs.declared.subgoals.Method.{Method}
-use Rattle.larch_prove_plans.specs.declared.subgoals.Subgoal as stated
+use Rattle.larch_prove_draft.specs.OrderPrecedenceRanked.{Ranked}
+use Rattle.larch_prove_draft.specs.ProveAddingEquation.{IsSaid, sides_in}
+use Rattle.larch_prove_draft.specs.ProveAddingKeptFacts.{AreSaid, KeptFacts, facts_of, lines_of}
+use Rattle.larch_prove_draft.specs.ProveAddingEquationSaidEquation.{SaidEquation}
+use Rattle.larch_prove_draft.specs.ProveBoxesEntering.{IsEntrance}
+use Rattle.larch_prove_draft.specs.ProveBoxesEnteringEntrance.{Entrance}
+use Rattle.larch_prove_draft.proofs.ProveInvariantHeld.{current_said, says_through}
+use Rattle.larch_prove_draft.specs.ProveInvariantBook.{Kept, Running}
+use Rattle.larch_prove_draft.specs.ProveInvariantHolding.{HasAbsurd, HasFacts, Says}
+use Rattle.larch_prove_draft.proofs.ProveLevelsTelling.{tells_first, tells_next, tells_same}
+use Rattle.larch_prove_draft.specs.ProveLevelsOpened.{normal_by, opened_by}
+use Rattle.larch_prove_draft.specs.ProveLevelsSupposing.{Supposed, TellsCode, with_hypotheses}
+use Rattle.larch_prove_draft.specs.ProveLevelsLevelLevel.{Level}
+use Rattle.larch_prove_draft.specs.ProveMeaningFacts.{Facts, rules_of}
+use Rattle.larch_prove_draft.specs.ProveMeaningLevels as defined
+use Rattle.larch_prove_draft.specs.ProveMeaningLevels.{work_result}
+use Rattle.larch_prove_draft.specs.ProveMeaningPlans.{Subgoal}
+use Rattle.larch_prove_draft.specs.ProvePlansPlanning.{equate}
+use Rattle.larch_prove_draft.specs.ProvePlansSubgoalsMethod.{Method}
+use Rattle.larch_prove_draft.specs.ProvePlansSubgoalsSubgoal as stated
 use Rattle.larch_prove_settling.specs.Entered.{Awaits, IsEquation, equation_of}
-use Rattle.larch_rewrite.specs.declared.refusal.RewriteRefusal.{RewriteRefusal}
-use Rattle.larch_rewrite_meaning.specs.NormalForm.{normal}
-use Rattle.larch_rewrite_meaning.specs.Sides.{Sides}
+use Rattle.larch_prove_draft.specs.RewriteRefusalRewriteRefusal.{RewriteRefusal}
+use Rattle.larch_prove_draft.specs.RewriteMeaningNormalForm.{normal}
+use Rattle.larch_prove_draft.specs.RewriteMeaningSides.{Sides}
 use Rattle.larch_term.specs.Operator.{PlainOperator}
 use Rattle.larch_term.specs.Tree.{Tree}
 use Rattle.larch_term.specs.declared.statement.Statement.{Statement}
 use Rattle.larch_term.specs.declared.statement.Statement.TheVariants.{Equation}
 use Rattle.larch_term.specs.declared.statement.Theory.{Theory}
-use Rattle.larch_traits_items.specs.Steps.{after}
+use Rattle.larch_base_meaning.specs.Steps.{after}
 
 -- ---- equations with their lines
 

@@ -4,15 +4,15 @@ use Rattle.std.proofs.Common.{◌∙◌}
 use Rattle.larch_base.specs.declared.code.Code.{Code}
 use Rattle.larch_derive.specs.Predicates.{Extends, HasEquation}
 use Rattle.larch_derive.specs.declared.builder.Builder.{Builder}
-use Rattle.larch_prove_adding.specs.KeptFacts.{facts_of}
+use Rattle.larch_prove_draft.specs.ProveAddingKeptFacts.{facts_of}
 use Rattle.larch_prove_draft.proofs.Alike.{alike_same}
 use Rattle.larch_prove_draft.proofs.Standing.{proof_standing, settled_so, shown_standing, stands_on}
 use Rattle.larch_prove_draft.specs.Draft.{IsAlike, Leads, Stands}
 use Rattle.larch_prove_draft.specs.declared.draft.Draft.{Draft}
-use Rattle.larch_prove_invariant.specs.Book.{Kept}
-use Rattle.larch_prove_levels.proofs.Rises.{settle_open, settle_proved}
-use Rattle.larch_prove_levels.specs.Settled.{is_settled_by}
-use Rattle.larch_prove_meaning.specs.Levels.{Proof, is_settled, rise, settle_goal}
+use Rattle.larch_prove_draft.specs.ProveInvariantBook.{Kept}
+use Rattle.larch_prove_draft.proofs.ProveLevelsRises.{settle_open, settle_proved}
+use Rattle.larch_prove_draft.specs.ProveLevelsSettled.{is_settled_by}
+use Rattle.larch_prove_draft.specs.ProveMeaningLevels.{Proof, is_settled, rise, settle_goal}
 use Rattle.larch_store.proofs.Growth.{grows_refl}
 use Rattle.larch_store.specs.Numbered.{Numbered, term_of}
 use Rattle.larch_term.specs.Truth.{truth}

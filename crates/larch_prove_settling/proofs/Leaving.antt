@@ -13,13 +13,13 @@ use Rattle.larch_derive.specs.declared.builder.Builder.{Builder}
 use Rattle.larch_prove_draft.proofs.Alike.{marks_wait}
 use Rattle.larch_prove_draft.specs.Draft.{IsShown, IsShownIn, Leads, below_in}
 use Rattle.larch_prove_draft.specs.declared.draft.Draft.{Draft}
-use Rattle.larch_prove_invariant.specs.Book.{Book, Kept, SupposingBox, levels_of}
-use Rattle.larch_prove_invariant.specs.Holding.{IsEntered}
-use Rattle.larch_prove_invariant.specs.Leaving.{Leaving}
-use Rattle.larch_prove_levels.specs.Level.{IsKept}
-use Rattle.larch_prove_levels.specs.declared.level.Level.{Level}
-use Rattle.larch_prove_meaning.specs.Levels as defined
-use Rattle.larch_prove_meaning.specs.Levels.{Proof, with_mark}
+use Rattle.larch_prove_draft.specs.ProveInvariantBook.{Book, Kept, SupposingBox, levels_of}
+use Rattle.larch_prove_draft.specs.ProveInvariantHolding.{IsEntered}
+use Rattle.larch_prove_draft.specs.ProveInvariantLeaving.{Leaving}
+use Rattle.larch_prove_draft.specs.ProveLevelsLevel.{IsKept}
+use Rattle.larch_prove_draft.specs.ProveLevelsLevelLevel.{Level}
+use Rattle.larch_prove_draft.specs.ProveMeaningLevels as defined
+use Rattle.larch_prove_draft.specs.ProveMeaningLevels.{Proof, with_mark}
 use Rattle.larch_prove_settling.specs.Rising.{entrance_of, proved_by}
 use Rattle.larch_store.specs.Numbered.{Numbered}
 use Rattle.larch_term.specs.Tree.{Tree}
@@ -120,6 +120,11 @@ finish_leads t s store d b p level n w f = (
 pub if_answered : {A E : Type 0} (P Q : A → Type 0) (r : Result A E) → ((x : A) → P x → Q x) → IfOk r P → IfOk r Q
 if_answered P Q (Ok x) f h = f x h
 if_answered P Q (Err e) f h = tt
+
+pub if_both : {A E : Type 0} (P Q R : A → Type 0) (r : Result A E) → ((x : A) → P x → Q x → R x) → IfOk r P → IfOk r Q
+    → IfOk r R
+if_both P Q R (Ok x) f h g = f x h g
+if_both P Q R (Err e) f h g = tt
 
 pub said_as : (b : Builder) (n : ℕ) (l r k q : Tree) → l ≡ k → r ≡ q → HasEquation b n l r → HasEquation b n k q
 said_as b n l r k q e d h = subst (HasEquation b n k) d (subst (λ t. HasEquation b n t r) e h)

@@ -4,11 +4,11 @@ use Rattle.std.specs.Prelude.{reverse}
 use Rattle.std.proofs.Common.{ap, ap₂, arith, ◌∙◌}
 use Rattle.std.proofs.lemmas.List.{length-append, reverse-append}
 use Rattle.std.proofs.lemmas.List.Sums.{sum_by-cons}
-use Rattle.larch_prove_boxes.specs.declared.leave.Leave.{Leave}
-use Rattle.larch_prove_levels.specs.Level.{AreSameMethods}
-use Rattle.larch_prove_levels.specs.declared.level.Level.{Level}
-use Rattle.larch_prove_levels.specs.declared.level.Planned.{Planned}
-use Rattle.larch_prove_levels.specs.declared.level.Running.{Running}
+use Rattle.larch_prove_draft.specs.ProveBoxesLeaveLeave.{Leave}
+use Rattle.larch_prove_draft.specs.ProveLevelsLevel.{AreSameMethods}
+use Rattle.larch_prove_draft.specs.ProveLevelsLevelLevel.{Level}
+use Rattle.larch_prove_draft.specs.ProveLevelsLevelPlanned.{Planned}
+use Rattle.larch_prove_draft.specs.ProveLevelsLevelRunning.{Running}
 use Rattle.larch_prove_settling.specs.Parts.{IsPopped}
 use Rattle.larch_prove_settling.specs.Rising.{IsNoted, to_settle, unleft}
 

@@ -1,32 +1,34 @@
--- The last subgoal of a method was left: the goal of its level is true.
+-- All subgoals of a method were left, or it has none: the goal of its level is true.
 use Rattle.std.specs.Prelude.{◌≡◌, ℕ, List, [], ◌∷◌, ◌++◌, All, Contains, IfSome, drop, map, Option, None, Some, refl}
+use Rattle.std.specs.List.{AllZip}
 use Rattle.std.proofs.Common.{ap, subst, sym, ◌∙◌}
 use Rattle.std.proofs.lemmas.List.{map-append}
 use Rattle.std.proofs.lemmas.List.Elements.{All-tail}
-use Rattle.larch_derive.proofs.Growth.{extends_grows}
-use Rattle.larch_derive.specs.Predicates.{Extends, HasEquation}
+use Rattle.larch_derive.proofs.Growth.{extends_grows, extends_refl}
+use Rattle.larch_derive.specs.Predicates.{HasEquation}
 use Rattle.larch_derive.specs.declared.builder.Builder.{Builder}
 use Rattle.larch_derive.specs.declared.open_box.OpenBox.{OpenBox}
-use Rattle.larch_prove_boxes.specs.BoxLists.{box_list, boxes_with}
-use Rattle.larch_prove_boxes.specs.Ends.{AreLeft}
-use Rattle.larch_prove_boxes.specs.Leave.{left_of}
-use Rattle.larch_prove_boxes.specs.declared.leave.Leave.{Leave}
+use Rattle.larch_prove_draft.specs.ProveBoxesBoxLists.{box_list, boxes_with}
+use Rattle.larch_prove_draft.specs.ProveBoxesEnds.{AreLeft}
+use Rattle.larch_prove_draft.specs.ProveBoxesLeave.{left_of}
+use Rattle.larch_prove_draft.specs.ProveBoxesLeaveLeave.{Leave}
 use Rattle.larch_prove_draft.proofs.Alike.{alike_same}
 use Rattle.larch_prove_draft.specs.Draft.{AreBelow, Leads, below_in}
 use Rattle.larch_prove_draft.specs.declared.draft.Draft.{Draft}
-use Rattle.larch_prove_invariant.proofs.Left.{leaving_grows, method_left}
-use Rattle.larch_prove_invariant.specs.Book.{Kept, Running, all_left, own_boxes}
-use Rattle.larch_prove_invariant.specs.Ending.{HasAllLeft, StandsAt}
-use Rattle.larch_prove_levels.specs.Level.{IsStored, RunsLikeAny}
-use Rattle.larch_prove_levels.specs.declared.level.Level.{Level}
-use Rattle.larch_prove_levels.specs.declared.level.Running.{Running as RunningHere}
-use Rattle.larch_prove_meaning.specs.Levels as defined
-use Rattle.larch_prove_meaning.specs.Levels.{Proof, all_constants, rise}
-use Rattle.larch_prove_meaning.specs.Plans as planned
-use Rattle.larch_prove_plans.specs.Planning.{method_of}
-use Rattle.larch_prove_plans.specs.declared.subgoals.Method.{Method}
+use Rattle.larch_prove_draft.proofs.ProveInvariantLeft.{idle_stands, method_left}
+use Rattle.larch_prove_draft.specs.ProveInvariantBook.{Kept, Running, all_left}
+use Rattle.larch_prove_draft.specs.ProveInvariantEnding.{HasAllLeft, StandsAt}
+use Rattle.larch_prove_draft.specs.ProveInvariantHolding.{HasLeft, IsPlanned, Through}
+use Rattle.larch_prove_draft.specs.ProveLevelsLevel.{IsStored, RunsLikeAny}
+use Rattle.larch_prove_draft.specs.ProveLevelsLevelLevel.{Level}
+use Rattle.larch_prove_draft.specs.ProveLevelsLevelRunning.{Running as RunningHere}
+use Rattle.larch_prove_draft.specs.ProveMeaningLevels as defined
+use Rattle.larch_prove_draft.specs.ProveMeaningLevels.{Proof, all_constants, rise}
+use Rattle.larch_prove_draft.specs.ProveMeaningPlans as planned
+use Rattle.larch_prove_draft.specs.ProvePlansPlanning.{method_of}
+use Rattle.larch_prove_draft.specs.ProvePlansSubgoalsMethod.{Method}
 use Rattle.larch_prove_settling.proofs.Noting.{level_running, stored_running}
-use Rattle.larch_prove_settling.specs.Rising.{EndsWith, IsNoted}
+use Rattle.larch_prove_settling.specs.Rising.{EndsWith, HasNoSubgoals, IsNoted}
 use Rattle.larch_store.specs.Numbered.{Numbered, term_of}
 use Rattle.larch_term.specs.Operator.{PlainOperator}
 use Rattle.larch_term.specs.Tree.{Tree}
@@ -92,12 +94,12 @@ module _ (t : Theory) (s : Statement) (store : List Numbered) (d : Draft) (p : P
             f.current.0.goal stood.1.1);
       }
 
-  -- the level's way, joined with the line of the method's end, says that its first goal is true
-  pub end_leads : (b c : Builder) (n : Option RunningHere) (line : ℕ) → StandsAt t s b w.follows.on w.follows.others
-      → Extends b c → HasEquation c line w.follows.on.book.first truth
+  -- where a line says that its first goal is true, the level is proved
+  pub end_leads : (c : Builder) (n : Option RunningHere) (line : ℕ) → StandsAt t s c w.follows.on w.follows.others
+      → HasEquation c line w.follows.on.book.first truth
       → Leads t s store (record d { builder = c; current = record d.current { running = n } }) p (Some line)
       (rise below parent p)
-  end_leads b c n line stands x says =
+  end_leads c n line stands says =
       let f = w.follows in (
         p,
         (
@@ -119,7 +121,7 @@ module _ (t : Theory) (s : Statement) (store : List Numbered) (d : Draft) (p : P
                   under = below_tail store d.current (below_in d) p.constants parent below f.on f.others f.under;
                   earlier = d.builder;
                   before = f.held;
-                  leaving = leaving_grows t s b c (own_boxes f.on.book) f.others (extends_grows b c x) stands.leaving;
+                  leaving = stands.leaving;
                   says = says;
                 },
               ),
@@ -127,3 +129,55 @@ module _ (t : Theory) (s : Statement) (store : List Numbered) (d : Draft) (p : P
           ),
         ),
       )
+
+-- A method that has no subgoals ends at once.
+module _ (t : Theory) (s : Statement) (store : List Numbered) (d : Draft) (p : Proof) (k : Kept) (ks : List Kept)
+    (method : Method) (w : HasNoSubgoals t s store d p k ks method) where
+  -- none was left, and the builder stands on the level
+  pub none_left : AreLeft d.builder d.builder (method_of method) (term_of d.current.goal.term) None []
+  none_left = record {
+    running = w.running;
+    method_is = w.method_is;
+    shared_is = ap boxes_with w.shared;
+    left = record {
+      planned = subst (λ goal. IsPlanned d.builder d.builder goal w.running) w.stands.current.0.goal w.planned;
+      shared = subst (λ xs. Through d.builder xs d.builder) (sym w.shared)
+          (extends_grows d.builder d.builder (extends_refl d.builder));
+      left = subst (λ gs. AllZip (HasLeft d.builder w.running.method) gs []) (sym w.subgoals) tt;
+    };
+  }
+
+  pub stood_there : StandsAt t s d.builder k ks
+  stood_there = idle_stands t s d.builder k ks w.stands.idle w.stands.holds.held
+
+  pub none_leads : (c : Builder) (line : ℕ) → StandsAt t s c k ks → HasEquation c line k.book.first truth
+      → Leads t s store (record d { builder = c }) p (Some line) (rise p.below p.current p)
+  none_leads c line stands says = (
+    p,
+    (
+      p.below,
+      (
+        p.current,
+        (
+          refl,
+          (
+            alike_same p,
+            record {
+              top = k;
+              others = ks;
+              counts = w.stands.counts;
+              undone = w.stands.undone;
+              current = w.stands.current.0;
+              level_is = w.stands.level_is;
+              stored = w.stands.stored;
+              under = w.stands.below;
+              earlier = d.builder;
+              before = w.stands.holds;
+              leaving = stands.leaving;
+              says = says;
+            },
+          ),
+        ),
+      ),
+    ),
+  )

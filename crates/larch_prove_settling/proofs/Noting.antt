@@ -1,26 +1,26 @@
 -- The open subgoal of a method was left, and that is noted: the method runs on with the next one.
-use Rattle.std.specs.Prelude.{◌≡◌, List, [], ◌∷◌, ◌++◌, map, All, Contains, IfSome, Option, None, Some, refl}
-use Rattle.std.proofs.Common.{ap, subst, sym, ◌∙◌}
+use Rattle.std.specs.Prelude.{◌≡◌, List, [], ◌∷◌, ◌++◌, map, All, Contains, IfSome, Option, None, Some, drop, refl}
+use Rattle.std.proofs.Common.{ap, ap₂, subst, sym, ◌∙◌}
 use Rattle.std.proofs.lemmas.List.{map-append}
-use Rattle.std.proofs.lemmas.List.Elements.{All-head}
-use Rattle.larch_prove_boxes.specs.BoxLists.{box_list}
-use Rattle.larch_prove_boxes.specs.Leave.{left_of}
-use Rattle.larch_prove_boxes.specs.declared.leave.Leave.{Leave}
-use Rattle.larch_prove_draft.specs.Draft.{ArePlannedAmong}
+use Rattle.std.proofs.lemmas.List.Elements.{All-cons, All-head, All-tail}
+use Rattle.larch_prove_draft.specs.ProveBoxesBoxLists.{box_list}
+use Rattle.larch_prove_draft.specs.ProveBoxesLeave.{left_of}
+use Rattle.larch_prove_draft.specs.ProveBoxesLeaveLeave.{Leave}
+use Rattle.larch_prove_draft.specs.Draft.{ArePlannedAmong, below_in}
 use Rattle.larch_prove_draft.specs.declared.draft.Draft.{Draft}
-use Rattle.larch_prove_invariant.proofs.LevelConstants.{levels_follow}
-use Rattle.larch_prove_invariant.specs.Book.{Done, Kept, Running, levels_of, next_running, with_running}
-use Rattle.larch_prove_levels.specs.Level.{IsKept, IsLevel, IsStored, RunsLikeAny}
-use Rattle.larch_prove_levels.specs.declared.level.Level.{Level}
-use Rattle.larch_prove_levels.specs.declared.level.Running.{Running as RunningHere}
-use Rattle.larch_prove_meaning.specs.Levels as defined
-use Rattle.larch_prove_meaning.specs.Levels.{Proof, all_constants}
-use Rattle.larch_prove_meaning.specs.Plans as planned
-use Rattle.larch_prove_plans.specs.Planning.{method_of}
-use Rattle.larch_prove_plans.specs.declared.subgoals.Method.{Method}
-use Rattle.larch_prove_plans.specs.declared.subgoals.Subgoal.{Subgoal}
-use Rattle.larch_prove_settling.specs.Entered.{Awaits}
-use Rattle.larch_prove_settling.specs.Rising.{FollowsWith, IsNoted}
+use Rattle.larch_prove_draft.proofs.ProveInvariantLevelConstants.{levels_follow}
+use Rattle.larch_prove_draft.specs.ProveInvariantBook.{Done, Kept, Running, levels_of, next_running, with_running}
+use Rattle.larch_prove_draft.specs.ProveInvariantHolding.{HoldsLevels}
+use Rattle.larch_prove_draft.specs.ProveLevelsLevel.{IsKept, IsLevel, IsStored, RunsLikeAny}
+use Rattle.larch_prove_draft.specs.ProveLevelsLevelLevel.{Level}
+use Rattle.larch_prove_draft.specs.ProveLevelsLevelRunning.{Running as RunningHere}
+use Rattle.larch_prove_draft.specs.ProveMeaningLevels as defined
+use Rattle.larch_prove_draft.specs.ProveMeaningLevels.{Proof, all_constants}
+use Rattle.larch_prove_draft.specs.ProveMeaningPlans as planned
+use Rattle.larch_prove_draft.specs.ProvePlansPlanning.{method_of}
+use Rattle.larch_prove_draft.specs.ProvePlansSubgoalsMethod.{Method}
+use Rattle.larch_prove_draft.specs.ProvePlansSubgoalsSubgoal.{Subgoal}
+use Rattle.larch_prove_settling.specs.Rising.{FollowsWith, HasSubgoal, IsNoted}
 use Rattle.larch_store.specs.Numbered.{Numbered}
 use Rattle.larch_term.specs.Operator.{PlainOperator}
 use Rattle.larch_term.specs.declared.statement.Statement.{Statement}
@@ -87,18 +87,45 @@ module _ (t : Theory) (s : Statement) (store : List Numbered) (d : Draft) (p : P
   abbrev pub goes_on : Kept
   goes_on = with_running (next_running (left_of left) w.next w.follows.running) w.waiting w.follows.on
 
-  pub awaits_next : (n : Option RunningHere) → IsNoted left d.current.running n
-      → Awaits t s p.constants (levels_of (goes_on ∷ w.follows.others)) goes_on w.follows.others
-      (next_running (left_of left) w.next w.follows.running) d.builder (record d.current { running = n }) method subgoal
-  awaits_next n i = record {
-    held = levels_follow t s d.builder p.constants (parent ∷ below) w.follows.on w.follows.others w.follows.running
-        (left_of left) w.next w.waiting w.follows.runs
-        (ap (λ (l : defined.Level). l.remaining) w.follows.parent_is ∙ w.remaining) w.follows.left_so w.follows.held;
-    kept = noted_kept left d.current n w.follows.on w.follows.running w.next w.waiting w.follows.runs i
-        w.follows.current;
-    running = refl;
-    method_is = w.follows.method_is;
-    subgoal_is = w.subgoal_is;
-    among = plan_among p.constants w.follows.on w.follows.others w.follows.running w.follows.runs
-        w.follows.under.planned;
-  }
+  goes_on_so : levels_of (goes_on ∷ w.follows.others) ≡ record parent { remaining = w.waiting } ∷ below
+  goes_on_so =
+      ap₂ (λ (l : defined.Level) (ls : List defined.Level). record l { remaining = w.waiting } ∷ ls)
+      w.follows.parent_is (ap (drop 1) w.follows.under.levels_are)
+
+  -- and the next subgoal is the open one
+  pub next_noted : (n : Option RunningHere) → IsNoted left d.current.running n
+      → HasSubgoal t s store (record d { current = record d.current { running = n } }) p below parent method subgoal
+      parent.remaining
+  next_noted n i =
+      let f = w.follows in
+      let kept = noted_kept left d.current n f.on f.running w.next w.waiting f.runs i f.current in
+      let stored = stored_running store d.current n f.stored in
+      record {
+        on = goes_on;
+        others = f.others;
+        running = next_running (left_of left) w.next f.running;
+        waiting = w.waiting;
+        counts = f.counts;
+        undone = f.undone;
+        current = kept;
+        parent_is = ap (λ (l : defined.Level). record l { remaining = w.waiting }) f.parent_is;
+        runs = refl;
+        method_is = f.method_is;
+        subgoal_is = w.subgoal_is;
+        order = w.remaining;
+        stored = stored;
+        under = record {
+          kept = (kept, f.under.kept.1);
+          stored = All-cons (IsStored store) (record d.current { running = n }) (below_in d) stored
+              (All-tail (IsStored store) d.current (below_in d) f.under.stored);
+          levels_are = goes_on_so;
+          planned = All-cons (λ (k : Kept). IfSome k.book.running (λ r. All (Contains p.constants)
+              (all_constants r.plan))) goes_on f.others
+              (plan_among p.constants f.on f.others f.running f.runs f.under.planned)
+              (All-tail (λ (k : Kept). IfSome k.book.running (λ r. All (Contains p.constants)
+              (all_constants r.plan))) f.on f.others f.under.planned);
+        };
+        held = subst (λ ls. HoldsLevels t s d.builder p.constants ls (goes_on ∷ f.others)) goes_on_so
+            (levels_follow t s d.builder p.constants (parent ∷ below) f.on f.others f.running (left_of left) w.next
+            w.waiting f.runs (ap (λ (l : defined.Level). l.remaining) f.parent_is ∙ w.remaining) f.left_so f.held);
+      }

@@ -11,15 +11,15 @@ use Rattle.larch_derive.specs.declared.builder.Builder.{Builder}
 use Rattle.larch_prove_draft.proofs.Copies.{copy_ready, kept_copied, stored_copied}
 use Rattle.larch_prove_draft.specs.Draft.{AreBelow, ArePlannedAmong, IsAlike, IsShown, IsShownIn, below_in}
 use Rattle.larch_prove_draft.specs.declared.draft.Draft.{Draft}
-use Rattle.larch_prove_invariant.specs.Book.{Kept, levels_of, own_boxes}
-use Rattle.larch_prove_invariant.specs.Holding.{Enters, HoldsLevels}
-use Rattle.larch_prove_invariant.specs.Leaving.{Leaving}
-use Rattle.larch_prove_levels.specs.Level.{IsKept, IsLevel, IsStored, purpose_of}
-use Rattle.larch_prove_levels.specs.declared.level.Purpose.TheVariants as purpose
-use Rattle.larch_prove_levels.specs.declared.level.Level.{Level}
-use Rattle.larch_prove_meaning.specs.Levels as defined
-use Rattle.larch_prove_meaning.specs.Levels.{Proof, opened_from, rise, with_mark}
-use Rattle.larch_prove_levels.proofs.Rises.{rise_proof, rise_subgoal}
+use Rattle.larch_prove_draft.specs.ProveInvariantBook.{Kept, levels_of, own_boxes}
+use Rattle.larch_prove_draft.specs.ProveInvariantHolding.{Enters, HoldsLevels}
+use Rattle.larch_prove_draft.specs.ProveInvariantLeaving.{Leaving}
+use Rattle.larch_prove_draft.specs.ProveLevelsLevel.{IsKept, IsLevel, IsStored, purpose_of}
+use Rattle.larch_prove_draft.specs.ProveLevelsLevelPurpose.TheVariants as purpose
+use Rattle.larch_prove_draft.specs.ProveLevelsLevelLevel.{Level}
+use Rattle.larch_prove_draft.specs.ProveMeaningLevels as defined
+use Rattle.larch_prove_draft.specs.ProveMeaningLevels.{Proof, opened_from, rise, with_mark}
+use Rattle.larch_prove_draft.proofs.ProveLevelsRises.{rise_proof, rise_subgoal}
 use Rattle.larch_prove_settling.proofs.Leaving.{extras_left, nothing_below}
 use Rattle.larch_prove_settling.specs.Parts.{IsPopped}
 use Rattle.larch_prove_settling.specs.Rising.{Rises, RisesForFormula, RisesForSubgoal, derived_below, entrance_of}

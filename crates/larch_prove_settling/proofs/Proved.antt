@@ -6,32 +6,32 @@ use Rattle.larch_base.specs.declared.code.Code.{Code}
 use Rattle.larch_derive.proofs.Growth.{extends_grows}
 use Rattle.larch_derive.specs.Predicates.{Extends, HasEquation}
 use Rattle.larch_derive.specs.declared.builder.Builder.{Builder}
-use Rattle.larch_prove_adding.specs.KeptFacts.{facts_of, lines_of}
+use Rattle.larch_prove_draft.specs.ProveAddingKeptFacts.{facts_of, lines_of}
 use Rattle.larch_prove_draft.proofs.Standing.{below_on, stored_on}
-use Rattle.larch_prove_boxes.specs.BoxLists.{box_list}
+use Rattle.larch_prove_draft.specs.ProveBoxesBoxLists.{box_list}
 use Rattle.larch_prove_draft.specs.Draft.{AreBelow, IsAlike, Stands, below_in}
 use Rattle.larch_prove_draft.specs.Proving.{IsOver}
 use Rattle.larch_prove_draft.specs.declared.draft.Draft.{Draft}
-use Rattle.larch_prove_invariant.proofs.Held.{current_said}
-use Rattle.larch_prove_invariant.proofs.LevelConstants.{levels_left, levels_worked}
-use Rattle.larch_prove_invariant.specs.Book.{IsWorkedOn, Kept}
-use Rattle.larch_prove_invariant.specs.Holding.{Enters, EntersProof, HoldsLevels, RunsIfAny, Says}
-use Rattle.larch_prove_invariant.specs.Leaving.{Leaving}
-use Rattle.larch_prove_levels.proofs.Rises.{derive_by}
-use Rattle.larch_prove_levels.specs.Derived.{Worked, derived_in, if_settled, with_derived}
-use Rattle.larch_prove_levels.specs.Level.{IsReady, IsStored, RunsLikeAny, purpose_of}
-use Rattle.larch_prove_levels.proofs.Telling.{tells_first, tells_same}
-use Rattle.larch_prove_levels.specs.Supposing.{TellsCode}
-use Rattle.larch_prove_levels.specs.declared.level.Level.{Level}
-use Rattle.larch_prove_meaning.specs.Levels as defined
-use Rattle.larch_prove_meaning.specs.Levels.{Proof, is_settled, rise}
-use Rattle.larch_prove_meaning.specs.Plans.{holds}
+use Rattle.larch_prove_draft.proofs.ProveInvariantHeld.{current_said}
+use Rattle.larch_prove_draft.proofs.ProveInvariantLevelConstants.{levels_left, levels_worked}
+use Rattle.larch_prove_draft.specs.ProveInvariantBook.{IsWorkedOn, Kept}
+use Rattle.larch_prove_draft.specs.ProveInvariantHolding.{Enters, EntersProof, HoldsLevels, RunsIfAny, Says}
+use Rattle.larch_prove_draft.specs.ProveInvariantLeaving.{Leaving}
+use Rattle.larch_prove_draft.proofs.ProveLevelsRises.{derive_by}
+use Rattle.larch_prove_draft.specs.ProveLevelsDerived.{Worked, derived_in, if_settled, with_derived}
+use Rattle.larch_prove_draft.specs.ProveLevelsLevel.{IsReady, IsStored, RunsLikeAny, purpose_of}
+use Rattle.larch_prove_draft.proofs.ProveLevelsTelling.{tells_first, tells_same}
+use Rattle.larch_prove_draft.specs.ProveLevelsSupposing.{TellsCode}
+use Rattle.larch_prove_draft.specs.ProveLevelsLevelLevel.{Level}
+use Rattle.larch_prove_draft.specs.ProveMeaningLevels as defined
+use Rattle.larch_prove_draft.specs.ProveMeaningLevels.{Proof, is_settled, rise}
+use Rattle.larch_prove_draft.specs.ProveMeaningPlans.{holds}
 use Rattle.larch_prove_settling.proofs.EntersUpon.{level_says}
 use Rattle.larch_prove_settling.proofs.MethodEnds.{below_tail}
 use Rattle.larch_prove_settling.specs.Rising.{RisesForFormula, derived_below}
-use Rattle.larch_order.specs.declared.precedence.Ranked.{Ranked}
-use Rattle.larch_rewrite.specs.declared.refusal.RewriteRefusal.{RewriteRefusal}
-use Rattle.larch_rewrite_meaning.specs.Sides.{Sides}
+use Rattle.larch_prove_draft.specs.OrderPrecedenceRanked.{Ranked}
+use Rattle.larch_prove_draft.specs.RewriteRefusalRewriteRefusal.{RewriteRefusal}
+use Rattle.larch_prove_draft.specs.RewriteMeaningSides.{Sides}
 use Rattle.larch_store.specs.Numbered.{Numbered, term_of}
 use Rattle.larch_store.specs.Stored.{Belongs, Grows}
 use Rattle.larch_term.specs.Sorts.{sort_of}
@@ -39,7 +39,7 @@ use Rattle.larch_term.specs.Tree.{Tree}
 use Rattle.larch_term.specs.Truth.{truth}
 use Rattle.larch_term.specs.declared.statement.Statement.{Statement}
 use Rattle.larch_term.specs.declared.statement.Theory.{Theory}
-use Rattle.larch_traits_items.specs.Steps.{after}
+use Rattle.larch_base_meaning.specs.Steps.{after}
 
 -- facts and goal of a level of the code
 abbrev pub worked_level : Level → Worked

@@ -1,17 +1,17 @@
 -- How a level for a subgoal is entered upon the one on which its method runs.
 use Rattle.std.specs.Prelude.{◌≡◌, List, [], ◌∷◌, All, Contains, None, Some}
 use Rattle.larch_derive.specs.declared.builder.Builder.{Builder}
-use Rattle.larch_prove_adding.specs.KeptFacts.{facts_of}
-use Rattle.larch_prove_adding.specs.declared.equation.SaidEquation.{SaidEquation}
-use Rattle.larch_prove_invariant.specs.Book.{Kept, Running}
-use Rattle.larch_prove_invariant.specs.Holding.{HoldsLevels}
-use Rattle.larch_prove_levels.specs.Level.{IsKept, IsReady, IsStored}
-use Rattle.larch_prove_levels.specs.declared.level.Level.{Level}
-use Rattle.larch_prove_meaning.specs.Levels as defined
-use Rattle.larch_prove_meaning.specs.Levels.{all_constants}
-use Rattle.larch_prove_plans.specs.Planning.{method_of, subgoal_of}
-use Rattle.larch_prove_plans.specs.declared.subgoals.Method.{Method}
-use Rattle.larch_prove_plans.specs.declared.subgoals.Subgoal.{Subgoal}
+use Rattle.larch_prove_draft.specs.ProveAddingKeptFacts.{facts_of}
+use Rattle.larch_prove_draft.specs.ProveAddingEquationSaidEquation.{SaidEquation}
+use Rattle.larch_prove_draft.specs.ProveInvariantBook.{Kept, Running}
+use Rattle.larch_prove_draft.specs.ProveInvariantHolding.{HoldsLevels}
+use Rattle.larch_prove_draft.specs.ProveLevelsLevel.{IsKept, IsReady, IsStored}
+use Rattle.larch_prove_draft.specs.ProveLevelsLevelLevel.{Level}
+use Rattle.larch_prove_draft.specs.ProveMeaningLevels as defined
+use Rattle.larch_prove_draft.specs.ProveMeaningLevels.{all_constants}
+use Rattle.larch_prove_draft.specs.ProvePlansPlanning.{method_of, subgoal_of}
+use Rattle.larch_prove_draft.specs.ProvePlansSubgoalsMethod.{Method}
+use Rattle.larch_prove_draft.specs.ProvePlansSubgoalsSubgoal.{Subgoal}
 use Rattle.larch_store.specs.Numbered.{Numbered, term_of}
 use Rattle.larch_term.specs.Operator.{PlainOperator}
 use Rattle.larch_term.specs.declared.statement.Statement.{Statement}

@@ -1,11 +1,11 @@
 -- Levels that are taken away from the others.
 use Rattle.std.specs.Prelude.{◌≡◌, List, [], ◌∷◌, ◌++◌, IsTrue}
 use Rattle.larch_derive.specs.declared.builder.Builder.{Builder}
-use Rattle.larch_prove_adding.specs.KeptFacts.{AreSaid, facts_of, lines_of}
-use Rattle.larch_prove_invariant.specs.Holding.{HasAbsurd, HasFacts}
-use Rattle.larch_prove_levels.specs.Level.{IsCopy}
-use Rattle.larch_prove_levels.specs.declared.level.Level.{Level}
-use Rattle.larch_rewrite.specs.RuleSet.{BelongsTo}
+use Rattle.larch_prove_draft.specs.ProveAddingKeptFacts.{AreSaid, facts_of, lines_of}
+use Rattle.larch_prove_draft.specs.ProveInvariantHolding.{HasAbsurd, HasFacts}
+use Rattle.larch_prove_draft.specs.ProveLevelsLevel.{IsCopy}
+use Rattle.larch_prove_draft.specs.ProveLevelsLevelLevel.{Level}
+use Rattle.larch_prove_draft.specs.RewriteRuleSet.{BelongsTo}
 use Rattle.larch_store.specs.Numbered.{Numbered}
 
 -- the last of levels is taken away, and this is a copy of it

@@ -5,34 +5,34 @@ use Rattle.larch_base.specs.declared.code.Code.{Code}
 use Rattle.larch_derive.specs.Predicates.{HasEquation}
 use Rattle.larch_derive.specs.declared.builder.Builder.{Builder}
 use Rattle.larch_derive.specs.declared.open_box.OpenBox.{OpenBox}
-use Rattle.larch_order.specs.declared.precedence.Ranked.{Ranked}
-use Rattle.larch_prove_boxes.specs.BoxLists.{box_list, boxes_with}
-use Rattle.larch_prove_boxes.specs.Leave.{left_of}
-use Rattle.larch_prove_boxes.specs.declared.leave.Leave.{Leave}
-use Rattle.larch_prove_draft.specs.Draft.{AreBelow, AreOpen, Counts, IsShown, IsShownIn, Stands, below_in}
+use Rattle.larch_prove_draft.specs.OrderPrecedenceRanked.{Ranked}
+use Rattle.larch_prove_draft.specs.ProveBoxesBoxLists.{box_list, boxes_with}
+use Rattle.larch_prove_draft.specs.ProveBoxesLeave.{left_of}
+use Rattle.larch_prove_draft.specs.ProveBoxesLeaveLeave.{Leave}
+use Rattle.larch_prove_draft.specs.Draft.{AreBelow, AreOpen, Counts, IsShown, IsShownIn, Leads, Stands, below_in}
 use Rattle.larch_prove_draft.specs.Proving.{IsOver}
 use Rattle.larch_prove_draft.specs.declared.draft.Draft.{Draft}
-use Rattle.larch_prove_invariant.specs.Book.{Book, Kept, Running, SupposingBox}
-use Rattle.larch_prove_invariant.specs.Holding.{HasLeft, HoldsLevels, Says}
-use Rattle.larch_prove_invariant.specs.Leaving.{Leaving}
-use Rattle.larch_prove_levels.specs.Derived.{if_settled}
-use Rattle.larch_prove_levels.specs.Level.{IsKept, IsReady, IsStored}
-use Rattle.larch_prove_levels.specs.declared.level.Level.{Level}
-use Rattle.larch_prove_levels.specs.declared.level.Planned.{Planned}
-use Rattle.larch_prove_levels.specs.declared.level.Running.{Running as RunningHere}
-use Rattle.larch_prove_meaning.specs.Levels as defined
-use Rattle.larch_prove_meaning.specs.Levels.{Proof, rise}
-use Rattle.larch_prove_meaning.specs.Plans as planned
-use Rattle.larch_prove_meaning.specs.Plans.{holds}
-use Rattle.larch_prove_plans.specs.Planning.{method_of, subgoal_of}
-use Rattle.larch_prove_plans.specs.declared.subgoals.Method.{Method}
-use Rattle.larch_prove_plans.specs.declared.subgoals.Subgoal.{Subgoal}
+use Rattle.larch_prove_draft.specs.ProveInvariantBook.{Book, Kept, Running, SupposingBox}
+use Rattle.larch_prove_draft.specs.ProveInvariantHolding.{HasLeft, HoldsLevels, IsPlanned, Says}
+use Rattle.larch_prove_draft.specs.ProveInvariantLeaving.{Leaving}
+use Rattle.larch_prove_draft.specs.ProveLevelsDerived.{if_settled}
+use Rattle.larch_prove_draft.specs.ProveLevelsLevel.{IsKept, IsReady, IsStored}
+use Rattle.larch_prove_draft.specs.ProveLevelsLevelLevel.{Level}
+use Rattle.larch_prove_draft.specs.ProveLevelsLevelPlanned.{Planned}
+use Rattle.larch_prove_draft.specs.ProveLevelsLevelRunning.{Running as RunningHere}
+use Rattle.larch_prove_draft.specs.ProveMeaningLevels as defined
+use Rattle.larch_prove_draft.specs.ProveMeaningLevels.{Proof, rise}
+use Rattle.larch_prove_draft.specs.ProveMeaningPlans as planned
+use Rattle.larch_prove_draft.specs.ProveMeaningPlans.{holds}
+use Rattle.larch_prove_draft.specs.ProvePlansPlanning.{method_of, subgoal_of}
+use Rattle.larch_prove_draft.specs.ProvePlansSubgoalsMethod.{Method}
+use Rattle.larch_prove_draft.specs.ProvePlansSubgoalsSubgoal.{Subgoal}
 use Rattle.larch_store.specs.Numbered.{Numbered}
 use Rattle.larch_term.specs.Tree.{Tree}
 use Rattle.larch_term.specs.Truth.{truth}
 use Rattle.larch_term.specs.declared.statement.Statement.{Statement}
 use Rattle.larch_term.specs.declared.statement.Theory.{Theory}
-use Rattle.larch_traits_items.specs.Steps.{after}
+use Rattle.larch_base_meaning.specs.Steps.{after}
 
 -- A level is proved, and the one below is the current one again: a line says that the upper one's first goal is true,
 -- in the box by which that was entered; and lines that say what there is to say of the lower one make it ready.
@@ -115,6 +115,38 @@ pub record EndsWith (t : Theory) (s : Statement) (store : List Numbered) (d : Dr
   pub follows : Follows t s store d p below parent method left
   pub remaining : parent.remaining ≡ []
 
+-- A method runs on the current level, and its open subgoal isn't entered yet; that one and those that wait behind it
+-- are these.
+pub record HasSubgoal (t : Theory) (s : Statement) (store : List Numbered) (d : Draft) (p : Proof)
+    (below : List defined.Level) (parent : defined.Level) (method : Method) (subgoal : Subgoal)
+    (gs : List planned.Subgoal) : Type 0 where
+  pub on : Kept
+  pub others : List Kept
+  pub running : Running
+  pub waiting : List planned.Subgoal
+  pub counts : Counts d p
+  pub undone : AreOpen d p
+  pub current : IsKept d.current on
+  pub parent_is : on.level ≡ record parent { remaining = waiting }
+  pub runs : on.book.running ≡ Some running
+  pub method_is : running.method ≡ method_of method
+  pub subgoal_is : subgoal ≡ subgoal_of running.now
+  pub order : gs ≡ running.now ∷ waiting
+  pub stored : IsStored store d.current
+  pub under : AreBelow store (d.current ∷ below_in d) p.constants (record parent { remaining = waiting } ∷ below)
+      (on ∷ others)
+  pub held : HoldsLevels t s d.builder p.constants (record parent { remaining = waiting } ∷ below) (on ∷ others)
+
+-- A method was planned for the goal of the current level, and has neither subgoals nor a box for them.
+pub record HasNoSubgoals (t : Theory) (s : Statement) (store : List Numbered) (d : Draft) (p : Proof) (k : Kept)
+    (ks : List Kept) (method : Method) : Type 0 where
+  pub stands : Stands t s store d p k ks
+  pub running : Running
+  pub method_is : running.method ≡ method_of method
+  pub planned : IsPlanned d.builder d.builder k.level.goal running
+  pub shared : running.shared ≡ []
+  pub subgoals : running.plan.subgoals ≡ []
+
 -- the second method is the first one with one subgoal more that was left
 pub record IsNotedIn (left : Leave) (r q : RunningHere) : Type 0 where
   pub planned : q.planned ≡ r.planned
@@ -159,6 +191,20 @@ abbrev pub IsSomeLeft : Theory → Statement → List Ranked → ℕ → List Nu
 IsSomeLeft t s ranks limit store d method left =
     (p : Proof) × ((below : List defined.Level) × ((parent : defined.Level)
     × (IsOver t ranks limit p × EndsWith t s store d p below parent method left)))
+
+abbrev pub IsSomeOpening : Theory → Statement → List Ranked → ℕ → List Numbered → Draft → Method → Subgoal → Type 0
+IsSomeOpening t s ranks limit store d method subgoal =
+    (p : Proof) × ((below : List defined.Level) × ((parent : defined.Level) × ((gs : List planned.Subgoal)
+    × (IsOver t ranks limit p × HasSubgoal t s store d p below parent method subgoal gs))))
+
+abbrev pub IsSomeLed : Theory → Statement → List Ranked → ℕ → List Numbered → Draft → Option ℕ → Type 0
+IsSomeLed t s ranks limit store d shown =
+    (p : Proof) × ((answer : Result Proof Code) × (IsOver t ranks limit p × Leads t s store d p shown answer))
+
+abbrev pub IsSomeEnd : Theory → Statement → List Ranked → ℕ → List Numbered → Draft → Method → Type 0
+IsSomeEnd t s ranks limit store d method =
+    (p : Proof) × ((k : Kept) × ((ks : List Kept)
+    × (IsOver t ranks limit p × HasNoSubgoals t s store d p k ks method)))
 
 abbrev pub IsSomeLast : Theory → Statement → Draft → ℕ → Type 0
 IsSomeLast t s d line =

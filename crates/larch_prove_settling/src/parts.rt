@@ -1,12 +1,12 @@
 ghost use Rattle.std.specs.Prelude.{◌≡◌, ◌∷◌, [], IfNone, IfOk, IfSome, List, map};
 ghost use Rattle.larch_derive.specs.Predicates.{HasEquation};
 ghost use Rattle.larch_derive.specs.declared.builder.Builder.{Builder as is_builder};
-ghost use Rattle.larch_prove_invariant.specs.Book.{Kept, own_boxes};
-ghost use Rattle.larch_prove_invariant.specs.Holding.{HoldsLevels};
-ghost use Rattle.larch_prove_invariant.specs.Leaving.{Leaving};
-ghost use Rattle.larch_prove_levels.specs.Level.{IsLevel};
+ghost use Rattle.larch_prove_draft.specs.ProveInvariantBook.{Kept, own_boxes};
+ghost use Rattle.larch_prove_draft.specs.ProveInvariantHolding.{HoldsLevels};
+ghost use Rattle.larch_prove_draft.specs.ProveInvariantLeaving.{Leaving};
+ghost use Rattle.larch_prove_draft.specs.ProveLevelsLevel.{IsLevel};
 ghost use Rattle.larch_prove_settling.specs.Parts.{IsPopped};
-ghost use Rattle.larch_prove_meaning.specs.Levels.{Level as Defined};
+ghost use Rattle.larch_prove_draft.specs.ProveMeaningLevels.{Level as Defined};
 ghost use Rattle.larch_term.specs.Operator.{PlainOperator};
 ghost use Rattle.larch_term.specs.Truth.{truth};
 ghost use Rattle.larch_term.specs.declared.statement.Statement.{Statement};
@@ -14,8 +14,8 @@ ghost use Rattle.larch_term.specs.declared.statement.Theory.{Theory};
 
 use larch_base::Memory;
 use larch_derive::Builder;
-use larch_prove_boxes::close_extras;
-use larch_prove_levels::Level;
+use larch_prove_draft::larch_prove_boxes::close_extras;
+use larch_prove_draft::larch_prove_levels::Level;
 use larch_store::Store;
 use larch_term::BuiltIn;
 use std::alloc::Global;

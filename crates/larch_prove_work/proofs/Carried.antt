@@ -2,19 +2,19 @@
 use Rattle.std.specs.Prelude.{◌≡◌, List, None, Result}
 use Rattle.std.proofs.Common.{subst, sym}
 use Rattle.larch_base.specs.declared.code.Code.{Code}
-use Rattle.larch_prove_draft.specs.Draft.{IsProofBy, Leads, Stands}
-use Rattle.larch_prove_draft.specs.Proving.{IsOver}
-use Rattle.larch_prove_invariant.specs.Book.{Kept}
-use Rattle.larch_prove_levels.specs.Supposing.{TellsCode}
-use Rattle.larch_prove_meaning.specs.Levels.{Proof}
+use Rattle.larch_prove_settling.specs.ProveDraftDraft.{IsProofBy, Leads, Stands}
+use Rattle.larch_prove_settling.specs.ProveDraftProving.{IsOver}
+use Rattle.larch_prove_settling.specs.ProveInvariantBook.{Kept}
+use Rattle.larch_prove_settling.specs.ProveLevelsSupposing.{TellsCode}
+use Rattle.larch_prove_settings.specs.ProveMeaningLevels.{Proof}
 use Rattle.larch_prove_settings.specs.Settings.{AreSettingsOf}
 use Rattle.larch_prove_settings.specs.Telling.{Tells}
 use Rattle.larch_prove_work.proofs.Still.{settings_alike, whole_alike}
 use Rattle.larch_prove_work.specs.Formula.{IsSomeProvable, IsWorkForFormula}
 use Rattle.larch_prove_work.specs.Work.{Makes, MayWork, command_refusal}
 use Rattle.larch_prove_work.specs.declared.work.Work.{Work}
-use Rattle.larch_rewrite.specs.declared.refusal.RewriteRefusal.{RewriteRefusal}
-use Rattle.larch_rewrite.specs.declared.refusal.RewriteRefusal.TheVariants.{Limit, TooLarge, Memory}
+use Rattle.larch_prove_settling.specs.RewriteRefusalRewriteRefusal.{RewriteRefusal}
+use Rattle.larch_prove_settling.specs.RewriteRefusalRewriteRefusal.TheVariants.{Limit, TooLarge, Memory}
 use Rattle.larch_term.specs.Tree.{Tree}
 use Rattle.larch_term.specs.declared.statement.Statement.{Statement}
 use Rattle.larch_term.specs.declared.statement.Theory.{Theory}

@@ -8,18 +8,19 @@ use Rattle.std.proofs.Common.{ap, ap₂, sym, ◌∙◌}
 use Rattle.std.proofs.lemmas.Grind.{flat_map-append}
 use Rattle.std.proofs.lemmas.List.{append_assoc, map-append, reverse-append, take_all, take_more}
 use Rattle.larch_derive.specs.declared.open_box.OpenBox.{OpenBox}
-use Rattle.larch_prove_boxes.specs.BoxLists.{box_list, boxes_with}
-use Rattle.larch_prove_draft.specs.Draft.{Stands, below_in}
-use Rattle.larch_prove_draft.specs.declared.draft.Draft.{Draft}
-use Rattle.larch_prove_invariant.proofs.Held.{boxes_held}
-use Rattle.larch_prove_invariant.specs.Book as kept
-use Rattle.larch_prove_invariant.specs.Book.{Kept, SupposingBox, all_boxes, boxes_of, own_boxes, shared_boxes}
-use Rattle.larch_prove_invariant.specs.Holding.{open_constants}
-use Rattle.larch_prove_levels.specs.Level.{IsKept, RunsLikeAny}
-use Rattle.larch_prove_levels.specs.declared.level.Level.{Level}
-use Rattle.larch_prove_levels.specs.declared.level.Running.{Running}
-use Rattle.larch_prove_meaning.specs.Levels.{Proof}
-use Rattle.larch_prove_meaning.specs.Plans.{Subgoal}
+use Rattle.larch_prove_settling.specs.ProveBoxesBoxLists.{box_list, boxes_with}
+use Rattle.larch_prove_settling.specs.ProveDraftDraft.{Stands, below_in}
+use Rattle.larch_prove_settling.specs.ProveDraftDraftDraft.{Draft}
+use Rattle.larch_prove_settling.proofs.ProveInvariantHeld.{boxes_held}
+use Rattle.larch_prove_settling.specs.ProveInvariantBook as kept
+use Rattle.larch_prove_settling.specs.ProveInvariantBook.{Kept, SupposingBox, all_boxes}
+use Rattle.larch_prove_settling.specs.ProveInvariantBook.{boxes_of, own_boxes, shared_boxes}
+use Rattle.larch_prove_settling.specs.ProveInvariantHolding.{open_constants}
+use Rattle.larch_prove_settling.specs.ProveLevelsLevel.{IsKept, RunsLikeAny}
+use Rattle.larch_prove_settling.specs.ProveLevelsLevelLevel.{Level}
+use Rattle.larch_prove_settling.specs.ProveLevelsLevelRunning.{Running}
+use Rattle.larch_prove_settings.specs.ProveMeaningLevels.{Proof}
+use Rattle.larch_prove_settings.specs.ProveMeaningPlans.{Subgoal}
 use Rattle.larch_prove_work.specs.Opened.{boxes_in_level, constants_in_boxes, constants_in_levels, shared_in}
 use Rattle.larch_store.specs.Numbered.{Numbered}
 use Rattle.larch_term.specs.Operator.{PlainOperator}

@@ -2,17 +2,18 @@
 use Rattle.std.specs.Prelude.{◌≡◌, List, ◌∷◌, ◌++◌, Result, Ok}
 use Rattle.std.proofs.Common.{ap, ap₂, subst, sym, ◌∙◌}
 use Rattle.larch_base.specs.declared.code.Code.{Code}
-use Rattle.larch_calculus.specs.Formula.{formula}
+use Rattle.larch_derive.specs.CalculusFormula.{formula}
 use Rattle.larch_derive.specs.Words.{IsWordedTerm}
-use Rattle.larch_prove_invariant.proofs.PlanWords.{formula_worded}
-use Rattle.larch_prove_invariant.proofs.ReadWords.{equation_read}
-use Rattle.larch_prove_invariant.specs.Holding.{HoldsLevels, HoldsProof}
-use Rattle.larch_prove_meaning.proofs.LevelSorts.{between, ok_inj}
-use Rattle.larch_prove_meaning.proofs.PartitionPlans.{formula_over}
-use Rattle.larch_prove_meaning.proofs.StepSorts.{read_done}
-use Rattle.larch_prove_meaning.specs.Levels.{Proof}
-use Rattle.larch_prove_meaning.specs.Plans.{IsFormulaOver}
-use Rattle.larch_prove_meaning.specs.Steps.{as_sides, carried_out, level_opened, own_operators, read_or, read_sides}
+use Rattle.larch_prove_settling.proofs.ProveInvariantPlanWords.{formula_worded}
+use Rattle.larch_prove_settling.proofs.ProveInvariantReadWords.{equation_read}
+use Rattle.larch_prove_settling.specs.ProveInvariantHolding.{HoldsLevels, HoldsProof}
+use Rattle.larch_prove_settings.proofs.ProveMeaningLevelSorts.{between, ok_inj}
+use Rattle.larch_prove_settings.proofs.ProveMeaningPartitionPlans.{formula_over}
+use Rattle.larch_prove_settings.proofs.ProveMeaningStepSorts.{read_done}
+use Rattle.larch_prove_settings.specs.ProveMeaningLevels.{Proof}
+use Rattle.larch_prove_settings.specs.ProveMeaningPlans.{IsFormulaOver}
+use Rattle.larch_prove_settings.specs.ProveMeaningSteps.{as_sides, carried_out, level_opened}
+use Rattle.larch_prove_settings.specs.ProveMeaningSteps.{own_operators, read_or, read_sides}
 use Rattle.larch_prove_settings.specs.Telling.{Tells}
 use Rattle.larch_prove_settings.specs.declared.refusal.CommandRefusal.{CommandRefusal}
 use Rattle.larch_prove_settings.specs.declared.refusal.CommandRefusal.TheVariants.{Wrong, Memory}
@@ -21,18 +22,18 @@ use Rattle.larch_prove_work.specs.Formula.{IsWorkForFormula}
 use Rattle.larch_prove_work.specs.Work.{MayWork}
 use Rattle.larch_prove_work.specs.declared.work.Work.{Work}
 use Rattle.larch_raw.specs.declared.equation.RawEquation.{RawEquation}
-use Rattle.larch_rewrite_meaning.specs.Sides.{AreSidesOver, Sides}
+use Rattle.larch_prove_settings.specs.RewriteMeaningSides.{AreSidesOver, Sides}
 use Rattle.larch_script_commands.specs.declared.command.CommandKind.TheVariants.{Prove}
-use Rattle.larch_sorts_meaning.proofs.ReadAnswers.{equation_ok}
-use Rattle.larch_sorts_meaning.proofs.Sorted.{statement_over}
-use Rattle.larch_sorts_meaning.specs.Read.{read_equation}
+use Rattle.larch_prove_settings.proofs.SortsMeaningReadAnswers.{equation_ok}
+use Rattle.larch_prove_settings.proofs.SortsMeaningSorted.{statement_over}
+use Rattle.larch_prove_settings.specs.SortsMeaningRead.{read_equation}
 use Rattle.larch_term.specs.Operator.{PlainOperator}
 use Rattle.larch_term.specs.Statement.{IsStatementOver}
 use Rattle.larch_term.specs.Tree.{Tree}
 use Rattle.larch_term.specs.declared.statement.Statement.{Statement}
 use Rattle.larch_term.specs.declared.statement.Statement.TheVariants.{Equation, Generated, Partitioned}
 use Rattle.larch_term.specs.declared.statement.Theory.{Theory}
-use Rattle.larch_traits_items.specs.Steps.{after}
+use Rattle.larch_base_meaning.specs.Steps.{after}
 
 -- ---- what is read is well sorted
 
@@ -58,7 +59,7 @@ formula_read p raw e k =
 -- ---- so it may be proved
 
 -- the builder holds the proof
-work_held : (t : Theory) (s : Statement) (w : Work) (p : Proof) → (m : MayWork t s w p)
+pub work_held : (t : Theory) (s : Statement) (w : Work) (p : Proof) → (m : MayWork t s w p)
     → HoldsProof s w.draft.builder p
     ((work_stands t s w p m).0 ∷ (work_stands t s w p m).1.0)
 work_held t s w p m =

@@ -1,10 +1,10 @@
 -- Work on a proof is work on a proof that is alike; and so is a copy of it.
 use Rattle.std.specs.Prelude.{◌≡◌, List, ◌++◌, map}
 use Rattle.std.proofs.Common.{ap, ap₂, subst, sym, ◌∙◌}
-use Rattle.larch_calculus.specs.Theories.{with_statements}
-use Rattle.larch_prove_draft.specs.Draft.{IsAlike, IsProofOf}
-use Rattle.larch_prove_invariant.specs.Holding.{theory_for}
-use Rattle.larch_prove_meaning.specs.Levels.{EarlierDuty, Proof}
+use Rattle.larch_derive.specs.CalculusTheories.{with_statements}
+use Rattle.larch_prove_settling.specs.ProveDraftDraft.{IsAlike, IsProofOf}
+use Rattle.larch_prove_settling.specs.ProveInvariantHolding.{theory_for}
+use Rattle.larch_prove_settings.specs.ProveMeaningLevels.{EarlierDuty, Proof}
 use Rattle.larch_prove_settings.specs.Settings.{AreSettingsOf, IsSameSettings}
 use Rattle.larch_prove_settings.specs.declared.settings.Settings.{Settings}
 use Rattle.larch_prove_work.specs.Work.{IsWorkOf}

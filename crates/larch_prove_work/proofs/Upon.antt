@@ -12,31 +12,32 @@ use Rattle.larch_derive.specs.Builder.{boxes_in}
 use Rattle.larch_derive.specs.OpenBox.{constant_of}
 use Rattle.larch_derive.specs.Predicates.{Extends}
 use Rattle.larch_derive.specs.declared.builder.Builder.{Builder}
-use Rattle.larch_order.specs.declared.precedence.Ranked.{Ranked}
-use Rattle.larch_prove_adding.specs.KeptFacts.{facts_of, lines_of}
-use Rattle.larch_prove_boxes.specs.BoxLists.{box_list}
-use Rattle.larch_prove_draft.proofs.Alike.{over_alike}
-use Rattle.larch_prove_draft.proofs.Standing.{below_on, stored_on}
-use Rattle.larch_prove_draft.specs.Draft.{AreBelow, IsAlike, Stands, below_in}
-use Rattle.larch_prove_draft.specs.Proving.{IsOver}
-use Rattle.larch_prove_draft.specs.declared.draft.Draft.{Draft}
-use Rattle.larch_prove_invariant.proofs.LevelConstants.{levels_entered}
-use Rattle.larch_prove_invariant.specs.Book.{Book, Kept, Running, SupposingBox}
-use Rattle.larch_prove_invariant.specs.Holding.{AreOwn, HoldsLevels}
-use Rattle.larch_prove_levels.proofs.Telling.{tells_first, tells_same}
-use Rattle.larch_prove_levels.specs.Level.{IsKept, IsReady, IsStored, RunsLikeAny, purpose_of}
-use Rattle.larch_prove_levels.specs.Supposing.{TellsCode}
-use Rattle.larch_prove_levels.specs.declared.level.Level.{Level}
-use Rattle.larch_prove_meaning.specs.Facts.{Facts, rules_of}
-use Rattle.larch_prove_meaning.specs.Levels as defined
-use Rattle.larch_prove_meaning.specs.Levels.{OfProof, Proof, all_constants, normal_goal, settle_goal, with_goal}
-use Rattle.larch_prove_meaning.specs.Levels.{work_result}
-use Rattle.larch_prove_meaning.specs.Steps.{level_opened}
+use Rattle.larch_prove_settings.specs.OrderPrecedenceRanked.{Ranked}
+use Rattle.larch_prove_settling.specs.ProveAddingKeptFacts.{facts_of, lines_of}
+use Rattle.larch_prove_settling.specs.ProveBoxesBoxLists.{box_list}
+use Rattle.larch_prove_settling.proofs.ProveDraftAlike.{over_alike}
+use Rattle.larch_prove_settling.proofs.ProveDraftStanding.{below_on, stored_on}
+use Rattle.larch_prove_settling.specs.ProveDraftDraft.{AreBelow, IsAlike, Stands, below_in}
+use Rattle.larch_prove_settling.specs.ProveDraftProving.{IsOver}
+use Rattle.larch_prove_settling.specs.ProveDraftDraftDraft.{Draft}
+use Rattle.larch_prove_settling.proofs.ProveInvariantLevelConstants.{levels_entered}
+use Rattle.larch_prove_settling.specs.ProveInvariantBook.{Book, Kept, Running, SupposingBox}
+use Rattle.larch_prove_settling.specs.ProveInvariantHolding.{AreOwn, HoldsLevels}
+use Rattle.larch_prove_settling.proofs.ProveLevelsTelling.{tells_first, tells_same}
+use Rattle.larch_prove_settling.specs.ProveLevelsLevel.{IsKept, IsReady, IsStored, RunsLikeAny, purpose_of}
+use Rattle.larch_prove_settling.specs.ProveLevelsSupposing.{TellsCode}
+use Rattle.larch_prove_settling.specs.ProveLevelsLevelLevel.{Level}
+use Rattle.larch_prove_settings.specs.ProveMeaningFacts.{Facts, rules_of}
+use Rattle.larch_prove_settings.specs.ProveMeaningLevels as defined
+use Rattle.larch_prove_settings.specs.ProveMeaningLevels.{OfProof, Proof, all_constants}
+use Rattle.larch_prove_settings.specs.ProveMeaningLevels.{normal_goal, settle_goal, with_goal}
+use Rattle.larch_prove_settings.specs.ProveMeaningLevels.{work_result}
+use Rattle.larch_prove_settings.specs.ProveMeaningSteps.{level_opened}
 use Rattle.larch_prove_settling.proofs.EntersUpon.{level_says}
 use Rattle.larch_prove_settling.specs.Rising.{IsSomeStanding}
 use Rattle.larch_prove_work.specs.Formula.{IsForFormula, IsWritten, formula_level, with_formula}
-use Rattle.larch_rewrite.specs.declared.refusal.RewriteRefusal.{RewriteRefusal}
-use Rattle.larch_rewrite_meaning.specs.NormalForm.{normal}
+use Rattle.larch_prove_settling.specs.RewriteRefusalRewriteRefusal.{RewriteRefusal}
+use Rattle.larch_prove_settings.specs.RewriteMeaningNormalForm.{normal}
 use Rattle.larch_store.specs.Numbered.{Numbered, term_of}
 use Rattle.larch_store.specs.Stored.{Belongs, Grows}
 use Rattle.larch_term.specs.BuiltIn.{bool_sort}
@@ -45,7 +46,7 @@ use Rattle.larch_term.specs.Sorts.{sort_of}
 use Rattle.larch_term.specs.Tree.{Tree}
 use Rattle.larch_term.specs.declared.statement.Statement.{Statement}
 use Rattle.larch_term.specs.declared.statement.Theory.{Theory}
-use Rattle.larch_traits_items.specs.Steps.{after}
+use Rattle.larch_base_meaning.specs.Steps.{after}
 
 none_own : (b : Builder) → AreOwn b []
 none_own b = record {

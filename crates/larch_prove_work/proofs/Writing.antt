@@ -1,35 +1,45 @@
--- Boxes are opened on the current level for the constants of a formula, and a line says that it equals itself.
-use Rattle.std.specs.Prelude.{◌≡◌, ℕ, IsTrue, List, [], ◌∷◌, ◌++◌, map, None}
+-- Boxes are opened on the current level for the constants of a term; and a line says that a formula equals itself.
+use Rattle.std.specs.Prelude.{◌≡◌, ℕ, IsTrue, List, [], ◌∷◌, ◌++◌, map, Option, None, Some}
 use Rattle.std.proofs.Common.{ap, subst, sym, ◌∙◌}
 use Rattle.std.proofs.lemmas.List.{map-append}
-use Rattle.std.proofs.lemmas.List.Elements.{All-append}
-use Rattle.larch_derive.proofs.Growth.{extends_grows}
+use Rattle.std.proofs.lemmas.List.Elements.{All-append, All-weaker}
+use Rattle.larch_derive.specs.CalculusFormula.{falsity}
 use Rattle.larch_derive.specs.Predicates.{Extends, HasEquation, Known}
 use Rattle.larch_derive.specs.Words.{IsWordedTerm}
 use Rattle.larch_derive.specs.declared.builder.Builder.{Builder}
 use Rattle.larch_derive.specs.declared.open_box.OpenBox.{OpenBox}
-use Rattle.larch_prove_adding.specs.KeptFacts.{lines_of}
-use Rattle.larch_prove_boxes.proofs.Extras.{bare_same, bare_suppose_nothing}
-use Rattle.larch_prove_boxes.specs.Extras.{bare_boxes, with_extras}
-use Rattle.larch_prove_draft.specs.Draft.{Stands, below_in}
-use Rattle.larch_prove_draft.specs.declared.draft.Draft.{Draft}
-use Rattle.larch_prove_invariant.proofs.Held.{current_said}
-use Rattle.larch_prove_invariant.proofs.LevelConstants.{levels_grow}
-use Rattle.larch_prove_invariant.specs.Book.{Kept, SupposingBox}
-use Rattle.larch_prove_invariant.specs.Holding.{HasAbsurd, HasFacts, HoldsLevels, Says, Through, open_constants}
-use Rattle.larch_prove_levels.specs.Level.{IsLevel, IsStored}
-use Rattle.larch_prove_levels.specs.declared.level.Level.{Level}
-use Rattle.larch_prove_meaning.specs.Facts.{Facts}
-use Rattle.larch_prove_meaning.specs.Levels as defined
-use Rattle.larch_prove_meaning.specs.Levels.{Proof}
+use Rattle.larch_prove_settling.specs.DeriveLinesWay.{Leads}
+use Rattle.larch_prove_settling.specs.ProveAddingKeptFacts.{AreSaid, KeptFacts, SaysAbsurd, lines_of}
+use Rattle.larch_prove_settling.proofs.ProveBoxesExtras.{bare_same, bare_suppose_nothing, known_through}
+use Rattle.larch_prove_settling.specs.ProveBoxesExtras.{bare_boxes, with_extras}
+use Rattle.larch_prove_settling.proofs.ProveDraftStanding.{stands_on}
+use Rattle.larch_prove_settling.specs.ProveDraftDraft.{Stands, below_in}
+use Rattle.larch_prove_settling.specs.ProveDraftDraftDraft.{Draft}
+use Rattle.larch_prove_settling.proofs.ProveInvariantBoxes.{said_through}
+use Rattle.larch_prove_settling.proofs.ProveInvariantHeld.{current_said}
+use Rattle.larch_prove_settling.specs.ProveInvariantBook.{Kept, SupposingBox}
+use Rattle.larch_prove_settling.specs.ProveInvariantHolding.{HasAbsurd, HasFacts, HoldsLevels}
+use Rattle.larch_prove_settling.specs.ProveInvariantHolding.{Says, Through, open_constants}
+use Rattle.larch_prove_settling.specs.ProveLevelsLevel.{IsLevel, IsReady, IsStored}
+use Rattle.larch_prove_settling.specs.ProveLevelsLevelLevel.{Level}
+use Rattle.larch_prove_settings.specs.ProveMeaningFacts.{Facts}
+use Rattle.larch_prove_settings.specs.ProveMeaningLevels as defined
+use Rattle.larch_prove_settings.specs.ProveMeaningLevels.{Proof}
 use Rattle.larch_prove_work.proofs.Constants.{open_in_draft}
 use Rattle.larch_prove_work.specs.Formula.{IsWritten, MayProve, SaysFacts}
 use Rattle.larch_prove_work.specs.Opened.{constants_in_levels}
-use Rattle.larch_store.specs.Numbered.{Numbered}
+use Rattle.larch_prove_work.specs.Written.{IsOpenedFor, MayWrite}
+use Rattle.larch_prove_settling.specs.RewriteKept.{IsLed}
+use Rattle.larch_prove_settling.specs.RewriteRuleSet.{IsSaid, PlainRule}
+use Rattle.larch_prove_settling.specs.RewriteKeptKeptForm.{KeptForm}
+use Rattle.larch_store.proofs.Growth.{grows_refl}
+use Rattle.larch_store.specs.Numbered.{Numbered, term_of}
 use Rattle.larch_term.specs.Operator.{PlainOperator}
 use Rattle.larch_term.specs.Sorts.{IsTermOver}
 use Rattle.larch_term.specs.Tree.{Tree}
+use Rattle.larch_term.specs.Truth.{truth}
 use Rattle.larch_term.specs.declared.statement.Statement.{Statement}
+use Rattle.larch_term.specs.declared.statement.Statement.TheVariants.{Equation}
 use Rattle.larch_term.specs.declared.statement.Theory.{Theory}
 
 -- the level of the code with further boxes for constants
@@ -67,21 +77,56 @@ facts_said b l k w says = record {
       (says.absurd (subst (λ (facts : Facts). IsTrue facts.contradictory) (sym w.facts) c));
 }
 
--- what opening boxes for a formula's constants promises, where these are open
+-- ---- what is said is said in further boxes
+
+led_through : (a b : Builder) (xs : List SupposingBox) (way : Option ℕ) (l r : Tree) → Through a xs b
+    → Leads a way l r
+    → Leads b way l r
+led_through a b xs None l r m h = h
+led_through a b xs (Some n) l r m h = said_through a b xs n (Equation l r) m h
+
+absurd_through : (a b : Builder) (xs : List SupposingBox) (o : Option ℕ) → Through a xs b → SaysAbsurd a o
+    → SaysAbsurd b o
+absurd_through a b xs None m h = tt
+absurd_through a b xs (Some n) m h = said_through a b xs n (Equation truth falsity) m h
+
+facts_through : (a b : Builder) (xs : List SupposingBox) (k : KeptFacts) → Through a xs b → AreSaid a k → AreSaid b k
+facts_through a b xs k m h = (
+  (
+    All-weaker (IsSaid a) (IsSaid b)
+        (λ (r : PlainRule) q. said_through a b xs r.line (Equation r.left r.right) m q) k.rules.rules h.0.0,
+    All-weaker (IsLed a) (IsLed b)
+        (λ (f : KeptForm) q. led_through a b xs f.way (term_of f.start) (term_of f.form) m q) k.rules.kept h.0.1,
+  ),
+  absurd_through a b xs k.absurd m h.1,
+)
+
+ready_boxed : (store : List Numbered) (a b : Builder) (l : Level) (xs : List SupposingBox) (es : List OpenBox)
+    → Through a xs b → IsReady store a l → IsReady store b (boxed es l)
+ready_boxed store a b l xs es m r = record {
+  goal = r.goal;
+  kept = r.kept;
+  said = facts_through a b xs l.facts m r.said;
+  way = said_through a b xs l.goal.way (Equation (term_of l.first) (term_of l.goal.term)) m r.way;
+}
+
+-- ---- boxes for a term's constants
+
+-- what opening them promises, where these are open
 abbrev pub OpensFor : Builder → Builder → List PlainOperator → List PlainOperator → List OpenBox → Type 0
 OpensFor a b block opened xs = (t : Theory) (s : Statement) (levels : List defined.Level) (k : Kept) (ks : List Kept)
     → k.book.running ≡ None → open_constants a ≡ opened → HoldsLevels t s a block levels (k ∷ ks)
     → Through a (bare_boxes xs) b × HoldsLevels t s b block levels (with_extras (bare_boxes xs) k ∷ ks)
 
 abbrev pub KnowsFor : Builder → Builder → List PlainOperator → List PlainOperator → Tree → Type 0
-KnowsFor a b block opened f = (t : Theory) (s : Statement) (levels : List defined.Level) (k : Kept) (ks : List Kept)
+KnowsFor a b block opened u = (t : Theory) (s : Statement) (levels : List defined.Level) (k : Kept) (ks : List Kept)
     → k.book.running ≡ None → open_constants a ≡ opened → HoldsLevels t s a block levels (k ∷ ks)
-    → IsTermOver (t.operators ++ block) f → IsWordedTerm f → Known b f
+    → IsTermOver (t.operators ++ block) u → IsWordedTerm u → Known b u
 
-module _ (t : Theory) (s : Statement) (store : List Numbered) (d : Draft) (block opened : List PlainOperator) (f : Tree)
-    (p : Proof) (k : Kept) (ks : List Kept) (w : Stands t s store d p k ks) (m : MayProve t block f p)
-    (opened_is : opened ≡ constants_in_levels (d.current ∷ below_in d)) (b c : Builder) (xs es : List OpenBox)
-    (opens : OpensFor d.builder b block opened xs) (knows : KnowsFor d.builder b block opened f)
+module _ (t : Theory) (s : Statement) (store : List Numbered) (d : Draft) (block opened : List PlainOperator) (u : Tree)
+    (p : Proof) (k : Kept) (ks : List Kept) (w : Stands t s store d p k ks) (m : MayWrite t block u p)
+    (opened_is : opened ≡ constants_in_levels (d.current ∷ below_in d)) (b : Builder) (xs es : List OpenBox)
+    (opens : OpensFor d.builder b block opened xs) (knows : KnowsFor d.builder b block opened u)
     (extras : es ≡ d.current.extras ++ xs) where
   open_now : open_constants d.builder ≡ opened
   open_now = open_in_draft t s store d p k ks w ∙ sym opened_is
@@ -89,35 +134,57 @@ module _ (t : Theory) (s : Statement) (store : List Numbered) (d : Draft) (block
   held_now : HoldsLevels t s d.builder block (p.current ∷ p.below) (k ∷ ks)
   held_now = subst (λ cs. HoldsLevels t s d.builder cs (p.current ∷ p.below) (k ∷ ks)) m.constants w.holds
 
-  pub known_there : Known b f
-  known_there = knows t s (p.current ∷ p.below) k ks w.idle open_now held_now m.over.0 m.words
-
-  -- the level below as it is then
+  -- the current level as it is then
   abbrev pub boxed_kept : Kept
   boxed_kept = with_extras (bare_boxes xs) k
 
-  held_there : HoldsLevels t s b p.constants (p.current ∷ p.below) (boxed_kept ∷ ks)
-  held_there =
-      subst (λ cs. HoldsLevels t s b cs (p.current ∷ p.below) (boxed_kept ∷ ks)) (sym m.constants)
-      (opens t s (p.current ∷ p.below) k ks w.idle open_now held_now).1
+  both_there : Through d.builder (bare_boxes xs) b
+      × HoldsLevels t s b block (p.current ∷ p.below) (boxed_kept ∷ ks)
+  both_there = opens t s (p.current ∷ p.below) k ks w.idle open_now held_now
 
-  pub written_so : (way : ℕ) → (Known b f → Extends b c) → (Known b f → HasEquation c way f f)
-      → IsWritten t s store (record d { builder = c; current = boxed es d.current }) p ks f way
-  written_so way x says =
-      let level = level_boxed d.current k xs es extras w.current.0 in
-      let held = levels_grow t s b c p.constants (p.current ∷ p.below) (boxed_kept ∷ ks)
-      (extends_grows b c (x known_there)) held_there in
-      record {
-        top = boxed_kept;
-        counts = w.counts;
-        undone = w.undone;
-        current = (level, w.current.1);
-        level_is = w.level_is;
-        idle = w.idle;
-        stored = stored_boxed store d.current es w.stored;
-        below = w.below;
-        holds = held;
-        facts = facts_said c (boxed es d.current) boxed_kept level
-            (current_said t s c boxed_kept ks held.held);
-        says = says known_there;
-      }
+  stands_there : Stands t s store (record d { builder = b; current = boxed es d.current }) p boxed_kept ks
+  stands_there = record {
+    counts = w.counts;
+    undone = w.undone;
+    current = (level_boxed d.current k xs es extras w.current.0, w.current.1);
+    level_is = w.level_is;
+    idle = w.idle;
+    ready = ready_boxed store d.builder b d.current (bare_boxes xs) es both_there.0 w.ready;
+    stored = stored_boxed store d.current es w.stored;
+    below = w.below;
+    holds = subst (λ cs. HoldsLevels t s b cs (p.current ∷ p.below) (boxed_kept ∷ ks)) (sym m.constants)
+        both_there.1;
+  }
+
+  pub opened_so : IsOpenedFor t s store d (record d { builder = b; current = boxed es d.current }) p ks u
+  opened_so = record {
+    top = boxed_kept;
+    stands = stands_there;
+    known = knows t s (p.current ∷ p.below) k ks w.idle open_now held_now m.over m.words;
+    stays = λ v h. known_through d.builder b (bare_boxes xs) v both_there.0 h;
+  }
+
+-- ---- the line of a formula
+
+pub may_write : (t : Theory) (block : List PlainOperator) (f : Tree) (p : Proof) → MayProve t block f p
+    → MayWrite t block f p
+may_write t block f p m = record { constants = m.constants; over = m.over.0; words = m.words }
+
+pub written_so : (t : Theory) (s : Statement) (store : List Numbered) (d : Draft) (p : Proof) (k : Kept)
+    (ks : List Kept) (f : Tree) (b : Builder) (way : ℕ) → Stands t s store d p k ks → Extends d.builder b
+    → HasEquation b way f f → IsWritten t s store (record d { builder = b }) p ks f way
+written_so t s store d p k ks f b way w x says =
+    let on = stands_on t s store store d b p k ks (grows_refl store) x w in
+    record {
+      top = k;
+      counts = on.counts;
+      undone = on.undone;
+      current = on.current;
+      level_is = on.level_is;
+      idle = on.idle;
+      stored = on.stored;
+      below = on.below;
+      holds = on.holds;
+      facts = facts_said b d.current k on.current.0 (current_said t s b k ks on.holds.held);
+      says = says;
+    }

@@ -3,19 +3,19 @@ use Rattle.std.specs.Prelude.{◌≡◌, ℕ, IsTrue, List, [], ◌∷◌, ◌++
 use Rattle.larch_derive.specs.Predicates.{HasEquation}
 use Rattle.larch_derive.specs.Words.{IsWordedTerm}
 use Rattle.larch_derive.specs.declared.builder.Builder.{Builder}
-use Rattle.larch_order.specs.declared.precedence.Ranked.{Ranked}
-use Rattle.larch_prove_adding.specs.KeptFacts.{facts_of, lines_of}
-use Rattle.larch_prove_draft.specs.Draft.{AreBelow, AreOpen, Counts, Stands, below_in}
-use Rattle.larch_prove_draft.specs.Proving.{IsOver}
-use Rattle.larch_prove_draft.specs.declared.draft.Draft.{Draft}
-use Rattle.larch_prove_invariant.specs.Book.{Kept}
-use Rattle.larch_prove_invariant.specs.Holding.{HasAbsurd, HasFacts, HoldsLevels}
-use Rattle.larch_prove_levels.specs.Level.{IsKept, IsStored}
-use Rattle.larch_prove_levels.specs.declared.level.Level.{Level}
-use Rattle.larch_prove_levels.specs.declared.level.Purpose.TheVariants as purpose
-use Rattle.larch_prove_meaning.specs.Levels as defined
-use Rattle.larch_prove_meaning.specs.Levels.{OfProof, Proof, level_for}
-use Rattle.larch_prove_meaning.specs.Plans.{IsFormulaOver}
+use Rattle.larch_prove_settings.specs.OrderPrecedenceRanked.{Ranked}
+use Rattle.larch_prove_settling.specs.ProveAddingKeptFacts.{facts_of, lines_of}
+use Rattle.larch_prove_settling.specs.ProveDraftDraft.{AreBelow, AreOpen, Counts, Stands, below_in}
+use Rattle.larch_prove_settling.specs.ProveDraftProving.{IsOver}
+use Rattle.larch_prove_settling.specs.ProveDraftDraftDraft.{Draft}
+use Rattle.larch_prove_settling.specs.ProveInvariantBook.{Kept}
+use Rattle.larch_prove_settling.specs.ProveInvariantHolding.{HasAbsurd, HasFacts, HoldsLevels}
+use Rattle.larch_prove_settling.specs.ProveLevelsLevel.{IsKept, IsStored}
+use Rattle.larch_prove_settling.specs.ProveLevelsLevelLevel.{Level}
+use Rattle.larch_prove_settling.specs.ProveLevelsLevelPurpose.TheVariants as purpose
+use Rattle.larch_prove_settings.specs.ProveMeaningLevels as defined
+use Rattle.larch_prove_settings.specs.ProveMeaningLevels.{OfProof, Proof, level_for}
+use Rattle.larch_prove_settings.specs.ProveMeaningPlans.{IsFormulaOver}
 use Rattle.larch_prove_work.specs.Work.{MayWork}
 use Rattle.larch_prove_work.specs.declared.work.Work.{Work}
 use Rattle.larch_store.specs.Numbered.{Numbered, term_of}

@@ -2,9 +2,9 @@
 use Rattle.std.specs.Prelude.{List, [], ◌∷◌, ◌++◌, Option, None, Some}
 use Rattle.std.specs.List.{flat_map}
 use Rattle.larch_derive.specs.declared.open_box.OpenBox.{OpenBox}
-use Rattle.larch_prove_boxes.specs.BoxLists.{box_list}
-use Rattle.larch_prove_levels.specs.declared.level.Level.{Level}
-use Rattle.larch_prove_levels.specs.declared.level.Running.{Running}
+use Rattle.larch_prove_settling.specs.ProveBoxesBoxLists.{box_list}
+use Rattle.larch_prove_settling.specs.ProveLevelsLevelLevel.{Level}
+use Rattle.larch_prove_settling.specs.ProveLevelsLevelRunning.{Running}
 use Rattle.larch_term.specs.Operator.{PlainOperator}
 
 -- the box of a method, if one runs that has one

@@ -2,18 +2,18 @@
 use Rattle.std.specs.Prelude.{◌≡◌, false, Result, Ok}
 use Rattle.larch_base.specs.declared.code.Code.{Code}
 use Rattle.larch_base.specs.declared.code.Code.TheVariants as code
-use Rattle.larch_prove_draft.specs.Draft.{IsProofOf}
-use Rattle.larch_prove_invariant.specs.Holding.{theory_for}
-use Rattle.larch_prove_meaning.specs.InWords.{AreVariablesInWords}
-use Rattle.larch_prove_meaning.specs.Levels.{Proof}
-use Rattle.larch_prove_meaning.specs.Named.{IsNamedProof}
-use Rattle.larch_prove_meaning.specs.WellSorted.{IsWellSortedProof}
+use Rattle.larch_prove_settling.specs.ProveDraftDraft.{IsProofOf}
+use Rattle.larch_prove_settling.specs.ProveInvariantHolding.{theory_for}
+use Rattle.larch_prove_settings.specs.ProveMeaningInWords.{AreVariablesInWords}
+use Rattle.larch_prove_settings.specs.ProveMeaningLevels.{Proof}
+use Rattle.larch_prove_settings.specs.ProveMeaningNamed.{IsNamedProof}
+use Rattle.larch_prove_settings.specs.ProveMeaningWellSorted.{IsWellSortedProof}
 use Rattle.larch_prove_settings.specs.Settings.{AreSettingsOf}
 use Rattle.larch_prove_settings.specs.declared.refusal.CommandRefusal.{CommandRefusal}
 use Rattle.larch_prove_settings.specs.declared.refusal.CommandRefusal.TheVariants as refused
 use Rattle.larch_prove_work.specs.declared.work.Work.{Work}
-use Rattle.larch_rewrite.specs.declared.refusal.RewriteRefusal.{RewriteRefusal}
-use Rattle.larch_rewrite.specs.declared.refusal.RewriteRefusal.TheVariants as event
+use Rattle.larch_prove_settling.specs.RewriteRefusalRewriteRefusal.{RewriteRefusal}
+use Rattle.larch_prove_settling.specs.RewriteRefusalRewriteRefusal.TheVariants as event
 use Rattle.larch_term.specs.declared.statement.Statement.{Statement}
 use Rattle.larch_term.specs.declared.statement.Theory.{Theory}
 

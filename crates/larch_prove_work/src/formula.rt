@@ -1,40 +1,39 @@
 ghost use Rattle.std.specs.Prelude.{◌≡◌, ◌++◌, ◌∷◌, [], IfErr, IfOk, List, None, Ok, OnOk, map};
 ghost use Rattle.larch_derive.specs.Predicates.{Extends, HasEquation};
-ghost use Rattle.larch_prove_adding.specs.KeptFacts.{facts_of};
-ghost use Rattle.larch_prove_draft.specs.Draft.{Leads, Stands};
-ghost use Rattle.larch_prove_draft.specs.Proving.{IsOver, IsProvable};
-ghost use Rattle.larch_prove_invariant.specs.Book.{Kept};
-ghost use Rattle.larch_prove_levels.specs.Level.{IsReady};
-ghost use Rattle.larch_prove_levels.specs.Supposing.{TellsCode};
-ghost use Rattle.larch_prove_meaning.specs.Facts.{rules_of};
-ghost use Rattle.larch_prove_meaning.specs.Levels.{Proof, work_result};
-ghost use Rattle.larch_prove_meaning.specs.Steps.{carried_out, level_opened};
+ghost use Rattle.larch_prove_settling.specs.ProveAddingKeptFacts.{facts_of};
+ghost use Rattle.larch_prove_settling.specs.ProveDraftDraft.{Leads, Stands};
+ghost use Rattle.larch_prove_settling.specs.ProveDraftProving.{IsOver, IsProvable};
+ghost use Rattle.larch_prove_settling.specs.ProveInvariantBook.{Kept};
+ghost use Rattle.larch_prove_settling.specs.ProveLevelsLevel.{IsReady};
+ghost use Rattle.larch_prove_settling.specs.ProveLevelsSupposing.{TellsCode};
+ghost use Rattle.larch_prove_settings.specs.ProveMeaningFacts.{rules_of};
+ghost use Rattle.larch_prove_settings.specs.ProveMeaningLevels.{Proof, work_result};
+ghost use Rattle.larch_prove_settings.specs.ProveMeaningSteps.{carried_out, level_opened};
 ghost use Rattle.larch_prove_settings.specs.Telling.{Tells};
 ghost use Rattle.larch_prove_work.specs.Formula.{IsForFormula, IsSomeFormula, IsSomeProvable, IsWorkForFormula};
 ghost use Rattle.larch_prove_work.specs.Formula.{IsWritten, MayProve, SaysFacts};
 ghost use Rattle.larch_prove_work.specs.Work.{IsSomeWork, Makes, MayWork};
 ghost use Rattle.larch_script_commands.specs.declared.command.CommandKind.TheVariants.{Prove};
-ghost use Rattle.larch_rewrite_meaning.specs.NormalForm.{normal};
+ghost use Rattle.larch_prove_settings.specs.RewriteMeaningNormalForm.{normal};
 ghost use Rattle.larch_store.specs.Numbered.{Numbered, term_of};
 ghost use Rattle.larch_store.specs.Stored.{Belongs, Grows};
 ghost use Rattle.larch_term.specs.declared.statement.Statement.{Statement as is_statement};
 ghost use Rattle.larch_term.specs.declared.statement.Theory.{Theory as is_theory};
 
-use crate::opened::constants_of_levels;
+use crate::boxes::open_boxes_for;
 use crate::refusal::command_refusal;
 use crate::work::{Claim, Work};
 use larch_base::{Memory, Sequence};
-use larch_derive::{Builder, OpenBoxes};
-use larch_derive_lines::push_refl;
-use larch_prove_adding::LevelGoal;
-use larch_prove_boxes::open_constants_of;
-use larch_prove_draft::{Draft, Proving};
-use larch_prove_levels::{Around, Level, Purpose, normalise_goal};
-use larch_prove_plans::formula;
+use larch_derive::Builder;
 use larch_prove_settings::{CommandRefusal, ReadSides, Settings};
+use larch_prove_settling::larch_derive_lines::push_refl;
+use larch_prove_settling::larch_prove_adding::LevelGoal;
+use larch_prove_settling::larch_prove_draft::{Draft, Proving};
+use larch_prove_settling::larch_prove_levels::{Around, Level, Purpose, normalise_goal};
+use larch_prove_settling::larch_prove_plans::formula;
+use larch_prove_settling::larch_rewrite::RewriteRefusal;
 use larch_prove_settling::settle;
 use larch_raw::RawEquation;
-use larch_rewrite::RewriteRefusal;
 use larch_store::Store;
 use larch_term::{Operator, Term};
 use std::alloc::Global;
@@ -179,25 +178,8 @@ fn write_formula(
         → IsWritten t s store draft.new p ks formula.now way) }
     ensures below { draft.new.below ≡ draft.old.below }
 {
-    let opened = constants_of_levels(alloc, draft)?;
-    let Draft {
-        builder,
-        current,
-        ..
-    } = draft;
-    let boxes = open_constants_of(alloc, builder, block, opened.as_slice(), formula)?;
-    push_boxes(&mut current.extras, boxes)?;
-    push_refl(builder, formula)
-}
-
-// Puts boxes behind others.
-fn push_boxes(boxes: &mut OpenBoxes, further: OpenBoxes) -> Result<(), Memory>
-    ensures { OnOk result (boxes.new ≡ boxes.old ++ further) }
-{
-    for open_box in further.into_vec() {
-        boxes.push(open_box)?;
-    }
-    Ok(())
+    open_boxes_for(alloc, draft, block, formula)?;
+    push_refl(&mut draft.builder, formula)
 }
 
 // A level for a formula upon a parent whose facts are said, as a line says that the formula equals itself. Its goal

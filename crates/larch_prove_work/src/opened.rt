@@ -1,13 +1,13 @@
 ghost use Rattle.std.specs.Prelude.{◌≡◌, ◌++◌, ◌∷◌, IfOk, OnOk, map, reverse};
 ghost use Rattle.std.specs.Option.{option_copied};
-ghost use Rattle.larch_prove_boxes.specs.BoxLists.{box_list};
-ghost use Rattle.larch_prove_draft.specs.Draft.{below_in};
+ghost use Rattle.larch_prove_settling.specs.ProveBoxesBoxLists.{box_list};
+ghost use Rattle.larch_prove_settling.specs.ProveDraftDraft.{below_in};
 ghost use Rattle.larch_prove_work.specs.Opened.{boxes_in_level, constants_in_boxes, constants_in_levels};
 
 use larch_base::{Memory, Sequence};
 use larch_derive::OpenBox;
-use larch_prove_draft::Draft;
-use larch_prove_levels::Level;
+use larch_prove_settling::larch_prove_draft::Draft;
+use larch_prove_settling::larch_prove_levels::Level;
 use larch_term::{Operator, Operators};
 use std::alloc::Global;
 use std::rc::Rc;

@@ -1,30 +1,49 @@
 ghost use Rattle.std.specs.Prelude.{IfOk};
-ghost use Rattle.larch_prove_meaning.specs.Levels.{Proof};
+ghost use Rattle.larch_prove_settings.specs.ProveMeaningLevels.{Proof};
 ghost use Rattle.larch_prove_work.specs.Work.{IsWorkOf};
 ghost use Rattle.larch_term.specs.declared.statement.Statement.{Statement as is_statement};
 ghost use Rattle.larch_term.specs.declared.statement.Theory.{Theory as is_theory};
 
 use larch_base::Memory;
-use larch_prove_draft::Draft;
 use larch_prove_settings::Settings;
+use larch_prove_settling::larch_prove_draft::Draft;
 use larch_store::Store;
 use larch_term::{Statement, Theory};
 use std::alloc::Global;
 
 /// What is to be proved, and over what.
-#[derive(Drop)]
 pub struct Claim {
     /// The theory, with what the lemmas state behind its own statements.
     pub theory: Theory,
     pub statement: Statement,
 }
 
+// By a call, so that a proof takes one apart in one place alone.
+impl Drop for Claim {
+    fn drop(self) {
+        let Claim {
+            theory: _theory,
+            statement: _statement,
+        } = self;
+    }
+}
+
 /// What commands work on: what they can name and set, shared terms, and the proof as it stands.
-#[derive(Drop)]
 pub struct Work {
     pub settings: Settings,
     pub store: Store,
     pub draft: Draft,
+}
+
+// By a call, so that a proof takes one apart in one place alone.
+impl Drop for Work {
+    fn drop(self) {
+        let Work {
+            settings: _settings,
+            store: _store,
+            draft: _draft,
+        } = self;
+    }
 }
 
 impl Work {

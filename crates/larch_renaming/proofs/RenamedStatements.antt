@@ -1,8 +1,8 @@
 -- Renamed statements and theories.
 use Rattle.std.proofs.Common.{◌≡◌, ℕ, inl, inr, List, [], ◌∷◌, map, All, Contains, refl, sym, ◌∙◌, ap, subst}
 use Rattle.std.proofs.lemmas.List.Elements.{All-map, All-weaker, All-contains}
-use Rattle.larch_base.proofs.Lists.{map_map, map_by}
-use Rattle.larch_base.proofs.Members.{contains_map}
+use Rattle.larch_term.proofs.BaseLists.{map_map, map_by}
+use Rattle.larch_term.proofs.BaseMembers.{contains_map}
 use Rattle.larch_term.specs.BuiltIn.{bool_sort, built_in, built_in_name, built_in_domain, built_in_range, IsBuiltIn}
 use Rattle.larch_term.specs.Operator.{OperatorName, PlainOperator, plain}
 use Rattle.larch_term.specs.Sorts.{IsKnown}

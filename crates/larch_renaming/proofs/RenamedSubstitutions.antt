@@ -3,9 +3,9 @@ use Rattle.std.proofs.Common.{◌≡◌, ℕ, ◌&&◌, Bool, true, false, cond,
 use Rattle.std.proofs.Common.{refl, sym, ◌∙◌, ap, ap₂}
 use Rattle.std.proofs.lemmas.List.Elements.{All-map, All-weaker}
 use Rattle.std.proofs.lemmas.Slice.Eq.{bytes_eq-Decides}
-use Rattle.larch_base.proofs.Bools.{same_truth, both_true, and_both}
-use Rattle.larch_base.proofs.Members.{contains_here, contains_later, contains_left, contains_right}
-use Rattle.larch_base.proofs.Options.{map_cond}
+use Rattle.larch_term.proofs.BaseBools.{same_truth, both_true, and_both}
+use Rattle.larch_term.proofs.BaseMembers.{contains_here, contains_later, contains_left, contains_right}
+use Rattle.larch_term.proofs.BaseOptions.{map_cond}
 use Rattle.larch_term.specs.Operator.{PlainOperator}
 use Rattle.larch_term.specs.Sorts.{sort_of, WellSorted, IsOver}
 use Rattle.larch_term.specs.Substitution.{is_entry_of, image, instance_of, substituted_all, Fits}

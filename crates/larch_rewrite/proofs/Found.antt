@@ -8,12 +8,12 @@ use Rattle.std.proofs.lemmas.List.{map-append}
 use Rattle.std.proofs.lemmas.List.Elements.{All-cons, All-nil}
 use Rattle.larch_base.proofs.Members.{contains_left, contains_right}
 use Rattle.larch_rewrite_meaning.specs.Rewriting.{rewrite_of, rewritten_once, rows_for, tries_of}
-use Rattle.larch_rewrite_match.specs.Bound.{entries_of}
-use Rattle.larch_rewrite_match.specs.Rule.{IsRule, all_sides, right_of, sides_of_rule}
-use Rattle.larch_rewrite_match.specs.Search.{AreRowsFor, IsFirst}
-use Rattle.larch_rewrite_match.specs.declared.rule.RewriteRule.{RewriteRule}
-use Rattle.larch_rewrite_match.specs.declared.search.Match.{Match}
-use Rattle.larch_rewrite_match.proofs.Searching.{or_further, rewritten_further}
+use Rattle.larch_rewrite_step.specs.RewriteMatchBound.{entries_of}
+use Rattle.larch_rewrite_step.specs.RewriteMatchRule.{IsRule, all_sides, right_of, sides_of_rule}
+use Rattle.larch_rewrite_step.specs.RewriteMatchSearch.{AreRowsFor, IsFirst}
+use Rattle.larch_rewrite_step.specs.RewriteMatchRuleRewriteRule.{RewriteRule}
+use Rattle.larch_rewrite_step.specs.RewriteMatchSearchMatch.{Match}
+use Rattle.larch_rewrite_step.proofs.RewriteMatchSearching.{or_further, rewritten_further}
 use Rattle.larch_store.specs.Layers.{join_layers}
 use Rattle.larch_store.proofs.Layered.{joined_more, joined_parts}
 use Rattle.larch_term.specs.Substitution.{instance_of}

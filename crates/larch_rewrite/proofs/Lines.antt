@@ -1,6 +1,6 @@
 -- The machine's lines, turn by turn.
-use Rattle.std.specs.Prelude.{◌≡◌, ℕ, List, [], ◌∷◌, ◌++◌, All, map, reverse, None}
-use Rattle.std.proofs.Common.{ap, ap₂, sym, subst, inl, inr, ◌∙◌}
+use Rattle.std.specs.Prelude.{◌≡◌, ℕ, List, [], ◌∷◌, ◌++◌, All, IfOk, Option, None, map, reverse}
+use Rattle.std.proofs.Common.{Result, Ok, Err, ap, ap₂, sym, subst, inl, inr, ◌∙◌}
 use Rattle.std.proofs.lemmas.List.Elements.{All-nil, All-push, All-weaker}
 use Rattle.larch_term.specs.Tree.{Tree, AllOf, forest_of}
 use Rattle.larch_rewrite_step.specs.Encoding.{AreEncodings}
@@ -11,8 +11,8 @@ use Rattle.larch_derive.specs.Predicates.{Extends, HasEquation, Known}
 use Rattle.larch_derive.specs.declared.builder.Builder.{Builder}
 use Rattle.larch_derive.proofs.Growth.{stays_said, stays_known}
 use Rattle.larch_store.specs.Numbered.{Numbered, term_of}
-use Rattle.larch_derive_lines.specs.Way.{Leads}
-use Rattle.larch_derive_lines.proofs.Ways.{leads_stays, leads_known}
+use Rattle.larch_rewrite_step.specs.DeriveLinesWay.{Leads}
+use Rattle.larch_rewrite_step.proofs.DeriveLinesWays.{led_nowhere, leads_stays, leads_known}
 use Rattle.larch_rewrite.specs.Kept.{IsKeptAt, IsKeptBehind, IsLed, kept_of}
 use Rattle.larch_rewrite.specs.Level.{HaveOneStart, IsApplication, IsArgument, IsLast, further_of, level_of}
 use Rattle.larch_rewrite.specs.Level.{operator_of, start_of}
@@ -42,6 +42,14 @@ none_written b encodings e = subst (AreEncodings b) (sym e) (All-nil (λ k. IsCo
 
 pub means_written : (b : Builder) (m n : Means) → n ≡ m → AreEncodings b m.encodings → AreEncodings b n.encodings
 means_written b m n e h = subst (λ (o : Means). AreEncodings b o.encodings) (sym e) h
+
+-- without a way, a line that says that the start equals itself says where it leads
+pub whole_said : {E : Type 0} (a b : Builder) (s : Tree) (way : Option ℕ) (encodings : List Encoding) (r : Result ℕ E)
+    → way ≡ None → IfOk r (λ n. Known a s → AreEncodings a encodings → HasEquation b n s s)
+    → IfOk r (λ n. (t : Tree) → Known a s → Leads a way s t → AreEncodings a encodings → HasEquation b n s t)
+whole_said a b s way encodings (Ok n) e h =
+    λ t k w d. led_nowhere b n s t (subst (λ o. Leads a o s t) e w) (h k d)
+whole_said a b s way encodings (Err m) e h = tt
 
 pub ways_stay : (a b : Builder) (t : Tree) (fs : List Frame) → Extends a b → AreWaysTo a t fs → AreWaysTo b t fs
 ways_stay a b t [] x h = tt

@@ -7,11 +7,11 @@ use Rattle.std.proofs.lemmas.Bool.Decides.{Decides-and, Decides-eqb, Decides-lik
 use Rattle.larch_base.specs.declared.fact_name.FactLetter.{FactLetter}
 use Rattle.larch_base.specs.declared.fact_name.FactLetter.TheVariants.{Axiom, Lemma, Hypothesis, Derived}
 use Rattle.larch_base.specs.declared.fact_name.FactName.{FactName}
-use Rattle.larch_rewrite_match.specs.Exchanged.{exchange_equality}
-use Rattle.larch_rewrite_match.specs.Rule.{left_of, reason_of, right_of, rule_from}
-use Rattle.larch_rewrite_match.specs.declared.rule.Reason.{Reason}
-use Rattle.larch_rewrite_match.specs.declared.rule.Reason.TheVariants.{Row, Line}
-use Rattle.larch_rewrite_match.specs.declared.rule.RewriteRule.{RewriteRule}
+use Rattle.larch_rewrite_step.specs.RewriteMatchExchanged.{exchange_equality}
+use Rattle.larch_rewrite_step.specs.RewriteMatchRule.{left_of, reason_of, right_of, rule_from}
+use Rattle.larch_rewrite_step.specs.RewriteMatchRuleReason.{Reason}
+use Rattle.larch_rewrite_step.specs.RewriteMatchRuleReason.TheVariants.{Row, Line}
+use Rattle.larch_rewrite_step.specs.RewriteMatchRuleRewriteRule.{RewriteRule}
 use Rattle.larch_term.specs.Tree.{Tree}
 use Rattle.larch_rewrite.specs.RuleSet.{IsByLine, IsLineRule, PlainRule, has_name, line_of, plain_of, rule_by, rule_of}
 use Rattle.larch_rewrite.specs.RuleSet.{same_letter, without}

@@ -16,13 +16,13 @@ use Rattle.larch_rewrite_meaning.specs.Work.{Made, OverLimit, OverSize, is_large
 use Rattle.larch_rewrite_law.specs.Levels.{root_work}
 use Rattle.larch_rewrite_law.proofs.Charging.{cost_made}
 use Rattle.larch_rewrite_law.proofs.Turns.{begins_large, root_normal, root_limit, root_made}
-use Rattle.larch_rewrite_match.specs.Rule.{IsSaidByRow, RowSays, left_of, right_of, reason_of}
-use Rattle.larch_rewrite_match.specs.declared.rule.Reason.{Reason}
-use Rattle.larch_rewrite_match.specs.declared.rule.Reason.TheVariants.{Row, Line}
-use Rattle.larch_rewrite_match.specs.declared.rule.RewriteRule.{RewriteRule}
+use Rattle.larch_rewrite_step.specs.RewriteMatchRule.{IsSaidByRow, RowSays, left_of, right_of, reason_of}
+use Rattle.larch_rewrite_step.specs.RewriteMatchRuleReason.{Reason}
+use Rattle.larch_rewrite_step.specs.RewriteMatchRuleReason.TheVariants.{Row, Line}
+use Rattle.larch_rewrite_step.specs.RewriteMatchRuleRewriteRule.{RewriteRule}
 use Rattle.larch_store.specs.Numbered.{Numbered, term_of}
 use Rattle.larch_store.specs.Stored.{most_nodes}
-use Rattle.larch_derive_lines.specs.Way.{Leads}
+use Rattle.larch_rewrite_step.specs.DeriveLinesWay.{Leads}
 use Rattle.larch_rewrite.specs.Kept.{IsForm}
 use Rattle.larch_rewrite.specs.Refusal.{TellsEvent, from_application}
 use Rattle.larch_rewrite.specs.RuleSet.{AreSaid, PlainRule, rule_of}

@@ -7,7 +7,7 @@ use Rattle.larch_base.specs.declared.fact_name.FactName.{FactName}
 use Rattle.larch_derive.specs.Predicates.{Extends, Known, Grows as GrowsBuilder, HasEquation}
 use Rattle.larch_derive.specs.declared.builder.Builder.{Builder}
 use Rattle.larch_derive.proofs.Growth.{extends_grows, grown_said}
-use Rattle.larch_derive_lines.specs.Way.{Leads}
+use Rattle.larch_rewrite_step.specs.DeriveLinesWay.{Leads}
 use Rattle.larch_rewrite_meaning.specs.Sides.{Sides}
 use Rattle.larch_store.specs.Numbered.{Numbered, term_of}
 use Rattle.larch_store.specs.Stored.{Grows}

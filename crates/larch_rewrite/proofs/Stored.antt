@@ -54,11 +54,6 @@ all_kept s kept new (Arguments f) n e t h = subst (All (IsOfStore s)) (sym e) h
 all_kept s kept new (Root l) n e t h = subst (All (IsOfStore s)) (sym e) h
 all_kept s kept new (Finish l) n e t h = kept_behind s kept new (kept_of l n) h (t.0, t.1) e
 
--- what is kept behind others that are the same
-pub kept_from : (kept mid new : List KeptForm) (turn : Turn) (n : ℕ) → mid ≡ kept → IsKeptAt mid turn n new
-    → IsKeptAt kept turn n new
-kept_from kept mid new turn n e h = subst (λ k. IsKeptAt k turn n new) e h
-
 -- further ones are kept behind others
 pub front_same : (kept new : List KeptForm) → new ≡ kept → IsFront kept new
 front_same kept new e = ([], e ∙ sym (append-nil kept))

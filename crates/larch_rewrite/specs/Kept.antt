@@ -5,7 +5,7 @@ use Rattle.larch_rewrite_meaning.specs.Sides.{Sides}
 use Rattle.larch_rewrite_law.specs.Costs.{HasCost}
 use Rattle.larch_store.specs.Numbered.{Numbered, term_of}
 use Rattle.larch_store.specs.Stored.{Belongs}
-use Rattle.larch_derive_lines.specs.Way.{Leads}
+use Rattle.larch_rewrite_step.specs.DeriveLinesWay.{Leads}
 use Rattle.larch_rewrite.specs.declared.kept.KeptForm.{KeptForm}
 use Rattle.larch_rewrite.specs.declared.level.Level.{Level}
 use Rattle.larch_rewrite.specs.declared.level.Turn.{Turn}

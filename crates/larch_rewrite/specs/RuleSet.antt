@@ -6,10 +6,10 @@ use Rattle.larch_base.specs.declared.fact_name.FactName.{FactName}
 use Rattle.larch_derive.specs.Predicates.{HasEquation}
 use Rattle.larch_derive.specs.declared.builder.Builder.{Builder}
 use Rattle.larch_rewrite_meaning.specs.Sides.{Sides}
-use Rattle.larch_rewrite_match.specs.Rule.{IsRule, left_of, reason_of, right_of, rule_from}
-use Rattle.larch_rewrite_match.specs.declared.rule.Reason.{Reason}
-use Rattle.larch_rewrite_match.specs.declared.rule.Reason.TheVariants.{Row, Line}
-use Rattle.larch_rewrite_match.specs.declared.rule.RewriteRule.{RewriteRule}
+use Rattle.larch_rewrite_step.specs.RewriteMatchRule.{IsRule, left_of, reason_of, right_of, rule_from}
+use Rattle.larch_rewrite_step.specs.RewriteMatchRuleReason.{Reason}
+use Rattle.larch_rewrite_step.specs.RewriteMatchRuleReason.TheVariants.{Row, Line}
+use Rattle.larch_rewrite_step.specs.RewriteMatchRuleRewriteRule.{RewriteRule}
 use Rattle.larch_store.specs.Numbered.{Numbered}
 use Rattle.larch_term.specs.Tree.{Tree}
 use Rattle.larch_rewrite.specs.Kept.{IsLed, IsOfStore}

@@ -3,11 +3,11 @@ use Rattle.std.specs.Prelude.{◌≡◌, ◌++◌, List, map, Contains, Option, 
 use Rattle.larch_term.specs.Tree.{Tree}
 use Rattle.larch_term.specs.Substitution.{instance_of}
 use Rattle.larch_rewrite_meaning.specs.Rewriting.{rewritten_once}
-use Rattle.larch_rewrite_match.specs.Bound.{entries_of}
-use Rattle.larch_rewrite_match.specs.Rule.{right_of}
-use Rattle.larch_rewrite_match.specs.Search.{IsBy}
-use Rattle.larch_rewrite_match.specs.declared.rule.RewriteRule.{RewriteRule}
-use Rattle.larch_rewrite_match.specs.declared.search.Match.{Match}
+use Rattle.larch_rewrite_step.specs.RewriteMatchBound.{entries_of}
+use Rattle.larch_rewrite_step.specs.RewriteMatchRule.{right_of}
+use Rattle.larch_rewrite_step.specs.RewriteMatchSearch.{IsBy}
+use Rattle.larch_rewrite_step.specs.RewriteMatchRuleRewriteRule.{RewriteRule}
+use Rattle.larch_rewrite_step.specs.RewriteMatchSearchMatch.{Match}
 use Rattle.larch_rewrite.specs.RuleSet.{PlainRule, rule_of, sides_in}
 
 -- the first of the rows for a term, or else of some rules, that applies to it, and by which substitution

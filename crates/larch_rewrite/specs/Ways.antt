@@ -4,7 +4,7 @@ use Rattle.larch_term.specs.Tree.{Tree, var, app, forest_of}
 use Rattle.larch_derive.specs.Predicates.{Known}
 use Rattle.larch_derive.specs.declared.builder.Builder.{Builder}
 use Rattle.larch_store.specs.Numbered.{Numbered, leaf, branch, term_of, list_of_several}
-use Rattle.larch_derive_lines.specs.Way.{Leads}
+use Rattle.larch_rewrite_step.specs.DeriveLinesWay.{Leads}
 use Rattle.larch_rewrite.specs.declared.kept.KeptForm.{KeptForm}
 use Rattle.larch_rewrite.specs.declared.level.Frame.{Frame}
 use Rattle.larch_rewrite.specs.declared.level.Turn.{Turn}

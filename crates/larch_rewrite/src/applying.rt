@@ -6,9 +6,9 @@ ghost use Rattle.larch_rewrite_meaning.specs.Rewriting.{rewritten_once};
 ghost use Rattle.larch_rewrite_meaning.specs.Sides.{Sides};
 ghost use Rattle.larch_rewrite_meaning.specs.Work.{is_large};
 ghost use Rattle.larch_rewrite_law.specs.Levels.{root_work};
-ghost use Rattle.larch_rewrite_match.specs.Rule.{right_of};
-ghost use Rattle.larch_rewrite_match.specs.Bound.{entries_of};
-ghost use Rattle.larch_rewrite_match.specs.Search.{IsFoundIn, IsBy};
+ghost use Rattle.larch_rewrite_step.specs.RewriteMatchRule.{right_of};
+ghost use Rattle.larch_rewrite_step.specs.RewriteMatchBound.{entries_of};
+ghost use Rattle.larch_rewrite_step.specs.RewriteMatchSearch.{IsFoundIn, IsBy};
 ghost use Rattle.larch_rewrite.specs.Level.{HaveOneStart, IsTurnOf, work_at};
 ghost use Rattle.larch_rewrite.specs.Refusal.{TellsEvent};
 ghost use Rattle.larch_rewrite.specs.RuleSet.{AreSaid, sides_in};
@@ -18,7 +18,7 @@ ghost use Rattle.larch_store.specs.Numbered.{term_of};
 ghost use Rattle.larch_store.specs.Stored.{Belongs, Grows};
 ghost use Rattle.larch_term.specs.Substitution.{instance_of};
 ghost use Rattle.larch_term.specs.Tree.{Tree};
-ghost use Rattle.larch_derive_lines.specs.Way.{Leads};
+ghost use Rattle.larch_rewrite_step.specs.DeriveLinesWay.{Leads};
 
 use crate::kept::Kept;
 use crate::layered_rules::LayeredRules;
@@ -26,21 +26,21 @@ use crate::level::{Level, Means, Turn};
 use crate::refusal::RewriteRefusal;
 use crate::searching::first_redex;
 use larch_derive::Builder;
-use larch_derive_lines::push_further;
-use larch_rewrite_match::Match;
+use larch_rewrite_step::larch_derive_lines::push_further;
+use larch_rewrite_step::larch_rewrite_match::Match;
 use larch_rewrite_step::{Applied, apply_match};
 use larch_store::Store;
 use std::alloc::Global;
 
 /// The turn that comes after `Turn::Root`: the arguments of the level's term are normal, so the first rule that applies
 /// at its root is applied and the work on what that makes begins, or no rule applies and the term is the normal form.
-/// `kept` has the built-in rows as well, and makes those at a sort when it first comes up; its normal forms stay.
+/// `kept` has the built-in rows as well, and makes those at a sort when it first comes up.
 #[tactic(auto, using(larch_derive::proofs::Growth::extends_same, larch_store::proofs::Growth::grows_refl, crate::proofs::Roots::root_is_normal, crate::proofs::Roots::root_is_made, crate::proofs::Roots::root_tells))]
 pub(crate) fn rewrite(
     store: &mut Store,
     builder: &mut Builder,
     rules: &LayeredRules,
-    kept: &mut Kept,
+    kept: &Kept,
     level: Level,
     means: &mut Means,
 ) -> Result<Turn, RewriteRefusal>
@@ -59,12 +59,11 @@ pub(crate) fn rewrite(
     ensures grows { Grows store.old store.new }
     ensures belong { AreOfStore store.new means.new.encodings }
     ensures encodings { AreEncodings builder.old means.old.encodings → AreEncodings builder.old means.new.encodings }
-    ensures kept { kept.new ≡ kept.old }
 {
     store.sizes_are_told();
-    kept.prepare_rows(&level.term)?;
     let alloc = kept.allocator();
-    let rows = kept.rows().rows_for(&level.term)?;
+    let tables = kept.rows_with(&level.term)?;
+    let rows = tables.rows_for(&level.term)?;
     let Some(found) = first_redex(alloc, store, rows, rules, &level.term)? else {
         return Ok(Turn::Finish(level));
     };

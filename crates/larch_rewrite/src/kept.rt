@@ -5,10 +5,12 @@ ghost use Rattle.larch_store.specs.Stored.{Belongs};
 
 use indexmap::IndexMap;
 use larch_base::Memory;
-use larch_rewrite_match::RowTables;
+use larch_rewrite_step::larch_rewrite_match::RowTables;
 use larch_store::{Shared, Store};
 use std::alloc::Global;
+use std::cell::{Ref, RefCell};
 use std::marker::Model;
+use std::rc::Rc;
 
 /// The normal form of a term: what it costs, and the line that says that the term equals it, where it is another one.
 #[derive(Drop)]
@@ -20,12 +22,12 @@ pub struct KeptForm {
 }
 
 /// Normal forms that are kept, found by the numbers of their terms, and the built-in rows at the sorts that have come
-/// up. Contracts see the forms, as a list.
+/// up, which are shared with others. Contracts see the forms, as a list.
 #[derive(Drop)]
 pub(crate) struct Kept {
     forms: Vec<KeptForm>,
     slots: IndexMap<u64, usize>,
-    rows: RowTables,
+    rows: Rc<RefCell<RowTables>>,
 }
 
 impl Model for Kept {
@@ -43,15 +45,29 @@ impl Model for Kept {
 }
 
 impl Kept {
-    // Nothing is kept. It takes no memory.
-    pub(crate) fn new(alloc: Global) -> Kept
-        ensures { result ≡ [] }
+    // Nothing is kept.
+    pub(crate) fn new(alloc: Global) -> Result<Kept, Memory>
+        ensures { IfOk result (λ kept. kept ≡ []) }
     {
-        Kept {
+        let rows = Rc::new(alloc, RefCell::new(RowTables::new(alloc)))?;
+        Ok(Kept {
             forms: Vec::new(alloc),
             slots: IndexMap::new(alloc),
-            rows: RowTables::new(alloc),
-        }
+            rows,
+        })
+    }
+
+    // Nothing is kept, but the built-in rows are shared: what one of the two makes the other has.
+    pub(crate) fn without_forms(&self) -> Result<Kept, Memory>
+        ensures { IfOk result (λ kept. kept ≡ []) }
+    {
+        let alloc = self.allocator();
+        let rows = self.rows.clone()?;
+        Ok(Kept {
+            forms: Vec::new(alloc),
+            slots: IndexMap::new(alloc),
+            rows,
+        })
     }
 
     // Where its memory comes from.
@@ -66,17 +82,13 @@ impl Kept {
         self.forms.len()
     }
 
-    // Makes the rows for a term, unless they are there.
-    pub(crate) fn prepare_rows(&mut self, term: &Shared) -> Result<(), Memory>
-        ensures { self.new ≡ self.old }
-    {
-        self.rows.prepare(term)?;
-        Ok(())
-    }
-
-    // The rows that have been made.
-    pub(crate) fn rows(&self) -> &RowTables {
-        &self.rows
+    // The rows that have been made. Those for a term are made first, unless they are there.
+    pub(crate) fn rows_with(&self, term: &Shared) -> Result<Ref<'_, RowTables>, Memory> {
+        if let Ok(mut tables) = self.rows.try_borrow_mut() {
+            tables.prepare(term)?;
+        }
+        // Nobody writes to them for longer than it takes to make rows.
+        self.rows.try_borrow().map_err(|_| Memory)
     }
 
     // What is kept of a term, if something is.

@@ -2,7 +2,7 @@ ghost use Rattle.std.specs.Prelude.{◌≡◌, ◌≤◌, ◌++◌, ◌∷◌, [
 ghost use Rattle.std.specs.Prelude.{OnOk, OnErr};
 ghost use Rattle.std.specs.List.{list_any};
 ghost use Rattle.larch_rewrite.specs.RuleSet.{has_name, rule_of, without};
-ghost use Rattle.larch_rewrite_match.specs.Search.{IsFirst, IsFoundIn};
+ghost use Rattle.larch_rewrite_step.specs.RewriteMatchSearch.{IsFirst, IsFoundIn};
 ghost use Rattle.larch_store.specs.Layers.{join_layers};
 ghost use Rattle.larch_store.specs.Numbered.{term_of};
 ghost use Rattle.larch_store.specs.Stored.{Belongs};
@@ -11,7 +11,7 @@ use crate::named_rule::NamedRule;
 use crate::named_rules::NamedRules;
 use crate::searching::first_among;
 use larch_base::{FactName, Memory, let_go};
-use larch_rewrite_match::Match;
+use larch_rewrite_step::larch_rewrite_match::Match;
 use larch_store::{Shared, Store, all_layers, share_layers};
 use std::alloc::Global;
 use std::marker::Model;

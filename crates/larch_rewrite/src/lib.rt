@@ -20,3 +20,6 @@ pub use machine::Normal;
 pub use named_rule::NamedRule;
 pub use refusal::RewriteRefusal;
 pub use rules::Rules;
+
+// Passed on to crates above, which then needn't list them.
+pub use larch_rewrite_step::larch_derive_lines;

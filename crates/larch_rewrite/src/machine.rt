@@ -14,7 +14,7 @@ ghost use Rattle.larch_rewrite.specs.declared.level.Turn.TheVariants.{Arguments 
 ghost use Rattle.larch_store.specs.Numbered.{term_of};
 ghost use Rattle.larch_store.specs.Stored.{Belongs, Grows};
 ghost use Rattle.larch_term.specs.Tree.{Tree};
-ghost use Rattle.larch_derive_lines.specs.Way.{Leads};
+ghost use Rattle.larch_rewrite_step.specs.DeriveLinesWay.{Leads};
 
 use crate::applying::rewrite;
 use crate::finishing::{keep, push_whole, resume};
@@ -27,7 +27,6 @@ use larch_base::Memory;
 use larch_derive::Builder;
 use larch_rewrite_step::Encodings;
 use larch_store::{Shared, Store};
-use std::alloc::Global;
 
 /// A normal form, what it costs, and the number of a line that says that the term equals it.
 #[derive(Drop)]
@@ -92,7 +91,7 @@ fn step(
             Ok(turn)
         }
         Turn::Finish(level) => {
-            let turn = go_up(alloc, store, builder, pending, level)?;
+            let turn = go_up(store, builder, pending, level)?;
             Ok(turn)
         }
     }
@@ -133,7 +132,6 @@ fn go_on(store: &mut Store, pending: &mut Pending, frame: Frame) -> Result<Turn,
 // The turn behind a normal form: what waited for it innermost goes on. Where nothing waits the turn stays.
 #[tactic(auto, using(larch_derive::proofs::Growth::extends_same, larch_store::proofs::Growth::grows_refl))]
 fn go_up(
-    alloc: Global,
     store: &Store,
     builder: &mut Builder,
     pending: &mut Pending,
@@ -141,6 +139,7 @@ fn go_up(
 ) -> Result<Turn, Memory>
     requires frames { All (IsFrameOf store.now) pending.old.frames.items }
     requires turn { IsTurnOf store.now (finished level) }
+    requires encodings { AreOfStore store.now pending.old.means.encodings }
     ensures frames { OnOk result (All (IsFrameOf store.now) pending.new.frames.items) }
     ensures turn { IfOk result (IsTurnOf store.now) }
     ensures works { IfOk result (λ t. (rs : List Sides) (whole : Tree) (budget : ℕ) (kept : List KeptForm)
@@ -148,15 +147,19 @@ fn go_up(
         → Works rs whole budget kept pending.new.frames.items t pending.new.means.left) }
     ensures says { IfOk result (λ t. (rules : List PlainRule) (kept : List KeptForm)
         → Says builder.old rules kept pending.old.frames.items (finished level)
+        → AreEncodings builder.old pending.old.means.encodings
         → Says builder.new rules kept pending.new.frames.items t) }
     ensures extends { (rules : List PlainRule) (kept : List KeptForm)
-        → Says builder.old rules kept pending.old.frames.items (finished level) → Extends builder.old builder.new }
-    ensures means { pending.new.means ≡ pending.old.means }
+        → Says builder.old rules kept pending.old.frames.items (finished level)
+        → AreEncodings builder.old pending.old.means.encodings → Extends builder.old builder.new }
+    ensures belong { AreOfStore store.now pending.new.means.encodings }
+    ensures encodings { AreEncodings builder.old pending.old.means.encodings
+        → AreEncodings builder.old pending.new.means.encodings }
 {
     let Some(frame) = pending.frames.pop() else {
         return Ok(Turn::Finish(level));
     };
-    let frame = resume(alloc, store, builder, frame, level)?;
+    let frame = resume(store, builder, &mut pending.means.encodings, frame, level)?;
     Ok(Turn::Arguments(frame))
 }
 
@@ -171,16 +174,26 @@ fn is_last(turn: &Turn, pending: &Pending) -> bool
 }
 
 // The normal form to which the last turn has come.
-fn normal_of(store: &Store, builder: &mut Builder, turn: Turn, cost: u32) -> Result<Normal, Memory>
+fn normal_of(
+    store: &Store,
+    builder: &mut Builder,
+    encodings: &mut Encodings,
+    turn: Turn,
+    cost: u32,
+) -> Result<Normal, Memory>
+    requires start { Belongs store.now (level_of turn).start }
+    requires encodings { AreOfStore store.now encodings.old }
     ensures form { IfOk result (λ n. n.form ≡ (level_of turn).term) }
     ensures cost { IfOk result (λ n. n.cost ≡ cost) }
     ensures says { IfOk result (λ n. (t : Tree) → Known builder.old (start_of turn)
-        → Leads builder.old (level_of turn).way (start_of turn) t → HasEquation builder.new n.line (start_of turn) t) }
+        → Leads builder.old (level_of turn).way (start_of turn) t → AreEncodings builder.old encodings.old
+        → HasEquation builder.new n.line (start_of turn) t) }
     ensures extends { (t : Tree) → Known builder.old (start_of turn)
-        → Leads builder.old (level_of turn).way (start_of turn) t → Extends builder.old builder.new }
+        → Leads builder.old (level_of turn).way (start_of turn) t → AreEncodings builder.old encodings.old
+        → Extends builder.old builder.new }
 {
     let level = turn.into_level();
-    let line = push_whole(store, builder, &level.start, level.way)?;
+    let line = push_whole(store, builder, encodings, &level.start, level.way)?;
     Ok(Normal {
         form: level.term,
         cost,
@@ -228,7 +241,8 @@ pub(crate) fn run(
     for _ in 0..u64::MAX {
         if is_last(&turn, &pending) {
             let cost = budget.saturating_sub(pending.means.left);
-            let normal = normal_of(store, builder, turn, cost)?;
+            let encodings = &mut pending.means.encodings;
+            let normal = normal_of(store, builder, encodings, turn, cost)?;
             return Ok(normal);
         }
         turn = step(store, builder, rules, kept, &mut pending, turn)?;

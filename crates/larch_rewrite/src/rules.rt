@@ -55,12 +55,13 @@ impl Rules {
         ensures serves { IfOk result (λ made. (s : List Numbered) (b : is_builder) → Serves s b made) }
     {
         let rules = LayeredRules::new(alloc)?;
-        let kept = Kept::new(alloc);
+        let kept = Kept::new(alloc)?;
         Ok(Rules { rules, kept })
     }
 
     /// The same rules once more. The two share what is there: of n rules it takes as many steps as n has digits, and no
-    /// memory for a rule. Nothing is kept for them, so they serve wherever their lines say them.
+    /// memory for a rule. The built-in rows that one of the two makes the other has too. No normal form is kept for
+    /// them, so they serve wherever their lines say them.
     #[tactic(auto, using(crate::proofs::RuleSets::belongs_alone, crate::proofs::RuleSets::none_are_forms))]
     pub fn copy(&self) -> Result<Rules, Memory>
         ensures rules { IfOk result (λ copied. copied.rules ≡ self.now.rules) }
@@ -69,7 +70,7 @@ impl Rules {
             → Serves s b copied) }
     {
         let rules = self.rules.copy()?;
-        let kept = Kept::new(self.kept.allocator());
+        let kept = self.kept.without_forms()?;
         Ok(Rules { rules, kept })
     }
 

@@ -10,14 +10,14 @@ ghost use Rattle.larch_rewrite.specs.declared.level.Turn.TheVariants.{Begin, Arg
 ghost use Rattle.larch_store.specs.Numbered.{children_of, term_of};
 ghost use Rattle.larch_store.specs.Stored.{Grows};
 ghost use Rattle.larch_term.specs.Tree.{Tree};
-ghost use Rattle.larch_derive_lines.specs.Way.{Leads};
+ghost use Rattle.larch_rewrite_step.specs.DeriveLinesWay.{Leads};
 
 use crate::kept::{Kept, KeptForm};
 use crate::level::{Frame, Level, Turn};
 use crate::refusal::RewriteRefusal;
 use larch_base::Memory;
 use larch_derive::Builder;
-use larch_derive_lines::push_further;
+use larch_rewrite_step::larch_derive_lines::push_further;
 use larch_store::{Shared, SharedList, SharedNode, Store};
 use std::alloc::Global;
 

@@ -19,12 +19,12 @@ use Rattle.larch_base.specs.ByNumber.{numbered}
 use Rattle.larch_rewrite_match.specs.declared.rule.RewriteRule.{RewriteRule}
 use Rattle.larch_rewrite_meaning.specs.Rewriting.{rewriting_row_count, rewriting_rows, rows_for, tries_of, sort_at}
 use Rattle.larch_rewrite_meaning.specs.Sides.{Sides, sides_of}
-use Rattle.larch_tables.specs.Row.{PlainRow}
-use Rattle.larch_tables.specs.Spelling.{equation_of}
-use Rattle.larch_tables.specs.Statement.{offered_row}
-use Rattle.larch_tables.specs.Tables.{built_in_rows, sort_for, equations_of, row_of, IsRowAt, HasRows}
-use Rattle.larch_tables.specs.declared.row.Row.{Row}
-use Rattle.larch_tables.proofs.Offered.{has_number, numbered_none, numbered_some, offered_equation}
+use Rattle.larch_rewrite_meaning.specs.TablesRow.{PlainRow}
+use Rattle.larch_rewrite_meaning.specs.TablesSpelling.{equation_of}
+use Rattle.larch_rewrite_meaning.specs.TablesStatement.{offered_row}
+use Rattle.larch_rewrite_meaning.specs.TablesTables.{built_in_rows, sort_for, equations_of, row_of, IsRowAt, HasRows}
+use Rattle.larch_rewrite_meaning.specs.TablesRowRow.{Row}
+use Rattle.larch_rewrite_meaning.proofs.TablesOffered.{has_number, numbered_none, numbered_some, offered_equation}
 
 -- what a row spells has its mark, and the equation of its sides
 by_given : (given : Option Statement) (further : Option (List Statement)) (b : Bool) (plain : PlainRow)

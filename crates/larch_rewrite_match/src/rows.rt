@@ -4,15 +4,15 @@ ghost use Rattle.larch_rewrite_meaning.specs.Rewriting.{rewriting_row_count, rew
 ghost use Rattle.larch_rewrite_meaning.specs.Sides.{sides_of};
 ghost use Rattle.larch_rewrite_match.specs.Rule.{all_sides, sides_of_rule, IsRule, IsSaidByRow};
 ghost use Rattle.larch_rewrite_match.specs.declared.rule.Reason.TheVariants.{Row as IsRow};
-ghost use Rattle.larch_tables.specs.Statement.{IsIdentityStatement, offered_row};
-ghost use Rattle.larch_tables.specs.Tables.{built_in_rows, sort_for};
+ghost use Rattle.larch_rewrite_meaning.specs.TablesStatement.{IsIdentityStatement, offered_row};
+ghost use Rattle.larch_rewrite_meaning.specs.TablesTables.{built_in_rows, sort_for};
 ghost use Rattle.larch_term.specs.declared.statement.Statement.TheVariants.{Equation};
 
 use crate::rule::{Reason, RewriteRule};
 use crate::shared::SharedRule;
 use crate::table::RuleTable;
 use larch_base::Memory;
-use larch_tables::{Row, RowRefusal, built_in, row_statement};
+use larch_rewrite_meaning::larch_tables::{Row, RowRefusal, built_in, row_statement};
 use larch_term::{Sort, Statement, bool_sort};
 use std::alloc::Global;
 

@@ -5,9 +5,9 @@ use Rattle.std.specs.List.{flat_map, slice_get}
 use Rattle.std.proofs.Common.{inl, inr, arith, ap, ap₂, sym, subst, ◌∙◌}
 use Rattle.std.proofs.lemmas.Bool.Decides.{Decides-eqb}
 use Rattle.std.proofs.lemmas.List.Elements.{All-weaker}
-use Rattle.larch_base.proofs.Members.{contains_here, contains_later, contains_cases, contains_none, contains_either}
-use Rattle.larch_base.proofs.Members.{contained_in_flat_map, contains_got}
-use Rattle.larch_base.specs.ByNumber.{numbered}
+use Rattle.larch_term.proofs.BaseMembers.{contains_here, contains_later, contains_cases, contains_none, contains_either}
+use Rattle.larch_term.proofs.BaseMembers.{contained_in_flat_map, contains_got}
+use Rattle.larch_term.specs.BaseByNumber.{numbered}
 use Rattle.larch_term.specs.Operator.{PlainOperator}
 use Rattle.larch_term.specs.Tree.{Tree, Forest, var, app, none, more}
 use Rattle.larch_term.specs.BuiltIn.{built_in, is_built_in, is_built_in_as}
@@ -18,8 +18,8 @@ use Rattle.larch_term.specs.declared.built_in.BuiltIn.TheVariants.{Equal}
 use Rattle.larch_term.specs.declared.statement.Statement.{Statement}
 use Rattle.larch_term.specs.declared.statement.Statement.TheVariants.{Equation, Generated, Partitioned}
 use Rattle.larch_term.specs.declared.substitution.Entry.{Entry}
-use Rattle.larch_term_law.proofs.Substitutions.{substituted_sort, substituted_well_sorted, substituted_over}
-use Rattle.larch_calculus.proofs.Identities.{identity_over}
+use Rattle.larch_tables.proofs.TermLawSubstitutions.{substituted_sort, substituted_well_sorted, substituted_over}
+use Rattle.larch_tables.proofs.CalculusIdentities.{identity_over}
 use Rattle.larch_tables.specs.Row.{PlainRow}
 use Rattle.larch_tables.specs.Tables.{built_in_rows}
 use Rattle.larch_tables.specs.Statement.{IsIdentityStatement}

@@ -7,8 +7,8 @@ use Rattle.larch_term.specs.BuiltIn.{bool_sort, is_built_in}
 use Rattle.larch_term.specs.Equality.{same_tree}
 use Rattle.larch_term.specs.OperatorKey.{same_operator}
 use Rattle.larch_term.specs.Truth.{truth}
-use Rattle.larch_calculus.specs.Example.{nought, successor, plus, x_number, y_number, number_sort}
-use Rattle.larch_calculus.specs.Formula.{constant, apply_one, apply_two, equality, falsity}
+use Rattle.larch_tables.specs.CalculusExample.{nought, successor, plus, x_number, y_number, number_sort}
+use Rattle.larch_tables.specs.CalculusFormula.{constant, apply_one, apply_two, equality, falsity}
 use Rattle.larch_rewrite_meaning.specs.NormalForm.{normal}
 use Rattle.larch_rewrite_meaning.specs.Sides.{Sides}
 

@@ -1,6 +1,6 @@
 -- Work under a budget, whose first event counts.
 use Rattle.std.specs.Prelude.{ℕ, Bool, true, false, nat_lt}
-use Rattle.larch_base.specs.declared.limits.TheConstants.{MAX_TERM_NODES}
+use Rattle.larch_term.specs.BaseLimitsTheConstants.{MAX_TERM_NODES}
 use Rattle.larch_term.specs.Tree.{Tree, nodes}
 
 -- what work ends in: what it made and what is left of the budget; or the first event, that the budget was used up or

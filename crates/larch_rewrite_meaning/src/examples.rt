@@ -1,8 +1,8 @@
 //! Normal forms, computed by the definition. No function here does anything.
 ghost use Rattle.std.specs.Prelude.{◌≡◌, [], ◌∷◌};
 ghost use Rattle.larch_term.specs.Truth.{truth};
-ghost use Rattle.larch_calculus.specs.Example.{number_sort, plus, x_number};
-ghost use Rattle.larch_calculus.specs.Formula.{conjunction, equality, falsity, inequality, apply_two, negation};
+ghost use Rattle.larch_tables.specs.CalculusExample.{number_sort, plus, x_number};
+ghost use Rattle.larch_tables.specs.CalculusFormula.{conjunction, equality, falsity, inequality, apply_two, negation};
 ghost use Rattle.larch_rewrite_meaning.specs.Examples.{
   a,
   anything,

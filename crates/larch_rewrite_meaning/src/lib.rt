@@ -14,3 +14,6 @@ pub use laws::{
     budget_falls, matches_are_instances, normal_forms_are_normal, normal_forms_keep_sorts,
     normal_goes_on,
 };
+
+// Passed on to crates above, which then needn't list them.
+pub use larch_tables;

@@ -2,13 +2,13 @@
 use Rattle.std.specs.Prelude.{◌≡◌, ◌-◌, ℕ, Bool, true, false, cond, List, [], map, Option, Some, None, refl}
 use Rattle.std.proofs.Common.{rules, ap, sym, subst, ◌∙◌}
 use Rattle.std.proofs.lemmas.Option.{option_and_then_some, cond_some}
-use Rattle.larch_tables.proofs.Identities.{Every, every_at, at_place}
+use Rattle.larch_derive.proofs.TablesIdentities.{Every, every_at, at_place}
 use Rattle.larch_term.specs.Substitution.{instance_of}
 use Rattle.larch_term.specs.Tree.{Tree, var, app, none, more}
 use Rattle.larch_term.specs.declared.substitution.Entry.{Entry}
-use Rattle.larch_verify_meaning.specs.Matching.{all_different}
-use Rattle.larch_rewrite_meaning.specs.Matching.{match_term}
-use Rattle.larch_rewrite_meaning.proofs.Matches.{match_is_right}
+use Rattle.larch_derive.specs.VerifyMeaningMatching.{all_different}
+use Rattle.larch_rewrite_match.specs.RewriteMeaningMatching.{match_term}
+use Rattle.larch_rewrite_match.proofs.RewriteMeaningMatches.{match_is_right}
 use Rattle.larch_rewrite_match.specs.Exchanged.{exchange_equality}
 use Rattle.larch_rewrite_match.specs.Rule.{left_of, right_of, reason_of}
 use Rattle.larch_rewrite_match.specs.declared.rule.Reason.{Reason}
@@ -19,20 +19,20 @@ use Rattle.larch_derive.specs.declared.builder.Builder.{Builder}
 use Rattle.larch_derive.proofs.Growth.{known_stands}
 use Rattle.larch_base.proofs.Options.{some_inj}
 use Rattle.larch_base.specs.ByNumber.{numbered}
-use Rattle.larch_certificate_text.specs.LineText.{IsWord}
-use Rattle.larch_certificate_text.specs.Parts.{Each}
+use Rattle.larch_derive.specs.CertificateTextLineText.{IsWord}
+use Rattle.larch_derive.specs.CertificateTextParts.{Each}
 use Rattle.larch_derive.proofs.Words.{known_worded, said_worded}
 use Rattle.larch_derive.specs.Words.{IsWordedTerm}
 use Rattle.larch_derive_lines.specs.Rules.{variable_in, AreKnownEntries, IsWordedSort}
 use Rattle.larch_rewrite_match.specs.declared.rule.Reason.TheVariants.{Row, Line}
-use Rattle.larch_tables.specs.Row.{PlainRow}
-use Rattle.larch_tables.specs.Tables.{built_in_rows}
+use Rattle.larch_derive.specs.TablesRow.{PlainRow}
+use Rattle.larch_derive.specs.TablesTables.{built_in_rows}
 use Rattle.larch_term.specs.BuiltIn.{is_built_in_as}
 use Rattle.larch_term.specs.Operator.{PlainOperator}
 use Rattle.larch_term.specs.declared.built_in.BuiltIn.TheVariants.{Equal}
 use Rattle.larch_term.specs.declared.statement.Statement.{Statement}
 use Rattle.larch_term.specs.declared.statement.Statement.TheVariants.{Equation, Generated, Partitioned}
-use Rattle.larch_verify_meaning.specs.Rules.{row_says}
+use Rattle.larch_derive.specs.VerifyMeaningRules.{row_says}
 use Rattle.larch_rewrite_step.specs.Applying.{IsTried}
 use Rattle.larch_rewrite_step.specs.Holding.{IsWordedReason, ReasonSays, RuleHolds}
 use Rattle.larch_rewrite_step.proofs.Entries.{known_entries, entries_stay, different}

@@ -11,15 +11,15 @@ use Rattle.larch_term.specs.Substitution.{is_entry_of}
 use Rattle.larch_term.specs.Tree.{Tree, Forest, AllOf, var, app, none, more}
 use Rattle.larch_term.specs.Variable.{same_variable}
 use Rattle.larch_term.specs.declared.substitution.Entry.{Entry}
-use Rattle.larch_renaming.specs.Renaming.{renamed_all}
-use Rattle.larch_verify_meaning.specs.Events.{State}
-use Rattle.larch_verify_meaning.specs.Matching.{all_different}
-use Rattle.larch_rewrite_meaning.specs.Matching.{bound, match_term, matched_all}
+use Rattle.larch_derive.specs.RenamingRenaming.{renamed_all}
+use Rattle.larch_derive.specs.VerifyMeaningEvents.{State}
+use Rattle.larch_derive.specs.VerifyMeaningMatching.{all_different}
+use Rattle.larch_rewrite_match.specs.RewriteMeaningMatching.{bound, match_term, matched_all}
 use Rattle.larch_base.proofs.Options.{some_inj}
-use Rattle.larch_certificate_text.specs.LineText.{IsWord}
+use Rattle.larch_derive.specs.CertificateTextLineText.{IsWord}
 use Rattle.larch_derive.specs.Words.{AreWordedTerms, IsWordedTerm}
 use Rattle.larch_term.specs.Equality.{same_operator, same_tree}
-use Rattle.larch_rewrite_meaning.proofs.Matches.{IsInherited, IsBound, matched_fits}
+use Rattle.larch_rewrite_match.proofs.RewriteMeaningMatches.{IsInherited, IsBound, matched_fits}
 use Rattle.larch_rewrite_match.proofs.Apart.{AreOfOthers, match_apart}
 use Rattle.larch_derive.specs.OpenBox.{naming}
 use Rattle.larch_derive.specs.Predicates.{operators_at, StandIn, KnownIn, Known, Extends}

@@ -14,16 +14,16 @@ use Rattle.larch_term.specs.Tree.{Tree, Forest, AllOf, var, app, none, more}
 use Rattle.larch_term.specs.declared.built_in.BuiltIn.TheVariants.{Equal}
 use Rattle.larch_term.specs.declared.statement.Statement.TheVariants.{Equation}
 use Rattle.larch_term.specs.declared.substitution.Entry.{Entry}
-use Rattle.larch_calculus.specs.Formula.{equality}
-use Rattle.larch_verify_meaning.specs.Matching.{all_different}
-use Rattle.larch_verify_meaning.specs.Rules.{row_says}
-use Rattle.larch_rewrite_meaning.specs.Rewriting.{sort_at}
+use Rattle.larch_derive.specs.CalculusFormula.{equality}
+use Rattle.larch_derive.specs.VerifyMeaningMatching.{all_different}
+use Rattle.larch_derive.specs.VerifyMeaningRules.{row_says}
+use Rattle.larch_rewrite_match.specs.RewriteMeaningRewriting.{sort_at}
 use Rattle.larch_rewrite_match.specs.Exchanged.{exchange_equality}
 use Rattle.larch_derive.specs.OpenBox.{naming}
 use Rattle.larch_derive.specs.Predicates.{written_term, Known, HasNoBadLine, HasEquation, HasStatement, Extends}
 use Rattle.larch_derive.specs.declared.builder.Builder.{Builder}
 use Rattle.larch_derive.specs.declared.open_box.OpenBox.{OpenBox}
-use Rattle.larch_certificate_text.specs.LineText.{IsWord}
+use Rattle.larch_derive.specs.CertificateTextLineText.{IsWord}
 use Rattle.larch_derive.proofs.Words.{known_sort}
 use Rattle.larch_derive.proofs.Growth.{known_left, known_stands, stays_said}
 use Rattle.larch_derive_lines.specs.Rules.{variable_in, AreKnownEntries}

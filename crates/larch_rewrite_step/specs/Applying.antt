@@ -1,7 +1,7 @@
 -- What one application gives.
 use Rattle.std.specs.Prelude.{◌≡◌, Bool, true, false, Some}
 use Rattle.larch_term.specs.Tree.{Tree}
-use Rattle.larch_rewrite_meaning.specs.Work.{is_large}
+use Rattle.larch_rewrite_match.specs.RewriteMeaningWork.{is_large}
 use Rattle.larch_rewrite_match.specs.Exchanged.{exchange_equality}
 use Rattle.larch_rewrite_match.specs.Rule.{left_of}
 use Rattle.larch_rewrite_match.specs.declared.rule.RewriteRule.{RewriteRule}

@@ -3,7 +3,7 @@ use Rattle.std.specs.Prelude.{◌≡◌, ℕ, List, [], ◌∷◌, codes}
 use Rattle.larch_term.specs.Tree.{Tree, var, app, none, more}
 use Rattle.larch_term.specs.Operator.{PlainOperator}
 use Rattle.larch_term.specs.declared.substitution.Entry.{Entry}
-use Rattle.larch_rewrite_meaning.specs.Rewriting.{sort_at}
+use Rattle.larch_rewrite_match.specs.RewriteMeaningRewriting.{sort_at}
 
 -- the substitution that makes of an equality of two variables the one of two terms
 abbrev pub pair_at : List ℕ → Tree → Tree → List Entry

@@ -51,8 +51,8 @@ impl Encodings {
         }
     }
 
-    // Where its memory comes from.
-    pub(crate) fn allocator(&self) -> Global {
+    /// Where its memory comes from.
+    pub fn allocator(&self) -> Global {
         *self.kept.allocator()
     }
 

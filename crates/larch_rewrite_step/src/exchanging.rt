@@ -1,7 +1,7 @@
 ghost use Rattle.std.specs.Prelude.{◌≡◌, ◌++◌, ◌∷◌, [], true, false, Some, IfOk, OnOk};
 ghost use Rattle.std.specs.List.{list_any};
 ghost use Rattle.larch_rewrite_step.specs.Exchanging.{IsExchange, pair_at};
-ghost use Rattle.larch_calculus.specs.Formula.{equality};
+ghost use Rattle.larch_derive.specs.CalculusFormula.{equality};
 ghost use Rattle.larch_derive.specs.Predicates.{HasEquation, Extends, HasNoBadLine};
 ghost use Rattle.larch_derive_lines.specs.Rules.{AreKnownEntries};
 ghost use Rattle.larch_rewrite_match.specs.Exchanged.{exchange_equality};

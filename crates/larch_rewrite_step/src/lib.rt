@@ -12,3 +12,8 @@ pub use applying::{Applied, apply_match, push_reason};
 pub use encoding::{Encoding, Encodings};
 pub use exchanging::push_exchanged;
 pub use refusal::ApplyRefusal;
+pub use writing::push_shared_refl;
+
+// Passed on to crates above, which then needn't list them.
+pub use larch_derive_lines;
+pub use larch_rewrite_match;

@@ -1,8 +1,9 @@
-ghost use Rattle.std.specs.Prelude.{◌≡◌, map, IfOk};
+ghost use Rattle.std.specs.Prelude.{◌≡◌, map, IfOk, OnErr};
 ghost use Rattle.larch_rewrite_step.specs.Encoding.{AreEncodings, AreOfStore};
 ghost use Rattle.larch_certificate.specs.Coded.{coded_forest_of, coded_var};
 ghost use Rattle.larch_derive.specs.Builder.{IsCodeIn, boxes_in, theory_in};
 ghost use Rattle.larch_derive.specs.Coding.{AreCodesOf};
+ghost use Rattle.larch_derive.specs.Predicates.{Extends, HasEquation, Known};
 ghost use Rattle.larch_derive_lines.specs.Rules.{AreWritten};
 ghost use Rattle.larch_rewrite_match.specs.Bound.{AreBound, entries_of, entry_of};
 ghost use Rattle.larch_store.specs.Numbered.{term_of};
@@ -11,11 +12,35 @@ ghost use Rattle.larch_term.specs.Tree.{forest_of};
 
 use crate::encoding::Encodings;
 use larch_base::{Memory, Name, Sequence};
-use larch_certificate::{Binding, Bindings, Coded, CodedTerms};
+use larch_certificate::{Binding, Bindings, Coded, CodedTerms, Line};
 use larch_derive::Builder;
 use larch_rewrite_match::Bound;
 use larch_store::{Shared, SharedNode, Store};
 use larch_term::Sort;
+
+/// A line that says that a known shared term equals itself. The term is written, unless it was written before. A
+/// refused line leaves the builder as it is.
+#[tactic(auto, using(larch_derive::proofs::Growth::extends_same, larch_derive::proofs::Pushing::refl_says, larch_derive::proofs::Pushing::refl_extends))]
+pub fn push_shared_refl(
+    store: &Store,
+    builder: &mut Builder,
+    encodings: &mut Encodings,
+    term: &Shared,
+) -> Result<u64, Memory>
+    requires term { Belongs store.now term.now }
+    requires encodings { AreOfStore store.now encodings.old }
+    ensures says { IfOk result (λ n. Known builder.old (term_of term.now) → AreEncodings builder.old encodings.old
+        → HasEquation builder.new n (term_of term.now) (term_of term.now)) }
+    ensures extends { Known builder.old (term_of term.now) → AreEncodings builder.old encodings.old
+        → Extends builder.old builder.new }
+    ensures err { OnErr result (builder.new ≡ builder.old) }
+    ensures belong { AreOfStore store.now encodings.new }
+    ensures encodings { AreEncodings builder.old encodings.old → AreEncodings builder.old encodings.new }
+{
+    let term = write(store, builder, encodings, term)?;
+    let number = builder.push(Line::Refl(term))?;
+    Ok(number)
+}
 
 /// What is bound, as the builder's next lines write it. What is written once is kept.
 pub(crate) fn write_bound<'a>(

@@ -19,8 +19,9 @@ use Rattle.larch_lexer.specs.declared.token.Token.{Token}
 use Rattle.larch_raw.specs.Worded.{Worded, WordedEquation}
 use Rattle.larch_raw.specs.declared.declared.RawWord.{RawWord}
 use Rattle.larch_raw.specs.declared.equation.RawEquation.{RawEquation}
-use Rattle.larch_script_commands.specs.Worded.{WordedBlock, WordedCommand, WordedInstance, WordedKind, WordedOperator}
-use Rattle.larch_script_commands.specs.Worded.{WordedScript}
+use Rattle.larch_raw.specs.declared.equation.RawRight.{RawRight}
+use Rattle.larch_script_commands.specs.Worded.{WordedBlock, WordedCommand, WordedInstance, WordedKind, WordedLone}
+use Rattle.larch_script_commands.specs.Worded.{WordedOperator, WordedScript}
 use Rattle.larch_script_commands.specs.declared.command.CommandKind.TheVariants as command
 use Rattle.larch_script_commands.specs.declared.command.RawInstance.{RawInstance}
 use Rattle.larch_script_commands.specs.declared.script.Script.{Script}
@@ -95,6 +96,12 @@ plain_word _ h = tt
 token_word : (token : Token) → IsWordToken token → IfSome (plain (terminal_of false token)) Worded
 token_word token h = plain_word (terminal_of false token) (λ w e. word_worded false token w h e)
 
+-- an equation in words that has no right side
+without_right : (e : RawEquation) (right : Option RawRight) → e.right ≡ right → WordedEquation e
+    → IfSome (cond (is_some right) None (Some e)) WordedLone
+without_right e None k h = (h, k)
+without_right e (Some right) k h = tt
+
 module _ (all : TokenList) (words : AreWordTokens all.tokens) where
   word : (i : ℕ) → IfSome (word_at all.tokens i) Worded
   word i =
@@ -112,18 +119,17 @@ module _ (all : TokenList) (words : AreWordTokens all.tokens) where
       (λ found h. only_if WordedEquation (found.1 == length all.tokens) (Some found.0) h) (equation_at all i)
       (equation i)
 
-  alone : (e : RawEquation) → WordedEquation e → IfSome (term_alone e) WordedEquation
-  alone e h = choice WordedEquation (is_some e.right) None (Some e) tt h
+  alone : (e : RawEquation) → WordedEquation e → IfSome (term_alone e) WordedLone
+  alone e h = without_right e e.right refl h
 
-  whole_term : (i : ℕ) → IfSome (whole_term_at all i) WordedEquation
-  whole_term i =
-      chain WordedEquation WordedEquation term_alone alone (whole_equation_at all i) (whole_equation i)
+  whole_term : (i : ℕ) → IfSome (whole_term_at all i) WordedLone
+  whole_term i = chain WordedEquation WordedLone term_alone alone (whole_equation_at all i) (whole_equation i)
 
-  term : (i : ℕ) → IfSome (term_at all i) (UpTo WordedEquation)
+  term : (i : ℕ) → IfSome (term_at all i) (UpTo WordedLone)
   term i =
-      chain (UpTo WordedEquation) (UpTo WordedEquation)
+      chain (UpTo WordedEquation) (UpTo WordedLone)
       (λ found. option_map (λ t. (t, found.1)) (term_alone found.0))
-      (λ found h. image WordedEquation (UpTo WordedEquation) (λ t. (t, found.1)) (λ t k. k) (term_alone found.0)
+      (λ found h. image WordedLone (UpTo WordedLone) (λ t. (t, found.1)) (λ t k. k) (term_alone found.0)
       (alone found.0 h)) (equation_at all i) (equation i)
 
   reference : (i : ℕ) → IfSome (reference_at all i) (UpTo WordedOperator)
@@ -191,7 +197,7 @@ module _ (all : TokenList) (words : AreWordTokens all.tokens) where
       (λ name. cond (says all.tokens (i + 1) (codes "by")) (option_map (instance_of name) (term_at all (i + 2))) None)
       (λ name w. only_if (UpTo WordedInstance) (says all.tokens (i + 1) (codes "by"))
       (option_map (instance_of name) (term_at all (i + 2)))
-      (image (UpTo WordedEquation) (UpTo WordedInstance) (instance_of name) (λ t k. (w, k)) (term_at all (i + 2))
+      (image (UpTo WordedLone) (UpTo WordedInstance) (instance_of name) (λ t k. (w, k)) (term_at all (i + 2))
       (term all words (i + 2))))
       (word_at all.tokens i) (word all words i)
 
@@ -264,7 +270,7 @@ module _ (all : TokenList) (words : AreWordTokens all.tokens) where
       choice WordedKind (says all.tokens 2 (codes "cases")) (option_map command.Cases (whole_term_at all 3))
       (cond (says all.tokens 2 (codes "induction")) (induction all.tokens)
       (cond (ends all.tokens 3) (method_of (text_at all.tokens 2)) None))
-      (image WordedEquation WordedKind command.Cases (λ t h. h) (whole_term_at all 3) (whole_term all words 3))
+      (image WordedLone WordedKind command.Cases (λ t h. h) (whole_term_at all 3) (whole_term all words 3))
       (choice WordedKind (says all.tokens 2 (codes "induction")) (induction all.tokens)
       (cond (ends all.tokens 3) (method_of (text_at all.tokens 2)) None)
       (only_if WordedKind (says all.tokens 3 (codes "on") && ends all.tokens 5)

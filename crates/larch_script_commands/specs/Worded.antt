@@ -1,7 +1,8 @@
 -- Commands that are in words: their variables and sorts are words, and so is each name that is a bare word.
-use Rattle.std.specs.Prelude.{All}
+use Rattle.std.specs.Prelude.{◌≡◌, All, None}
 use Rattle.larch_raw.specs.Worded.{Worded, WordedEquation, WordedForm, WordedRef}
 use Rattle.larch_raw.specs.declared.declared.RawOpRef.{RawOpRef}
+use Rattle.larch_raw.specs.declared.equation.RawEquation.{RawEquation}
 use Rattle.larch_script_commands.specs.declared.command.CommandKind.{CommandKind}
 use Rattle.larch_script_commands.specs.declared.command.CommandKind.TheVariants as command
 use Rattle.larch_script_commands.specs.declared.command.RawCommand.{RawCommand}
@@ -13,9 +14,13 @@ use Rattle.larch_script_commands.specs.declared.script.Script.{Script}
 abbrev pub WordedOperator : RawOpRef → Type 0
 WordedOperator reference = WordedForm reference.form × WordedRef reference
 
--- a variable, and the sorts that the term in its place says
+-- the sorts that a term says, which stands alone: it has no right side
+abbrev pub WordedLone : RawEquation → Type 0
+WordedLone term = WordedEquation term × (term.right ≡ None)
+
+-- a variable, and the term in its place
 abbrev pub WordedInstance : RawInstance → Type 0
-WordedInstance instance = Worded instance.name × WordedEquation instance.term
+WordedInstance instance = Worded instance.name × WordedLone instance.term
 
 -- what is commanded is in words; a term's sorts are those that it says
 abbrev pub WordedKind : CommandKind → Type 0
@@ -25,7 +30,7 @@ WordedKind (command.BoxChecking on) = Unit {0}
 WordedKind (command.Height upper lower) = WordedOperator upper × WordedOperator lower
 WordedKind (command.Status way reference) = WordedOperator reference
 WordedKind (command.Prove equation) = WordedEquation equation
-WordedKind (command.Cases term) = WordedEquation term
+WordedKind (command.Cases term) = WordedLone term
 WordedKind command.Implication = Unit {0}
 WordedKind command.Conjunction = Unit {0}
 WordedKind command.Contradiction = Unit {0}

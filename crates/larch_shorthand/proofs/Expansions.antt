@@ -15,11 +15,11 @@ use Rattle.larch_base.specs.declared.position.Pos.{Pos}
 use Rattle.larch_base.proofs.Lists.{all_from}
 use Rattle.larch_base.proofs.Members.{contained_in_map, contains_here, contains_later, contains_left, contains_map}
 use Rattle.larch_base.proofs.Members.{contains_right}
-use Rattle.larch_raw.specs.Worded.{Worded, WordedField, WordedShorthand}
-use Rattle.larch_raw.specs.declared.declared.RawWord.{RawWord}
-use Rattle.larch_raw.specs.declared.shorthand.RawField.{RawField}
-use Rattle.larch_raw.specs.declared.shorthand.RawShorthand.{RawShorthand}
-use Rattle.larch_raw.specs.declared.shorthand.RawShorthand.TheVariants.{Enumeration, Tuple, Union}
+use Rattle.larch_traits_items.specs.RawWorded.{Worded, WordedField, WordedShorthand}
+use Rattle.larch_traits_items.specs.RawRawWord.{RawWord}
+use Rattle.larch_traits_items.specs.RawShorthandRawField.{RawField}
+use Rattle.larch_traits_items.specs.RawShorthandRawShorthand.{RawShorthand}
+use Rattle.larch_traits_items.specs.RawShorthandRawShorthand.TheVariants.{Enumeration, Tuple, Union}
 use Rattle.larch_term.specs.BuiltIn.{IsBuiltIn, bool_sort, built_in, built_in_name}
 use Rattle.larch_term.specs.Operator.{PlainOperator, plain}
 use Rattle.larch_term.specs.Sorts.{IsKnown, sort_of}
@@ -29,9 +29,9 @@ use Rattle.larch_term.specs.declared.built_in.BuiltIn.{BuiltIn as Kind}
 use Rattle.larch_term.specs.declared.built_in.BuiltIn.TheVariants.{True, False, Not, And, Or, Implies, Iff, Equal}
 use Rattle.larch_term.specs.declared.built_in.BuiltIn.TheVariants.{Unequal, If}
 use Rattle.larch_term.specs.declared.statement.Statement.TheVariants.{Generated, Partitioned}
-use Rattle.larch_sorts_meaning.specs.Faults.{fault_at}
-use Rattle.larch_sorts_meaning.specs.Laws.{IsSortOf, OperatorSorts}
-use Rattle.larch_sorts_meaning.proofs.SortsRead.{own_sorts}
+use Rattle.larch_traits_items.specs.SortsMeaningFaults.{fault_at}
+use Rattle.larch_traits_items.specs.SortsMeaningLaws.{IsSortOf, OperatorSorts}
+use Rattle.larch_traits_items.proofs.SortsMeaningSortsRead.{own_sorts}
 use Rattle.larch_traits_items.proofs.Kept.{missed_is, ok_inj, unless_was}
 use Rattle.larch_shorthand.specs.Enumeration.{all_differ, all_followed, differ, elements, enumeration_statements}
 use Rattle.larch_shorthand.specs.Enumeration.{enumeration, enumeration_operators, following_statement, followed_from}

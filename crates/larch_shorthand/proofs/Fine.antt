@@ -8,8 +8,8 @@ use Rattle.larch_term.specs.Tree.{Tree, Forest, var, app, none, more, forest_of}
 use Rattle.larch_term.specs.Truth.{truth}
 use Rattle.larch_term.specs.declared.built_in.BuiltIn.TheVariants.{True, Unequal}
 use Rattle.larch_term.specs.declared.statement.Statement.TheVariants.{Equation}
-use Rattle.larch_sorts_meaning.specs.Laws.{ForestSorts, IsSortOf, TermSorts}
-use Rattle.larch_sorts_meaning.proofs.SortsRead.{own_sorts}
+use Rattle.larch_traits_items.specs.SortsMeaningLaws.{ForestSorts, IsSortOf, TermSorts}
+use Rattle.larch_traits_items.proofs.SortsMeaningSortsRead.{own_sorts}
 use Rattle.larch_shorthand.specs.Operators.{constant, on, on_two}
 use Rattle.larch_traits_items.proofs.Stated.{IsStated}
 

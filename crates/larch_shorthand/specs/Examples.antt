@@ -1,10 +1,10 @@
 -- What the examples of shorthands are written with.
 use Rattle.std.specs.Prelude.{ℕ, codes, List, [], ◌∷◌}
 use Rattle.std.specs.Fmt.{digits}
-use Rattle.larch_raw.specs.declared.declared.RawWord.{RawWord}
-use Rattle.larch_raw.specs.declared.shorthand.RawField.{RawField}
-use Rattle.larch_raw.specs.declared.shorthand.RawShorthand.{RawShorthand}
-use Rattle.larch_raw.specs.declared.shorthand.RawShorthand.TheVariants.{Tuple}
+use Rattle.larch_traits_items.specs.RawRawWord.{RawWord}
+use Rattle.larch_traits_items.specs.RawShorthandRawField.{RawField}
+use Rattle.larch_traits_items.specs.RawShorthandRawShorthand.{RawShorthand}
+use Rattle.larch_traits_items.specs.RawShorthandRawShorthand.TheVariants.{Tuple}
 use Rattle.larch_term.specs.Operator.{PlainOperator}
 use Rattle.larch_term.specs.Tree.{Tree, app, forest_of, var}
 use Rattle.larch_term.specs.declared.statement.Statement.TheVariants.{Equation, Generated, Partitioned}

@@ -2,7 +2,7 @@
 use Rattle.std.specs.Prelude.{Option, Some, None}
 use Rattle.larch_base.specs.declared.code.Code.TheVariants as code
 use Rattle.larch_base.specs.declared.fault.Fault.{Fault}
-use Rattle.larch_sorts_meaning.specs.Faults.{fault}
+use Rattle.larch_traits_items.specs.SortsMeaningFaults.{fault}
 use Rattle.larch_shorthand.specs.declared.refusal.ExpandRefusal.{ExpandRefusal}
 use Rattle.larch_shorthand.specs.declared.refusal.ExpandRefusal.TheVariants.{FieldTwice, BuiltIn, Memory}
 

@@ -5,13 +5,13 @@ use Rattle.std.specs.List.{list_any}
 use Rattle.larch_base.specs.declared.code.Code.TheVariants.{FieldTwice, BuiltIn}
 use Rattle.larch_base.specs.declared.fault.Fault.{Fault}
 use Rattle.larch_base.specs.declared.position.Pos.{Pos}
-use Rattle.larch_raw.specs.declared.declared.RawWord.{RawWord}
-use Rattle.larch_raw.specs.declared.shorthand.RawField.{RawField}
-use Rattle.larch_raw.specs.declared.shorthand.RawShorthand.{RawShorthand}
-use Rattle.larch_raw.specs.declared.shorthand.RawShorthand.TheVariants.{Enumeration, Tuple, Union}
+use Rattle.larch_traits_items.specs.RawRawWord.{RawWord}
+use Rattle.larch_traits_items.specs.RawShorthandRawField.{RawField}
+use Rattle.larch_traits_items.specs.RawShorthandRawShorthand.{RawShorthand}
+use Rattle.larch_traits_items.specs.RawShorthandRawShorthand.TheVariants.{Enumeration, Tuple, Union}
 use Rattle.larch_term.specs.BuiltIn.{bool_sort}
 use Rattle.larch_term.specs.Operator.{PlainOperator}
-use Rattle.larch_sorts_meaning.specs.Faults.{fault_at, unless}
+use Rattle.larch_traits_items.specs.SortsMeaningFaults.{fault_at, unless}
 use Rattle.larch_shorthand.specs.Enumeration.{enumeration}
 use Rattle.larch_shorthand.specs.Tuple.{tuple}
 use Rattle.larch_shorthand.specs.Union.{union_}

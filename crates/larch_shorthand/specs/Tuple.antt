@@ -1,7 +1,7 @@
 -- What a tuple stands for.
 use Rattle.std.specs.Prelude.{ℕ, suc, List, [], ◌∷◌, ◌++◌, map, codes, decimal}
 use Rattle.std.specs.List.{join_by}
-use Rattle.larch_raw.specs.declared.shorthand.RawField.{RawField}
+use Rattle.larch_traits_items.specs.RawShorthandRawField.{RawField}
 use Rattle.larch_term.specs.Operator.{PlainOperator}
 use Rattle.larch_term.specs.Tree.{Tree, var, app, forest_of}
 use Rattle.larch_term.specs.declared.statement.Statement.{Statement}

@@ -1,6 +1,6 @@
 -- What a union stands for.
 use Rattle.std.specs.Prelude.{ℕ, List, [], ◌∷◌, ◌++◌, map, codes}
-use Rattle.larch_raw.specs.declared.shorthand.RawField.{RawField}
+use Rattle.larch_traits_items.specs.RawShorthandRawField.{RawField}
 use Rattle.larch_term.specs.Operator.{PlainOperator}
 use Rattle.larch_term.specs.Tree.{var}
 use Rattle.larch_term.specs.declared.statement.Statement.{Statement}

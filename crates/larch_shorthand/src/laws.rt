@@ -1,10 +1,10 @@
 //! What holds of all that shorthands stand for, for crates above to cite. No function here does anything.
 ghost use Rattle.std.specs.Prelude.{◌≡◌, All, Ok};
-ghost use Rattle.larch_raw.specs.Worded.{WordedShorthand};
-ghost use Rattle.larch_raw.specs.declared.shorthand.RawShorthand.{RawShorthand};
+ghost use Rattle.larch_traits_items.specs.RawWorded.{WordedShorthand};
+ghost use Rattle.larch_traits_items.specs.RawShorthandRawShorthand.{RawShorthand};
 ghost use Rattle.larch_term.specs.BuiltIn.{IsBuiltIn};
 ghost use Rattle.larch_term.specs.Statement.{IsStatementOver};
-ghost use Rattle.larch_sorts_meaning.specs.Laws.{IsSortOf, StatementSorts};
+ghost use Rattle.larch_traits_items.specs.SortsMeaningLaws.{IsSortOf, StatementSorts};
 ghost use Rattle.larch_traits_items.specs.Laws.{NamesOwn};
 ghost use Rattle.larch_shorthand.specs.Shorthand.{expand};
 ghost use Rattle.larch_shorthand.specs.declared.expansion.Expansion.{Expansion};

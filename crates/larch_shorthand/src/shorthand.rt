@@ -2,7 +2,7 @@ ghost use Rattle.std.specs.Prelude.{◌≡◌, ◌++◌, ◌∷◌, [], false, b
 ghost use Rattle.std.specs.List.{list_any};
 ghost use Rattle.larch_base.specs.Answering.{Answers};
 ghost use Rattle.larch_base.specs.declared.code.Code.TheVariants.{FieldTwice};
-ghost use Rattle.larch_sorts_meaning.specs.Faults.{fault_at, unless};
+ghost use Rattle.larch_traits_items.specs.SortsMeaningFaults.{fault_at, unless};
 ghost use Rattle.larch_shorthand.specs.Shorthand.{expand, expand_operators, field_twice, names_in, names_truth};
 ghost use Rattle.larch_shorthand.specs.Shorthand.{truth_among, twice, wrong_elements, wrong_in};
 ghost use Rattle.larch_shorthand.specs.Refusal.{cause};
@@ -14,8 +14,8 @@ use crate::tuple::{tuple, tuple_operators};
 use crate::union_::{union_, union_operators};
 use indexmap::IndexSet;
 use larch_base::{Memory, Name, Pos, Sequence};
-use larch_raw::{RawField, RawShorthand, RawWord};
 use larch_term::{Operators, Sort};
+use larch_traits_items::larch_raw::{RawField, RawShorthand, RawWord};
 use std::alloc::Global;
 
 /// What a shorthand stands for: its operators, and what is stated of them, each in order. `FieldTwice` stands at the

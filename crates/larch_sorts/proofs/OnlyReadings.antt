@@ -13,24 +13,26 @@ use Rattle.larch_term.specs.Operator.{PlainOperator}
 use Rattle.larch_term.specs.Sorts.{sort_of, sorts_of}
 use Rattle.larch_term.specs.Tree.{Tree, app, forest_of, var}
 use Rattle.larch_term.specs.declared.statement.Statement.TheVariants.{Equation}
-use Rattle.larch_sorts_meaning.specs.Found.{Tells}
+use Rattle.larch_sorts_signature.specs.SortsMeaningFound.{Tells}
 use Rattle.larch_sorts_signature.specs.Makers.{made_place, maker_among, making}
-use Rattle.larch_sorts_meaning.specs.Readings.{ReadAt, ReadsAt, AllRead, IsOnly, Reads, ReadsRight, all_read, one_read}
-use Rattle.larch_sorts_meaning.specs.Readings.{of_sort, variable_sort}
+use Rattle.larch_sorts_signature.specs.SortsMeaningReadings.{ReadAt, ReadsAt, AllRead, IsOnly}
+use Rattle.larch_sorts_signature.specs.SortsMeaningReadings.{Reads, ReadsRight, all_read, one_read}
+use Rattle.larch_sorts_signature.specs.SortsMeaningReadings.{of_sort, variable_sort}
 use Rattle.larch_sorts.specs.Narrow.{application_of}
-use Rattle.larch_sorts_meaning.specs.Parts.{in_sides, parts, sides}
-use Rattle.larch_sorts_meaning.specs.Read.{read_equation}
-use Rattle.larch_sorts_meaning.specs.Scope.{Variables}
+use Rattle.larch_sorts_signature.specs.SortsMeaningParts.{in_sides, parts, sides}
+use Rattle.larch_sorts_signature.specs.SortsMeaningRead.{read_equation}
+use Rattle.larch_sorts_signature.specs.SortsMeaningScope.{Variables}
 use Rattle.larch_sorts.specs.Sides.{ReadsSides}
-use Rattle.larch_sorts_meaning.specs.Signature.{operators_named, taking_part}
-use Rattle.larch_sorts_meaning.specs.Unknown.{unknown_sort}
-use Rattle.larch_sorts_meaning.specs.declared.found.Found.TheVariants.{One}
+use Rattle.larch_sorts_signature.specs.SortsMeaningSignature.{operators_named, taking_part}
+use Rattle.larch_sorts_signature.specs.SortsMeaningUnknown.{unknown_sort}
+use Rattle.larch_sorts_signature.specs.SortsMeaningFoundFound.TheVariants.{One}
 use Rattle.larch_sorts.specs.declared.found.Sides.{Sides}
 use Rattle.larch_sorts_signature.proofs.MakersTold.{makers_tell}
-use Rattle.larch_sorts_meaning.proofs.Parts.{all_parts_have, equation_parts}
+use Rattle.larch_sorts_signature.proofs.SortsMeaningParts.{all_parts_have, equation_parts}
 use Rattle.larch_sorts.proofs.SidesAnswers.{equation_found}
 use Rattle.larch_sorts.proofs.SidesTold.{equal_sides}
-use Rattle.larch_sorts_meaning.proofs.Applications.{from_reads, inside, only_empty, put_together, taken_apart, to_reads}
+use Rattle.larch_sorts_signature.proofs.SortsMeaningApplications.{from_reads, inside, only_empty}
+use Rattle.larch_sorts_signature.proofs.SortsMeaningApplications.{put_together, taken_apart, to_reads}
 use Rattle.larch_sorts.proofs.Tables.{variable_at}
 
 pub not_false : (b : Bool) → not b ≡ false → b ≡ true

@@ -7,15 +7,15 @@ use Rattle.larch_raw.specs.RawTree.{RawTree, RawForest, apply, qualified, raw_fo
 use Rattle.larch_raw.specs.declared.declared.RawWord.{RawWord}
 use Rattle.larch_term.specs.Operator.{PlainOperator}
 use Rattle.larch_term.specs.Tree.{Tree, app, forest_of, var}
-use Rattle.larch_sorts_meaning.specs.Found.{Tells}
+use Rattle.larch_sorts_signature.specs.SortsMeaningFound.{Tells}
 use Rattle.larch_sorts_signature.specs.Makers.{made_place, maker_among, making}
-use Rattle.larch_sorts_meaning.specs.Readings.{ReadAt, ReadsAt, IsOnly, all_read, of_sort, variable_sort}
-use Rattle.larch_sorts_meaning.specs.Scope.{Variables}
-use Rattle.larch_sorts_meaning.specs.Signature.{operators_named, taking_part}
-use Rattle.larch_sorts_meaning.specs.declared.found.Found.TheVariants.{One}
+use Rattle.larch_sorts_signature.specs.SortsMeaningReadings.{ReadAt, ReadsAt, IsOnly, all_read, of_sort, variable_sort}
+use Rattle.larch_sorts_signature.specs.SortsMeaningScope.{Variables}
+use Rattle.larch_sorts_signature.specs.SortsMeaningSignature.{operators_named, taking_part}
+use Rattle.larch_sorts_signature.specs.SortsMeaningFoundFound.TheVariants.{One}
 use Rattle.larch_sorts_signature.proofs.MakersTold.{makers_tell}
 use Rattle.larch_sorts.proofs.OnlyReadings.{take_all, variable_only}
-use Rattle.larch_sorts_meaning.proofs.Applications.{put_together, to_reads}
+use Rattle.larch_sorts_signature.proofs.SortsMeaningApplications.{put_together, to_reads}
 
 -- each of these arguments reads so at its sort
 abbrev pub PickedAll : List PlainOperator → Variables → List RawTree → List (List ℕ) → List Tree → Type 0

@@ -4,17 +4,17 @@ use Rattle.larch_raw.specs.declared.equation.RawEquation.{RawEquation}
 use Rattle.larch_term.specs.Operator.{PlainOperator}
 use Rattle.larch_term.specs.declared.statement.Statement.{Statement}
 use Rattle.larch_term.specs.declared.statement.Statement.TheVariants.{Equation, Generated, Partitioned}
-use Rattle.larch_sorts_meaning.specs.Read.{first_unread, read_equation}
-use Rattle.larch_sorts_meaning.specs.Unknown.{unknown_sort}
-use Rattle.larch_sorts_meaning.specs.Scope.{Variables}
-use Rattle.larch_sorts_meaning.specs.Readings.{ReadsEquation, IsNone}
-use Rattle.larch_sorts_meaning.specs.Found.{Tells}
+use Rattle.larch_sorts_signature.specs.SortsMeaningRead.{first_unread, read_equation}
+use Rattle.larch_sorts_signature.specs.SortsMeaningUnknown.{unknown_sort}
+use Rattle.larch_sorts_signature.specs.SortsMeaningScope.{Variables}
+use Rattle.larch_sorts_signature.specs.SortsMeaningReadings.{ReadsEquation, IsNone}
+use Rattle.larch_sorts_signature.specs.SortsMeaningFound.{Tells}
 use Rattle.larch_sorts.specs.Sides.{ReadsSides}
-use Rattle.larch_sorts_meaning.specs.declared.found.Found.{Found}
-use Rattle.larch_sorts_meaning.specs.declared.found.Found.TheVariants.{One, Several}
+use Rattle.larch_sorts_signature.specs.SortsMeaningFoundFound.{Found}
+use Rattle.larch_sorts_signature.specs.SortsMeaningFoundFound.TheVariants.{One, Several}
 use Rattle.larch_sorts.specs.declared.found.Sides.{Sides}
-use Rattle.larch_sorts_meaning.proofs.Answers.{decided}
-use Rattle.larch_sorts_meaning.proofs.Converse.{equation_decided}
+use Rattle.larch_sorts_signature.proofs.SortsMeaningAnswers.{decided}
+use Rattle.larch_sorts_signature.proofs.SortsMeaningConverse.{equation_decided}
 
 -- sides as an equation
 abbrev pub as_statement : Option (Found Sides) → Option (Found Statement)

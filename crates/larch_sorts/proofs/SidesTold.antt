@@ -13,22 +13,22 @@ use Rattle.larch_term.specs.BuiltIn.{bool_sort}
 use Rattle.larch_term.specs.Truth.{truth}
 use Rattle.larch_term.specs.Equality.{same_tree}
 use Rattle.larch_term.proofs.Decided.{tree_Decides}
-use Rattle.larch_sorts_meaning.specs.Read.{unread_in, first_unread}
-use Rattle.larch_sorts_meaning.specs.Parts.{parts, right_sides, in_sides}
-use Rattle.larch_sorts_meaning.specs.Scope.{Variables}
-use Rattle.larch_sorts_meaning.specs.Readings.{Reads, ReadsRight, ReadsLone}
+use Rattle.larch_sorts_signature.specs.SortsMeaningRead.{unread_in, first_unread}
+use Rattle.larch_sorts_signature.specs.SortsMeaningParts.{parts, right_sides, in_sides}
+use Rattle.larch_sorts_signature.specs.SortsMeaningScope.{Variables}
+use Rattle.larch_sorts_signature.specs.SortsMeaningReadings.{Reads, ReadsRight, ReadsLone}
 use Rattle.larch_sorts_signature.specs.Table.{Entries, reading_at, sorts_in}
-use Rattle.larch_sorts_meaning.specs.Found.{Tells, with_found}
+use Rattle.larch_sorts_signature.specs.SortsMeaningFound.{Tells, with_found}
 use Rattle.larch_sorts.specs.Tabulate.{TableTells}
-use Rattle.larch_sorts_meaning.specs.Refusal.{Unread}
+use Rattle.larch_sorts_signature.specs.SortsMeaningRefusal.{Unread}
 use Rattle.larch_sorts.specs.Sides.{AreFound, found_anywhere, same_sides, pair_sides, sides_found, formula_found}
 use Rattle.larch_sorts.specs.Sides.{ReadsSides}
-use Rattle.larch_sorts_meaning.specs.declared.found.Found.{Found}
-use Rattle.larch_sorts_meaning.specs.declared.found.Found.TheVariants.{One, Several}
+use Rattle.larch_sorts_signature.specs.SortsMeaningFoundFound.{Found}
+use Rattle.larch_sorts_signature.specs.SortsMeaningFoundFound.TheVariants.{One, Several}
 use Rattle.larch_sorts.specs.declared.found.Sides.{Sides}
-use Rattle.larch_sorts_meaning.specs.declared.refusal.ReadRefusal.{ReadRefusal}
-use Rattle.larch_sorts_meaning.proofs.Telling.{tells_same, tells_at_all}
-use Rattle.larch_sorts_meaning.proofs.Unread.{read_first, unread_first}
+use Rattle.larch_sorts_signature.specs.SortsMeaningRefusalReadRefusal.{ReadRefusal}
+use Rattle.larch_sorts_signature.proofs.SortsMeaningTelling.{tells_same, tells_at_all}
+use Rattle.larch_sorts_signature.proofs.SortsMeaningUnread.{read_first, unread_first}
 use Rattle.larch_sorts_signature.proofs.Arguments.{found_in_entry}
 
 pub equal_sides : (p q : Sides) → p.left ≡ q.left → p.right ≡ q.right → p ≡ q

@@ -14,24 +14,27 @@ use Rattle.larch_term.specs.Tree.{Tree, var, app, forest_of}
 use Rattle.larch_term.proofs.TreeLists.{forest_of_inj}
 use Rattle.larch_term.specs.Equality.{same_tree}
 use Rattle.larch_term.proofs.Decided.{tree_Decides}
-use Rattle.larch_sorts_meaning.specs.Signature.{taking_part, operators_named}
-use Rattle.larch_sorts_meaning.specs.Scope.{Variables}
-use Rattle.larch_sorts_meaning.specs.Readings.{variable_sort, Reads, a_variable, of_sort, all_read, ReadAt}
+use Rattle.larch_sorts_signature.specs.SortsMeaningSignature.{taking_part, operators_named}
+use Rattle.larch_sorts_signature.specs.SortsMeaningScope.{Variables}
+use Rattle.larch_sorts_signature.specs.SortsMeaningReadings.{variable_sort, Reads, a_variable}
+use Rattle.larch_sorts_signature.specs.SortsMeaningReadings.{of_sort, all_read, ReadAt}
 use Rattle.larch_sorts_signature.specs.Table.{Entries, reading_at, application}
-use Rattle.larch_sorts_meaning.specs.Found.{Tells}
+use Rattle.larch_sorts_signature.specs.SortsMeaningFound.{Tells}
 use Rattle.larch_sorts.specs.Tabulate.{TableTells, AllTell}
 use Rattle.larch_sorts_signature.specs.Operators.{with_argument, arguments_at, extend_found, with_operator}
 use Rattle.larch_sorts_signature.specs.Operators.{operators_at}
 use Rattle.larch_sorts_signature.specs.Overloads.{AreEnough, IsMade}
-use Rattle.larch_sorts_meaning.specs.declared.found.Found.{Found}
-use Rattle.larch_sorts_meaning.specs.declared.found.Found.TheVariants.{One, Several}
-use Rattle.larch_sorts_meaning.proofs.Telling.{tells_same, tells_merged}
-use Rattle.larch_sorts_meaning.proofs.Applications.{FirstAndRest, none_at_sorts, some_at_none, only_empty, put_together}
-use Rattle.larch_sorts_meaning.proofs.Applications.{taken_apart, ByOperator, ByOperators, from_reads, to_reads}
-use Rattle.larch_sorts_meaning.proofs.Applications.{only_variable, inside}
-use Rattle.larch_sorts_meaning.specs.Read.{unread_in}
-use Rattle.larch_sorts_meaning.specs.Parts.{head_of, parts, inner_parts}
-use Rattle.larch_sorts_meaning.proofs.Unread.{unread_without, read_with}
+use Rattle.larch_sorts_signature.specs.SortsMeaningFoundFound.{Found}
+use Rattle.larch_sorts_signature.specs.SortsMeaningFoundFound.TheVariants.{One, Several}
+use Rattle.larch_sorts_signature.proofs.SortsMeaningTelling.{tells_same, tells_merged}
+use Rattle.larch_sorts_signature.proofs.SortsMeaningApplications.{FirstAndRest, none_at_sorts, some_at_none}
+use Rattle.larch_sorts_signature.proofs.SortsMeaningApplications.{only_empty, put_together}
+use Rattle.larch_sorts_signature.proofs.SortsMeaningApplications.{taken_apart, ByOperator, ByOperators}
+use Rattle.larch_sorts_signature.proofs.SortsMeaningApplications.{from_reads, to_reads}
+use Rattle.larch_sorts_signature.proofs.SortsMeaningApplications.{only_variable, inside}
+use Rattle.larch_sorts_signature.specs.SortsMeaningRead.{unread_in}
+use Rattle.larch_sorts_signature.specs.SortsMeaningParts.{head_of, parts, inner_parts}
+use Rattle.larch_sorts_signature.proofs.SortsMeaningUnread.{unread_without, read_with}
 
 -- an application is read where its arguments are
 pub tells_applied : (f : PlainOperator) (Q : List Tree → Type 0) (R : Tree → Type 0) (found : Found (List Tree))

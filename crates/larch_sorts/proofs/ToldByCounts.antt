@@ -7,29 +7,29 @@ use Rattle.larch_raw.specs.declared.equation.RawRight.{RawRight}
 use Rattle.larch_term.specs.Operator.{PlainOperator}
 use Rattle.larch_term.specs.Tree.{Tree}
 use Rattle.larch_term.specs.Sorts.{sort_of}
-use Rattle.larch_sorts_counts.specs.Count.{IsCount, count_at, sum_to, times}
-use Rattle.larch_sorts_counts.specs.Counts.{AreCounts, CountsTell}
-use Rattle.larch_sorts_meaning.specs.Found.{Tells}
-use Rattle.larch_sorts_meaning.specs.Readings.{ReadsAt, Reads, ReadsLone, ReadsRight}
-use Rattle.larch_sorts_counts.specs.Numbers.{AreNumbers, number_of}
-use Rattle.larch_sorts_meaning.specs.Parts.{in_sides, parts, right_sides}
-use Rattle.larch_sorts_meaning.specs.Read.{first_unread, unread_in}
-use Rattle.larch_sorts_meaning.specs.Scope.{Variables}
+use Rattle.larch_sorts_signature.specs.SortsCountsCount.{IsCount, count_at, sum_to, times}
+use Rattle.larch_sorts_signature.specs.SortsCountsCounts.{AreCounts, CountsTell}
+use Rattle.larch_sorts_signature.specs.SortsMeaningFound.{Tells}
+use Rattle.larch_sorts_signature.specs.SortsMeaningReadings.{ReadsAt, Reads, ReadsLone, ReadsRight}
+use Rattle.larch_sorts_signature.specs.SortsCountsNumbers.{AreNumbers, number_of}
+use Rattle.larch_sorts_signature.specs.SortsMeaningParts.{in_sides, parts, right_sides}
+use Rattle.larch_sorts_signature.specs.SortsMeaningRead.{first_unread, unread_in}
+use Rattle.larch_sorts_signature.specs.SortsMeaningScope.{Variables}
 use Rattle.larch_sorts.specs.Sides.{ReadBoth, ReadsFormula, ReadsSides}
-use Rattle.larch_sorts_meaning.specs.Signature.{taking_part}
-use Rattle.larch_sorts_meaning.specs.Refusal.{Unread}
-use Rattle.larch_sorts_counts.specs.declared.count.Count.{Count}
-use Rattle.larch_sorts_counts.specs.declared.count.Count.TheVariants.{Never}
-use Rattle.larch_sorts_meaning.specs.declared.found.Found.{Found}
+use Rattle.larch_sorts_signature.specs.SortsMeaningSignature.{taking_part}
+use Rattle.larch_sorts_signature.specs.SortsMeaningRefusal.{Unread}
+use Rattle.larch_sorts_signature.specs.SortsCountsCountCount.{Count}
+use Rattle.larch_sorts_signature.specs.SortsCountsCountCount.TheVariants.{Never}
+use Rattle.larch_sorts_signature.specs.SortsMeaningFoundFound.{Found}
 use Rattle.larch_sorts.specs.declared.found.Sides.{Sides}
-use Rattle.larch_sorts_counts.specs.declared.numbers.Numbers.{Numbers}
-use Rattle.larch_sorts_meaning.specs.declared.refusal.ReadRefusal.{ReadRefusal}
+use Rattle.larch_sorts_signature.specs.SortsCountsNumbersNumbers.{Numbers}
+use Rattle.larch_sorts_signature.specs.SortsMeaningRefusalReadRefusal.{ReadRefusal}
 use Rattle.larch_sorts.proofs.SidesTold.{formula_read, sides_read, equal_sides}
-use Rattle.larch_sorts_meaning.proofs.Telling.{tells_same}
-use Rattle.larch_sorts_meaning.proofs.Unread.{read_first}
-use Rattle.larch_sorts_counts.proofs.Counting.{count_all, count_both, count_same, earlier_or_now}
-use Rattle.larch_sorts_counts.proofs.Numbering.{one_number}
-use Rattle.larch_sorts_counts.proofs.CountsTold.{below_next}
+use Rattle.larch_sorts_signature.proofs.SortsMeaningTelling.{tells_same}
+use Rattle.larch_sorts_signature.proofs.SortsMeaningUnread.{read_first}
+use Rattle.larch_sorts_signature.proofs.SortsCountsCounting.{count_all, count_both, count_same, earlier_or_now}
+use Rattle.larch_sorts_signature.proofs.SortsCountsNumbering.{one_number}
+use Rattle.larch_sorts_signature.proofs.SortsCountsCountsTold.{below_next}
 
 -- sides that have sorts of one number
 abbrev pub SidesAt : List (List ℕ) → List PlainOperator → Variables → RawTree → RawTree → ℕ → Sides → Type 0

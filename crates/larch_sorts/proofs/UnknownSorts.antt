@@ -10,8 +10,8 @@ use Rattle.larch_base.proofs.Options.{map_or}
 use Rattle.larch_raw.specs.RawTree.{RawTree, raw_forest}
 use Rattle.larch_raw.specs.declared.declared.RawWord.{RawWord}
 use Rattle.larch_term.specs.Operator.{PlainOperator}
-use Rattle.larch_sorts_known.specs.Sorts.{exists_sort}
-use Rattle.larch_sorts_meaning.specs.Unknown.{unknown_among, sort_words, sort_words_of}
+use Rattle.larch_sorts_signature.specs.SortsKnownSorts.{exists_sort}
+use Rattle.larch_sorts_signature.specs.SortsMeaningUnknown.{unknown_among, sort_words, sort_words_of}
 
 unknown_append : (fs : List PlainOperator) (xs ys : List RawWord)
     → unknown_among fs (xs ++ ys) ≡ option_or (unknown_among fs xs) (unknown_among fs ys)

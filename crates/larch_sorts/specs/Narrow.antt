@@ -2,8 +2,8 @@
 use Rattle.std.specs.Prelude.{List, None, Option, Some}
 use Rattle.larch_term.specs.Operator.{PlainOperator}
 use Rattle.larch_term.specs.Tree.{Tree, app, forest_of}
-use Rattle.larch_sorts_meaning.specs.declared.found.Found.{Found}
-use Rattle.larch_sorts_meaning.specs.declared.found.Found.TheVariants.{One, Several}
+use Rattle.larch_sorts_signature.specs.SortsMeaningFoundFound.{Found}
+use Rattle.larch_sorts_signature.specs.SortsMeaningFoundFound.TheVariants.{One, Several}
 
 -- the one thing that was found, if there is one
 abbrev pub the_one : Option (Found Tree) → Option Tree

@@ -9,14 +9,14 @@ use Rattle.larch_term.specs.Tree.{Tree}
 use Rattle.larch_term.specs.declared.statement.Statement.TheVariants.{Equation}
 use Rattle.larch_term.specs.Equality.{same_tree}
 use Rattle.larch_term.specs.Truth.{truth}
-use Rattle.larch_sorts_meaning.specs.Parts.{sides}
-use Rattle.larch_sorts_meaning.specs.Readings.{Reads, ReadsEquation}
-use Rattle.larch_sorts_meaning.specs.Scope.{Variables}
+use Rattle.larch_sorts_signature.specs.SortsMeaningParts.{sides}
+use Rattle.larch_sorts_signature.specs.SortsMeaningReadings.{Reads, ReadsEquation}
+use Rattle.larch_sorts_signature.specs.SortsMeaningScope.{Variables}
 use Rattle.larch_sorts_signature.specs.Table.{Entries, reading_at, sorts_in}
-use Rattle.larch_sorts_meaning.specs.declared.found.Found.{Found}
-use Rattle.larch_sorts_meaning.specs.declared.found.Found.TheVariants.{One, Several}
+use Rattle.larch_sorts_signature.specs.SortsMeaningFoundFound.{Found}
+use Rattle.larch_sorts_signature.specs.SortsMeaningFoundFound.TheVariants.{One, Several}
 use Rattle.larch_sorts.specs.declared.found.Sides.{Sides}
-use Rattle.larch_sorts_meaning.specs.Found.{with_found}
+use Rattle.larch_sorts_signature.specs.SortsMeaningFound.{with_found}
 
 -- what was found of all sorts
 abbrev pub found_anywhere : Entries → Option (Found Tree)

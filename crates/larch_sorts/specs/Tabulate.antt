@@ -4,9 +4,9 @@ use Rattle.larch_raw.specs.RawTree.{RawTree}
 use Rattle.larch_term.specs.Operator.{PlainOperator}
 use Rattle.larch_term.specs.Sorts.{sort_of}
 use Rattle.larch_term.specs.Tree.{Tree}
-use Rattle.larch_sorts_meaning.specs.Found.{Tells}
-use Rattle.larch_sorts_meaning.specs.Readings.{Reads}
-use Rattle.larch_sorts_meaning.specs.Scope.{Variables}
+use Rattle.larch_sorts_signature.specs.SortsMeaningFound.{Tells}
+use Rattle.larch_sorts_signature.specs.SortsMeaningReadings.{Reads}
+use Rattle.larch_sorts_signature.specs.SortsMeaningScope.{Variables}
 use Rattle.larch_sorts_signature.specs.Table.{Entries, reading_at}
 
 -- a table tells of each sort what has a property and the sort

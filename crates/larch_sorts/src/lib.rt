@@ -15,3 +15,7 @@ mod width;
 
 pub use lone::read_lone;
 pub use read::read_in;
+
+// Passed on to crates above, which then needn't list them.
+pub use larch_sorts_signature;
+pub use larch_sorts_signature::{larch_sorts_known, larch_sorts_meaning};

@@ -1,14 +1,14 @@
 ghost use Rattle.std.specs.Prelude.{◌≡◌, IfOk, IfSome, Some, None, cond, bytes_eq};
 ghost use Rattle.std.specs.Option.{option_copied};
 ghost use Rattle.larch_term.specs.Tree.{var};
-ghost use Rattle.larch_sorts_meaning.specs.Readings.{ReadAt, ReadsAt, IsOnly};
+ghost use Rattle.larch_sorts_signature.specs.SortsMeaningReadings.{ReadAt, ReadsAt, IsOnly};
 ghost use Rattle.larch_sorts.specs.Narrow.{application_of, the_one};
 
 use crate::counted::counted_at;
 use crate::tabulate::table_of;
 use larch_base::{Memory, Name, Sequence};
 use larch_raw::{RawNode, RawTerm, RawTerms};
-use larch_sorts_meaning::{Found, ReadRefusal, Scope, variable_sort};
+use larch_sorts_signature::larch_sorts_meaning::{Found, ReadRefusal, Scope, variable_sort};
 use larch_sorts_signature::table::at;
 use larch_sorts_signature::{Reading, Signature, maker_of};
 use larch_term::{Operator, Sort};

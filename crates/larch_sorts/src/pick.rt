@@ -1,14 +1,14 @@
 ghost use Rattle.std.specs.Option.{option_copied};
 ghost use Rattle.std.specs.Prelude.{◌≡◌, Contains, IfOk, IfSome};
-ghost use Rattle.larch_sorts_meaning.specs.Readings.{ReadAt, ReadsAt};
-ghost use Rattle.larch_sorts_meaning.specs.Signature.{operators_named, taking_part};
+ghost use Rattle.larch_sorts_signature.specs.SortsMeaningReadings.{ReadAt, ReadsAt};
+ghost use Rattle.larch_sorts_signature.specs.SortsMeaningSignature.{operators_named, taking_part};
 
 use crate::narrow::variable_at;
 use larch_base::{Memory, Name, Sequence};
 use larch_raw::{RawNode, RawTerm, RawTerms};
-use larch_sorts_counts::tally::product;
-use larch_sorts_counts::{Count, Counted, Numbered};
-use larch_sorts_meaning::{Found, Scope, variable_sort};
+use larch_sorts_signature::larch_sorts_counts::tally::product;
+use larch_sorts_signature::larch_sorts_counts::{Count, Counted, Numbered};
+use larch_sorts_signature::larch_sorts_meaning::{Found, Scope, variable_sort};
 use larch_sorts_signature::{Reading, Signature, maker_of};
 use larch_term::{Operator, Sort};
 use std::alloc::Global;
@@ -140,7 +140,9 @@ fn operator_by_counts(
 // Where the first of these operators stands that makes the sort of a number of arguments of which each has one reading.
 fn place_of(operators: &[Numbered], arguments: &[Counted], number: usize) -> Option<usize> {
     for i in 0..operators.len() {
-        if operators[i].range == number && is_once(arguments, operators[i].domain.as_slice()) {
+        if operators[i].range as usize == number
+            && is_once(arguments, operators[i].domain.as_slice())
+        {
             return Some(i);
         }
     }
@@ -148,6 +150,6 @@ fn place_of(operators: &[Numbered], arguments: &[Counted], number: usize) -> Opt
 }
 
 // Whether arguments have these numbers, one by one, once.
-fn is_once(arguments: &[Counted], numbers: &[usize]) -> bool {
+fn is_once(arguments: &[Counted], numbers: &[u32]) -> bool {
     matches!(product(arguments, numbers), Count::Once)
 }

@@ -3,13 +3,13 @@ ghost use Rattle.larch_term.specs.BuiltIn.{bool_sort};
 ghost use Rattle.larch_term.specs.Truth.{truth};
 ghost use Rattle.larch_term.specs.Equality.{same_tree};
 ghost use Rattle.larch_sorts_signature.specs.Table.{reading_at, sorts_in};
-ghost use Rattle.larch_sorts_meaning.specs.Found.{merged_by, with_found};
+ghost use Rattle.larch_sorts_signature.specs.SortsMeaningFound.{merged_by, with_found};
 ghost use Rattle.larch_sorts.specs.Sides.{AreFound, found_anywhere, pair_sides, same_sides, sides_found, formula_found};
-ghost use Rattle.larch_sorts_meaning.specs.declared.found.Found.TheVariants.{One, Several};
+ghost use Rattle.larch_sorts_signature.specs.SortsMeaningFoundFound.TheVariants.{One, Several};
 
 use crate::found::Sides;
 use larch_base::Memory;
-use larch_sorts_meaning::Found;
+use larch_sorts_signature::larch_sorts_meaning::Found;
 use larch_sorts_signature::table::{at, copy_found, is_same, join};
 use larch_sorts_signature::{Reading, Table};
 use larch_term::{BuiltIn, Sort, bool_sort};

@@ -1,18 +1,20 @@
 ghost use Rattle.std.specs.Prelude.{◌≡◌, ℕ, List, IfOk, IfErr, Some, None, map, cond, bytes_eq};
 ghost use Rattle.larch_raw.specs.RawTree.{raw_forest};
-ghost use Rattle.larch_sorts_meaning.specs.Read.{unread_in};
-ghost use Rattle.larch_sorts_meaning.specs.Parts.{head_of, parts, parts_of, inner_parts};
-ghost use Rattle.larch_sorts_meaning.specs.Readings.{Reads, variable_sort};
-ghost use Rattle.larch_sorts_meaning.specs.declared.found.Found.TheVariants.{One};
+ghost use Rattle.larch_sorts_signature.specs.SortsMeaningRead.{unread_in};
+ghost use Rattle.larch_sorts_signature.specs.SortsMeaningParts.{head_of, parts, parts_of, inner_parts};
+ghost use Rattle.larch_sorts_signature.specs.SortsMeaningReadings.{Reads, variable_sort};
+ghost use Rattle.larch_sorts_signature.specs.SortsMeaningFoundFound.TheVariants.{One};
 ghost use Rattle.larch_term.specs.Tree.{var};
 ghost use Rattle.larch_sorts.specs.Tabulate.{AllTell, TableTells};
-ghost use Rattle.larch_sorts_meaning.specs.Refusal.{Unread};
+ghost use Rattle.larch_sorts_signature.specs.SortsMeaningRefusal.{Unread};
 ghost use Rattle.larch_sorts_signature.specs.Table.{reading_at};
 
 use larch_base::{Memory, Name, Sequence};
 use larch_raw::{RawNode, RawTerm, RawTerms};
-use larch_sorts_meaning::{Found, ReadRefusal, Scope, head_of, variable_sort};
 use larch_sorts_signature::application::apply_named;
+use larch_sorts_signature::larch_sorts_meaning::{
+    Found, ReadRefusal, Scope, head_of, variable_sort,
+};
 use larch_sorts_signature::table::{narrow_to, single};
 use larch_sorts_signature::{Reading, Signature, Table};
 use larch_term::Sort;

@@ -4,7 +4,7 @@ ghost use Rattle.larch_term.specs.BuiltIn.{bool_sort};
 ghost use Rattle.larch_term.specs.Sorts.{sort_of};
 ghost use Rattle.larch_term.specs.Tree.{Tree};
 ghost use Rattle.larch_term.specs.Truth.{truth};
-ghost use Rattle.larch_sorts_meaning.specs.Readings.{ReadsAt, IsOnly, Reads};
+ghost use Rattle.larch_sorts_signature.specs.SortsMeaningReadings.{ReadsAt, IsOnly, Reads};
 ghost use Rattle.larch_sorts.specs.Sides.{ReadsSides};
 
 use crate::found::Sides;
@@ -12,8 +12,8 @@ use crate::narrow::only_at;
 use crate::sides::truth;
 use larch_base::Memory;
 use larch_raw::{RawEquation, RawNode, RawTerm};
-use larch_sorts_meaning::{Scope, variable_sort};
 use larch_sorts_signature::Signature;
+use larch_sorts_signature::larch_sorts_meaning::{Scope, variable_sort};
 use larch_term::{Sort, bool_sort};
 use std::alloc::Global;
 

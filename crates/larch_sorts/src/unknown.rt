@@ -1,6 +1,7 @@
 ghost use Rattle.std.specs.Prelude.{◌≡◌};
 ghost use Rattle.larch_raw.specs.RawTree.{raw_forest};
-ghost use Rattle.larch_sorts_meaning.specs.Unknown.{unknown_among, unknown_sort, sort_words, sort_words_of};
+ghost use Rattle.larch_sorts_signature.specs.SortsMeaningUnknown.{unknown_among, unknown_sort};
+ghost use Rattle.larch_sorts_signature.specs.SortsMeaningUnknown.{sort_words, sort_words_of};
 
 use larch_base::Pos;
 use larch_raw::{RawEquation, RawNode, RawTerm, RawTerms};

@@ -4,15 +4,15 @@ use Rattle.std.proofs.Common.{bytes_eq, map, length, take, get_or, refl, sym, â—
 use Rattle.std.specs.List.{fold}
 use Rattle.std.specs.Map.{lookup}
 use Rattle.std.proofs.lemmas.List.{length-replicate, length-set, map-append, take_more}
-use Rattle.larch_base.specs.declared.position.Pos.{Pos}
-use Rattle.larch_base.proofs.Members.{contains_cases, contains_here, contains_later, contains_none}
-use Rattle.larch_raw.specs.RawTree.{RawTree, RawForest, apply, qualified, raw_forest}
-use Rattle.larch_raw.specs.declared.declared.RawWord.{RawWord}
-use Rattle.larch_term.specs.Equality.{same_name}
-use Rattle.larch_term.specs.Operator.{PlainOperator, plain}
-use Rattle.larch_term.specs.Sorts.{sort_of}
-use Rattle.larch_term.specs.Tree.{Forest, Tree, app, forest_of, var}
-use Rattle.larch_term.proofs.TreeLists.{forest_of_inj}
+use Rattle.larch_sorts_meaning.specs.BasePositionPos.{Pos}
+use Rattle.larch_sorts_meaning.proofs.BaseMembers.{contains_cases, contains_here, contains_later, contains_none}
+use Rattle.larch_sorts_meaning.specs.RawRawTree.{RawTree, RawForest, apply, qualified, raw_forest}
+use Rattle.larch_sorts_meaning.specs.RawRawWord.{RawWord}
+use Rattle.larch_sorts_meaning.specs.TermEquality.{same_name}
+use Rattle.larch_sorts_meaning.specs.TermOperator.{PlainOperator, plain}
+use Rattle.larch_sorts_meaning.specs.TermSorts.{sort_of}
+use Rattle.larch_sorts_meaning.specs.TermTree.{Forest, Tree, app, forest_of, var}
+use Rattle.larch_sorts_meaning.proofs.TermTreeLists.{forest_of_inj}
 use Rattle.larch_sorts_counts.specs.Count.{IsCount, alone, blank, count_at, counts_made, plus, product, sum_to, times}
 use Rattle.larch_sorts_counts.specs.Count.{with_count}
 use Rattle.larch_sorts_counts.specs.Counts.{AllCounts, AreCounts, CountsTell, AreRead, TellsUnread}

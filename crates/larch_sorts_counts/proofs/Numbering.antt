@@ -9,11 +9,12 @@ use Rattle.std.proofs.lemmas.Bool.{ltb-false}
 use Rattle.std.proofs.lemmas.List.{take_more}
 use Rattle.std.proofs.lemmas.Option.{slice_get-get_or}
 use Rattle.std.proofs.lemmas.Slice.Eq.{bytes_eq-Decides}
-use Rattle.larch_base.proofs.Members.{contained_in_filter, contains_cases, contains_here, contains_later, contains_none}
-use Rattle.larch_base.proofs.Members.{contains_one}
-use Rattle.larch_term.specs.Equality.{same_operator}
-use Rattle.larch_term.specs.Operator.{PlainOperator}
-use Rattle.larch_term.specs.OperatorKey.{operator_Decides}
+use Rattle.larch_sorts_meaning.proofs.BaseMembers.{contained_in_filter, contains_cases, contains_here}
+use Rattle.larch_sorts_meaning.proofs.BaseMembers.{contains_later, contains_none}
+use Rattle.larch_sorts_meaning.proofs.BaseMembers.{contains_one}
+use Rattle.larch_sorts_meaning.specs.TermEquality.{same_operator}
+use Rattle.larch_sorts_meaning.specs.TermOperator.{PlainOperator}
+use Rattle.larch_sorts_meaning.specs.TermOperatorKey.{operator_Decides}
 use Rattle.larch_sorts_counts.specs.Count.{counts_made}
 use Rattle.larch_sorts_counts.specs.Numbers.{AreDifferent, kept_numbers, number_of, numbers_under}
 use Rattle.larch_sorts_counts.specs.declared.count.Count.{Count}

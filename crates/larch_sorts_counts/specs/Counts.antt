@@ -1,8 +1,8 @@
 -- How often terms read at each sort.
 use Rattle.std.specs.Prelude.{List, None, [], length, ℕ, ◌∷◌, ◌≡◌}
-use Rattle.larch_raw.specs.RawTree.{RawTree}
-use Rattle.larch_term.specs.Operator.{PlainOperator}
-use Rattle.larch_term.specs.Sorts.{sort_of}
+use Rattle.larch_sorts_meaning.specs.RawRawTree.{RawTree}
+use Rattle.larch_sorts_meaning.specs.TermOperator.{PlainOperator}
+use Rattle.larch_sorts_meaning.specs.TermSorts.{sort_of}
 use Rattle.larch_sorts_counts.specs.Count.{IsCount, count_at}
 use Rattle.larch_sorts_counts.specs.Numbers.{AreNumbers, number_of}
 use Rattle.larch_sorts_meaning.specs.Read.{unread_in}

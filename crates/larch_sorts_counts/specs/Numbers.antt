@@ -2,7 +2,7 @@
 use Rattle.std.specs.List.{position_or_len}
 use Rattle.std.specs.Map.{lookup}
 use Rattle.std.specs.Prelude.{Contains, IfSome, List, None, Option, Some, [], bytes_eq, length, map, ℕ, ◌∷◌, ◌≡◌}
-use Rattle.larch_term.specs.Operator.{PlainOperator}
+use Rattle.larch_sorts_meaning.specs.TermOperator.{PlainOperator}
 use Rattle.larch_sorts_counts.specs.Count.{counts_made}
 use Rattle.larch_sorts_meaning.specs.Signature.{operators_named}
 use Rattle.larch_sorts_counts.specs.declared.count.Count.{Count}

@@ -1,7 +1,7 @@
 ghost use Rattle.std.specs.Option.{option_copied};
 ghost use Rattle.std.specs.Map.{lookup};
 ghost use Rattle.std.specs.Prelude.{◌≡◌, ◌<◌, [], IfErr, IfOk, IfSome, Some, bytes_eq, length, map};
-ghost use Rattle.larch_raw.specs.RawTree.{raw_forest};
+ghost use Rattle.larch_sorts_meaning.specs.RawRawTree.{raw_forest};
 ghost use Rattle.larch_sorts_counts.specs.Counted.{counts_in};
 ghost use Rattle.larch_sorts_counts.specs.Count.{alone, count_at, counts_made};
 ghost use Rattle.larch_sorts_counts.specs.Counts.{AllCounts, AreCounts, AreRead, TellsUnread};
@@ -12,10 +12,10 @@ ghost use Rattle.larch_sorts_counts.specs.declared.count.Count.TheVariants.{Once
 use crate::count::Count;
 use crate::numbers::Numbers;
 use crate::tally::{SortCounts, alone, count_at, counts_made, total};
-use larch_base::{Memory, Name, Sequence};
-use larch_raw::{RawNode, RawTerm, RawTerms};
+use larch_sorts_meaning::larch_base::{Memory, Name, Sequence};
+use larch_sorts_meaning::larch_raw::{RawNode, RawTerm, RawTerms};
+use larch_sorts_meaning::larch_term::Sort;
 use larch_sorts_meaning::{ReadRefusal, Scope, head_of, variable_sort};
-use larch_term::Sort;
 use std::alloc::Global;
 
 /// How often a term reads at the sort of each number, with the same of its arguments where they were counted.

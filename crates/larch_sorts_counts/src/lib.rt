@@ -3,6 +3,7 @@
 
 mod count;
 mod counts;
+mod number_list;
 mod numbers;
 mod pairing;
 pub mod tally;
@@ -10,5 +11,10 @@ mod words;
 
 pub use count::Count;
 pub use counts::{Counted, counts_of};
+pub use number_list::NumberList;
 pub use numbers::{Numbered, Numbers, all_differ};
 pub use tally::SortCounts;
+
+// Passed on to crates above, which then needn't list them.
+pub use larch_sorts_meaning;
+pub use larch_sorts_meaning::larch_sorts_known;

@@ -4,11 +4,12 @@ ghost use Rattle.std.specs.Prelude.{◌≡◌, ℕ, List, IfOk, IsTrue, bytes_eq
 ghost use Rattle.larch_sorts_counts.specs.Numbers.{AreDifferent, AreWords, number_of, as_numbers, numbers_under};
 ghost use Rattle.larch_sorts_meaning.specs.Signature.{kept_under};
 
+use crate::number_list::NumberList;
 use crate::tally::SortCounts;
 use crate::words::words_of;
 use indexmap::{IndexMap, IndexSet};
-use larch_base::{Memory, Name, Sequence};
-use larch_term::{Operator, Operators, Sort};
+use larch_sorts_meaning::larch_base::{Memory, Name, Sequence};
+use larch_sorts_meaning::larch_term::{Operator, Operators, Sort};
 use std::alloc::Global;
 
 // Names of at most so many operators come before those of more.
@@ -18,9 +19,9 @@ const LIMITS: [usize; 4] = [64, 1_024, 16_384, 1_000_000_000];
 #[derive(Drop)]
 pub struct Numbered {
     /// The numbers of the sorts of its arguments.
-    pub domain: Sequence<usize>,
+    pub domain: NumberList,
     /// The number of the sort that it makes.
-    pub range: usize,
+    pub range: u32,
 }
 
 /// Sorts by number, the operators of each name as the numbers of their sorts, and counts of names without arguments.
@@ -213,25 +214,29 @@ fn all_numbered(
     let mut all = Vec::with_capacity(alloc, operators.len())?;
     for operator in operators {
         let domain = numbers_in(alloc, sorts, operator.domain())?;
-        let range = number_in(sorts, operator.range());
+        let range = small_number_in(sorts, operator.range())?;
         all.push(Numbered { domain, range })?;
     }
     Ok(Sequence::from_vec(all))
 }
 
 // The numbers of sorts.
-fn numbers_in(
-    alloc: Global,
-    sorts: &IndexSet<Sort>,
-    these: &[Sort],
-) -> Result<Sequence<usize>, Memory>
+fn numbers_in(alloc: Global, sorts: &IndexSet<Sort>, these: &[Sort]) -> Result<NumberList, Memory>
     ensures { IfOk result (λ numbers. numbers ≡ map (number_of sorts.now.keys) these.now) }
 {
     let mut numbers = Vec::with_capacity(alloc, these.len())?;
     for sort in these {
-        numbers.push(number_in(sorts, sort))?;
+        let number = small_number_in(sorts, sort)?;
+        numbers.push(number)?;
     }
-    Ok(Sequence::from_vec(numbers))
+    NumberList::of(alloc, &numbers)
+}
+
+// The number of a sort, where there aren't too many sorts.
+fn small_number_in(sorts: &IndexSet<Sort>, sort: &Sort) -> Result<u32, Memory>
+    ensures { IfOk result (λ number. number ≡ number_of sorts.now.keys sort.now) }
+{
+    u32::try_from(number_in(sorts, sort)).map_err(|_| Memory)
 }
 
 // The number of a sort.

@@ -8,7 +8,7 @@ use crate::count::Count;
 use crate::counts::Counted;
 use crate::numbers::Numbered;
 use crate::pairing::count_pairs;
-use larch_base::Memory;
+use larch_sorts_meaning::larch_base::Memory;
 use std::alloc::Global;
 use std::marker::Model;
 
@@ -122,7 +122,7 @@ pub(crate) fn counts_made(
     let mut held = vec![in alloc; Count::Never; end.saturating_sub(first)]?;
     for operator in operators {
         let count = product(arguments, operator.domain.as_slice());
-        add(&mut held, first, numbers, operator.range, count);
+        add(&mut held, first, numbers, operator.range as usize, count);
     }
     Ok(SortCounts {
         numbers,
@@ -160,7 +160,7 @@ pub(crate) fn made_between(numbers: usize, operators: &[Numbered]) -> (usize, us
     let mut first = numbers;
     let mut end = 0;
     for operator in operators {
-        let (least, most) = range_with(first, end, numbers, operator.range);
+        let (least, most) = range_with(first, end, numbers, operator.range as usize);
         first = least;
         end = most;
     }
@@ -183,7 +183,7 @@ fn range_with(first: usize, end: usize, numbers: usize, number: usize) -> (usize
 }
 
 /// How often arguments have these numbers, one by one. It takes no memory.
-pub fn product(arguments: &[Counted], numbers: &[usize]) -> Count
+pub fn product(arguments: &[Counted], numbers: &[u32]) -> Count
     ensures { result ≡ product (map counts_in arguments.now) numbers.now }
 {
     if arguments.len() != numbers.len() {
@@ -191,7 +191,7 @@ pub fn product(arguments: &[Counted], numbers: &[usize]) -> Count
     }
     let mut product = Count::Once;
     for i in 0..numbers.len() {
-        let count = count_at(&arguments[i].counts, numbers[i]);
+        let count = count_at(&arguments[i].counts, numbers[i] as usize);
         product = product.times(count);
         if let Count::Never = product {
             return Count::Never;

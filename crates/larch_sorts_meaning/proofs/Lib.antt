@@ -12,3 +12,6 @@ pub mod Sorted
 pub mod SortsRead
 pub mod Telling
 pub mod Unread
+-- passed on to crates above, which then needn't list the crates that these are of
+pub use Rattle.larch_base.proofs.Members as BaseMembers
+pub use Rattle.larch_term.proofs.TreeLists as TermTreeLists

@@ -12,3 +12,9 @@ pub use found::Found;
 pub use heads::{equation_head, head_of};
 pub use refusal::ReadRefusal;
 pub use scope::{Scope, variable_sort};
+
+// Passed on to crates above, which then needn't list them.
+pub use larch_base;
+pub use larch_raw;
+pub use larch_sorts_known;
+pub use larch_term;

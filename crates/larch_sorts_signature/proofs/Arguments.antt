@@ -9,8 +9,8 @@ use Rattle.larch_base.proofs.Members.{contains_here, contains_later}
 use Rattle.larch_term.specs.Tree.{Tree}
 use Rattle.larch_sorts_signature.specs.Table.{Entries, reading_at, sorts_in}
 use Rattle.larch_sorts_signature.specs.Operators.{arguments_at, with_argument, resume_arguments}
-use Rattle.larch_sorts_meaning.specs.declared.found.Found.{Found}
-use Rattle.larch_sorts_meaning.specs.declared.found.Found.TheVariants.{One, Several}
+use Rattle.larch_sorts_counts.specs.SortsMeaningFoundFound.{Found}
+use Rattle.larch_sorts_counts.specs.SortsMeaningFoundFound.TheVariants.{One, Several}
 
 found_or_later : (s : List ℕ) (e : List ℕ × Found Tree) (es : Entries) (x : Found Tree) (b : Bool) → bytes_eq s e.0 ≡ b
     → (lookup (bytes_eq s) es ≡ Some x → Contains (sorts_in es) s)

@@ -16,7 +16,7 @@ use Rattle.larch_sorts_signature.specs.Domains.{with_sorts}
 use Rattle.larch_sorts_signature.specs.Operators.{arguments_at, operators_at, with_argument}
 use Rattle.larch_sorts_signature.specs.Overloads.{AreEnough, IsMade}
 use Rattle.larch_sorts_signature.specs.Table.{sorts_in, Entries, reading_at}
-use Rattle.larch_sorts_meaning.specs.Signature.{kept}
+use Rattle.larch_sorts_counts.specs.SortsMeaningSignature.{kept}
 use Rattle.larch_sorts_signature.proofs.Arguments.{entries_at, with_none}
 use Rattle.larch_sorts_signature.proofs.Enough.{found_here}
 

@@ -13,7 +13,7 @@ use Rattle.larch_sorts_signature.specs.Operators.{arguments_at, operators_at, wi
 use Rattle.larch_sorts_signature.specs.Overloads.{AreEnough, IsMade}
 use Rattle.larch_sorts_signature.specs.Places.{IsPlaced, has_at, kept_at, same_place, takes_at}
 use Rattle.larch_sorts_signature.specs.Table.{sorts_in, Entries, reading_at}
-use Rattle.larch_sorts_meaning.specs.declared.found.Found.{Found}
+use Rattle.larch_sorts_counts.specs.SortsMeaningFoundFound.{Found}
 use Rattle.larch_sorts_signature.specs.declared.place.Place.{Place}
 use Rattle.larch_sorts_signature.proofs.Arguments.{entries_at, with_none, found_in_entry}
 

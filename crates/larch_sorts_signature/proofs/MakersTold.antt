@@ -6,13 +6,13 @@ use Rattle.larch_base.proofs.Members.{contains_here, contains_later, contains_ca
 use Rattle.larch_term.specs.Equality.{same_operator}
 use Rattle.larch_term.specs.Operator.{PlainOperator}
 use Rattle.larch_term.specs.OperatorKey.{operator_Decides}
-use Rattle.larch_sorts_meaning.specs.Found.{Tells, merged_by}
+use Rattle.larch_sorts_counts.specs.SortsMeaningFound.{Tells, merged_by}
 use Rattle.larch_sorts_signature.specs.Makers.{made_place, maker_among, with_maker}
 use Rattle.larch_sorts_signature.specs.Places.{same_place, place_Decides}
-use Rattle.larch_sorts_meaning.specs.declared.found.Found.{Found}
-use Rattle.larch_sorts_meaning.specs.declared.found.Found.TheVariants.{One}
+use Rattle.larch_sorts_counts.specs.SortsMeaningFoundFound.{Found}
+use Rattle.larch_sorts_counts.specs.SortsMeaningFoundFound.TheVariants.{One}
 use Rattle.larch_sorts_signature.specs.declared.place.Place.{Place}
-use Rattle.larch_sorts_meaning.proofs.Telling.{tells_same, tells_merged}
+use Rattle.larch_sorts_counts.proofs.SortsMeaningTelling.{tells_same, tells_merged}
 
 -- one of these operators, which makes the sort of a place
 abbrev pub IsMaker : Place → List PlainOperator → PlainOperator → Type 0

@@ -5,7 +5,7 @@ use Rattle.std.specs.Cmp.Lexicographic.{pointwise}
 use Rattle.std.specs.Prelude.{Bool, List, [], bytes_eq, filter, fold, map, ℕ, ◌++◌, ◌∷◌, ◌≡◌}
 use Rattle.larch_term.specs.Operator.{PlainOperator}
 use Rattle.larch_sorts_signature.specs.Table.{sorts_in, Entries}
-use Rattle.larch_sorts_meaning.specs.Signature.{kept}
+use Rattle.larch_sorts_counts.specs.SortsMeaningSignature.{kept}
 
 -- whether an operator has this domain
 abbrev pub has_domain : List (List ℕ) → PlainOperator → Bool

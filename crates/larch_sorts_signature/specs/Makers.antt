@@ -4,9 +4,9 @@ use Rattle.std.specs.Prelude.{if◌then◌else◌, List, None, Option, Some, fol
 use Rattle.larch_term.specs.Equality.{same_operator}
 use Rattle.larch_term.specs.Operator.{PlainOperator}
 use Rattle.larch_sorts_signature.specs.Places.{same_place}
-use Rattle.larch_sorts_meaning.specs.Found.{merged_by}
-use Rattle.larch_sorts_meaning.specs.declared.found.Found.{Found}
-use Rattle.larch_sorts_meaning.specs.declared.found.Found.TheVariants.{One}
+use Rattle.larch_sorts_counts.specs.SortsMeaningFound.{merged_by}
+use Rattle.larch_sorts_counts.specs.SortsMeaningFoundFound.{Found}
+use Rattle.larch_sorts_counts.specs.SortsMeaningFoundFound.TheVariants.{One}
 use Rattle.larch_sorts_signature.specs.declared.place.Place.{Place}
 
 -- the place of so many arguments, with a sort that is made of them

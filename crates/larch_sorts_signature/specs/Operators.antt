@@ -4,8 +4,8 @@ use Rattle.std.specs.Prelude.{◌∷◌}
 use Rattle.larch_term.specs.Operator.{PlainOperator}
 use Rattle.larch_term.specs.Tree.{Tree}
 use Rattle.larch_sorts_signature.specs.Table.{Entries, application, merge, reading_at}
-use Rattle.larch_sorts_meaning.specs.declared.found.Found.{Found}
-use Rattle.larch_sorts_meaning.specs.declared.found.Found.TheVariants.{One, Several}
+use Rattle.larch_sorts_counts.specs.SortsMeaningFoundFound.{Found}
+use Rattle.larch_sorts_counts.specs.SortsMeaningFoundFound.TheVariants.{One, Several}
 
 -- a first argument together with the further ones
 abbrev pub with_argument : Option (Found Tree) → Option (Found (List Tree)) → Option (Found (List Tree))

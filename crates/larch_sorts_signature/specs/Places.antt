@@ -7,7 +7,7 @@ use Rattle.std.proofs.Common.{ap}
 use Rattle.std.proofs.lemmas.Bool.Decides.{Decides-eqb, Decides-and, Decides-like}
 use Rattle.std.proofs.lemmas.Slice.Eq.{bytes_eq-Decides}
 use Rattle.larch_term.specs.Operator.{PlainOperator}
-use Rattle.larch_sorts_meaning.specs.Signature.{kept}
+use Rattle.larch_sorts_counts.specs.SortsMeaningSignature.{kept}
 use Rattle.larch_sorts_signature.specs.declared.place.Place.{Place}
 
 -- whether a sort stands at a position among sorts

@@ -4,9 +4,9 @@ use Rattle.std.specs.Prelude.{List, Option, bytes_eq, ℕ, map}
 use Rattle.larch_term.specs.Operator.{PlainOperator}
 use Rattle.larch_term.specs.Tree.{Tree, app, forest_of}
 use Rattle.larch_term.specs.Equality.{same_tree}
-use Rattle.larch_sorts_meaning.specs.declared.found.Found.{Found}
-use Rattle.larch_sorts_meaning.specs.declared.found.Found.TheVariants.{One, Several}
-use Rattle.larch_sorts_meaning.specs.Found.{merged_by}
+use Rattle.larch_sorts_counts.specs.SortsMeaningFoundFound.{Found}
+use Rattle.larch_sorts_counts.specs.SortsMeaningFoundFound.TheVariants.{One, Several}
+use Rattle.larch_sorts_counts.specs.SortsMeaningFound.{merged_by}
 
 -- pairs of a sort and what was found of it
 abbrev pub Entries : Type 0

@@ -5,7 +5,7 @@ ghost use Rattle.larch_sorts_signature.specs.Domains.{domains_of, found_among};
 ghost use Rattle.larch_sorts_signature.specs.Operators.{operators_at, with_operator};
 ghost use Rattle.larch_sorts_signature.specs.Overloads.{IsMade};
 ghost use Rattle.larch_sorts_signature.specs.Places.{IsPlaced};
-ghost use Rattle.larch_sorts_meaning.specs.Signature.{kept};
+ghost use Rattle.larch_sorts_counts.specs.SortsMeaningSignature.{kept};
 ghost use Rattle.larch_sorts_signature.specs.Table.{sorts_in, reading_at};
 
 use crate::domain::Domain;
@@ -17,7 +17,7 @@ use crate::reading::Reading;
 use crate::table::Table;
 use indexmap::IndexMap;
 use larch_base::{Memory, Name};
-use larch_sorts_meaning::Found;
+use larch_sorts_counts::larch_sorts_meaning::Found;
 use std::alloc::Global;
 
 // Arguments of few sorts are looked at first, and those of more only where the fewer leave more operators than that.

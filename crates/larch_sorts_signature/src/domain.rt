@@ -39,12 +39,14 @@ impl Domain {
     pub(crate) fn of(alloc: Global, sorts: &[Sort]) -> Result<Domain, Memory>
         ensures { IfOk result (λ domain. domain ≡ sorts.now) }
     {
-        let mut copies = Sequence::new(alloc);
+        let mut copies = Vec::with_capacity(alloc, sorts.len())?;
         for sort in sorts {
             let copied = sort.copy()?;
             copies.push(copied)?;
         }
-        Ok(Domain { sorts: copies })
+        Ok(Domain {
+            sorts: Sequence::from_vec(copies),
+        })
     }
 
     // The same with a sort behind it.

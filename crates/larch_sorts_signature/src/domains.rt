@@ -1,6 +1,7 @@
 ghost use Rattle.std.specs.Prelude.{◌≡◌, ◌++◌, ◌∷◌, [], ℕ, List, IfOk, OnOk, bytes_eq, cond, filter, map};
 ghost use Rattle.std.specs.Cmp.Lexicographic.{pointwise};
 ghost use Rattle.std.specs.List.{flat_map};
+ghost use Rattle.larch_sorts_counts.specs.SortsMeaningSignature.{kept};
 ghost use Rattle.larch_sorts_signature.specs.Domains.{IsByDomain, domains_of, has_domain, kept_for, with_sorts};
 
 use crate::domain::Domain;
@@ -70,14 +71,24 @@ fn put(
         → kept_for kept.new.entries ss
         ≡ kept_for kept.old.entries ss ++ cond (pointwise bytes_eq domain ss) (operator.now ∷ []) []) }
 {
-    let mut operators = match kept.swap_remove(&domain) {
-        Some(operators) => operators,
-        None => Sequence::new(alloc),
-    };
+    let mut operators = or_room_for_one(alloc, kept.swap_remove(&domain))?;
     let copied = operator.copy()?;
     operators.push(copied)?;
     kept.insert(domain, operators)?;
     Ok(())
+}
+
+// What was kept, or nothing with room for one operator: most domains and places have one.
+pub(crate) fn or_room_for_one(alloc: Global, found: Option<Operators>) -> Result<Operators, Memory>
+    ensures { IfOk result (λ operators. operators ≡ kept found) }
+{
+    match found {
+        Some(operators) => Ok(operators),
+        None => {
+            let items = Vec::with_capacity(alloc, 1)?;
+            Ok(Sequence::from_vec(items))
+        }
+    }
 }
 
 // How many domains there are with a sort of each table.

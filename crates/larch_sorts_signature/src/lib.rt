@@ -20,3 +20,7 @@ pub use places::Places;
 pub use reading::{Reading, term_of};
 pub use signature::{Signature, maker_of};
 pub use table::Table;
+
+// Passed on to crates above, which then needn't list them.
+pub use larch_sorts_counts;
+pub use larch_sorts_counts::{larch_sorts_known, larch_sorts_meaning};

@@ -1,16 +1,16 @@
 ghost use Rattle.std.specs.Prelude.{◌≡◌, IfOk, OnOk, Some, cond};
 ghost use Rattle.std.specs.Option.{option_copied};
 ghost use Rattle.larch_term.specs.Equality.{same_operator};
-ghost use Rattle.larch_sorts_meaning.specs.declared.found.Found.TheVariants.{One};
+ghost use Rattle.larch_sorts_counts.specs.SortsMeaningFoundFound.TheVariants.{One};
 ghost use Rattle.larch_sorts_signature.specs.declared.place.Place.{Place};
 ghost use Rattle.larch_sorts_signature.specs.Makers.{AreMakers, made_place, maker_among, maker_at, with_maker};
 ghost use Rattle.larch_sorts_signature.specs.Places.{same_place};
-ghost use Rattle.larch_sorts_meaning.specs.Found.{merged_by};
+ghost use Rattle.larch_sorts_counts.specs.SortsMeaningFound.{merged_by};
 
 use crate::place::Place;
 use indexmap::IndexMap;
 use larch_base::Memory;
-use larch_sorts_meaning::Found;
+use larch_sorts_counts::larch_sorts_meaning::Found;
 use larch_term::{Operator, same_operator};
 use std::alloc::Global;
 

@@ -1,14 +1,15 @@
 ghost use Rattle.std.specs.Prelude.{◌≡◌, ℕ, List, Option, Some, IfOk, OnOk, fold, map};
 ghost use Rattle.larch_term.specs.Tree.{Tree};
-ghost use Rattle.larch_sorts_meaning.specs.declared.found.Found.{Found};
+ghost use Rattle.larch_sorts_counts.specs.SortsMeaningFoundFound.{Found};
 ghost use Rattle.larch_sorts_signature.specs.Table.{reading_at};
-ghost use Rattle.larch_sorts_signature.specs.Operators.{arguments_at, operators_at, with_operator, with_argument, resume_arguments};
+ghost use Rattle.larch_sorts_signature.specs.Operators.{arguments_at, operators_at, with_operator};
+ghost use Rattle.larch_sorts_signature.specs.Operators.{with_argument, resume_arguments};
 
 use crate::reading::Reading;
 use crate::table::{Table, add, at};
 use indexmap::IndexMap;
 use larch_base::{Memory, Name, Sequence};
-use larch_sorts_meaning::Found;
+use larch_sorts_counts::larch_sorts_meaning::Found;
 use larch_term::{Operator, Sort};
 use std::alloc::Global;
 

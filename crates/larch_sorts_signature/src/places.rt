@@ -3,11 +3,11 @@ ghost use Rattle.larch_sorts_signature.specs.Domains.{IsByDomain};
 ghost use Rattle.larch_sorts_signature.specs.declared.place.Place.{Place};
 ghost use Rattle.larch_sorts_signature.specs.Places.{IsPlaced, kept_at, same_place, takes_at};
 
-use crate::domains::Domains;
+use crate::domains::{Domains, or_room_for_one};
 use crate::place::Place;
 use crate::table::Table;
 use indexmap::IndexMap;
-use larch_base::{Memory, Sequence};
+use larch_base::Memory;
 use larch_term::{Operator, Operators, Sort};
 use std::alloc::Global;
 
@@ -117,10 +117,7 @@ fn put(
     ensures { OnOk result ((p : Place)
         → kept_at kept.new.entries p ≡ kept_at kept.old.entries p ++ cond (same_place place p) (operator.now ∷ []) []) }
 {
-    let mut operators = match kept.swap_remove(&place) {
-        Some(operators) => operators,
-        None => Sequence::new(alloc),
-    };
+    let mut operators = or_room_for_one(alloc, kept.swap_remove(&place))?;
     let copied = operator.copy()?;
     operators.push(copied)?;
     kept.insert(place, operators)?;

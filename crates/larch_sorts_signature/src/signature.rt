@@ -1,7 +1,7 @@
 ghost use Rattle.std.specs.Prelude.{◌≡◌, ℕ, List, ◌++◌, ◌∷◌, [], IfOk, IfSome, OnOk, length, map};
 ghost use Rattle.std.specs.Option.{option_copied};
-ghost use Rattle.larch_sorts_meaning.specs.Signature.{kept, kept_under, taking_part, operators_named};
-ghost use Rattle.larch_sorts_known.specs.Sorts.{exists_sort};
+ghost use Rattle.larch_sorts_counts.specs.SortsMeaningSignature.{kept, kept_under, taking_part, operators_named};
+ghost use Rattle.larch_sorts_counts.specs.SortsKnownSorts.{exists_sort};
 ghost use Rattle.larch_sorts_counts.specs.Numbers.{AreDifferent, AreNumbers, AreWords, as_numbers, numbers_under};
 ghost use Rattle.larch_sorts_signature.specs.Makers.{maker_among, making};
 
@@ -9,9 +9,9 @@ use crate::overloads::Overloads;
 use crate::place::Place;
 use indexmap::IndexMap;
 use larch_base::{Memory, Name, Sequence};
+use larch_sorts_counts::larch_sorts_known::{SortSet, existing_sorts, push_built_ins};
+use larch_sorts_counts::larch_sorts_meaning::Found;
 use larch_sorts_counts::{Numbers, all_differ};
-use larch_sorts_known::{SortSet, existing_sorts, push_built_ins};
-use larch_sorts_meaning::Found;
 use larch_term::{Operator, Operators, Sort, copy_operators};
 use std::alloc::Global;
 use std::marker::Model;
@@ -43,8 +43,8 @@ impl Model for Signature {
     ghost use Rattle.std.specs.Prelude.{List, IfSome, ◌≡◌};
     ghost use Rattle.larch_term.specs.Operator.{PlainOperator};
     ghost use Rattle.larch_sorts_counts.specs.Numbers.{AreNumbers};
-    ghost use Rattle.larch_sorts_meaning.specs.Signature.{IsIndex, taking_part};
-    ghost use Rattle.larch_sorts_known.specs.Sorts.{existing_sorts};
+    ghost use Rattle.larch_sorts_counts.specs.SortsMeaningSignature.{IsIndex, taking_part};
+    ghost use Rattle.larch_sorts_counts.specs.SortsKnownSorts.{existing_sorts};
 
     ghost Value = { List PlainOperator };
 

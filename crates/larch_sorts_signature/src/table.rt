@@ -1,13 +1,13 @@
 ghost use Rattle.std.specs.Prelude.{◌≡◌, ℕ, List, IfOk, OnOk, cond, bytes_eq, Some, None};
 ghost use Rattle.std.specs.Option.{option_copied};
 ghost use Rattle.larch_term.specs.Equality.{same_tree};
-ghost use Rattle.larch_sorts_meaning.specs.declared.found.Found.TheVariants.{One};
+ghost use Rattle.larch_sorts_counts.specs.SortsMeaningFoundFound.TheVariants.{One};
 ghost use Rattle.larch_sorts_signature.specs.Table.{reading_at, merge, application};
 
 use crate::reading::{Reading, same_reading};
 use indexmap::IndexMap;
 use larch_base::{Memory, Name, Sequence};
-use larch_sorts_meaning::Found;
+use larch_sorts_counts::larch_sorts_meaning::Found;
 use larch_term::{Operator, Sort};
 use std::alloc::Global;
 use std::rc::Rc;

@@ -3,8 +3,8 @@ ghost use Rattle.larch_grammar.specs.Machine.{at_head, outside, plainly};
 ghost use Rattle.larch_syntax_heads.specs.Outcome.{outcome};
 ghost use Rattle.larch_syntax_heads.specs.declared.outcome.Outcome.TheVariants.{Stops};
 
+use larch_grammar::larch_grammar_law::Mark;
 use larch_grammar::{Draft, Stack, State, Terminal, Whole};
-use larch_grammar_law::Mark;
 use larch_raw::RawTerm;
 
 /// What a token does in a state, or at a frame that a term comes to.

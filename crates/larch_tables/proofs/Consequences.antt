@@ -2,26 +2,26 @@
 use Rattle.std.proofs.Common.{rules, sym, ◌≡◌, ℕ, ◌-◌, Bool, true, false, cond, List, [], ◌∷◌, All, codes, Some, refl}
 use Rattle.std.proofs.Common.{◌∙◌, ap}
 use Rattle.std.proofs.lemmas.List.Elements.{All-nil, All-cons}
-use Rattle.larch_base.specs.ByNumber.{numbered}
-use Rattle.larch_term.specs.Operator.{PlainOperator}
-use Rattle.larch_term.specs.Tree.{Tree}
-use Rattle.larch_term.specs.BuiltIn.{bool_sort, built_in}
-use Rattle.larch_term.specs.declared.built_in.BuiltIn.TheVariants.{Not, And, Or, Implies, Iff}
-use Rattle.larch_term.specs.Substitution.{image, instance_of, substituted_statement}
-use Rattle.larch_term.specs.declared.substitution.Entry.{Entry}
-use Rattle.larch_term.specs.declared.statement.Statement.{Statement}
-use Rattle.larch_term.specs.declared.statement.Statement.TheVariants.{Equation}
-use Rattle.larch_term.specs.declared.statement.Theory.{Theory}
+use Rattle.larch_calculus.specs.BaseByNumber.{numbered}
+use Rattle.larch_calculus.specs.TermOperator.{PlainOperator}
+use Rattle.larch_calculus.specs.TermTree.{Tree}
+use Rattle.larch_calculus.specs.TermBuiltIn.{bool_sort, built_in}
+use Rattle.larch_calculus.specs.TermBuilt_inBuiltIn.TheVariants.{Not, And, Or, Implies, Iff}
+use Rattle.larch_calculus.specs.TermSubstitution.{image, instance_of, substituted_statement}
+use Rattle.larch_calculus.specs.TermSubstitutionEntry.{Entry}
+use Rattle.larch_calculus.specs.TermStatementStatement.{Statement}
+use Rattle.larch_calculus.specs.TermStatementStatement.TheVariants.{Equation}
+use Rattle.larch_calculus.specs.TermStatementTheory.{Theory}
 use Rattle.larch_calculus.specs.Formula.{apply_one, apply_two, falsity, negation, conjunction, disjunction, implication}
 use Rattle.larch_calculus.specs.Formula.{equivalence, equality}
-use Rattle.larch_term.specs.Truth.{truth}
+use Rattle.larch_calculus.specs.TermTruth.{truth}
 use Rattle.larch_calculus.specs.Identity.{IsIdentity, Proposition, always, never, denied, both, either, implied}
 use Rattle.larch_calculus.specs.Identity.{equivalent, chosen, term_of, agree_itself, value, propositional}
 use Rattle.larch_calculus.specs.Derivable.{Derivable, replace, equal}
 use Rattle.larch_calculus.specs.Letters.{two, x_letter, y_letter}
 use Rattle.larch_calculus.specs.Theories.{IsTermOf}
-use Rattle.larch_term.specs.Sorts.{IsTermOver}
-use Rattle.larch_term.specs.Statement.{IsStatementOver}
+use Rattle.larch_calculus.specs.TermSorts.{IsTermOver}
+use Rattle.larch_calculus.specs.TermStatement.{IsStatementOver}
 use Rattle.larch_tables.specs.Row.{PlainRow}
 use Rattle.larch_tables.specs.Spelling.{x, y, a, b}
 use Rattle.larch_tables.specs.Tables.{deduction_rows}

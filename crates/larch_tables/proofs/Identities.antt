@@ -4,14 +4,14 @@ use Rattle.std.proofs.Common.{rules, ◌≡◌, ℕ, zero, suc, ◌==◌, ◌-�
 use Rattle.std.proofs.Common.{bytes_eq, codes, get_or, Option, Some, None, refl, sym, ◌∙◌, ap, subst}
 use Rattle.std.specs.List.{slice_get, list_all}
 use Rattle.std.proofs.lemmas.Option.{option_and_then_some, cond_some}
-use Rattle.larch_term.specs.Tree.{Tree, Forest, var, app, none, more}
-use Rattle.larch_term.specs.Operator.{name_bytes}
-use Rattle.larch_term.specs.BuiltIn.{built_in_name}
-use Rattle.larch_term.specs.declared.built_in.BuiltIn.{BuiltIn}
-use Rattle.larch_term.specs.declared.built_in.BuiltIn.TheVariants.{True, False, Not, And, Or, Implies, Iff, Equal}
-use Rattle.larch_term.specs.declared.built_in.BuiltIn.TheVariants.{Unequal, If}
-use Rattle.larch_term.specs.declared.statement.Statement.{Statement}
-use Rattle.larch_term.specs.declared.statement.Statement.TheVariants.{Equation, Generated, Partitioned}
+use Rattle.larch_calculus.specs.TermTree.{Tree, Forest, var, app, none, more}
+use Rattle.larch_calculus.specs.TermOperator.{name_bytes}
+use Rattle.larch_calculus.specs.TermBuiltIn.{built_in_name}
+use Rattle.larch_calculus.specs.TermBuilt_inBuiltIn.{BuiltIn}
+use Rattle.larch_calculus.specs.TermBuilt_inBuiltIn.TheVariants.{True, False, Not, And, Or, Implies, Iff, Equal}
+use Rattle.larch_calculus.specs.TermBuilt_inBuiltIn.TheVariants.{Unequal, If}
+use Rattle.larch_calculus.specs.TermStatementStatement.{Statement}
+use Rattle.larch_calculus.specs.TermStatementStatement.TheVariants.{Equation, Generated, Partitioned}
 use Rattle.larch_calculus.specs.Identity.{Proposition, letter, always, never, denied, both, either, implied, equivalent}
 use Rattle.larch_calculus.specs.Identity.{equal, unequal, chosen, term_of, agree, value, propositional, equal_itself}
 use Rattle.larch_calculus.specs.Identity.{equal_exchanged, unequal_denied, chosen_first, chosen_second, chosen_same}
@@ -19,9 +19,9 @@ use Rattle.larch_tables.specs.Row.{PlainRow}
 use Rattle.larch_tables.specs.Spelling.{words}
 use Rattle.larch_tables.specs.Statement.{is_offered, offered_row, IsIdentityStatement}
 use Rattle.larch_tables.specs.Tables.{built_in_rows}
-use Rattle.larch_base.proofs.Bools.{both_true}
-use Rattle.larch_base.proofs.Options.{some_inj}
-use Rattle.larch_base.specs.ByNumber.{numbered}
+use Rattle.larch_calculus.proofs.BaseBools.{both_true}
+use Rattle.larch_calculus.proofs.BaseOptions.{some_inj}
+use Rattle.larch_calculus.specs.BaseByNumber.{numbered}
 
 -- the first of some words that has a name
 abbrev word_named : List ℕ → List BuiltIn → BuiltIn

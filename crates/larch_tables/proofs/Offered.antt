@@ -6,10 +6,10 @@ use Rattle.std.specs.Option.{is_some, option_map, option_and_then, ok_or}
 use Rattle.std.specs.Result.{IfOk, IsErrOf}
 use Rattle.std.specs.List.{AllZip, slice_get}
 use Rattle.std.proofs.lemmas.Slice.Eq.{bytes_eq-Decides}
-use Rattle.larch_base.proofs.Options.{some_inj}
-use Rattle.larch_base.specs.ByNumber.{numbered}
-use Rattle.larch_term.specs.BuiltIn.{bool_sort}
-use Rattle.larch_term.specs.declared.statement.Statement.{Statement}
+use Rattle.larch_calculus.proofs.BaseOptions.{some_inj}
+use Rattle.larch_calculus.specs.BaseByNumber.{numbered}
+use Rattle.larch_calculus.specs.TermBuiltIn.{bool_sort}
+use Rattle.larch_calculus.specs.TermStatementStatement.{Statement}
 use Rattle.larch_tables.specs.Row.{PlainRow}
 use Rattle.larch_tables.specs.Spelling.{equation_of}
 use Rattle.larch_tables.specs.Statement.{is_offered, offered_row}

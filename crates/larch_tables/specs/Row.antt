@@ -1,6 +1,6 @@
 -- Rows: what one says, as the code holds it.
 use Rattle.std.specs.Prelude.{Bool, List, [], ◌∷◌}
-use Rattle.larch_term.specs.declared.statement.Statement.{Statement}
+use Rattle.larch_calculus.specs.TermStatementStatement.{Statement}
 use Rattle.larch_tables.specs.declared.row.Row.{Row}
 use Rattle.larch_tables.specs.declared.row.Entry.{Entry}
 

@@ -2,13 +2,13 @@
 use Rattle.std.specs.Prelude.{ℕ, ◌-◌, nat_le, if◌then◌else◌, List, [], ◌∷◌, codes, length, take, drop, Option, Some}
 use Rattle.std.specs.Prelude.{None, option_map, option_and_then}
 use Rattle.std.specs.List.{slice_get}
-use Rattle.larch_term.specs.Tree.{Tree, var, app, forest_of}
-use Rattle.larch_term.specs.BuiltIn.{bool_sort, built_in, built_in_domain}
-use Rattle.larch_term.specs.declared.built_in.BuiltIn.{BuiltIn}
-use Rattle.larch_term.specs.declared.built_in.BuiltIn.TheVariants.{True, False, Not, And, Or, Implies, Iff, Equal}
-use Rattle.larch_term.specs.declared.built_in.BuiltIn.TheVariants.{Unequal, If}
-use Rattle.larch_term.specs.declared.statement.Statement.{Statement}
-use Rattle.larch_term.specs.declared.statement.Statement.TheVariants.{Equation}
+use Rattle.larch_calculus.specs.TermTree.{Tree, var, app, forest_of}
+use Rattle.larch_calculus.specs.TermBuiltIn.{bool_sort, built_in, built_in_domain}
+use Rattle.larch_calculus.specs.TermBuilt_inBuiltIn.{BuiltIn}
+use Rattle.larch_calculus.specs.TermBuilt_inBuiltIn.TheVariants.{True, False, Not, And, Or, Implies, Iff, Equal}
+use Rattle.larch_calculus.specs.TermBuilt_inBuiltIn.TheVariants.{Unequal, If}
+use Rattle.larch_calculus.specs.TermStatementStatement.{Statement}
+use Rattle.larch_calculus.specs.TermStatementStatement.TheVariants.{Equation}
 use Rattle.larch_tables.specs.declared.row.Side.{Side}
 use Rattle.larch_tables.specs.declared.row.Sides.{Sides}
 

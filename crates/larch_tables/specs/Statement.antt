@@ -1,9 +1,9 @@
 -- How a row is offered.
 use Rattle.std.specs.Prelude.{ℕ, ◌||◌, Bool, if◌then◌else◌, List, bytes_eq, Option, Some, None, option_and_then}
-use Rattle.larch_base.specs.ByNumber.{numbered}
-use Rattle.larch_term.specs.BuiltIn.{bool_sort}
-use Rattle.larch_term.specs.declared.statement.Statement.{Statement}
-use Rattle.larch_term.specs.declared.statement.Statement.TheVariants.{Equation, Generated, Partitioned}
+use Rattle.larch_calculus.specs.BaseByNumber.{numbered}
+use Rattle.larch_calculus.specs.TermBuiltIn.{bool_sort}
+use Rattle.larch_calculus.specs.TermStatementStatement.{Statement}
+use Rattle.larch_calculus.specs.TermStatementStatement.TheVariants.{Equation, Generated, Partitioned}
 use Rattle.larch_calculus.specs.Identity.{IsIdentity}
 use Rattle.larch_tables.specs.Row.{PlainRow}
 use Rattle.larch_tables.specs.Tables.{built_in_rows}

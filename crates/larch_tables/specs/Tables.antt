@@ -2,11 +2,11 @@
 use Rattle.std.specs.Prelude.{◌≡◌, ℕ, Bool, true, false, if◌then◌else◌, List, [], ◌∷◌, length, take, Option, Some}
 use Rattle.std.specs.Prelude.{option_map, option_and_then}
 use Rattle.std.specs.List.{AllZip}
-use Rattle.larch_term.specs.Tree.{Tree}
-use Rattle.larch_term.specs.BuiltIn.{bool_sort}
-use Rattle.larch_term.specs.Truth.{truth}
-use Rattle.larch_term.specs.declared.statement.Statement.{Statement}
-use Rattle.larch_term.specs.declared.statement.Statement.TheVariants.{Equation}
+use Rattle.larch_calculus.specs.TermTree.{Tree}
+use Rattle.larch_calculus.specs.TermBuiltIn.{bool_sort}
+use Rattle.larch_calculus.specs.TermTruth.{truth}
+use Rattle.larch_calculus.specs.TermStatementStatement.{Statement}
+use Rattle.larch_calculus.specs.TermStatementStatement.TheVariants.{Equation}
 use Rattle.larch_calculus.specs.Formula.{falsity, negation, conjunction, disjunction, implication, equivalence}
 use Rattle.larch_calculus.specs.Formula.{equality, inequality, choice}
 use Rattle.larch_tables.specs.Row.{PlainRow}

@@ -1,14 +1,14 @@
 //! What holds of the rows, for crates above to cite. No function here does anything.
 ghost use Rattle.std.specs.Prelude.{◌≡◌, ◌↔◌, ◌≤◌, ℕ, List, All, Some, IsSome};
-ghost use Rattle.larch_base.specs.ByNumber.{numbered};
-ghost use Rattle.larch_term.specs.declared.statement.Statement.{Statement};
-ghost use Rattle.larch_term.specs.declared.statement.Theory.{Theory};
-ghost use Rattle.larch_term.specs.declared.substitution.Entry.{Entry};
+ghost use Rattle.larch_calculus.specs.BaseByNumber.{numbered};
+ghost use Rattle.larch_calculus.specs.TermStatementStatement.{Statement};
+ghost use Rattle.larch_calculus.specs.TermStatementTheory.{Theory};
+ghost use Rattle.larch_calculus.specs.TermSubstitutionEntry.{Entry};
 ghost use Rattle.larch_calculus.specs.Derivable.{Derivable};
 ghost use Rattle.larch_tables.specs.Row.{PlainRow};
 ghost use Rattle.larch_tables.specs.Statement.{offered_row, IsIdentityStatement};
 ghost use Rattle.larch_tables.specs.Tables.{built_in_rows, deduction_rows};
-ghost use Rattle.larch_term.specs.Substitution.{substituted_statement};
+ghost use Rattle.larch_calculus.specs.TermSubstitution.{substituted_statement};
 
 use larch_calculus::laws::{
     arguments, derivable_is_well_sorted, identity_with_terms, transitivity,

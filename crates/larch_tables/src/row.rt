@@ -1,5 +1,5 @@
 ghost use Rattle.std.specs.Prelude.{◌≡◌};
-ghost use Rattle.larch_base.specs.ByNumber.{numbered};
+ghost use Rattle.larch_calculus.specs.BaseByNumber.{numbered};
 
 use std::marker::Model;
 

@@ -1,13 +1,13 @@
 ghost use Rattle.std.specs.Prelude.{◌≡◌, ◌≤◌, ◌-◌, IfOk, None, length};
 ghost use Rattle.std.specs.List.{slice_get};
-ghost use Rattle.larch_term.specs.BuiltIn.{bool_sort};
-ghost use Rattle.larch_term.specs.Tree.{var};
+ghost use Rattle.larch_calculus.specs.TermBuiltIn.{bool_sort};
+ghost use Rattle.larch_calculus.specs.TermTree.{var};
 ghost use Rattle.larch_tables.specs.Spelling.{words, variables, arity, word_before, before, spelling_of, only};
 ghost use Rattle.larch_tables.specs.Spelling.{spelled_side, equation_of};
 
 use crate::row::{Side, Sides};
-use larch_base::{Memory, Name, Sequence};
-use larch_term::{BuiltIn, Sort, Statement, Term, Terms, bool_sort};
+use larch_calculus::larch_base::{Memory, Name, Sequence};
+use larch_calculus::larch_term::{BuiltIn, Sort, Statement, Term, Terms, bool_sort};
 use std::alloc::Global;
 
 // What the codes from 0 on stand for.

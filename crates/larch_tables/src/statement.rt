@@ -1,13 +1,13 @@
 ghost use Rattle.std.specs.Prelude.{◌≡◌, ◌||◌, bytes_eq, IfOk, IsErrOf, Some, None};
-ghost use Rattle.larch_term.specs.BuiltIn.{bool_sort};
+ghost use Rattle.larch_calculus.specs.TermBuiltIn.{bool_sort};
 ghost use Rattle.larch_tables.specs.Statement.{offered_row, IsIdentityStatement};
 ghost use Rattle.larch_tables.specs.declared.statement.RowRefusal.TheVariants.{Memory as wants_memory};
 
 use crate::row::Row;
 use crate::spelling::equation_of;
 use crate::tables::built_in;
-use larch_base::Memory;
-use larch_term::{Sort, Statement};
+use larch_calculus::larch_base::Memory;
+use larch_calculus::larch_term::{Sort, Statement};
 use std::alloc::Global;
 use thiserror::Error;
 

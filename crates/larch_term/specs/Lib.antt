@@ -16,3 +16,7 @@ pub mod TreeCode
 pub mod TreeFalls
 pub mod Truth
 pub mod Variable
+-- passed on to crates above, which then needn't list the crates that these are of
+pub use Rattle.larch_base.specs.ByNumber as BaseByNumber
+pub use Rattle.larch_base.specs.declared.limits.TheConstants as BaseLimitsTheConstants
+pub use Rattle.larch_base.specs.Word as BaseWord

@@ -34,3 +34,6 @@ pub use substitution::{Entry, Substitution, substitute};
 pub use term::{Node, Term, Terms};
 pub use truth::is_truth;
 pub use variable::{Variable, Variables, add_variables, variables};
+
+// Passed on to crates above, which then needn't list them.
+pub use larch_base;

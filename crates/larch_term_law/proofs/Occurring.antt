@@ -9,10 +9,10 @@ use Rattle.std.proofs.lemmas.List.Elements.{Contains-get_or}
 use Rattle.std.proofs.lemmas.List.Quantifiers.{all_pairs_push}
 use Rattle.std.proofs.lemmas.Option.{option_and_then_some}
 use Rattle.std.proofs.lemmas.Slice.Eq.{bytes_eq-Decides}
-use Rattle.larch_base.proofs.Bools.{true_or_false, or_right, or_left}
-use Rattle.larch_base.proofs.Members.{contains_here, contains_later, contains_cases, contains_none, contains_one}
-use Rattle.larch_base.proofs.Members.{contains_left, contains_right, contains_either}
-use Rattle.larch_base.proofs.Options.{some_inj}
+use Rattle.larch_term.proofs.BaseBools.{true_or_false, or_right, or_left}
+use Rattle.larch_term.proofs.BaseMembers.{contains_here, contains_later, contains_cases, contains_none, contains_one}
+use Rattle.larch_term.proofs.BaseMembers.{contains_left, contains_right, contains_either}
+use Rattle.larch_term.proofs.BaseOptions.{some_inj}
 use Rattle.larch_term.specs.Operator.{PlainOperator}
 use Rattle.larch_term.specs.Place.{at, argument}
 use Rattle.larch_term.specs.Tree.{Tree, Forest, var, app, none, more}

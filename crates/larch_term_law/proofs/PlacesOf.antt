@@ -6,10 +6,10 @@ use Rattle.std.proofs.lemmas.List.{map-append, length-append, length-map}
 use Rattle.std.proofs.lemmas.List.Elements.{All-append}
 use Rattle.std.proofs.lemmas.List.Kept.{AllPairs-cons}
 use Rattle.std.proofs.lemmas.Option.{option_and_then_some}
-use Rattle.larch_base.proofs.Lists.{map_map, map_by, all_from, pairs_head, pairs_tail, pairs_map}
-use Rattle.larch_base.proofs.Members.{contains_here, contains_later, contains_cases, contains_none, contains_left}
-use Rattle.larch_base.proofs.Members.{contains_right, contains_either, contains_map, contained_in_map}
-use Rattle.larch_base.proofs.Options.{some_inj}
+use Rattle.larch_term.proofs.BaseLists.{map_map, map_by, all_from, pairs_head, pairs_tail, pairs_map}
+use Rattle.larch_term.proofs.BaseMembers.{contains_here, contains_later, contains_cases, contains_none, contains_left}
+use Rattle.larch_term.proofs.BaseMembers.{contains_right, contains_either, contains_map, contained_in_map}
+use Rattle.larch_term.proofs.BaseOptions.{some_inj}
 use Rattle.larch_term.specs.Operator.{PlainOperator}
 use Rattle.larch_term.specs.Place.{at, argument, preorder, preorder_all, places, places_from}
 use Rattle.larch_term.specs.Tree.{Tree, Forest, var, app, none, more, nodes, nodes_all}

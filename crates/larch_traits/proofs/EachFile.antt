@@ -20,7 +20,7 @@ use Rattle.larch_base.specs.declared.fault.Fault.{Fault}
 use Rattle.larch_base.proofs.Bools.{and_both, and_left, and_right, true_or_false}
 use Rattle.larch_base.proofs.Members.{contains_cases, contains_none}
 use Rattle.larch_raw.specs.declared.equation.RawTrait.{RawTrait}
-use Rattle.larch_flat_sources.specs.Sources.{Table as Sources, files_in, put_text}
+use Rattle.larch_flat.specs.FlatSourcesSources.{Table as Sources, files_in, put_text}
 use Rattle.larch_traits.specs.Files.{Table, names_of, text_of}
 use Rattle.larch_traits.specs.Reading.{file_of, read_files, read_text, trait_text, with_file}
 

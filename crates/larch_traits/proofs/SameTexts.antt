@@ -1,11 +1,11 @@
 -- Files that have the same texts of all that decides a trait have the same trait and the same duties.
 use Rattle.std.proofs.Common.{◌≡◌, sym, ap, ◌∙◌, ◌≤◌, arith, ℕ, length, List}
 use Rattle.std.specs.Option.{option_map}
-use Rattle.larch_flat_meaning.specs.Reached.{AgreeOn}
-use Rattle.larch_flat_meaning.proofs.Reached.{reached_same}
+use Rattle.larch_duties_meaning.specs.FlatMeaningReached.{AgreeOn}
+use Rattle.larch_duties_meaning.proofs.FlatMeaningReached.{reached_same}
 use Rattle.larch_duties_meaning.proofs.Reached.{duties_elsewhere}
-use Rattle.larch_flat_sources.specs.Sources.{Table as Sources, files_in, names_in}
-use Rattle.larch_flat_sources.proofs.Tables.{among, names_length}
+use Rattle.larch_flat.specs.FlatSourcesSources.{Table as Sources, files_in, names_in}
+use Rattle.larch_flat.proofs.FlatSourcesTables.{among, names_length}
 use Rattle.larch_flat.proofs.Elsewhere.{flat_elsewhere}
 use Rattle.larch_traits.specs.Files.{Table}
 use Rattle.larch_traits.specs.Reading.{AreDeciding, HaveSame, duties_of, flat_of, read_files, read_text}

@@ -8,16 +8,16 @@ use Rattle.indexmap.specs.IndexMap.{insert_entry}
 use Rattle.larch_base.specs.FileName.{is_trait_file, stem_of}
 use Rattle.larch_base.specs.declared.code.Code.TheVariants.{Lex}
 use Rattle.larch_base.specs.declared.fault.Fault.{Fault}
-use Rattle.larch_calculus.specs.Renaming.{HasPlainNames}
+use Rattle.larch_duties_meaning.specs.CalculusRenaming.{HasPlainNames}
 use Rattle.larch_lexer.specs.Lexing.{lexing_of}
 use Rattle.larch_lexer.specs.TokenTable.{LexAnswer}
 use Rattle.larch_raw.specs.Worded.{WordedTrait}
 use Rattle.larch_raw.specs.declared.equation.RawTrait.{RawTrait}
 use Rattle.larch_syntax.specs.Read.{trait_of}
 use Rattle.larch_syntax.proofs.Words.{lexed_words, read_words}
-use Rattle.larch_traits_items.specs.Steps.{after}
-use Rattle.larch_traits_items.proofs.Kept.{after_was}
-use Rattle.larch_flat_meaning.specs.Laws.{AreWorded}
+use Rattle.larch_base_meaning.specs.Steps.{after}
+use Rattle.larch_duties_meaning.proofs.TraitsItemsKept.{after_was}
+use Rattle.larch_duties_meaning.specs.FlatMeaningLaws.{AreWorded}
 use Rattle.larch_duties_meaning.specs.Claims.{claims_in, duty_of}
 use Rattle.larch_duties_meaning.specs.Duties.{Duties, all_duties, duties}
 use Rattle.larch_duties_meaning.specs.Laws.{IsDutyInWords, IsSoundDuty}
@@ -25,7 +25,7 @@ use Rattle.larch_duties_meaning.proofs.Claims.{each_has}
 use Rattle.larch_duties_meaning.proofs.Plain.{duties_plain}
 use Rattle.larch_duties_meaning.proofs.Sound.{duties_sound}
 use Rattle.larch_duties_meaning.proofs.Words.{duties_words}
-use Rattle.larch_flat_sources.specs.Sources.{Table as Sources, files_in, put_text}
+use Rattle.larch_flat.specs.FlatSourcesSources.{Table as Sources, files_in, put_text}
 use Rattle.larch_flat.specs.Parts.{flat_trait}
 use Rattle.larch_traits.specs.Files.{Table, names_of, text_of}
 use Rattle.larch_traits.specs.Reading.{duties_of, read_files, read_text, with_file}

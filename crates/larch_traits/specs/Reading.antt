@@ -9,12 +9,12 @@ use Rattle.larch_lexer.specs.Lexing.{lexing_of}
 use Rattle.larch_lexer.specs.TokenList.{TokenList}
 use Rattle.larch_raw.specs.declared.equation.RawTrait.{RawTrait}
 use Rattle.larch_syntax.specs.Read.{trait_of}
-use Rattle.larch_traits_items.specs.Steps.{after}
-use Rattle.larch_flat_meaning.specs.Flat.{FlatTrait}
-use Rattle.larch_flat_meaning.specs.Reached.{AreReached}
-use Rattle.larch_flat_meaning.specs.Stops.{Stop}
+use Rattle.larch_base_meaning.specs.Steps.{after}
+use Rattle.larch_duties_meaning.specs.FlatMeaningFlat.{FlatTrait}
+use Rattle.larch_duties_meaning.specs.FlatMeaningReached.{AreReached}
+use Rattle.larch_duties_meaning.specs.FlatMeaningStops.{Stop}
 use Rattle.larch_duties_meaning.specs.Duties.{Duties, duties_named}
-use Rattle.larch_flat_sources.specs.Sources.{Table as Sources, files_in, put_text}
+use Rattle.larch_flat.specs.FlatSourcesSources.{Table as Sources, files_in, put_text}
 use Rattle.larch_flat.specs.Parts.{flat_trait}
 use Rattle.larch_traits.specs.Files.{Table, names_of, text_of}
 

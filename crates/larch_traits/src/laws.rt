@@ -2,18 +2,19 @@
 //! anything.
 ghost use Rattle.std.specs.Prelude.{◌≡◌, ℕ, List, All, Ok};
 ghost use Rattle.std.specs.Option.{option_map};
-ghost use Rattle.larch_calculus.specs.Renaming.{HasPlainNames};
-ghost use Rattle.larch_sorts_meaning.specs.Laws.{OperatorSorts, StatementSorts, StatementVariables};
-ghost use Rattle.larch_traits_items.specs.Laws.{IsWord};
+ghost use Rattle.larch_duties_meaning.specs.CalculusRenaming.{HasPlainNames};
+ghost use Rattle.larch_duties_meaning.specs.SortsMeaningLaws.{OperatorSorts, StatementSorts, StatementVariables};
+ghost use Rattle.larch_base_meaning.specs.Word.{IsWord};
 ghost use Rattle.larch_term.specs.Statement.{IsTheory};
-ghost use Rattle.larch_flat_meaning.specs.Flat.{FlatTrait, theory_of};
-ghost use Rattle.larch_flat_meaning.specs.Laws.{IsInWords, IsStatedOver, IsTold};
+ghost use Rattle.larch_duties_meaning.specs.FlatMeaningFlat.{FlatTrait, theory_of};
+ghost use Rattle.larch_duties_meaning.specs.FlatMeaningLaws.{IsInWords, IsStatedOver, IsTold};
 ghost use Rattle.larch_duties_meaning.specs.Claims.{claims_in, duty_of};
 ghost use Rattle.larch_duties_meaning.specs.Duties.{Duties, all_duties};
 ghost use Rattle.larch_duties_meaning.specs.Laws.{IsDutyInWords, IsSoundDuty};
-ghost use Rattle.larch_flat_sources.specs.Sources.{files_in};
+ghost use Rattle.larch_flat.specs.FlatSourcesSources.{files_in};
 ghost use Rattle.larch_traits.specs.Files.{Table};
-ghost use Rattle.larch_traits.specs.Reading.{AreDeciding, HaveSame, duties_of, flat_of, read_files, read_text, trait_text};
+ghost use Rattle.larch_traits.specs.Reading.{AreDeciding, HaveSame, duties_of, flat_of};
+ghost use Rattle.larch_traits.specs.Reading.{read_files, read_text, trait_text};
 
 /// There is an answer for each name: references are followed deep enough.
 pub fn each_flat_trait_is_told()

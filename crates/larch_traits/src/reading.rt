@@ -1,16 +1,16 @@
 ghost use Rattle.std.specs.Prelude.{◌≡◌, ◌≤◌, length, IfOk, OnOk, Some};
 ghost use Rattle.larch_base.specs.Answering.{Answers};
 ghost use Rattle.larch_base.specs.declared.limits.TheConstants.{MAX_FILE_BYTES};
-ghost use Rattle.larch_traits_items.specs.Refusal.{cause};
+ghost use Rattle.larch_duties_meaning.specs.TraitsItemsRefusal.{cause};
 ghost use Rattle.larch_syntax.specs.Read.{trait_of};
 ghost use Rattle.larch_traits.specs.Reading.{read_files, read_text, with_file};
 
 use crate::files::Files;
 use larch_base::{Code, Fault, FileName, Memory, Name};
-use larch_flat_sources::Sources;
+use larch_duties_meaning::larch_traits_items::TraitRefusal;
+use larch_flat::larch_flat_sources::Sources;
 use larch_lexer::{LexRefusal, Tokens, lex_lsl};
 use larch_syntax::{RawTrait, SyntaxRefusal, read_trait};
-use larch_traits_items::TraitRefusal;
 use std::alloc::Global;
 
 /// What is read of the trait files, by their stems. It takes as long as their texts are.

@@ -8,8 +8,8 @@ use Rattle.larch_base.specs.declared.position.Pos.{Pos}
 use Rattle.larch_base.proofs.Lists.{all_from}
 use Rattle.larch_base.proofs.Members.{contains_here, contains_later}
 use Rattle.larch_base.proofs.Options.{some_inj}
-use Rattle.larch_sorts_meaning.specs.Faults.{fault_at, unless}
-use Rattle.larch_traits_items.specs.Steps.{after, all_behind, all_taken, each, each_several, first_position, one_behind}
+use Rattle.larch_sorts.specs.SortsMeaningFaults.{fault_at, unless}
+use Rattle.larch_base_meaning.specs.Steps.{after, all_behind, all_taken, each, each_several, first_position, one_behind}
 
 abbrev Same : (A E : Type 0) → Result A E → Result A E → Type 0
 Same A E r q = r ≡ q

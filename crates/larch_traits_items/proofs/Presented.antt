@@ -8,7 +8,7 @@ use Rattle.larch_term.specs.declared.statement.Statement.{Statement}
 use Rattle.larch_traits_items.specs.Declarations.{declared_operators}
 use Rattle.larch_traits_items.specs.Items.{items_state}
 use Rattle.larch_traits_items.specs.Presentation.{presentation_of}
-use Rattle.larch_traits_items.specs.Steps.{after}
+use Rattle.larch_base_meaning.specs.Steps.{after}
 use Rattle.larch_traits_items.proofs.Steps.{told_weaker}
 
 module _ (raw : RawTrait) (fs gs : List PlainOperator) (items : List RawItem)

@@ -27,22 +27,23 @@ use Rattle.larch_term.specs.Statement.{IsStatementOver}
 use Rattle.larch_term.specs.declared.statement.Statement.{Statement}
 use Rattle.larch_term.specs.declared.statement.Statement.TheVariants as statement
 use Rattle.larch_term.proofs.BuiltIns.{is_built_in_Decides}
-use Rattle.larch_sorts_known.specs.Sorts.{exists_sort}
-use Rattle.larch_sorts_meaning.specs.Faults.{fault, fault_at}
-use Rattle.larch_sorts_meaning.specs.Laws.{IsSortOf, OperatorSorts, StatementSorts, StatementVariables}
-use Rattle.larch_sorts_meaning.specs.Read.{read_equation}
-use Rattle.larch_sorts_meaning.specs.Readings.{ReadsEquation}
-use Rattle.larch_sorts_meaning.specs.Scope.{Variables, sort_in}
-use Rattle.larch_sorts_meaning.proofs.Existing.{any_contained, exists_Decides}
-use Rattle.larch_sorts_meaning.proofs.ReadAnswers.{equation_ok}
-use Rattle.larch_sorts_meaning.proofs.Sorted.{statement_in_scope, statement_over}
-use Rattle.larch_sorts_meaning.proofs.SortsRead.{own_sorts, statement_names, statement_sorts_exist}
+use Rattle.larch_sorts.specs.SortsKnownSorts.{exists_sort}
+use Rattle.larch_sorts.specs.SortsMeaningFaults.{fault, fault_at}
+use Rattle.larch_sorts.specs.SortsMeaningLaws.{IsSortOf, OperatorSorts, StatementSorts, StatementVariables}
+use Rattle.larch_sorts.specs.SortsMeaningRead.{read_equation}
+use Rattle.larch_sorts.specs.SortsMeaningReadings.{ReadsEquation}
+use Rattle.larch_sorts.specs.SortsMeaningScope.{Variables, sort_in}
+use Rattle.larch_sorts.proofs.SortsMeaningExisting.{any_contained, exists_Decides}
+use Rattle.larch_sorts.proofs.SortsMeaningReadAnswers.{equation_ok}
+use Rattle.larch_sorts.proofs.SortsMeaningSorted.{statement_in_scope, statement_over}
+use Rattle.larch_sorts.proofs.SortsMeaningSortsRead.{own_sorts, statement_names, statement_sorts_exist}
 use Rattle.larch_traits_items.specs.Declarations.{declared_operators, declared_by, fits, operator_of, own_operator}
 use Rattle.larch_traits_items.specs.Items.{clause_statement, clause_states, item_states, items_state}
-use Rattle.larch_traits_items.specs.Laws.{BindsWords, DeclaresWords, IsWord, NamesOwn}
+use Rattle.larch_base_meaning.specs.Word.{IsWord}
+use Rattle.larch_traits_items.specs.Laws.{BindsWords, DeclaresWords, NamesOwn}
 use Rattle.larch_traits_items.specs.References.{all_same, clause_code, found_or, is_meant, is_wanted, only_operator}
 use Rattle.larch_traits_items.specs.References.{operator_named, operators_named, suits, wanted_of}
-use Rattle.larch_traits_items.specs.Steps.{after, all_taken, each, first_position}
+use Rattle.larch_base_meaning.specs.Steps.{after, all_taken, each, first_position}
 use Rattle.larch_traits_items.specs.Variables.{variables_declared, with_declared}
 use Rattle.larch_traits_items.proofs.Kept.{Any, after_was, all_any, each_kept, found_is, kept, no_fault_is, not_false}
 use Rattle.larch_traits_items.proofs.Kept.{ok_inj, several_kept, unless_was}

@@ -13,13 +13,14 @@ use Rattle.larch_term.specs.Tree.{Tree, Forest, var, app, none, more}
 use Rattle.larch_term.specs.declared.statement.Statement.{Statement}
 use Rattle.larch_term.specs.declared.statement.Statement.TheVariants.{Equation, Generated, Partitioned}
 use Rattle.larch_term.specs.declared.statement.Theory.{Theory}
-use Rattle.larch_sorts_meaning.specs.Laws.{ForestSorts, IsSortOf, OperatorSorts, StatementSorts, StatementVariables}
-use Rattle.larch_sorts_meaning.specs.Laws.{TermSorts, sorts_of_operator}
+use Rattle.larch_sorts.specs.SortsMeaningLaws.{ForestSorts, IsSortOf, OperatorSorts, StatementSorts, StatementVariables}
+use Rattle.larch_sorts.specs.SortsMeaningLaws.{TermSorts, sorts_of_operator}
 use Rattle.larch_traits_items.specs.Declarations.{declared_operators}
 use Rattle.larch_traits_items.specs.Items.{item_states, items_state}
-use Rattle.larch_traits_items.specs.Laws.{BindsWords, DeclaresWords, IsWord, NamesOwn}
+use Rattle.larch_base_meaning.specs.Word.{IsWord}
+use Rattle.larch_traits_items.specs.Laws.{BindsWords, DeclaresWords, NamesOwn}
 use Rattle.larch_traits_items.specs.Presentation.{presentation_of}
-use Rattle.larch_traits_items.specs.Steps.{after}
+use Rattle.larch_base_meaning.specs.Steps.{after}
 use Rattle.larch_traits_items.proofs.Kept.{after_was, ok_inj}
 use Rattle.larch_traits_items.proofs.Stated.{IsStated, declared_own, declared_words, item_is, items_are, items_bind}
 

@@ -7,8 +7,8 @@ use Rattle.larch_raw.specs.declared.declared.RawForm.{RawForm}
 use Rattle.larch_raw.specs.declared.declared.RawSig.{RawSig}
 use Rattle.larch_term.specs.Operator.{PlainOperator, plain}
 use Rattle.larch_term.specs.BuiltIn.{is_built_in}
-use Rattle.larch_sorts_meaning.specs.Faults.{fault, fault_at, unless}
-use Rattle.larch_traits_items.specs.Steps.{each, each_several, first_position}
+use Rattle.larch_sorts.specs.SortsMeaningFaults.{fault, fault_at, unless}
+use Rattle.larch_base_meaning.specs.Steps.{each, each_several, first_position}
 
 -- a form's markers fit the domain: a bare word fits any
 abbrev pub fits : RawSig → RawForm → Bool

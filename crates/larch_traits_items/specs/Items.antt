@@ -13,11 +13,11 @@ use Rattle.larch_raw.specs.declared.equation.RawVar.{RawVar}
 use Rattle.larch_term.specs.Operator.{PlainOperator}
 use Rattle.larch_term.specs.declared.statement.Statement.{Statement}
 use Rattle.larch_term.specs.declared.statement.Statement.TheVariants as statement
-use Rattle.larch_sorts_known.specs.Sorts.{exists_sort}
-use Rattle.larch_sorts_meaning.specs.Faults.{fault}
-use Rattle.larch_sorts_meaning.specs.Read.{read_equation}
+use Rattle.larch_sorts.specs.SortsKnownSorts.{exists_sort}
+use Rattle.larch_sorts.specs.SortsMeaningFaults.{fault}
+use Rattle.larch_sorts.specs.SortsMeaningRead.{read_equation}
 use Rattle.larch_traits_items.specs.References.{operators_named}
-use Rattle.larch_traits_items.specs.Steps.{after, each, each_several}
+use Rattle.larch_base_meaning.specs.Steps.{after, each, each_several}
 use Rattle.larch_traits_items.specs.Variables.{variables_declared}
 
 -- the statement of a clause of this sort with these operators

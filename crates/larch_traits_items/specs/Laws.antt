@@ -1,6 +1,6 @@
 -- What laws say of traits as they are written, and of what they present.
-use Rattle.std.specs.Prelude.{◌≡◌, ℕ, true, List, All, Contains}
-use Rattle.larch_base.specs.Word.{is_word}
+use Rattle.std.specs.Prelude.{List, All, Contains}
+use Rattle.larch_base_meaning.specs.Word.{IsWord}
 use Rattle.larch_raw.specs.declared.declared.RawDecl.{RawDecl}
 use Rattle.larch_raw.specs.declared.equation.RawItem.{RawItem}
 use Rattle.larch_raw.specs.declared.equation.RawItem.TheVariants.{Clause, Equations}
@@ -13,10 +13,6 @@ abbrev pub NamesOwn : List PlainOperator → Statement → Type 0
 NamesOwn fs (Equation l r) = Unit {0}
 NamesOwn fs (Generated s gs) = All (Contains fs) gs
 NamesOwn fs (Partitioned s gs) = All (Contains fs) gs
-
--- the bytes are a word
-abbrev pub IsWord : List ℕ → Type 0
-IsWord n = is_word n ≡ true
 
 -- the sorts of a declaration are words
 abbrev pub DeclaresWords : RawDecl → Type 0

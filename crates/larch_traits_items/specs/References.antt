@@ -10,9 +10,9 @@ use Rattle.larch_raw.specs.declared.equation.ClauseKind.{ClauseKind}
 use Rattle.larch_raw.specs.declared.equation.ClauseKind.TheVariants.{Generated, Partitioned}
 use Rattle.larch_term.specs.Equality.{same_operator}
 use Rattle.larch_term.specs.Operator.{OperatorName, PlainOperator, plain, boxed}
-use Rattle.larch_sorts_meaning.specs.Faults.{fault}
+use Rattle.larch_sorts.specs.SortsMeaningFaults.{fault}
 use Rattle.larch_traits_items.specs.Declarations.{operator_of}
-use Rattle.larch_traits_items.specs.Steps.{each}
+use Rattle.larch_base_meaning.specs.Steps.{each}
 use Rattle.larch_traits_items.specs.declared.references.Wanted.{Wanted}
 
 -- the one operator that a reference with a signature means

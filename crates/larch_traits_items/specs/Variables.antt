@@ -4,10 +4,10 @@ use Rattle.larch_base.specs.declared.code.Code.TheVariants.{UnknownSort, Variabl
 use Rattle.larch_base.specs.declared.fault.Fault.{Fault}
 use Rattle.larch_raw.specs.declared.equation.RawVar.{RawVar}
 use Rattle.larch_term.specs.Operator.{PlainOperator}
-use Rattle.larch_sorts_known.specs.Sorts.{exists_sort}
-use Rattle.larch_sorts_meaning.specs.Faults.{fault, fault_at, unless}
-use Rattle.larch_sorts_meaning.specs.Scope.{Variables, sort_in}
-use Rattle.larch_traits_items.specs.Steps.{all_taken, first_position}
+use Rattle.larch_sorts.specs.SortsKnownSorts.{exists_sort}
+use Rattle.larch_sorts.specs.SortsMeaningFaults.{fault, fault_at, unless}
+use Rattle.larch_sorts.specs.SortsMeaningScope.{Variables, sort_in}
+use Rattle.larch_base_meaning.specs.Steps.{all_taken, first_position}
 
 -- the variables with one more behind them, unless its name is there
 abbrev pub with_declared : RawVar → Variables → Result Variables Fault

@@ -2,7 +2,7 @@ ghost use Rattle.std.specs.Prelude.{◌≡◌, not, map, IfOk};
 ghost use Rattle.larch_base.specs.Answering.{Answers};
 ghost use Rattle.larch_traits_items.specs.Declarations.{declared_operators, declared_by, fits, operator_of, own_operator};
 ghost use Rattle.larch_traits_items.specs.Refusal.{cause};
-ghost use Rattle.larch_traits_items.specs.Steps.{each, first_position};
+ghost use Rattle.larch_base_meaning.specs.Steps.{each, first_position};
 
 use crate::append::append;
 use crate::refusal::TraitRefusal;

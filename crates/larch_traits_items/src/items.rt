@@ -1,10 +1,11 @@
 ghost use Rattle.std.specs.Prelude.{◌≡◌, IfOk, IfSome};
 ghost use Rattle.larch_base.specs.Answering.{Answers};
-ghost use Rattle.larch_sorts_meaning.specs.Read.{read_equation};
+ghost use Rattle.larch_sorts.specs.SortsMeaningRead.{read_equation};
 ghost use Rattle.larch_traits_items.specs.Index.{IsIndex};
-ghost use Rattle.larch_traits_items.specs.Items.{clause_statement, clause_states, equations_state, item_states, items_state};
+ghost use Rattle.larch_traits_items.specs.Items.{clause_statement, clause_states, equations_state};
+ghost use Rattle.larch_traits_items.specs.Items.{item_states, items_state};
 ghost use Rattle.larch_traits_items.specs.Refusal.{cause};
-ghost use Rattle.larch_traits_items.specs.Steps.{each};
+ghost use Rattle.larch_base_meaning.specs.Steps.{each};
 
 use crate::append::append;
 use crate::index::Index;
@@ -13,9 +14,9 @@ use crate::refusal::TraitRefusal;
 use crate::variables::declare_variables;
 use larch_base::{Code, Memory, Sequence};
 use larch_raw::{ClauseKind, RawEquation, RawItem, RawOpRef, RawVar, RawWord};
+use larch_sorts::larch_sorts_meaning::{ReadRefusal, Scope};
+use larch_sorts::larch_sorts_signature::Signature;
 use larch_sorts::read_in;
-use larch_sorts_meaning::{ReadRefusal, Scope};
-use larch_sorts_signature::Signature;
 use larch_term::{Operators, Sort, Statement, Statements};
 use std::alloc::Global;
 

@@ -8,9 +8,10 @@ ghost use Rattle.larch_term.specs.Operator.{PlainOperator};
 ghost use Rattle.larch_term.specs.Statement.{IsStatementOver, IsTheory, IsWellSortedTheory};
 ghost use Rattle.larch_term.specs.declared.statement.Statement.{Statement};
 ghost use Rattle.larch_term.specs.declared.statement.Theory.{Theory};
-ghost use Rattle.larch_sorts_meaning.specs.Laws.{IsSortOf, StatementSorts, StatementVariables};
+ghost use Rattle.larch_sorts.specs.SortsMeaningLaws.{IsSortOf, StatementSorts, StatementVariables};
 ghost use Rattle.larch_traits_items.specs.Items.{item_states};
-ghost use Rattle.larch_traits_items.specs.Laws.{IsWord, NamesOwn};
+ghost use Rattle.larch_base_meaning.specs.Word.{IsWord};
+ghost use Rattle.larch_traits_items.specs.Laws.{NamesOwn};
 ghost use Rattle.larch_traits_items.specs.Presentation.{presentation_of};
 
 /// What an item states over operators is well sorted over them, its clauses name these alone, and each sort in it is

@@ -17,3 +17,8 @@ pub use presentation::present;
 pub use references::find_operator;
 pub use refusal::TraitRefusal;
 pub use variables::declare_variables;
+
+// Passed on to crates above, which then needn't list them.
+pub use larch_raw;
+pub use larch_sorts;
+pub use larch_sorts::{larch_sorts_known, larch_sorts_meaning, larch_sorts_signature};

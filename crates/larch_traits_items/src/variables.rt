@@ -1,15 +1,15 @@
 ghost use Rattle.std.specs.Prelude.{◌≡◌, [], not};
 ghost use Rattle.larch_base.specs.Answering.{Answers};
-ghost use Rattle.larch_sorts_known.specs.Sorts.{exists_sort};
+ghost use Rattle.larch_sorts.specs.SortsKnownSorts.{exists_sort};
 ghost use Rattle.larch_traits_items.specs.Refusal.{cause};
-ghost use Rattle.larch_traits_items.specs.Steps.{all_taken, first_position};
+ghost use Rattle.larch_base_meaning.specs.Steps.{all_taken, first_position};
 ghost use Rattle.larch_traits_items.specs.Variables.{variables_declared, with_declared};
 
 use crate::refusal::TraitRefusal;
 use larch_base::{Code, Pos};
 use larch_raw::RawVar;
-use larch_sorts_meaning::Scope;
-use larch_sorts_signature::Signature;
+use larch_sorts::larch_sorts_meaning::Scope;
+use larch_sorts::larch_sorts_signature::Signature;
 use std::alloc::Global;
 
 /// Variables as a scope, in order. `Wrong` has UNKNOWN-SORT at the first sort that doesn't exist, or else

@@ -16,7 +16,7 @@ use Rattle.larch_verify_pool.specs.Pooled.{Pooled, Grows}
 use Rattle.larch_verify_history.specs.Past.{IsEquated, equated_in}
 use Rattle.larch_verify_history.specs.declared.stated.Equated.{Equated}
 use Rattle.larch_verify_history.proofs.Staying.{equated_stays, hypotheses_same}
-use Rattle.larch_verify_parts.proofs.Each.{each_push, each_stop, parted}
+use Rattle.larch_verify_box_rules.proofs.VerifyPartsEach.{each_push, each_stop, parted}
 
 -- one equation more
 pub equations_within : (p q : Pooled) (es : List Equated) (e : Equated) → Grows p q → All (IsEquated p) es

@@ -10,3 +10,6 @@ mod showing;
 pub use cases::judge_cases;
 pub use fresh::judge_fresh;
 pub use induct::{Induction, judge_induct};
+
+// Passed on to crates above, which then needn't list them.
+pub use larch_verify_decoding;

@@ -9,11 +9,11 @@ use Rattle.larch_term.specs.Statement.{IsStatementOver, IsWellSortedTheory}
 use Rattle.larch_term.specs.declared.statement.Statement.{Statement}
 use Rattle.larch_term.specs.declared.statement.Statement.TheVariants as statement
 use Rattle.larch_term.specs.declared.statement.Theory.{Theory}
-use Rattle.larch_calculus.proofs.Boxes.{older_plain, older_later, older_less}
-use Rattle.larch_calculus.proofs.DerivedRules.{stated}
-use Rattle.larch_calculus.specs.Boxes.{IsOlder}
-use Rattle.larch_calculus.specs.Derivable.{Derivable, reflexive}
-use Rattle.larch_calculus.specs.Renaming.{HasPlainNames}
+use Rattle.larch_verify_meaning.proofs.CalculusBoxes.{older_plain, older_later, older_less}
+use Rattle.larch_verify_meaning.proofs.CalculusDerivedRules.{stated}
+use Rattle.larch_verify_meaning.specs.CalculusBoxes.{IsOlder}
+use Rattle.larch_verify_meaning.specs.CalculusDerivable.{Derivable, reflexive}
+use Rattle.larch_verify_meaning.specs.CalculusRenaming.{HasPlainNames}
 use Rattle.larch_certificate.specs.declared.line.BoxPart.{BoxPart}
 use Rattle.larch_certificate.specs.declared.line.CodedEquation.{CodedEquation}
 use Rattle.larch_certificate.specs.declared.line.Line.{Line}

@@ -17,11 +17,11 @@ use Rattle.larch_term.specs.declared.statement.Statement.{Statement}
 use Rattle.larch_term.specs.declared.statement.Statement.TheVariants.{Equation, Generated, Partitioned}
 use Rattle.larch_term.specs.declared.statement.Theory.{Theory}
 use Rattle.larch_term.specs.declared.variable.Variable.{Variable}
-use Rattle.larch_calculus.proofs.Boxes.{constants_without_arguments, constants_sorts}
-use Rattle.larch_calculus.specs.Derivable.{Derivable, AreArguments, fresh, cases, induct}
-use Rattle.larch_calculus.specs.Formula.{falsity}
-use Rattle.larch_calculus.specs.Generation.{constant_terms, equation_at, induction_hypotheses}
-use Rattle.larch_calculus.specs.Theories.{extend, with_statements, AreConstants}
+use Rattle.larch_verify_meaning.proofs.CalculusBoxes.{constants_without_arguments, constants_sorts}
+use Rattle.larch_verify_meaning.specs.CalculusDerivable.{Derivable, AreArguments, fresh, cases, induct}
+use Rattle.larch_verify_meaning.specs.CalculusFormula.{falsity}
+use Rattle.larch_verify_meaning.specs.CalculusGeneration.{constant_terms, equation_at, induction_hypotheses}
+use Rattle.larch_verify_meaning.specs.CalculusTheories.{extend, with_statements, AreConstants}
 use Rattle.larch_certificate.specs.declared.line.CodedVar.{CodedVar}
 use Rattle.larch_verify_meaning.specs.BoxRules.{freed_equation, freed_result, equation_alone, only_left_side, supposes}
 use Rattle.larch_verify_meaning.specs.BoxRules.{common_result, cases_of, shows_case, shows_cases, induct_over}

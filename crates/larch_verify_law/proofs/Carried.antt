@@ -12,7 +12,7 @@ use Rattle.larch_term.specs.declared.statement.Statement.{Statement}
 use Rattle.larch_term.specs.declared.statement.Statement.TheVariants as statement
 use Rattle.larch_term.specs.declared.statement.Theory.{Theory}
 use Rattle.larch_term.specs.declared.substitution.Entry.{Entry}
-use Rattle.larch_renaming.specs.Renaming.{renamed_variable, renamed_entry, renamed_statement}
+use Rattle.larch_verify_meaning.specs.RenamingRenaming.{renamed_variable, renamed_entry, renamed_statement}
 use Rattle.larch_certificate.specs.declared.line.BoxPart.{BoxPart}
 use Rattle.larch_certificate.specs.declared.line.CodedEquation.{CodedEquation}
 use Rattle.larch_certificate.specs.declared.line.Line.{Line}

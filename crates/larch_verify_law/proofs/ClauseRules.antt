@@ -17,11 +17,12 @@ use Rattle.larch_term.specs.Truth.{truth}
 use Rattle.larch_term.specs.declared.statement.Statement.{Statement}
 use Rattle.larch_term.specs.declared.statement.Statement.TheVariants.{Equation, Generated, Partitioned}
 use Rattle.larch_term.specs.declared.statement.Theory.{Theory}
-use Rattle.larch_calculus.specs.Derivable.{Derivable, AreApart, observe, generated, partitioned}
-use Rattle.larch_calculus.specs.Formula.{constant, apply_one}
-use Rattle.larch_calculus.specs.Generation.{place_name, generation_hypotheses}
-use Rattle.larch_calculus.specs.Observation.{Observation, observations_of, observer_term, other_variables, observations}
-use Rattle.larch_calculus.specs.Theories.{extend, AreNew}
+use Rattle.larch_verify_meaning.specs.CalculusDerivable.{Derivable, AreApart, observe, generated, partitioned}
+use Rattle.larch_verify_meaning.specs.CalculusFormula.{constant, apply_one}
+use Rattle.larch_verify_meaning.specs.CalculusGeneration.{place_name, generation_hypotheses}
+use Rattle.larch_verify_meaning.specs.CalculusObservation.{Observation, observations_of, observer_term}
+use Rattle.larch_verify_meaning.specs.CalculusObservation.{other_variables, observations}
+use Rattle.larch_verify_meaning.specs.CalculusTheories.{extend, AreNew}
 use Rattle.larch_verify_meaning.specs.ClauseRules.{shows_same, show_same, observed_equal, holds_of_variable}
 use Rattle.larch_verify_meaning.specs.ClauseRules.{shows_generated, generated_by, shows_partitioned, partitioned_by}
 use Rattle.larch_verify_meaning.specs.Context.{find_line}

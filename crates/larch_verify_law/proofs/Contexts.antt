@@ -11,11 +11,11 @@ use Rattle.larch_term.specs.Operator.{OperatorName, PlainOperator, boxed}
 use Rattle.larch_term.specs.Statement.{IsStatementOver, IsWellSortedTheory}
 use Rattle.larch_term.specs.declared.statement.Statement.{Statement}
 use Rattle.larch_term.specs.declared.statement.Theory.{Theory}
-use Rattle.larch_calculus.proofs.Boxes.{new_name, older_later}
-use Rattle.larch_calculus.proofs.Sorted.{extended_well_sorted, included_more}
-use Rattle.larch_calculus.specs.Boxes.{IsOlderName, IsOlder}
-use Rattle.larch_calculus.specs.Derivable.{Derivable, weaken}
-use Rattle.larch_calculus.specs.Theories.{extend, IsNewName, AreNew}
+use Rattle.larch_verify_meaning.proofs.CalculusBoxes.{new_name, older_later}
+use Rattle.larch_verify_meaning.proofs.CalculusSorted.{extended_well_sorted, included_more}
+use Rattle.larch_verify_meaning.specs.CalculusBoxes.{IsOlderName, IsOlder}
+use Rattle.larch_verify_meaning.specs.CalculusDerivable.{Derivable, weaken}
+use Rattle.larch_verify_meaning.specs.CalculusTheories.{extend, IsNewName, AreNew}
 use Rattle.larch_certificate.specs.declared.line.BoxPart.{BoxPart}
 use Rattle.larch_certificate.specs.declared.symbol.Symbol.TheVariants.{Own, Constant, BuiltIn}
 use Rattle.larch_verify_meaning.specs.Context.{theory_of, find_line, find_open, find_closed, innermost, last_sort}

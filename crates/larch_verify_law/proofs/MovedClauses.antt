@@ -13,16 +13,18 @@ use Rattle.larch_term.specs.Truth.{truth}
 use Rattle.larch_term.specs.declared.statement.Statement.{Statement}
 use Rattle.larch_term.specs.declared.statement.Statement.TheVariants.{Equation, Generated, Partitioned}
 use Rattle.larch_term.specs.declared.statement.Theory.{Theory}
-use Rattle.larch_renaming.proofs.Renamed.{renamed_sort}
-use Rattle.larch_renaming.specs.Renaming.{Renaming, rename_tree, renamed_statement}
-use Rattle.larch_calculus.proofs.Renamed.{sort_test}
-use Rattle.larch_calculus.proofs.RenamedHypotheses.{truth_renamed, renamed_observation, observed_renamed}
-use Rattle.larch_calculus.proofs.RenamedHypotheses.{others_renamed, observations_of_renamed, observations_renamed}
-use Rattle.larch_calculus.proofs.RenamedHypotheses.{generation_renamed}
-use Rattle.larch_calculus.specs.Formula.{constant, apply_one}
-use Rattle.larch_calculus.specs.Generation.{place_name, generation_hypotheses}
-use Rattle.larch_calculus.specs.Observation.{Observation, observations_of, observer_term, other_variables, observations}
-use Rattle.larch_calculus.specs.Renaming.{IsFaithful}
+use Rattle.larch_verify_meaning.proofs.RenamingRenamed.{renamed_sort}
+use Rattle.larch_verify_meaning.specs.RenamingRenaming.{Renaming, rename_tree, renamed_statement}
+use Rattle.larch_verify_meaning.proofs.CalculusRenamed.{sort_test}
+use Rattle.larch_verify_meaning.proofs.CalculusRenamedHypotheses.{truth_renamed, renamed_observation, observed_renamed}
+use Rattle.larch_verify_meaning.proofs.CalculusRenamedHypotheses.{others_renamed, observations_of_renamed}
+use Rattle.larch_verify_meaning.proofs.CalculusRenamedHypotheses.{observations_renamed}
+use Rattle.larch_verify_meaning.proofs.CalculusRenamedHypotheses.{generation_renamed}
+use Rattle.larch_verify_meaning.specs.CalculusFormula.{constant, apply_one}
+use Rattle.larch_verify_meaning.specs.CalculusGeneration.{place_name, generation_hypotheses}
+use Rattle.larch_verify_meaning.specs.CalculusObservation.{Observation, observations_of, observer_term}
+use Rattle.larch_verify_meaning.specs.CalculusObservation.{other_variables, observations}
+use Rattle.larch_verify_meaning.specs.CalculusRenaming.{IsFaithful}
 use Rattle.larch_verify_meaning.specs.ClauseRules.{shows_same, show_same, observed_equal, holds_of_variable}
 use Rattle.larch_verify_meaning.specs.ClauseRules.{shows_generated, generated_by, shows_partitioned, partitioned_by}
 use Rattle.larch_verify_meaning.specs.Context.{find_line}

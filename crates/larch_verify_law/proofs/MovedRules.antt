@@ -19,16 +19,18 @@ use Rattle.larch_term.specs.declared.statement.Statement.TheVariants.{Equation, 
 use Rattle.larch_term.specs.declared.statement.Theory.{Theory}
 use Rattle.larch_term.specs.declared.substitution.Entry.{Entry}
 use Rattle.larch_term.specs.declared.variable.Variable.{Variable}
-use Rattle.larch_renaming.proofs.Renamed.{renamed_sort, renamed_put}
-use Rattle.larch_renaming.specs.Renaming.{Renaming, rename_tree, renamed_all, renamed_variable, renamed_entry}
-use Rattle.larch_renaming.specs.Renaming.{renamed_statement}
-use Rattle.larch_calculus.proofs.Renamed.{renamed_at, renamed_substituted}
-use Rattle.larch_calculus.proofs.RenamedHypotheses.{truth_renamed, falsity_renamed, equality_renamed}
-use Rattle.larch_calculus.proofs.RenamedHypotheses.{constants_renamed, equation_renamed, induction_renamed}
-use Rattle.larch_calculus.specs.Formula.{falsity, equality}
-use Rattle.larch_calculus.specs.Freed.{place_of, variable_for, free_constants, freed_all}
-use Rattle.larch_calculus.specs.Generation.{constant_terms, equation_at, induction_hypotheses}
-use Rattle.larch_calculus.specs.Renaming.{KeepsSortsApart, IsFaithful}
+use Rattle.larch_verify_meaning.proofs.RenamingRenamed.{renamed_sort, renamed_put}
+use Rattle.larch_verify_meaning.specs.RenamingRenaming.{Renaming, rename_tree, renamed_all}
+use Rattle.larch_verify_meaning.specs.RenamingRenaming.{renamed_variable, renamed_entry}
+use Rattle.larch_verify_meaning.specs.RenamingRenaming.{renamed_statement}
+use Rattle.larch_verify_meaning.proofs.CalculusRenamed.{renamed_at, renamed_substituted}
+use Rattle.larch_verify_meaning.proofs.CalculusRenamedHypotheses.{truth_renamed, falsity_renamed, equality_renamed}
+use Rattle.larch_verify_meaning.proofs.CalculusRenamedHypotheses.{constants_renamed, equation_renamed}
+use Rattle.larch_verify_meaning.proofs.CalculusRenamedHypotheses.{induction_renamed}
+use Rattle.larch_verify_meaning.specs.CalculusFormula.{falsity, equality}
+use Rattle.larch_verify_meaning.specs.CalculusFreed.{place_of, variable_for, free_constants, freed_all}
+use Rattle.larch_verify_meaning.specs.CalculusGeneration.{constant_terms, equation_at, induction_hypotheses}
+use Rattle.larch_verify_meaning.specs.CalculusRenaming.{KeepsSortsApart, IsFaithful}
 use Rattle.larch_certificate.specs.declared.line.BoxPart.{BoxPart}
 use Rattle.larch_certificate.specs.declared.line.CodedVar.{CodedVar}
 use Rattle.larch_verify_meaning.specs.BoxRules.{freed_equation, freed_result, equation_alone, only_left_side, supposes}

@@ -15,9 +15,10 @@ use Rattle.larch_term.specs.declared.statement.Statement.{Statement}
 use Rattle.larch_term.specs.declared.statement.Statement.TheVariants.{Equation}
 use Rattle.larch_term.specs.declared.statement.Theory.{Theory}
 use Rattle.larch_term.specs.declared.substitution.Entry.{Entry}
-use Rattle.larch_renaming.proofs.Renamed.{renamed_sort, renamed_sorts}
-use Rattle.larch_renaming.specs.Renaming.{Renaming, rename_tree, renamed_all, renamed_entry, renamed_statement}
-use Rattle.larch_renaming.specs.Renaming.{FitsSignatures}
+use Rattle.larch_verify_meaning.proofs.RenamingRenamed.{renamed_sort, renamed_sorts}
+use Rattle.larch_verify_meaning.specs.RenamingRenaming.{Renaming, rename_tree, renamed_all}
+use Rattle.larch_verify_meaning.specs.RenamingRenaming.{renamed_entry, renamed_statement}
+use Rattle.larch_verify_meaning.specs.RenamingRenaming.{FitsSignatures}
 use Rattle.larch_certificate.specs.Coded.{CodedTree, CodedForest, coded_var, coded_app, no_terms, term_then}
 use Rattle.larch_certificate.specs.declared.line.Binding.{Binding}
 use Rattle.larch_certificate.specs.declared.line.CodedEquation.{CodedEquation}

@@ -17,10 +17,10 @@ use Rattle.larch_term.specs.Variable.{occurrences, same_variable}
 use Rattle.larch_term.specs.declared.statement.Statement.{Statement}
 use Rattle.larch_term.specs.declared.statement.Theory.{Theory}
 use Rattle.larch_term.specs.declared.variable.Variable.{Variable}
-use Rattle.larch_renaming.proofs.Renamed.{renamed_occurrences, at_renamed}
-use Rattle.larch_renaming.specs.Renaming.{Renaming, rename_tree, renamed_variable, renamed_statement}
-use Rattle.larch_calculus.proofs.Renamed.{sort_test}
-use Rattle.larch_calculus.specs.Renaming.{KeepsSortsApart}
+use Rattle.larch_verify_meaning.proofs.RenamingRenamed.{renamed_occurrences, at_renamed}
+use Rattle.larch_verify_meaning.specs.RenamingRenaming.{Renaming, rename_tree, renamed_variable, renamed_statement}
+use Rattle.larch_verify_meaning.proofs.CalculusRenamed.{sort_test}
+use Rattle.larch_verify_meaning.specs.CalculusRenaming.{KeepsSortsApart}
 use Rattle.larch_certificate.specs.declared.line.BoxPart.{BoxPart}
 use Rattle.larch_verify_meaning.specs.Decoding.{each}
 use Rattle.larch_verify_meaning.specs.Events.{PlainBox, box_constant, box_predicate, part_operator, operators_from}

@@ -7,10 +7,10 @@ use Rattle.larch_base.specs.ByNumber.{numbered}
 use Rattle.larch_term.specs.Statement.{statement_zero}
 use Rattle.larch_term.specs.declared.statement.Statement.{Statement}
 use Rattle.larch_term.specs.declared.statement.Theory.{Theory}
-use Rattle.larch_renaming.proofs.RenamedStatements.{statement_unchanged}
-use Rattle.larch_renaming.specs.Renaming.{no_renaming, renamed_statement}
-use Rattle.larch_calculus.specs.Renaming.{IsFaithful}
-use Rattle.larch_calculus.specs.Theories.{IsFront, IsPrefix}
+use Rattle.larch_verify_meaning.proofs.RenamingRenamedStatements.{statement_unchanged}
+use Rattle.larch_verify_meaning.specs.RenamingRenaming.{no_renaming, renamed_statement}
+use Rattle.larch_verify_meaning.specs.CalculusRenaming.{IsFaithful}
+use Rattle.larch_verify_meaning.specs.CalculusTheories.{IsFront, IsPrefix}
 use Rattle.larch_certificate.specs.Coded.{CodedTree, CodedForest, coded_var, coded_app, no_terms, term_then}
 use Rattle.larch_certificate.specs.declared.line.Binding.{Binding}
 use Rattle.larch_certificate.specs.declared.line.CodedEquation.{CodedEquation}

@@ -17,14 +17,15 @@ use Rattle.larch_term.specs.declared.statement.Statement.{Statement}
 use Rattle.larch_term.specs.declared.statement.Statement.TheVariants.{Equation, Generated, Partitioned}
 use Rattle.larch_term.specs.declared.statement.Theory.{Theory}
 use Rattle.larch_term.specs.declared.substitution.Entry.{Entry}
-use Rattle.larch_tables.proofs.Identities.{row_identity}
-use Rattle.larch_tables.specs.Row.{PlainRow}
-use Rattle.larch_tables.specs.Statement.{IsIdentityStatement}
-use Rattle.larch_tables.specs.Tables.{built_in_rows}
-use Rattle.larch_calculus.proofs.DerivedRules.{stated}
-use Rattle.larch_calculus.proofs.Sorted.{zero_over}
-use Rattle.larch_calculus.specs.Derivable.{Derivable, axiom_, identity, symmetric, replace, instance, equal}
-use Rattle.larch_calculus.specs.Formula.{equality}
+use Rattle.larch_verify_meaning.proofs.TablesIdentities.{row_identity}
+use Rattle.larch_verify_meaning.specs.TablesRow.{PlainRow}
+use Rattle.larch_verify_meaning.specs.TablesStatement.{IsIdentityStatement}
+use Rattle.larch_verify_meaning.specs.TablesTables.{built_in_rows}
+use Rattle.larch_verify_meaning.proofs.CalculusDerivedRules.{stated}
+use Rattle.larch_verify_meaning.proofs.CalculusSorted.{zero_over}
+use Rattle.larch_verify_meaning.specs.CalculusDerivable.{Derivable, axiom_, identity, symmetric}
+use Rattle.larch_verify_meaning.specs.CalculusDerivable.{replace, instance, equal}
+use Rattle.larch_verify_meaning.specs.CalculusFormula.{equality}
 use Rattle.larch_base.proofs.Members.{contains_here}
 use Rattle.larch_base.specs.ByNumber.{numbered}
 use Rattle.larch_verify_meaning.specs.Rules.{axiom_says, row_says, exchange_sides, instance_by, stands_at}

@@ -20,11 +20,11 @@ use Rattle.larch_term.specs.Tree.{Tree}
 use Rattle.larch_term.specs.Variable.{occurrences, same_variable}
 use Rattle.larch_term.specs.declared.statement.Statement.{Statement}
 use Rattle.larch_term.specs.declared.variable.Variable.{Variable}
-use Rattle.larch_term_law.proofs.Occurring.{variable_Decides}
-use Rattle.larch_tables.proofs.Identities.{at_place}
-use Rattle.larch_calculus.specs.Boxes.{constants_from}
-use Rattle.larch_calculus.specs.Derivable.{AreApart}
-use Rattle.larch_calculus.specs.Observation.{AreDifferent}
+use Rattle.larch_verify_meaning.proofs.TermLawOccurring.{variable_Decides}
+use Rattle.larch_verify_meaning.proofs.TablesIdentities.{at_place}
+use Rattle.larch_verify_meaning.specs.CalculusBoxes.{constants_from}
+use Rattle.larch_verify_meaning.specs.CalculusDerivable.{AreApart}
+use Rattle.larch_verify_meaning.specs.CalculusObservation.{AreDifferent}
 use Rattle.larch_certificate.specs.declared.line.BoxPart.{BoxPart}
 use Rattle.larch_verify_meaning.specs.Decoding.{each}
 use Rattle.larch_verify_meaning.specs.Events.{PlainBox, box_constant, box_predicate, part_operator, operators_from}

@@ -5,8 +5,8 @@ use Rattle.larch_term.specs.Operator.{PlainOperator, boxed}
 use Rattle.larch_term.specs.declared.statement.Statement.{Statement}
 use Rattle.larch_term.specs.declared.statement.Statement.TheVariants.{Equation, Generated, Partitioned}
 use Rattle.larch_term.specs.declared.statement.Theory.{Theory}
-use Rattle.larch_renaming.specs.Renaming.{renamed_statement}
-use Rattle.larch_calculus.specs.Renaming.{IsFaithful}
+use Rattle.larch_verify_meaning.specs.RenamingRenaming.{renamed_statement}
+use Rattle.larch_verify_meaning.specs.CalculusRenaming.{IsFaithful}
 use Rattle.larch_certificate.specs.declared.line.Line.{Line}
 use Rattle.larch_certificate.specs.declared.line.Line.TheVariants.{Axiom, Hyp, Row, Refl, Sym, Inst, Repl, Equal}
 use Rattle.larch_certificate.specs.declared.line.Line.TheVariants as rule

@@ -1,6 +1,6 @@
 -- Lines of certificates with other numbers, sorts and operators in the places of their own.
 use Rattle.std.specs.Prelude.{ℕ, suc, List, [], ◌∷◌, ◌++◌, map, option_map}
-use Rattle.larch_renaming.specs.Renaming.{Renaming, no_renaming, renamed_statement}
+use Rattle.larch_verify_meaning.specs.RenamingRenaming.{Renaming, no_renaming, renamed_statement}
 use Rattle.larch_certificate.specs.Coded.{CodedTree, CodedForest, coded_var, coded_app, no_terms, term_then}
 use Rattle.larch_certificate.specs.declared.line.Binding.{Binding}
 use Rattle.larch_certificate.specs.declared.line.BoxPart.{BoxPart}

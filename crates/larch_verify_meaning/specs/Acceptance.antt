@@ -1,9 +1,9 @@
 -- When a certificate is accepted for a statement.
 use Rattle.std.specs.Prelude.{◌≡◌, ℕ, suc, if◌then◌else◌, ◌&&◌, Bool, true, false, List, [], ◌∷◌, Option, Some, None}
 use Rattle.std.specs.Option.{option_map_or}
-use Rattle.larch_term.specs.Equality.{same_statement}
-use Rattle.larch_term.specs.declared.statement.Statement.{Statement}
-use Rattle.larch_term.specs.declared.statement.Theory.{Theory}
+use Rattle.larch_certificate.specs.TermEquality.{same_statement}
+use Rattle.larch_certificate.specs.TermStatementStatement.{Statement}
+use Rattle.larch_certificate.specs.TermStatementTheory.{Theory}
 use Rattle.larch_certificate.specs.declared.line.Line.{Line}
 use Rattle.larch_verify_meaning.specs.Context.{innermost}
 use Rattle.larch_verify_meaning.specs.Events.{Event, Said, Opened, Closed, State, start}

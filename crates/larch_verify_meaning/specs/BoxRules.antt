@@ -2,17 +2,17 @@
 use Rattle.std.specs.Prelude.{ℕ, if◌then◌else◌, ◌&&◌, Bool, true, false, List, [], ◌∷◌, map, bytes_eq, Option, Some}
 use Rattle.std.specs.Prelude.{None, option_and_then}
 use Rattle.std.specs.Option.{option_map_or}
-use Rattle.larch_term.specs.Equality.{same_statement}
-use Rattle.larch_term.specs.Operator.{PlainOperator}
-use Rattle.larch_term.specs.Tree.{Tree, app}
-use Rattle.larch_term.specs.Truth.{truth}
-use Rattle.larch_term.specs.Variable.{occurrences}
-use Rattle.larch_term.specs.declared.statement.Statement.{Statement}
-use Rattle.larch_term.specs.declared.statement.Statement.TheVariants.{Equation, Generated, Partitioned}
-use Rattle.larch_term.specs.declared.variable.Variable.{Variable}
-use Rattle.larch_calculus.specs.Formula.{falsity}
-use Rattle.larch_calculus.specs.Freed.{free_constants}
-use Rattle.larch_calculus.specs.Generation.{constant_terms, equation_at, induction_hypotheses}
+use Rattle.larch_certificate.specs.TermEquality.{same_statement}
+use Rattle.larch_certificate.specs.TermOperator.{PlainOperator}
+use Rattle.larch_certificate.specs.TermTree.{Tree, app}
+use Rattle.larch_certificate.specs.TermTruth.{truth}
+use Rattle.larch_certificate.specs.TermVariable.{occurrences}
+use Rattle.larch_certificate.specs.TermStatementStatement.{Statement}
+use Rattle.larch_certificate.specs.TermStatementStatement.TheVariants.{Equation, Generated, Partitioned}
+use Rattle.larch_certificate.specs.TermVariableVariable.{Variable}
+use Rattle.larch_tables.specs.CalculusFormula.{falsity}
+use Rattle.larch_tables.specs.CalculusFreed.{free_constants}
+use Rattle.larch_tables.specs.CalculusGeneration.{constant_terms, equation_at, induction_hypotheses}
 use Rattle.larch_certificate.specs.declared.line.CodedEquation.{CodedEquation}
 use Rattle.larch_certificate.specs.declared.line.CodedVar.{CodedVar}
 use Rattle.larch_certificate.specs.declared.symbol.Symbol.{Symbol}

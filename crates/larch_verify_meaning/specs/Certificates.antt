@@ -1,14 +1,14 @@
 -- Short certificates, one for each kind of rule that the example of the induction doesn't have.
 use Rattle.std.specs.Prelude.{ℕ, true, false, List, [], ◌∷◌, None, codes}
-use Rattle.larch_term.specs.BuiltIn.{bool_sort}
-use Rattle.larch_term.specs.Operator.{PlainOperator, plain}
-use Rattle.larch_term.specs.Tree.{Tree, var}
-use Rattle.larch_term.specs.declared.built_in.BuiltIn.TheVariants.{True, False, Implies}
-use Rattle.larch_term.specs.declared.statement.Statement.{Statement}
-use Rattle.larch_term.specs.declared.statement.Statement.TheVariants as statement
-use Rattle.larch_term.specs.declared.statement.Theory.{Theory}
-use Rattle.larch_calculus.specs.Example.{number_sort}
-use Rattle.larch_calculus.specs.Formula.{constant, apply_one, apply_two}
+use Rattle.larch_certificate.specs.TermBuiltIn.{bool_sort}
+use Rattle.larch_certificate.specs.TermOperator.{PlainOperator, plain}
+use Rattle.larch_certificate.specs.TermTree.{Tree, var}
+use Rattle.larch_certificate.specs.TermBuilt_inBuiltIn.TheVariants.{True, False, Implies}
+use Rattle.larch_certificate.specs.TermStatementStatement.{Statement}
+use Rattle.larch_certificate.specs.TermStatementStatement.TheVariants as statement
+use Rattle.larch_certificate.specs.TermStatementTheory.{Theory}
+use Rattle.larch_tables.specs.CalculusExample.{number_sort}
+use Rattle.larch_tables.specs.CalculusFormula.{constant, apply_one, apply_two}
 use Rattle.larch_certificate.specs.Coded.{CodedTree, coded_var}
 use Rattle.larch_certificate.specs.declared.line.BoxPart.{BoxPart}
 use Rattle.larch_certificate.specs.declared.line.CodedEquation.{CodedEquation}

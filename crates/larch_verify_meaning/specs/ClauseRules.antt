@@ -3,18 +3,19 @@ use Rattle.std.specs.Prelude.{ℕ, if◌then◌else◌, ◌&&◌, Bool, true, fa
 use Rattle.std.specs.Prelude.{option_and_then}
 use Rattle.std.specs.List.{list_all, list_any}
 use Rattle.std.specs.Option.{option_map_or}
-use Rattle.larch_base.specs.ByNumber.{numbered}
-use Rattle.larch_term.specs.Equality.{same_statement}
-use Rattle.larch_term.specs.Operator.{PlainOperator}
-use Rattle.larch_term.specs.Sorts.{sort_of}
-use Rattle.larch_term.specs.Tree.{Tree, var}
-use Rattle.larch_term.specs.Truth.{truth}
-use Rattle.larch_term.specs.declared.statement.Statement.{Statement}
-use Rattle.larch_term.specs.declared.statement.Statement.TheVariants.{Equation, Generated, Partitioned}
-use Rattle.larch_term.specs.declared.statement.Theory.{Theory}
-use Rattle.larch_calculus.specs.Formula.{constant, apply_one}
-use Rattle.larch_calculus.specs.Generation.{place_name, generation_hypotheses}
-use Rattle.larch_calculus.specs.Observation.{Observation, observations_of, observer_term, other_variables, observations}
+use Rattle.larch_certificate.specs.BaseByNumber.{numbered}
+use Rattle.larch_certificate.specs.TermEquality.{same_statement}
+use Rattle.larch_certificate.specs.TermOperator.{PlainOperator}
+use Rattle.larch_certificate.specs.TermSorts.{sort_of}
+use Rattle.larch_certificate.specs.TermTree.{Tree, var}
+use Rattle.larch_certificate.specs.TermTruth.{truth}
+use Rattle.larch_certificate.specs.TermStatementStatement.{Statement}
+use Rattle.larch_certificate.specs.TermStatementStatement.TheVariants.{Equation, Generated, Partitioned}
+use Rattle.larch_certificate.specs.TermStatementTheory.{Theory}
+use Rattle.larch_tables.specs.CalculusFormula.{constant, apply_one}
+use Rattle.larch_tables.specs.CalculusGeneration.{place_name, generation_hypotheses}
+use Rattle.larch_tables.specs.CalculusObservation.{Observation, observations_of, observer_term}
+use Rattle.larch_tables.specs.CalculusObservation.{other_variables, observations}
 use Rattle.larch_certificate.specs.declared.line.CodedEquation.{CodedEquation}
 use Rattle.larch_certificate.specs.declared.symbol.Symbol.{Symbol}
 use Rattle.larch_verify_meaning.specs.Context.{find_line, find_closed}

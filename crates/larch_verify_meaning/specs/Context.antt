@@ -1,12 +1,12 @@
 -- What can be named where events have happened: lines, boxes and symbols.
 use Rattle.std.specs.Prelude.{ℕ, ◌==◌, ◌-◌, if◌then◌else◌, List, [], ◌∷◌, length, get_or, Option, Some, None}
 use Rattle.std.specs.Prelude.{option_and_then}
-use Rattle.larch_base.specs.ByNumber.{numbered}
-use Rattle.larch_term.specs.BuiltIn.{built_in}
-use Rattle.larch_term.specs.Operator.{PlainOperator}
-use Rattle.larch_term.specs.declared.statement.Statement.{Statement}
-use Rattle.larch_term.specs.declared.statement.Theory.{Theory}
-use Rattle.larch_calculus.specs.Theories.{extend}
+use Rattle.larch_certificate.specs.BaseByNumber.{numbered}
+use Rattle.larch_certificate.specs.TermBuiltIn.{built_in}
+use Rattle.larch_certificate.specs.TermOperator.{PlainOperator}
+use Rattle.larch_certificate.specs.TermStatementStatement.{Statement}
+use Rattle.larch_certificate.specs.TermStatementTheory.{Theory}
+use Rattle.larch_tables.specs.CalculusTheories.{extend}
 use Rattle.larch_certificate.specs.declared.symbol.Symbol.{Symbol}
 use Rattle.larch_certificate.specs.declared.symbol.Symbol.TheVariants.{Own, Constant, BuiltIn}
 use Rattle.larch_verify_meaning.specs.Events.{PlainBox, operators_of, Event, Said, Opened, Closed}

@@ -2,12 +2,12 @@
 use Rattle.std.specs.Prelude.{ℕ, if◌then◌else◌, List, [], ◌∷◌, bytes_eq, Option, Some, None, option_map}
 use Rattle.std.specs.Prelude.{option_and_then}
 use Rattle.std.specs.Cmp.Lexicographic.{pointwise}
-use Rattle.larch_term.specs.Operator.{PlainOperator}
-use Rattle.larch_term.specs.Sorts.{sort_of, sorts_of}
-use Rattle.larch_term.specs.Tree.{Tree, Forest, var, app, none, more}
-use Rattle.larch_term.specs.declared.statement.Statement.{Statement}
-use Rattle.larch_term.specs.declared.statement.Statement.TheVariants.{Equation}
-use Rattle.larch_term.specs.declared.substitution.Entry.{Entry}
+use Rattle.larch_certificate.specs.TermOperator.{PlainOperator}
+use Rattle.larch_certificate.specs.TermSorts.{sort_of, sorts_of}
+use Rattle.larch_certificate.specs.TermTree.{Tree, Forest, var, app, none, more}
+use Rattle.larch_certificate.specs.TermStatementStatement.{Statement}
+use Rattle.larch_certificate.specs.TermStatementStatement.TheVariants.{Equation}
+use Rattle.larch_certificate.specs.TermSubstitutionEntry.{Entry}
 use Rattle.larch_certificate.specs.Coded.{CodedTree, CodedForest, coded_var, coded_app, no_terms, term_then}
 use Rattle.larch_certificate.specs.declared.line.Binding.{Binding}
 use Rattle.larch_certificate.specs.declared.line.CodedEquation.{CodedEquation}

@@ -1,8 +1,8 @@
 -- What has happened up to a line of a certificate: one list of events, the newest first.
 use Rattle.std.specs.Prelude.{ℕ, suc, if◌then◌else◌, List, [], ◌∷◌}
-use Rattle.larch_term.specs.BuiltIn.{bool_sort}
-use Rattle.larch_term.specs.Operator.{PlainOperator, boxed}
-use Rattle.larch_term.specs.declared.statement.Statement.{Statement}
+use Rattle.larch_certificate.specs.TermBuiltIn.{bool_sort}
+use Rattle.larch_certificate.specs.TermOperator.{PlainOperator, boxed}
+use Rattle.larch_certificate.specs.TermStatementStatement.{Statement}
 use Rattle.larch_certificate.specs.declared.line.BoxPart.{BoxPart}
 
 -- the constant of a sort with a number, of the box with a number

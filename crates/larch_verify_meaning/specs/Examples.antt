@@ -1,7 +1,7 @@
 -- A certificate written out: 0 + x == x over the numbers of the calculus' example, by induction; and what is wrong
 -- where it is changed.
 use Rattle.std.specs.Prelude.{ℕ, ◌-◌, false, List, [], ◌∷◌, ◌++◌, take, drop, codes}
-use Rattle.larch_calculus.specs.Example.{number_sort}
+use Rattle.larch_tables.specs.CalculusExample.{number_sort}
 use Rattle.larch_certificate.specs.Coded.{CodedTree, coded_var, coded_app, no_terms, term_then}
 use Rattle.larch_certificate.specs.declared.line.Binding.{Binding}
 use Rattle.larch_certificate.specs.declared.line.BoxPart.{BoxPart}

@@ -1,9 +1,9 @@
 -- What the last line of a certificate is.
 use Rattle.std.specs.Prelude.{◌≡◌, Bool, true, false, List, [], ◌∷◌}
 use Rattle.std.specs.Option.{option_map_or}
-use Rattle.larch_term.specs.declared.statement.Statement.{Statement}
-use Rattle.larch_term.specs.declared.statement.Statement.TheVariants.{Equation, Generated, Partitioned}
-use Rattle.larch_term.specs.declared.statement.Theory.{Theory}
+use Rattle.larch_certificate.specs.TermStatementStatement.{Statement}
+use Rattle.larch_certificate.specs.TermStatementStatement.TheVariants.{Equation, Generated, Partitioned}
+use Rattle.larch_certificate.specs.TermStatementTheory.{Theory}
 use Rattle.larch_certificate.specs.declared.line.Line.{Line}
 use Rattle.larch_certificate.specs.declared.line.Line.TheVariants.{Axiom}
 use Rattle.larch_verify_meaning.specs.Rules.{axiom_says}

@@ -2,12 +2,12 @@
 use Rattle.std.specs.Prelude.{ℕ, ◌&&◌, not, Bool, true, false, List, [], ◌∷◌, map, bytes_eq, Option, Some, None}
 use Rattle.std.specs.List.{list_all, list_any}
 use Rattle.std.specs.Cmp.Lexicographic.{pointwise}
-use Rattle.larch_term.specs.Equality.{same_statement}
-use Rattle.larch_term.specs.Place.{at}
-use Rattle.larch_term.specs.Tree.{Tree, var, app}
-use Rattle.larch_term.specs.Variable.{occurrences, same_variable}
-use Rattle.larch_term.specs.declared.statement.Statement.{Statement}
-use Rattle.larch_term.specs.declared.variable.Variable.{Variable}
+use Rattle.larch_certificate.specs.TermEquality.{same_statement}
+use Rattle.larch_certificate.specs.TermPlace.{at}
+use Rattle.larch_certificate.specs.TermTree.{Tree, var, app}
+use Rattle.larch_certificate.specs.TermVariable.{occurrences, same_variable}
+use Rattle.larch_certificate.specs.TermStatementStatement.{Statement}
+use Rattle.larch_certificate.specs.TermVariableVariable.{Variable}
 use Rattle.larch_certificate.specs.declared.line.BoxPart.{BoxPart}
 use Rattle.larch_certificate.specs.declared.line.CodedVar.{CodedVar}
 use Rattle.larch_verify_meaning.specs.Events.{PlainBox}

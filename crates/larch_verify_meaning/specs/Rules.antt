@@ -3,22 +3,22 @@ use Rattle.std.specs.Prelude.{ℕ, if◌then◌else◌, Bool, false, List, [], �
 use Rattle.std.specs.Prelude.{option_and_then}
 use Rattle.std.specs.List.{slice_get}
 use Rattle.std.specs.Option.{option_map_or}
-use Rattle.larch_base.specs.ByNumber.{numbered}
-use Rattle.larch_term.specs.BuiltIn.{bool_sort}
-use Rattle.larch_term.specs.Equality.{same_tree, same_statement}
-use Rattle.larch_term.specs.Operator.{PlainOperator}
-use Rattle.larch_term.specs.Place.{at, put}
-use Rattle.larch_term.specs.Sorts.{sort_of}
-use Rattle.larch_term.specs.Statement.{statement_zero}
-use Rattle.larch_term.specs.Substitution.{instance_of}
-use Rattle.larch_term.specs.Tree.{Tree}
-use Rattle.larch_term.specs.Truth.{truth}
-use Rattle.larch_term.specs.declared.statement.Statement.{Statement}
-use Rattle.larch_term.specs.declared.statement.Statement.TheVariants.{Equation, Generated, Partitioned}
-use Rattle.larch_term.specs.declared.statement.Theory.{Theory}
-use Rattle.larch_term.specs.declared.substitution.Entry.{Entry}
-use Rattle.larch_term.specs.declared.variable.Variable.{Variable}
-use Rattle.larch_calculus.specs.Formula.{equality}
+use Rattle.larch_certificate.specs.BaseByNumber.{numbered}
+use Rattle.larch_certificate.specs.TermBuiltIn.{bool_sort}
+use Rattle.larch_certificate.specs.TermEquality.{same_tree, same_statement}
+use Rattle.larch_certificate.specs.TermOperator.{PlainOperator}
+use Rattle.larch_certificate.specs.TermPlace.{at, put}
+use Rattle.larch_certificate.specs.TermSorts.{sort_of}
+use Rattle.larch_certificate.specs.TermStatement.{statement_zero}
+use Rattle.larch_certificate.specs.TermSubstitution.{instance_of}
+use Rattle.larch_certificate.specs.TermTree.{Tree}
+use Rattle.larch_certificate.specs.TermTruth.{truth}
+use Rattle.larch_certificate.specs.TermStatementStatement.{Statement}
+use Rattle.larch_certificate.specs.TermStatementStatement.TheVariants.{Equation, Generated, Partitioned}
+use Rattle.larch_certificate.specs.TermStatementTheory.{Theory}
+use Rattle.larch_certificate.specs.TermSubstitutionEntry.{Entry}
+use Rattle.larch_certificate.specs.TermVariableVariable.{Variable}
+use Rattle.larch_tables.specs.CalculusFormula.{equality}
 use Rattle.larch_tables.specs.Tables.{built_in_rows}
 use Rattle.larch_certificate.specs.Coded.{CodedTree}
 use Rattle.larch_certificate.specs.declared.line.Binding.{Binding}

@@ -3,7 +3,7 @@ ghost use Rattle.larch_term.specs.BuiltIn.{built_in};
 ghost use Rattle.larch_term.specs.Sorts.{sort_of};
 ghost use Rattle.larch_term.specs.Tree.{app, forest_of};
 ghost use Rattle.larch_term.specs.Truth.{truth};
-ghost use Rattle.larch_calculus.specs.Formula.{apply_one, equality, falsity};
+ghost use Rattle.larch_verify_meaning.specs.CalculusFormula.{apply_one, equality, falsity};
 ghost use Rattle.larch_verify_pool.specs.Pooled.{operator_in, tree_in, Grows, HasTree};
 
 use larch_base::Memory;

@@ -1,6 +1,6 @@
 -- What files are named by.
 use Rattle.std.proofs.Common.{◌≡◌, refl, subst, Bool, true, false, not, ◌&&◌, cond, List, [], ◌∷◌, ℕ, Option, Some}
-use Rattle.std.proofs.Common.{None}
+use Rattle.std.proofs.Common.{None, is_some}
 use Rattle.std.specs.List.{list_all}
 use Rattle.std.specs.Str.{bytes_eq}
 use Rattle.std.specs.Prelude.{codes, ◌<◌, length}
@@ -10,14 +10,16 @@ use Rattle.clap.specs.Walk.{is_empty}
 use Rattle.larch_base.specs.FileName.{is_file_name, is_stem}
 use Rattle.larch_base.specs.declared.label.Label.{Label}
 use Rattle.larch_base.proofs.Bools.{and_right}
-use Rattle.larch_words.specs.Call.{are_files, asked, call_of, call_from, files_named, has_option, is_certificate}
-use Rattle.larch_words.specs.Call.{certificate_call, certified_by, is_model, on_files, trial_call}
+use Rattle.larch_words.specs.Call.{are_files, asked, call_of, call_from, files_named, has_other_option, is_certificate}
+use Rattle.larch_words.specs.Call.{certificate_call, certified_by, is_model, limit_of, limited_call, on_files}
+use Rattle.larch_words.specs.Call.{plain_call}
+use Rattle.larch_words.specs.Call.{takes_limit, trial_call}
 use Rattle.larch_words.specs.CommandLine.{Request, request_of}
 use Rattle.larch_base.specs.Label.{read_label}
 use Rattle.larch_words.specs.declared.call.Call.{Call}
 use Rattle.larch_words.specs.declared.call.Call.TheVariants.{Session, OnFiles, Nothing}
 use Rattle.larch_words.specs.declared.call.Question.{Question}
-use Rattle.larch_words.specs.declared.call.Question.TheVariants.{Check, Model, Obligations, Trim, Verify}
+use Rattle.larch_words.specs.declared.call.Question.TheVariants.{Check, Model, Obligations, Replay, Trim, Verify}
 use Rattle.larch_words.specs.declared.call.Trial.{Trial}
 use Rattle.larch_words.specs.declared.call.Verification.{Verification}
 
@@ -58,18 +60,32 @@ tried_named (stem ∷ model ∷ files) =
     either (is_stem stem && is_model model) _ _
     (on_files_named (Model (record { stem = stem; model = model })) files) refl
 
-called_named : (command : List ℕ) (words : List (List ℕ)) → AreNamed (call_from command words)
-called_named command words =
-    either (bytes_eq command (codes "session")) _ _ (either (is_empty words) _ _ refl refl)
-    (either (bytes_eq command (codes "check")) _ _ (on_files_named Check words)
+plain_named : (command : List ℕ) (words : List (List ℕ)) → AreNamed (plain_call command words)
+plain_named command words =
+    either (bytes_eq command (codes "check")) _ _ (on_files_named Check words)
     (either (bytes_eq command (codes "obligations")) _ _ (on_files_named Obligations words)
     (either (bytes_eq command (codes "verify")) _ _ (certified_named Verify words)
     (either (bytes_eq command (codes "model")) _ _ (tried_named words)
-    (either (bytes_eq command (codes "trim")) _ _ (certified_named Trim words) refl)))))
+    (either (bytes_eq command (codes "trim")) _ _ (certified_named Trim words) refl))))
+
+limited_named : (command : List ℕ) (words : List (List ℕ)) (limit : Option ℕ)
+    → AreNamed (option_map_or (limited_call command words) limit Nothing)
+limited_named command words None = refl
+limited_named command words (Some limit) =
+    either (bytes_eq command (codes "session")) _ _ (either (is_empty words) _ _ refl refl)
+    (on_files_named (Replay limit) words)
+
+called_named : (command : List ℕ) (given : Bool) (limit : Option ℕ) (words : List (List ℕ))
+    → AreNamed (call_from command given limit words)
+called_named command given limit words =
+    either (takes_limit command) _ _ (limited_named command words limit)
+    (either given _ _ refl (plain_named command words))
 
 found_named : (request : Option Request) → AreNamed (option_map_or asked request Nothing)
 found_named None = refl
-found_named (Some request) = either (has_option request) _ _ refl (called_named request.command request.words)
+found_named (Some request) =
+    either (has_other_option request) _ _ refl
+    (called_named request.command (is_some request.limit) (limit_of request.limit) request.words)
 
 pub names_files : (words : List (List ℕ)) → AreNamed (call_of words)
 names_files words = found_named (request_of words)
@@ -78,13 +94,14 @@ names_files words = found_named (request_of words)
 abbrev HasEvidence : Question → Type 0
 HasEvidence Check = Unit {0}
 HasEvidence Obligations = Unit {0}
+HasEvidence (Replay limit) = Unit {0}
 HasEvidence (Verify asked) = is_certificate asked.certificate ≡ true
 HasEvidence (Model tried) = is_model tried.model ≡ true
 HasEvidence (Trim asked) = is_certificate asked.certificate ≡ true
 
 -- so does a call
 abbrev pub IsEvidenced : Call → Type 0
-IsEvidenced Session = Unit {0}
+IsEvidenced (Session limit) = Unit {0}
 IsEvidenced (OnFiles question names) = HasEvidence question
 IsEvidenced Nothing = Unit {0}
 
@@ -134,19 +151,32 @@ tried_evidenced (stem ∷ []) = tt
 tried_evidenced (stem ∷ model ∷ files) =
     tried_by_evidenced stem model files (is_stem stem && is_model model) refl
 
-called_evidenced : (command : List ℕ) (words : List (List ℕ)) → IsEvidenced (call_from command words)
-called_evidenced command words =
-    either_evidenced (bytes_eq command (codes "session")) _ _ (either_evidenced (is_empty words) _ _ tt tt)
-    (either_evidenced (bytes_eq command (codes "check")) _ _ (on_files_evidenced Check words tt)
+plain_evidenced : (command : List ℕ) (words : List (List ℕ)) → IsEvidenced (plain_call command words)
+plain_evidenced command words =
+    either_evidenced (bytes_eq command (codes "check")) _ _ (on_files_evidenced Check words tt)
     (either_evidenced (bytes_eq command (codes "obligations")) _ _ (on_files_evidenced Obligations words tt)
     (either_evidenced (bytes_eq command (codes "verify")) _ _ (certificate_evidenced Verify (λ asked is. is) words)
     (either_evidenced (bytes_eq command (codes "model")) _ _ (tried_evidenced words)
-    (either_evidenced (bytes_eq command (codes "trim")) _ _ (certificate_evidenced Trim (λ asked is. is) words) tt)))))
+    (either_evidenced (bytes_eq command (codes "trim")) _ _ (certificate_evidenced Trim (λ asked is. is) words) tt))))
+
+limited_evidenced : (command : List ℕ) (words : List (List ℕ)) (limit : Option ℕ)
+    → IsEvidenced (option_map_or (limited_call command words) limit Nothing)
+limited_evidenced command words None = tt
+limited_evidenced command words (Some limit) =
+    either_evidenced (bytes_eq command (codes "session")) _ _ (either_evidenced (is_empty words) _ _ tt tt)
+    (on_files_evidenced (Replay limit) words tt)
+
+called_evidenced : (command : List ℕ) (given : Bool) (limit : Option ℕ) (words : List (List ℕ))
+    → IsEvidenced (call_from command given limit words)
+called_evidenced command given limit words =
+    either_evidenced (takes_limit command) _ _ (limited_evidenced command words limit)
+    (either_evidenced given _ _ tt (plain_evidenced command words))
 
 found_evidenced : (request : Option Request) → IsEvidenced (option_map_or asked request Nothing)
 found_evidenced None = tt
 found_evidenced (Some request) =
-    either_evidenced (has_option request) _ _ tt (called_evidenced request.command request.words)
+    either_evidenced (has_other_option request) _ _ tt
+    (called_evidenced request.command (is_some request.limit) (limit_of request.limit) request.words)
 
 names_evidence : (words : List (List ℕ)) → IsEvidenced (call_of words)
 names_evidence words = found_evidenced (request_of words)

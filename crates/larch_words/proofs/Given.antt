@@ -12,7 +12,7 @@ use Rattle.clap.proofs.OnLiterals.{clap_on_literals}
 use Rattle.clap.proofs.WalkLemmas.{first_value-rows, raw_values-rows}
 use Rattle.clap.specs.Walk.{is_empty}
 use Rattle.std.specs.Option.{option_map_or}
-use Rattle.larch_words.specs.Call.{asked, call_of, call_from, has_option}
+use Rattle.larch_words.specs.Call.{asked, call_of, call_from, has_other_option, limit_of, read_limit}
 use Rattle.larch_words.specs.CommandLine.{Request, command_line, request_in}
 use Rattle.larch_words.specs.declared.call.Call.{Call}
 use Rattle.larch_words.specs.declared.call.Call.TheVariants.{Nothing}
@@ -57,11 +57,28 @@ pub none_taken : {X : Type 0} (now : X → List Text) (f : Found) (id : Text) (o
     → option_map now o ≡ option_map raw_values (matched_of f id) → [] ≡ unwrap_or (all_of id (rows_of f)) []
 none_taken now f id o s e = ap (λ p. unwrap_or p []) (ap (option_map now) (sym s) ∙ e ∙ raw_values-rows f id)
 
--- what a command with words asks for, where no option was given
-pub asks_for : (request : Request) (command : Text) (words : List Text) (call : Call) → has_option request ≡ false
-    → command ≡ request.command → words ≡ request.words → call ≡ call_from command words → call ≡ asked request
-asks_for request command words call h e f k =
-    k ∙ ap₂ call_from e f ∙ ap (λ b. if b then Nothing else call_from request.command request.words) (sym h)
+-- the limit, where one was given, and where none was
+pub limit_taken : {X : Type 0} (now : X → Text) (f : Found) (id : Text) (o : Option X) (x : X) (limit : Option ℕ)
+    → o ≡ Some x → option_map now o ≡ first_value f id → limit ≡ read_limit (now x)
+    → limit ≡ limit_of (first_of id (rows_of f))
+limit_taken now f id o x limit s e k = k ∙ ap limit_of (ap (option_map now) (sym s) ∙ e ∙ first_value-rows f id)
+
+pub no_limit_taken : {X : Type 0} (now : X → Text) (f : Found) (id : Text) (o : Option X) → o ≡ None
+    → option_map now o ≡ first_value f id → limit_of None ≡ limit_of (first_of id (rows_of f))
+no_limit_taken now f id o s e = ap limit_of (ap (option_map now) (sym s) ∙ e ∙ first_value-rows f id)
+
+-- what a command with words asks for, where no other option was given
+pub asks_for : (request : Request) (command : Text) (given : Bool) (limit : Option ℕ) (words : List Text) (call : Call)
+    → has_other_option request ≡ false
+    → command ≡ request.command → given ≡ is_some request.limit → limit ≡ limit_of request.limit
+    → words ≡ request.words → call ≡ call_from command given limit words → call ≡ asked request
+asks_for request command given limit words call h e g l f k =
+    k
+    ∙ ap (λ c. call_from c given limit words) e
+    ∙ ap₂ (λ b n. call_from request.command b n words) g l
+    ∙ ap (call_from request.command (is_some request.limit) (limit_of request.limit)) f
+    ∙ ap (λ b. if b then Nothing
+    else call_from request.command (is_some request.limit) (limit_of request.limit) request.words) (sym h)
 
 -- the range of an argument
 pub some_range : (o : Option ValueRange) (v : ValueRange) → IsSomeAnd o (λ r. r ≡ v) → o ≡ Some v

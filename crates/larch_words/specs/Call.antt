@@ -1,23 +1,35 @@
 -- What the words of the command line ask for.
-use Rattle.std.specs.Prelude.{ℕ, nat_le, if◌then◌else◌, ◌-◌, ◌&&◌, ◌||◌, not, Bool, List, [], ◌∷◌, drop, length, codes}
-use Rattle.std.specs.Prelude.{Option, Some, None, is_some, take}
+use Rattle.std.specs.Prelude.{ℕ, nat_le, nat_lt, if◌then◌else◌, ◌-◌, ◌&&◌, ◌||◌, not, Bool, List, [], ◌∷◌, drop, length}
+use Rattle.std.specs.Prelude.{codes, Option, Some, None, is_some, take}
 use Rattle.std.specs.List.{list_all}
-use Rattle.std.specs.Option.{option_map_or}
+use Rattle.std.specs.Option.{option_and_then, option_map_or}
 use Rattle.std.specs.Str.{bytes_eq}
 use Rattle.clap.specs.Walk.{is_empty}
 use Rattle.larch_base.specs.FileName.{is_file_name, is_stem}
+use Rattle.larch_base.specs.Number.{read_number}
 use Rattle.larch_base.specs.declared.label.Label.{Label}
+use Rattle.larch_base.specs.declared.limits.TheConstants.{DEFAULT_REWRITING_LIMIT, MAX_REWRITING_LIMIT}
 use Rattle.larch_words.specs.CommandLine.{Request, request_of}
 use Rattle.larch_base.specs.Label.{read_label}
 use Rattle.larch_words.specs.declared.call.Call.{Call}
 use Rattle.larch_words.specs.declared.call.Call.TheVariants.{Session, OnFiles, Nothing}
 use Rattle.larch_words.specs.declared.call.Question.{Question}
-use Rattle.larch_words.specs.declared.call.Question.TheVariants.{Check, Model, Obligations, Trim, Verify}
+use Rattle.larch_words.specs.declared.call.Question.TheVariants.{Check, Model, Obligations, Replay, Trim, Verify}
 use Rattle.larch_words.specs.declared.call.Verification.{Verification}
 
--- whether an option was given
-abbrev pub has_option : Request → Bool
-has_option request = is_some request.limit || (is_some request.seed || is_some request.size)
+-- whether an option was given that no command takes
+abbrev pub has_other_option : Request → Bool
+has_other_option request = is_some request.seed || is_some request.size
+
+-- the rewriting limit that digits spell
+abbrev pub read_limit : List ℕ → Option ℕ
+read_limit digits =
+    option_and_then (λ limit. if nat_lt 0 limit then Some limit else None) (read_number MAX_REWRITING_LIMIT digits)
+
+-- the rewriting limit that is asked for, where one is
+abbrev pub limit_of : Option (List ℕ) → Option ℕ
+limit_of None = Some DEFAULT_REWRITING_LIMIT
+limit_of (Some digits) = read_limit digits
 
 -- whether words are names of files, and there is one
 abbrev pub are_files : List (List ℕ) → Bool
@@ -59,20 +71,38 @@ abbrev pub trial_call : List (List ℕ) → Call
 trial_call (stem ∷ model ∷ files) = tried_by stem model files
 trial_call _ = Nothing
 
--- a session takes no words, the other commands take files
-abbrev pub call_from : List ℕ → List (List ℕ) → Call
-call_from command words =
-    if bytes_eq command (codes "session") then (if is_empty words then Session else Nothing)
-    else if bytes_eq command (codes "check") then on_files Check words
+-- whether a command takes a rewriting limit
+abbrev pub takes_limit : List ℕ → Bool
+takes_limit command = bytes_eq command (codes "session") || bytes_eq command (codes "replay")
+
+-- such a command with a limit: a session takes no words, `replay` takes files
+abbrev pub limited_call : List ℕ → List (List ℕ) → ℕ → Call
+limited_call command words limit =
+    if bytes_eq command (codes "session") then (if is_empty words then Session limit else Nothing)
+    else on_files (Replay limit) words
+
+-- any other command
+abbrev pub plain_call : List ℕ → List (List ℕ) → Call
+plain_call command words =
+    if bytes_eq command (codes "check") then on_files Check words
     else if bytes_eq command (codes "obligations") then on_files Obligations words
     else if bytes_eq command (codes "verify") then certificate_call Verify words
     else if bytes_eq command (codes "model") then trial_call words
     else if bytes_eq command (codes "trim") then certificate_call Trim words
     else Nothing
 
--- no command takes an option yet
+-- what a command with words asks for, by whether a limit was given, and which one it is
+abbrev pub call_from : List ℕ → Bool → Option ℕ → List (List ℕ) → Call
+call_from command given limit words =
+    if takes_limit command then option_map_or (limited_call command words) limit Nothing
+    else if given then Nothing
+    else plain_call command words
+
+-- no command takes another option
 abbrev pub asked : Request → Call
-asked request = if has_option request then Nothing else call_from request.command request.words
+asked request =
+    if has_other_option request then Nothing
+    else call_from request.command (is_some request.limit) (limit_of request.limit) request.words
 
 -- what these words ask for; words without matches mean nothing
 abbrev pub call_of : List (List ℕ) → Call
@@ -80,6 +110,6 @@ call_of words = option_map_or asked (request_of words) Nothing
 
 -- the files that a call names
 abbrev pub files_named : Call → List (List ℕ)
-files_named Session = []
+files_named (Session limit) = []
 files_named (OnFiles question names) = names
 files_named Nothing = []

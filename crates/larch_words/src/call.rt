@@ -1,9 +1,10 @@
-ghost use Rattle.std.specs.Prelude.{◌≡◌, if◌then◌else◌, IfOk, IsErrOf, [], false, is_some, map, string_bytes, true, Some, None};
+ghost use Rattle.std.specs.Prelude.{◌≡◌, if◌then◌else◌, Bool, IfOk, IsErrOf, [], false, is_some, map, string_bytes, true, Some, None};
 ghost use Rattle.std.specs.List.{list_all};
 ghost use Rattle.clap.specs.Words.{first_of, found_of, rows_of};
 ghost use Rattle.larch_base.specs.FileName.{is_file_name};
-ghost use Rattle.larch_words.specs.Call.{are_files, asked, call_of, call_from, has_option, is_certificate, is_model};
-ghost use Rattle.larch_words.specs.Call.{certificate_call, certified_by, on_files, tried_by, trial_call};
+ghost use Rattle.larch_words.specs.Call.{are_files, asked, call_of, call_from, has_other_option, is_certificate, is_model};
+ghost use Rattle.larch_words.specs.Call.{certificate_call, certified_by, limit_of, limited_call, on_files, plain_call};
+ghost use Rattle.larch_words.specs.Call.{read_limit, takes_limit, tried_by, trial_call};
 ghost use Rattle.larch_words.specs.CommandLine.{request_in};
 ghost use Rattle.larch_words.specs.Aims.{asking};
 
@@ -11,7 +12,10 @@ use crate::command_line::command_line;
 use crate::evidence_name::EvidenceName;
 use clap::ArgMatches;
 use clap::error::ErrorKind;
-use larch_base::{FileName, Label, Memory, Name, NameRefusal, Sequence, is_stem, read_label};
+use larch_base::limits::{DEFAULT_REWRITING_LIMIT, MAX_REWRITING_LIMIT};
+use larch_base::{
+    FileName, Label, Memory, Name, NameRefusal, Sequence, is_stem, read_label, read_number,
+};
 use std::alloc::Global;
 
 /// Several names of files, in order.
@@ -44,6 +48,8 @@ pub enum Question {
     Check,
     /// What their traits claim.
     Obligations,
+    /// What their scripts prove of it, with this rewriting limit.
+    Replay(u32),
     /// Whether a certificate shows what a trait among them claims.
     Verify(Verification),
     /// Whether a text is a model of a trait among them, and which of its claims hold in it.
@@ -64,8 +70,8 @@ enum Aim {
 /// What the words of the command line ask for.
 #[derive(Drop)]
 pub enum Call {
-    /// A session over the source and the sink.
-    Session,
+    /// A session over the source and the sink, with this rewriting limit.
+    Session(u32),
     /// Something about these files of the folder.
     OnFiles(Question, FileNames),
     /// Nothing: the words mean no command.
@@ -96,24 +102,26 @@ pub fn read_words(alloc: Global, words: &[String]) -> Result<Call, Memory>
 fn asked(alloc: Global, matches: &ArgMatches<'_>) -> Result<Call, Memory>
     ensures { IfOk result (λ call. call ≡ asked (request_in (rows_of (found_of matches.now)))) }
 {
-    if has_option(matches) {
+    if has_other_option(matches) {
         return Ok(Call::Nothing);
     }
     let command = command_in(matches);
+    let given = is_given(matches, "limit");
+    let limit = limit_in(matches);
     match matches.get_strs("WORD") {
         Some(words) => {
-            let call = call_with_words(alloc, command, words)?;
+            let call = call_from(alloc, command, given, limit, words)?;
             Ok(call)
         }
-        None => Ok(call_without_words(command)),
+        None => Ok(call_without_words(command, limit)),
     }
 }
 
-// Whether an option was given.
-fn has_option(matches: &ArgMatches<'_>) -> bool
-    ensures { result ≡ has_option (request_in (rows_of (found_of matches.now))) }
+// Whether an option was given that no command takes.
+fn has_other_option(matches: &ArgMatches<'_>) -> bool
+    ensures { result ≡ has_other_option (request_in (rows_of (found_of matches.now))) }
 {
-    is_given(matches, "limit") || is_given(matches, "seed") || is_given(matches, "size")
+    is_given(matches, "seed") || is_given(matches, "size")
 }
 
 // Whether an argument has a value.
@@ -130,29 +138,82 @@ fn command_in<'a>(matches: &ArgMatches<'a>) -> &'a str
     matches.get_str("COMMAND").unwrap_or("")
 }
 
-// What a command without words asks for.
-fn call_without_words(command: &str) -> Call
-    ensures { result ≡ call_from command.now [] }
+// The rewriting limit, where what was given is one.
+fn limit_in(matches: &ArgMatches<'_>) -> Option<u32>
+    ensures { result ≡ limit_of (request_in (rows_of (found_of matches.now))).limit }
 {
-    if command == "session" {
-        Call::Session
-    } else {
-        Call::Nothing
+    match matches.get_str("limit") {
+        Some(digits) => read_limit(digits.as_bytes()),
+        None => Some(DEFAULT_REWRITING_LIMIT),
     }
 }
 
-// What a command with these words asks for.
-fn call_with_words(alloc: Global, command: &str, words: &[&str]) -> Result<Call, Memory>
-    ensures { IfOk result (λ call. call ≡ call_from command.now (map (λ word. word.now) words.now)) }
+// The rewriting limit that digits spell.
+fn read_limit(digits: &[u8]) -> Option<u32>
+    ensures { result ≡ read_limit digits.now }
+{
+    let limit = read_number(digits, MAX_REWRITING_LIMIT)?;
+    if 0 < limit { Some(limit) } else { None }
+}
+
+// Whether a command takes a rewriting limit.
+fn takes_limit(command: &str) -> bool
+    ensures { result ≡ takes_limit command.now }
+{
+    command == "session" || command == "replay"
+}
+
+// What a command without words asks for, with this limit: files are nearly always wanted.
+fn call_without_words(command: &str, limit: Option<u32>) -> Call
+    ensures { (given : Bool) → result ≡ call_from command.now given limit [] }
+{
+    match limit {
+        Some(limit) if command == "session" => Call::Session(limit),
+        _ => Call::Nothing,
+    }
+}
+
+// What a command with these words asks for: whether a limit was given, and which one it is.
+fn call_from(
+    alloc: Global,
+    command: &str,
+    given: bool,
+    limit: Option<u32>,
+    words: &[&str],
+) -> Result<Call, Memory>
+    ensures { IfOk result (λ call. call ≡ call_from command.now given limit (map (λ word. word.now) words.now)) }
+{
+    if takes_limit(command) {
+        match limit {
+            Some(limit) => limited_call(alloc, command, limit, words),
+            None => Ok(Call::Nothing),
+        }
+    } else if given {
+        Ok(Call::Nothing)
+    } else {
+        plain_call(alloc, command, words)
+    }
+}
+
+// What a command that takes a rewriting limit asks for, with this one.
+fn limited_call(alloc: Global, command: &str, limit: u32, words: &[&str]) -> Result<Call, Memory>
+    ensures { IfOk result (λ call. call ≡ limited_call command.now (map (λ word. word.now) words.now) limit) }
+{
+    if command != "session" {
+        return on_files(alloc, Question::Replay(limit), words);
+    }
+    if words.is_empty() {
+        Ok(Call::Session(limit))
+    } else {
+        Ok(Call::Nothing)
+    }
+}
+
+// What any other command asks for.
+fn plain_call(alloc: Global, command: &str, words: &[&str]) -> Result<Call, Memory>
+    ensures { IfOk result (λ call. call ≡ plain_call command.now (map (λ word. word.now) words.now)) }
 {
     match command {
-        "session" => {
-            if words.is_empty() {
-                Ok(Call::Session)
-            } else {
-                Ok(Call::Nothing)
-            }
-        }
         "check" => on_files(alloc, Question::Check, words),
         "obligations" => on_files(alloc, Question::Obligations, words),
         "verify" => certificate_call(alloc, Aim::Verify, words),

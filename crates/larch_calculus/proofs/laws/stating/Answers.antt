@@ -1,5 +1,5 @@
 use Rattle.larch_term.specs.Statement.{statement_zero}
-use Rattle.larch_base.proofs.Members.{contains_here}
+use Rattle.larch_term.proofs.BaseMembers.{contains_here}
 use Rattle.larch_calculus.specs.Derivable.{axiom_}
 use Rattle.larch_calculus.proofs.DerivedRules.{stated}
 use Rattle.larch_calculus.proofs.Sorted.{zero_over}

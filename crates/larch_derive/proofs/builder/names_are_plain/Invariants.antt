@@ -1,5 +1,5 @@
 use Rattle.std.proofs.Common.{take, All}
-use Rattle.larch_calculus.specs.Renaming.{IsPlainName}
+use Rattle.larch_verify_meaning.specs.CalculusRenaming.{IsPlainName}
 use Rattle.larch_derive.proofs.builder.names_are_plain.Given as goal
 
 -- the names so far are bytes

@@ -1,6 +1,6 @@
 use Rattle.std.proofs.Common.{◌+◌, ◌*◌, sum_by, take}
 use Rattle.larch_term.specs.Tree.{forest_of, nodes}
-use Rattle.larch_certificate.specs.Coded.{coded_forest_of}
+use Rattle.larch_certificate_text.specs.CertificateCoded.{coded_forest_of}
 use Rattle.larch_derive.specs.Coding.{AreCodesOf}
 use Rattle.larch_derive.proofs.coding.+code.Given as goal
 

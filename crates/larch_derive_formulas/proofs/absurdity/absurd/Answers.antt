@@ -1,5 +1,5 @@
 use Rattle.std.specs.Prelude.{[], ◌∷◌, refl}
-use Rattle.larch_calculus.specs.Formula.{falsity}
+use Rattle.larch_derive_lines.specs.CalculusFormula.{falsity}
 use Rattle.larch_term.specs.BuiltIn.{built_in}
 use Rattle.larch_term.specs.Sorts.{sort_of}
 use Rattle.larch_term.specs.Truth.{truth}

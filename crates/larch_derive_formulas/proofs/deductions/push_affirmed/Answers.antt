@@ -1,5 +1,5 @@
 use Rattle.larch_term.specs.Truth.{truth}
-use Rattle.larch_derive.proofs.Growth.{extends_same, extends_trans}
+use Rattle.larch_derive_lines.proofs.DeriveGrowth.{extends_same, extends_trans}
 use Rattle.larch_derive_formulas.proofs.Rows.{instance_as}
 use Rattle.larch_derive_formulas.proofs.deductions.push_affirmed.Goals as goal
 

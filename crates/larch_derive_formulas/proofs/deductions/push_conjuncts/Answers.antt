@@ -1,9 +1,9 @@
 use Rattle.std.specs.Prelude.{[], ◌∷◌, refl}
-use Rattle.larch_calculus.specs.Formula.{conjunction}
+use Rattle.larch_derive_lines.specs.CalculusFormula.{conjunction}
 use Rattle.larch_term.specs.BuiltIn.{bool_sort, built_in}
 use Rattle.larch_term.specs.Truth.{truth}
 use Rattle.larch_term.specs.declared.built_in.BuiltIn.TheVariants.{Implies}
-use Rattle.larch_derive.proofs.Growth.{extends_trans, stays_said}
+use Rattle.larch_derive_lines.proofs.DeriveGrowth.{extends_trans, stays_said}
 use Rattle.larch_derive_formulas.proofs.Deduced.{left_by_truth, left_conjunct, right_by_truth, right_conjunct}
 use Rattle.larch_derive_formulas.proofs.deductions.push_conjuncts.Goals as goal
 

@@ -1,5 +1,5 @@
-use Rattle.larch_calculus.specs.Formula.{negation}
-use Rattle.larch_derive.proofs.Growth.{extends_trans}
+use Rattle.larch_derive_lines.specs.CalculusFormula.{negation}
+use Rattle.larch_derive_lines.proofs.DeriveGrowth.{extends_trans}
 use Rattle.larch_derive_formulas.proofs.deductions.push_denied.Goals as goal
 
 pub returns-in_err-denied-clause-extends : goal.returns-in_err-denied-clause-extends

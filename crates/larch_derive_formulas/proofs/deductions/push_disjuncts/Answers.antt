@@ -1,8 +1,8 @@
 use Rattle.std.specs.Prelude.{[], ◌∷◌, refl}
-use Rattle.larch_calculus.specs.Formula.{disjunction, falsity}
+use Rattle.larch_derive_lines.specs.CalculusFormula.{disjunction, falsity}
 use Rattle.larch_term.specs.BuiltIn.{bool_sort, built_in}
 use Rattle.larch_term.specs.declared.built_in.BuiltIn.TheVariants.{Implies}
-use Rattle.larch_derive.proofs.Growth.{extends_trans, stays_said}
+use Rattle.larch_derive_lines.proofs.DeriveGrowth.{extends_trans, stays_said}
 use Rattle.larch_derive_formulas.proofs.Deduced.{left_disjunct, left_to_falsity, right_disjunct, right_to_falsity}
 use Rattle.larch_derive_formulas.proofs.deductions.push_disjuncts.Goals as goal
 

@@ -1,8 +1,8 @@
 use Rattle.std.specs.Prelude.{[], ◌∷◌, refl}
-use Rattle.larch_calculus.specs.Formula.{falsity, implication}
+use Rattle.larch_derive_lines.specs.CalculusFormula.{falsity, implication}
 use Rattle.larch_term.specs.BuiltIn.{bool_sort, built_in}
 use Rattle.larch_term.specs.declared.built_in.BuiltIn.TheVariants.{Implies, Or}
-use Rattle.larch_derive.proofs.Growth.{extends_trans, stays_said}
+use Rattle.larch_derive_lines.proofs.DeriveGrowth.{extends_trans, stays_said}
 use Rattle.larch_derive_formulas.proofs.Deduced.{by_conclusion, conclusion_to_falsity, or_premise, premise_alone}
 use Rattle.larch_derive_formulas.proofs.deductions.push_implication_parts.Goals as goal
 

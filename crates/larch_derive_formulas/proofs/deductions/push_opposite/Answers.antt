@@ -1,5 +1,5 @@
 use Rattle.std.specs.Prelude.{[], refl}
-use Rattle.larch_calculus.specs.Formula.{negation}
+use Rattle.larch_derive_lines.specs.CalculusFormula.{negation}
 use Rattle.larch_term.specs.BuiltIn.{bool_sort, built_in}
 use Rattle.larch_term.specs.declared.built_in.BuiltIn.TheVariants.{Not}
 use Rattle.larch_derive_formulas.proofs.Deduced.{not_not}

@@ -1,4 +1,4 @@
-use Rattle.larch_calculus.specs.Formula.{falsity}
+use Rattle.larch_derive_lines.specs.CalculusFormula.{falsity}
 use Rattle.larch_term.specs.Truth.{truth}
 use Rattle.larch_derive_formulas.proofs.Deduced.{not_false}
 use Rattle.larch_derive_formulas.proofs.deductions.push_true.Goals as goal

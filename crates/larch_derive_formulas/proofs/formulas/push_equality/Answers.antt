@@ -1,7 +1,7 @@
 use Rattle.std.specs.Prelude.{◌∷◌, [], refl}
-use Rattle.larch_derive.proofs.Growth.{extends_same, extends_trans, known_left}
+use Rattle.larch_derive_lines.proofs.DeriveGrowth.{extends_same, extends_trans, known_left}
 use Rattle.larch_term.specs.Truth.{truth}
-use Rattle.larch_calculus.specs.Formula.{apply_two}
+use Rattle.larch_derive_lines.specs.CalculusFormula.{apply_two}
 use Rattle.larch_derive_formulas.specs.Formulas.{equating}
 use Rattle.larch_derive_formulas.proofs.Truths.{equated_by}
 use Rattle.larch_derive_formulas.proofs.formulas.push_equality.Goals as goal

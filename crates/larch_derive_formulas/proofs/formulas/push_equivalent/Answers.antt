@@ -1,5 +1,5 @@
-use Rattle.larch_derive.proofs.Growth.{extends_same, extends_trans, stays_said}
-use Rattle.larch_calculus.specs.Formula.{equality, equivalence}
+use Rattle.larch_derive_lines.proofs.DeriveGrowth.{extends_same, extends_trans, stays_said}
+use Rattle.larch_derive_lines.specs.CalculusFormula.{equality, equivalence}
 use Rattle.larch_term.specs.BuiltIn.{bool_sort}
 use Rattle.larch_term.specs.Truth.{truth}
 use Rattle.larch_derive_formulas.proofs.Truths.{from_equivalence}

@@ -1,6 +1,6 @@
 use Rattle.larch_term.specs.Tree.{app, forest_of}
 use Rattle.std.specs.Prelude.{◌++◌, ◌∷◌}
-use Rattle.larch_derive.proofs.Growth.{extends_trans, stays_said}
+use Rattle.larch_derive_lines.proofs.DeriveGrowth.{extends_trans, stays_said}
 use Rattle.larch_derive_formulas.proofs.instances.push_change.Goals as goal
 
 pub returns-in_err-back-clause-extends : goal.returns-in_err-back-clause-extends

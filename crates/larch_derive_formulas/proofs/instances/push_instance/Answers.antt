@@ -1,4 +1,4 @@
-use Rattle.larch_derive.proofs.Growth.{extends_same, extends_trans}
+use Rattle.larch_derive_lines.proofs.DeriveGrowth.{extends_same, extends_trans}
 use Rattle.larch_derive_formulas.proofs.Rows.{instance_extends, instance_says, row_extends}
 use Rattle.larch_derive_formulas.proofs.instances.push_instance.Goals as goal
 

@@ -1,6 +1,6 @@
 use Rattle.larch_term.specs.Tree.{app, forest_of}
 use Rattle.std.specs.Prelude.{◌++◌, ◌∷◌}
-use Rattle.larch_derive.proofs.Growth.{extends_trans}
+use Rattle.larch_derive_lines.proofs.DeriveGrowth.{extends_trans}
 use Rattle.larch_derive_formulas.proofs.Rows.{instance_stays}
 use Rattle.larch_derive_formulas.proofs.instances.push_reach.Goals as goal
 

@@ -1,4 +1,4 @@
-use Rattle.larch_derive.proofs.Growth.{extends_same, extends_trans}
+use Rattle.larch_derive_lines.proofs.DeriveGrowth.{extends_same, extends_trans}
 use Rattle.larch_derive_formulas.proofs.instances.push_reverse.Goals as goal
 
 pub returns-in_err-line-clause-extends : goal.returns-in_err-line-clause-extends

@@ -1,4 +1,4 @@
-use Rattle.larch_derive.proofs.Growth.{extends_same, extends_trans, stays_said}
+use Rattle.larch_derive_lines.proofs.DeriveGrowth.{extends_same, extends_trans, stays_said}
 use Rattle.larch_derive_formulas.proofs.instances.push_through.Goals as goal
 
 pub returns-in_err-further-clause-extends : goal.returns-in_err-further-clause-extends

@@ -1,5 +1,5 @@
 use Rattle.std.proofs.Common.{◌≡◌, drop}
-use Rattle.larch_traits_items.specs.Steps.{all_taken, each, one_behind}
+use Rattle.larch_base_meaning.specs.Steps.{all_taken, each, one_behind}
 use Rattle.larch_duties_meaning.specs.Conversions.{conversion_of}
 use Rattle.larch_duties.proofs.conversion.conversions_of.Given as goal
 

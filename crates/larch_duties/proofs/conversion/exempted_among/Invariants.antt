@@ -1,5 +1,5 @@
 use Rattle.std.proofs.Common.{◌≡◌, [], drop}
-use Rattle.larch_traits_items.specs.Steps.{all_taken}
+use Rattle.larch_base_meaning.specs.Steps.{all_taken}
 use Rattle.larch_duties_meaning.specs.Conversions.{take_exempted}
 use Rattle.larch_duties.proofs.conversion.exempted_among.Given as goal
 

@@ -1,5 +1,5 @@
 use Rattle.std.proofs.Common.{◌≡◌, [], drop}
-use Rattle.larch_traits_items.specs.Steps.{all_behind, all_taken}
+use Rattle.larch_base_meaning.specs.Steps.{all_behind, all_taken}
 use Rattle.larch_duties.specs.Steps.{reference_implies}
 use Rattle.larch_duties.specs.TraitDuties.{flat_with}
 use Rattle.larch_duties.proofs.implied.by_references.Given as goal

@@ -1,9 +1,9 @@
 use Rattle.std.proofs.Common.{◌≡◌, ◌∙◌, [], ap, sym, subst, Ok, Err}
 use Rattle.std.specs.Prelude.{IfSome}
 use Rattle.std.proofs.lemmas.Result.{err_from_is_err_and}
-use Rattle.larch_traits_items.specs.Items.{items_state}
-use Rattle.larch_traits_items.specs.Refusal.{cause}
-use Rattle.larch_traits_items.specs.Steps.{all_behind, all_taken}
+use Rattle.larch_flat_meaning.specs.TraitsItemsItems.{items_state}
+use Rattle.larch_flat_meaning.specs.TraitsItemsRefusal.{cause}
+use Rattle.larch_base_meaning.specs.Steps.{all_behind, all_taken}
 use Rattle.larch_duties.specs.Steps.{reference_implies}
 use Rattle.larch_duties.specs.TraitDuties.{flat_with}
 use Rattle.larch_duties.proofs.ByParts.{implied_told, items_wrong}

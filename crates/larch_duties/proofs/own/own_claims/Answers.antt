@@ -1,5 +1,5 @@
 use Rattle.std.proofs.Common.{◌∙◌, ap, Ok, Some}
-use Rattle.larch_flat_sources.specs.Sources.{name_at}
+use Rattle.larch_flat.specs.FlatSourcesSources.{name_at}
 use Rattle.larch_duties.proofs.OwnKept.{own_told}
 use Rattle.larch_duties.proofs.OwnDuties.{few_assumed, few_implied}
 use Rattle.larch_duties.proofs.own.own_claims.Goals as goal

@@ -1,5 +1,5 @@
 use Rattle.std.proofs.Common.{◌∙◌, ap, Ok, Some}
-use Rattle.larch_flat_sources.specs.Sources.{name_at}
+use Rattle.larch_flat.specs.FlatSourcesSources.{name_at}
 use Rattle.larch_duties.proofs.Listed.{listed_told}
 use Rattle.larch_duties.proofs.printing.list_trait.Goals as goal
 

@@ -2,8 +2,8 @@ use Rattle.std.proofs.Common.{◌≡◌, ◌∙◌, ap, sym, subst, true, false,
 use Rattle.std.specs.Prelude.{IfSome, nat_lt}
 use Rattle.std.proofs.lemmas.Result.{err_from_is_err_and}
 use Rattle.larch_base.specs.declared.limits.TheConstants.{MAX_DUTIES}
-use Rattle.larch_traits_items.specs.Refusal.{cause}
-use Rattle.larch_traits_items.specs.Steps.{each}
+use Rattle.larch_flat_meaning.specs.TraitsItemsRefusal.{cause}
+use Rattle.larch_base_meaning.specs.Steps.{each}
 use Rattle.larch_flat_meaning.specs.Gathered.{Gathered, new_among}
 use Rattle.larch_duties_meaning.specs.Conversions.{conversion_of}
 use Rattle.larch_duties_meaning.specs.Duties.{all_duties}
@@ -12,6 +12,9 @@ use Rattle.larch_duties.specs.Kept.{duties_in}
 use Rattle.larch_duties.specs.TraitDuties.{flat_with}
 use Rattle.larch_duties.proofs.ByParts.{claims_kept, claims_stopped, clauses_wrong}
 use Rattle.larch_duties.proofs.trait_duties.claims_of.Goals as goal
+
+pub returns-then-claims_nothing : goal.returns-then-claims_nothing
+returns-then-claims_nothing c = c.duties_without_claims.ensures c.args.sources.now
 
 pub returns-in_err-statements : goal.returns-in_err-statements
 returns-in_err-statements c =

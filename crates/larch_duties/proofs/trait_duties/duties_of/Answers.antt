@@ -1,6 +1,6 @@
 use Rattle.std.proofs.Common.{◌∙◌, ap, sym, subst, Some}
 use Rattle.larch_base.specs.Answering.{Answers}
-use Rattle.larch_traits_items.specs.Steps.{after}
+use Rattle.larch_base_meaning.specs.Steps.{after}
 use Rattle.larch_flat.specs.Known.{stop_told}
 use Rattle.larch_flat.proofs.Parts.{no_flat}
 use Rattle.larch_duties.specs.TraitDuties.{claims_of}

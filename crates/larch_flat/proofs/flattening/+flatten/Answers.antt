@@ -1,9 +1,9 @@
 use Rattle.std.proofs.Common.{◌≡◌, sym, ap, subst, ◌∙◌, not, Ok, Err, Some, arith}
 use Rattle.std.specs.Prelude.{bytes_eq, IfSome}
 use Rattle.std.proofs.lemmas.Result.{err_from_is_err_and}
-use Rattle.larch_traits_items.specs.Steps.{all_taken}
-use Rattle.larch_traits_items.proofs.Steps.{step_refused, step_taken}
-use Rattle.larch_flat_meaning.specs.Gathered.{nothing}
+use Rattle.larch_base_meaning.specs.Steps.{all_taken}
+use Rattle.larch_flat_sources.proofs.TraitsItemsSteps.{step_refused, step_taken}
+use Rattle.larch_flat_sources.specs.FlatMeaningGathered.{nothing}
 use Rattle.larch_flat_sources.specs.Sources.{name_at}
 use Rattle.larch_flat.specs.Known.{KeepsTold, stop_told}
 use Rattle.larch_flat.specs.Parts.{parts_of, with_reference}

@@ -1,6 +1,6 @@
 use Rattle.std.proofs.Common.{◌≡◌, ◌+◌, ◌*◌, drop}
-use Rattle.larch_traits_items.specs.Steps.{all_taken}
-use Rattle.larch_flat_meaning.specs.Gathered.{Gathered, nothing}
+use Rattle.larch_base_meaning.specs.Steps.{all_taken}
+use Rattle.larch_flat_sources.specs.FlatMeaningGathered.{Gathered, nothing}
 use Rattle.larch_flat_gathering.specs.Keeping.{Keeps}
 use Rattle.larch_flat_sources.specs.Sources.{name_at}
 use Rattle.larch_flat.specs.Known.{Grows, Knows}

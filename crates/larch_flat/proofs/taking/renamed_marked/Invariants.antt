@@ -1,6 +1,6 @@
 use Rattle.std.proofs.Common.{◌≡◌, drop, map}
 use Rattle.std.specs.Prelude.{fold}
-use Rattle.larch_flat_meaning.specs.Flat.{renamed_mark, renamed_marked, with_mark}
+use Rattle.larch_flat_sources.specs.FlatMeaningFlat.{renamed_mark, renamed_marked, with_mark}
 use Rattle.larch_flat.proofs.taking.renamed_marked.Given as goal
 
 -- the statements so far, with those that are left, are all

@@ -1,6 +1,6 @@
 use Rattle.std.proofs.Common.{◌≡◌, drop}
 use Rattle.std.specs.Prelude.{fold}
-use Rattle.larch_flat_meaning.specs.Gathered.{Gathered, with_taken}
+use Rattle.larch_flat_sources.specs.FlatMeaningGathered.{Gathered, with_taken}
 use Rattle.larch_flat_gathering.specs.Keeping.{Keeps}
 use Rattle.larch_flat.proofs.taking.take_all.Given as goal
 

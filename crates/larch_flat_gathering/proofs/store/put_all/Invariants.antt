@@ -1,5 +1,5 @@
 use Rattle.std.proofs.Common.{◌≡◌, drop, fold}
-use Rattle.larch_flat_meaning.specs.Gathered.{with_operator}
+use Rattle.larch_flat_statements.specs.FlatMeaningGathered.{with_operator}
 use Rattle.larch_flat_gathering.proofs.store.put_all.Given as goal
 
 -- what the operators that are left make of those so far is the whole

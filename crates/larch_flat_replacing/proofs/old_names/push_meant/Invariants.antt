@@ -1,5 +1,5 @@
 use Rattle.std.proofs.Common.{◌≡◌, ◌++◌, drop, filter}
-use Rattle.larch_traits_items.specs.References.{is_meant}
+use Rattle.larch_flat_meaning.specs.TraitsItemsReferences.{is_meant}
 use Rattle.larch_flat_replacing.proofs.old_names.push_meant.Given as goal
 
 -- those so far, with those that are left, are all

@@ -1,5 +1,5 @@
 use Rattle.std.proofs.Common.{◌≡◌, drop}
-use Rattle.larch_traits_items.specs.Steps.{all_taken}
+use Rattle.larch_base_meaning.specs.Steps.{all_taken}
 use Rattle.larch_flat_meaning.specs.Replacements.{by_name, replace}
 use Rattle.larch_flat_replacing.proofs.replacing.replaced_by_name.Given as goal
 

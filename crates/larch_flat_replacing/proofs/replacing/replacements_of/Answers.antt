@@ -1,6 +1,6 @@
 use Rattle.std.proofs.Common.{sym, subst}
 use Rattle.larch_base.specs.Answering.{Answers}
-use Rattle.larch_traits_items.specs.Refusal.{cause}
+use Rattle.larch_flat_meaning.specs.TraitsItemsRefusal.{cause}
 use Rattle.larch_flat_replacing.proofs.Steps.{replacements_told}
 use Rattle.larch_flat_replacing.proofs.replacing.replacements_of.Goals as goal
 

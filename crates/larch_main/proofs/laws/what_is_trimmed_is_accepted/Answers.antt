@@ -1,4 +1,4 @@
-use Rattle.larch_main.proofs.Trimmed.{trimmed}
+use Rattle.larch_main_files.proofs.Trimmed.{trimmed}
 use Rattle.larch_main.proofs.laws.what_is_trimmed_is_accepted.Goals as goal
 
 pub returns : goal.returns

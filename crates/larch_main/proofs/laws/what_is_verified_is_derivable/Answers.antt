@@ -1,4 +1,4 @@
-use Rattle.larch_main.proofs.Accepted.{shown}
+use Rattle.larch_main_files.proofs.Accepted.{shown}
 use Rattle.larch_main.proofs.laws.what_is_verified_is_derivable.Goals as goal
 
 pub returns : goal.returns

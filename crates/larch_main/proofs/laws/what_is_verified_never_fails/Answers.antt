@@ -1,4 +1,4 @@
-use Rattle.larch_main.proofs.Accepted.{never_fails}
+use Rattle.larch_main_files.proofs.Accepted.{never_fails}
 use Rattle.larch_main.proofs.laws.what_is_verified_never_fails.Goals as goal
 
 pub returns : goal.returns

@@ -1,7 +1,8 @@
 -- What is answered to a refusal.
-use Rattle.larch_main.specs.Answer.{answer_to}
-use Rattle.larch_main.specs.Questions.{Answered}
-use Rattle.larch_main.proofs.Answering.{err_by, ok_by, refusal_answered}
+use Rattle.larch_main_files.specs.Answer.{answer_to}
+use Rattle.larch_main_files.specs.Questions.{Answered}
+use Rattle.larch_main_files.proofs.Answering.{err_by, ok_by, refusal_answered}
+use Rattle.larch_main.proofs.Replaying.{works_answered}
 use Rattle.larch_main.proofs.running.answer.Goals as goal
 
 pub returns-in-Err-clause-answer : goal.returns-in-Err-clause-answer
@@ -9,6 +10,11 @@ returns-in-Err-clause-answer g c =
     refusal_answered
     (λ answer. Answered c.args.question.now c.args.names.now (g.F.Folder.files c.args.folder.now) answer)
     (answer_to c.in-Err.refusal) c.answer_to.result c.in-Err.ensures.answer c.answer_to.ensures.answer
+
+pub returns-in-Err-clause-works : goal.returns-in-Err-clause-works
+returns-in-Err-clause-works g c =
+    works_answered c.args.question.now c.args.names.now (g.F.Folder.files c.args.folder.now) _ _
+    (answer_to c.in-Err.refusal) c.answer_to.result c.in-Err.ensures.works c.answer_to.ensures.answer
 
 pub returns-in-Err-clause-fine : goal.returns-in-Err-clause-fine
 returns-in-Err-clause-fine g c =

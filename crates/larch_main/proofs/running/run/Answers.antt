@@ -1,50 +1,69 @@
 -- What the words ask for, and what that call does.
 use Rattle.std.proofs.Common.{◌∙◌, ap, map, refl, string_bytes, sym}
 use Rattle.larch_words.specs.declared.call.Call.TheVariants as call_
-use Rattle.larch_main.proofs.Turns.{looks_as, no_look}
+use Rattle.larch_main_files.proofs.Turns.{looks_as, no_look}
 use Rattle.larch_main.proofs.Whole.{asked_certificate, asked_model, asked_trimmed, completes_as, folder_kept}
 use Rattle.larch_main.proofs.Whole.{memory_input}
-use Rattle.larch_main.proofs.Whole.{nothing_written, shows, source_kept, unlooked, unread, usage_sink, usage_writes}
+use Rattle.larch_main.proofs.Sessions.{session_source, session_writes, source_as}
+use Rattle.larch_main.proofs.Whole.{nothing_made, nothing_written, reports_as, shows}
+use Rattle.larch_main.proofs.Whole.{source_kept, unlooked, unread, usage_sink, usage_writes}
 use Rattle.larch_main.proofs.Whole.{writes_as}
 use Rattle.larch_main.proofs.running.run.Goals as goal
 
 pub returns-in-Session-clause-output : goal.returns-in-Session-clause-output
 returns-in-Session-clause-output g c =
-    writes_as call_.Session _ _ _ _ _ _ c.session.result (sym c.in-Session.is ∙ c.in-Ok.ensures)
-    (c.session.ensures.output _)
+    writes_as (call_.Session c.in-Session.limit) _ _ _ _ _ _ c.run_session.result
+    (sym c.in-Session.is ∙ c.in-Ok.ensures)
+    (session_writes c.in-Session.limit _ _ _ _ _ c.run_session.result c.run_session.ensures.output)
+
+pub returns-in-Session-clause-reports : goal.returns-in-Session-clause-reports
+returns-in-Session-clause-reports g c =
+    reports_as (call_.Session c.in-Session.limit) _ _ _ _ _ _ _ (sym c.in-Session.is ∙ c.in-Ok.ensures)
+    c.run_session.ensures.reports
+
+pub returns-in-Session-clause-source_faults : goal.returns-in-Session-clause-source_faults
+returns-in-Session-clause-source_faults g c =
+    source_as (call_.Session c.in-Session.limit) _ c.run_session.result _ _ (sym c.in-Session.is ∙ c.in-Ok.ensures)
+    (session_source c.in-Session.limit c.run_session.result _ _ c.run_session.ensures.source_faults)
 
 pub returns-in-Session-clause-shown : goal.returns-in-Session-clause-shown
 returns-in-Session-clause-shown g c =
-    shows c.what_is_verified_is_derivable.ensures c.what_is_trimmed_is_accepted.ensures _ _ _ _ _ _ c.session.result
-    (writes_as call_.Session _ _ _ _ _ _ c.session.result (sym c.in-Session.is ∙ c.in-Ok.ensures)
-    (c.session.ensures.output (g.F.Folder.files c.args.folder.now)))
+    shows c.what_is_verified_is_derivable.ensures c.what_is_trimmed_is_accepted.ensures _ _ _ _ _ _ c.run_session.result
+    (writes_as (call_.Session c.in-Session.limit) _ _ _ _ _ _ c.run_session.result
+    (sym c.in-Session.is ∙ c.in-Ok.ensures)
+    (session_writes c.in-Session.limit (g.F.Folder.files c.args.folder.now) _ _ _ _ c.run_session.result
+    c.run_session.ensures.output))
 
 pub returns-in-Session-clause-complete : goal.returns-in-Session-clause-complete
 returns-in-Session-clause-complete g c =
-    completes_as call_.Session _ _ _ _ _ _ c.session.result _ _ _ _ _ _ (sym c.in-Session.is ∙ c.in-Ok.ensures)
-    (c.session.ensures.output (g.F.Folder.files c.args.folder.now)) c.session.ensures.source_faults
-    (unlooked call_.Session refl c.session.result (g.F.Folder.faults c.args.folder.now)) c.session.ensures.sink_faults
+    completes_as (call_.Session c.in-Session.limit) _ _ _ _ _ _ c.run_session.result _ _ _ _ _ _
+    (sym c.in-Session.is ∙ c.in-Ok.ensures)
+    (session_writes c.in-Session.limit (g.F.Folder.files c.args.folder.now) _ _ _ _ c.run_session.result
+    c.run_session.ensures.output)
+    (session_source c.in-Session.limit c.run_session.result _ _ c.run_session.ensures.source_faults)
+    (unlooked (call_.Session c.in-Session.limit) refl c.run_session.result
+    (g.F.Folder.faults c.args.folder.now)) c.run_session.ensures.sink_faults
 
 pub returns-in-Nothing-clause-output : goal.returns-in-Nothing-clause-output
 returns-in-Nothing-clause-output g c =
-    writes_as call_.Nothing _ _ _ _ _ _ c.say.result (sym c.in-Nothing.is ∙ c.in-Ok.ensures)
-    (usage_writes _ _ _ _ _ _ c.say.result c.say.ensures)
+    writes_as call_.Nothing _ _ _ _ _ _ c.say_at_end.result (sym c.in-Nothing.is ∙ c.in-Ok.ensures)
+    (usage_writes _ _ _ _ _ _ c.say_at_end.result c.say_at_end.ensures)
 
 pub returns-in-Nothing-clause-shown : goal.returns-in-Nothing-clause-shown
 returns-in-Nothing-clause-shown g c =
-    shows c.what_is_verified_is_derivable.ensures c.what_is_trimmed_is_accepted.ensures _ _ _ _ _ _ c.say.result
-    (writes_as call_.Nothing _ _ _ _ _ _ c.say.result (sym c.in-Nothing.is ∙ c.in-Ok.ensures)
-    (usage_writes (g.F.Folder.files c.args.folder.now) (g.S.Source.left c.args.source.now) _ _ _ _ c.say.result
-    c.say.ensures))
+    shows c.what_is_verified_is_derivable.ensures c.what_is_trimmed_is_accepted.ensures _ _ _ _ _ _ c.say_at_end.result
+    (writes_as call_.Nothing _ _ _ _ _ _ c.say_at_end.result (sym c.in-Nothing.is ∙ c.in-Ok.ensures)
+    (usage_writes (g.F.Folder.files c.args.folder.now) (g.S.Source.left c.args.source.now) _ _ _ _ c.say_at_end.result
+    c.say_at_end.ensures))
 
 pub returns-in-Nothing-clause-complete : goal.returns-in-Nothing-clause-complete
 returns-in-Nothing-clause-complete g c =
-    completes_as call_.Nothing _ _ _ _ _ _ c.say.result _ _ _ _ _ _ (sym c.in-Nothing.is ∙ c.in-Ok.ensures)
+    completes_as call_.Nothing _ _ _ _ _ _ c.say_at_end.result _ _ _ _ _ _ (sym c.in-Nothing.is ∙ c.in-Ok.ensures)
     (usage_writes (g.F.Folder.files c.args.folder.now)
-    (g.S.Source.left c.args.source.now) _ _ _ _ c.say.result c.say.ensures)
-    (unread call_.Nothing refl c.say.result (g.S.Source.faults c.args.source.now))
-    (unlooked call_.Nothing refl c.say.result (g.F.Folder.faults c.args.folder.now))
-    (usage_sink _ _ _ _ c.say.result c.say.ensures)
+    (g.S.Source.left c.args.source.now) _ _ _ _ c.say_at_end.result c.say_at_end.ensures)
+    (unread call_.Nothing refl c.say_at_end.result (g.S.Source.faults c.args.source.now))
+    (unlooked call_.Nothing refl c.say_at_end.result (g.F.Folder.faults c.args.folder.now))
+    (usage_sink _ _ _ _ c.say_at_end.result c.say_at_end.ensures)
 
 pub run_on_files-requires-clause-certificate : goal.run_on_files-requires-clause-certificate
 run_on_files-requires-clause-certificate g c =
@@ -84,6 +103,19 @@ returns-clause-complete g c =
     (c.run_on_files.ensures.output (g.S.Source.left c.args.source.now))
     (c.run_on_files.ensures.source_faults (g.S.Source.faults c.args.source.now))
     c.run_on_files.ensures.folder_faults c.run_on_files.ensures.sink_faults
+
+pub returns-clause-reports : goal.returns-clause-reports
+returns-clause-reports g c =
+    reports_as _ _ _ _ _ _ _ _
+    (ap (λ names. call_.OnFiles c.in-OnFiles.question names) c.as_slice.ensures
+    ∙ (sym c.in-OnFiles.is ∙ c.in-Ok.ensures)) c.run_on_files.ensures.reports
+
+pub returns-in-Nothing-clause-reports : goal.returns-in-Nothing-clause-reports
+returns-in-Nothing-clause-reports g c =
+    reports_as call_.Nothing _ _ _ _ _ _ _ (sym c.in-Nothing.is ∙ c.in-Ok.ensures) refl
+
+pub returns-in-Err-clause-reports : goal.returns-in-Err-clause-reports
+returns-in-Err-clause-reports g c = nothing_made _ _ _ _ c.args.steps.now
 
 pub returns-in-Err-clause-output : goal.returns-in-Err-clause-output
 returns-in-Err-clause-output g c = nothing_written _ _ _ _

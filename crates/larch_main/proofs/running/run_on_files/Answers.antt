@@ -1,7 +1,9 @@
 -- What is answered was to be written.
 use Rattle.std.proofs.Common.{refl}
 use Rattle.larch_words.specs.declared.call.Call.TheVariants.{OnFiles}
-use Rattle.larch_main.proofs.Whole.{look_folder, look_sink, look_writes, unread}
+use Rattle.larch_main.proofs.Replaying.{question_told}
+use Rattle.larch_main.proofs.Whole.{look_folder, look_writes, unread}
+use Rattle.larch_main_files.proofs.Said.{look_sink}
 use Rattle.larch_main.proofs.running.run_on_files.Goals as goal
 
 pub returns-clause-output : goal.returns-clause-output
@@ -9,6 +11,11 @@ returns-clause-output g c = λ left.
     look_writes c.args.question.now c.args.names.now
     (g.F.Folder.files c.args.folder.now) c.answer-answered.result c.answer-answered.ensures.answer left _ _ _ _
     c.tell.result c.tell.ensures
+
+pub returns-clause-reports : goal.returns-clause-reports
+returns-clause-reports g c =
+    question_told c.args.question.now c.args.names.now (g.F.Folder.files c.args.folder.now) _ _
+    c.answer-answered.result c.answer-answered.ensures.works _ _ _ _ c.tell.result c.tell.ensures
 
 pub returns-clause-source_faults : goal.returns-clause-source_faults
 returns-clause-source_faults g c = λ count.

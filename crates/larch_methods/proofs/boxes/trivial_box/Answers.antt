@@ -1,7 +1,7 @@
 use Rattle.std.specs.Prelude.{refl, []}
 use Rattle.larch_term.specs.Truth.{truth}
 use Rattle.larch_derive.proofs.Growth.{extends_grows}
-use Rattle.larch_derive_boxes.proofs.Supposing.{opens_is_open}
+use Rattle.larch_derive_clauses.proofs.DeriveBoxesSupposing.{opens_is_open}
 use Rattle.larch_methods.proofs.boxes.trivial_box.Goals as goal
 
 pub returns-clause-shows : goal.returns-clause-shows

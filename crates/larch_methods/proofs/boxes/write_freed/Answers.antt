@@ -1,7 +1,7 @@
 use Rattle.std.proofs.Common.{ap, sym, ◌∙◌}
 use Rattle.std.specs.Prelude.{map, []}
 use Rattle.larch_derive.proofs.Growth.{extends_grows, grown_known, grows_trans}
-use Rattle.larch_verify_meaning.specs.Matching.{variable_of}
+use Rattle.larch_derive.specs.VerifyMeaningMatching.{variable_of}
 use Rattle.larch_methods.proofs.Sharing.{own_still, result_for, written_back}
 use Rattle.larch_methods.proofs.Worded.{written_names}
 use Rattle.larch_methods.proofs.boxes.write_freed.Goals as goal

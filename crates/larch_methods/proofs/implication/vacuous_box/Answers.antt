@@ -3,7 +3,7 @@ use Rattle.larch_term.specs.BuiltIn.{built_in, bool_sort}
 use Rattle.larch_term.specs.Truth.{truth}
 use Rattle.larch_term.specs.declared.built_in.BuiltIn.TheVariants.{Implies}
 use Rattle.larch_derive.proofs.Growth.{extends_grows, extends_trans}
-use Rattle.larch_derive_boxes.proofs.Supposing.{opens_is_open}
+use Rattle.larch_derive_clauses.proofs.DeriveBoxesSupposing.{opens_is_open}
 use Rattle.larch_methods.proofs.Connectives.{only_arguments}
 use Rattle.larch_methods.proofs.Settled.{premise_known, premise_settles}
 use Rattle.larch_methods.proofs.Sharing.{formula_inside, shows_of}

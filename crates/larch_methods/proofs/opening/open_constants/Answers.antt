@@ -1,5 +1,5 @@
 use Rattle.std.proofs.Common.{rules, [], ap, map, ◌∙◌}
-use Rattle.larch_derive_boxes.specs.Boxes.{Opens}
+use Rattle.larch_derive_clauses.specs.DeriveBoxesBoxes.{Opens}
 use Rattle.larch_methods.specs.Opening.{MayOpen}
 use Rattle.larch_methods.proofs.Opened.{begins_inside}
 use Rattle.larch_methods.proofs.opening.open_constants.Goals as goal

@@ -1,6 +1,6 @@
 use Rattle.std.specs.Prelude.{[], map, refl}
 use Rattle.std.proofs.Common.{ap, sym, ◌∙◌}
-use Rattle.larch_verify_meaning.specs.Matching.{variable_of}
+use Rattle.larch_derive.specs.VerifyMeaningMatching.{variable_of}
 use Rattle.larch_derive.proofs.Growth.{extends_grows, grown_known, grows_trans}
 use Rattle.larch_methods.specs.Inside.{written_variable}
 use Rattle.larch_methods.specs.Observers.{variables_for}

@@ -5,7 +5,7 @@ use Rattle.larch_prove.proofs.Begins.{claim_opened, claim_refused, whole_worded}
 use Rattle.larch_prove.proofs.beginning.open_claim.Goals as goal
 use Rattle.larch_prove.specs.Prepared.{duty_of}
 use Rattle.larch_prove_beginning.specs.Beginning.{unopened_proof}
-use Rattle.larch_prove_invariant.proofs.ReadWords.{statement_worded}
+use Rattle.larch_prove_resuming.proofs.ProveInvariantReadWords.{statement_worded}
 
 pub open_duty-requires : goal.open_duty-requires
 open_duty-requires c = record {

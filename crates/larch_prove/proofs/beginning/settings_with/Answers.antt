@@ -1,7 +1,7 @@
 -- A copy of the settings, with the constants put behind.
 use Rattle.std.proofs.Common.{ap, ◌++◌, ◌∙◌}
 use Rattle.larch_prove.proofs.beginning.settings_with.Goals as goal
-use Rattle.larch_prove_settings.specs.declared.settings.Settings.{Settings}
+use Rattle.larch_prove_beginning.specs.ProveSettingsSettingsSettings.{Settings}
 
 pub returns : goal.returns
 returns c = record {

@@ -1,6 +1,6 @@
 use Rattle.std.proofs.Common.{◌≡◌, ◌++◌, take}
 use Rattle.larch_prove.proofs.duty.add_lemmas.Given as goal
-use Rattle.larch_prove_opening.specs.Stating.{duties_of, what_state}
+use Rattle.larch_prove_beginning.specs.ProveOpeningStating.{duties_of, what_state}
 
 -- those so far stand behind
 abbrev pub invariant-loop-lemma : goal.invariant-loop-lemma

@@ -3,7 +3,7 @@ use Rattle.std.proofs.Common.{ap, ◌∙◌}
 use Rattle.larch_prove.proofs.Waiting.{all_told, first_told, more_told}
 use Rattle.larch_prove.proofs.going.open_goals.Goals as goal
 use Rattle.larch_prove.specs.State.{waiting_in}
-use Rattle.larch_prove_levels.specs.declared.level.Level.{Level}
+use Rattle.larch_prove_resuming.specs.ProveLevelsLevelLevel.{Level}
 use Rattle.larch_prove_meaning.specs.Replays.{told_number}
 
 pub loop-level-init : goal.loop-level-init

@@ -3,7 +3,7 @@ use Rattle.std.specs.Prelude.{length}
 use Rattle.std.proofs.Common.{ap, arith, ◌∙◌}
 use Rattle.larch_prove.proofs.Waiting.{none_waits, running_waits}
 use Rattle.larch_prove.proofs.going.waiting_on.Goals as goal
-use Rattle.larch_prove_levels.specs.declared.level.Planned.{Planned}
+use Rattle.larch_prove_resuming.specs.ProveLevelsLevelPlanned.{Planned}
 
 pub returns-in_default : goal.returns-in_default
 returns-in_default c = none_waits c.args.level.now.running c.in_default.not-Some

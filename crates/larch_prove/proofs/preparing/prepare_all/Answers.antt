@@ -5,7 +5,7 @@ use Rattle.larch_prove.proofs.Prepares.{none_left, refusal_at, step_prepared, st
 use Rattle.larch_prove.proofs.preparing.prepare_all.Goals as goal
 use Rattle.larch_prove.specs.Prepared.{prepared_proof}
 use Rattle.larch_prove_meaning.specs.Replays.{prepare}
-use Rattle.larch_prove_settings.specs.Telling.{Tells}
+use Rattle.larch_prove_beginning.specs.ProveSettingsTelling.{Tells}
 
 pub loop-index-preserved : goal.loop-index-preserved
 loop-index-preserved c = λ d h.

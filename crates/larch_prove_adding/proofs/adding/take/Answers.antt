@@ -6,7 +6,7 @@ use Rattle.larch_prove_adding.specs.Turns.{IsStopped, IsTaken, Leads, MayRefuse,
 use Rattle.larch_prove_adding.proofs.Staying.{equations_stay}
 use Rattle.larch_prove_adding.proofs.Views.{if_err, on_ok, stopped_first, stopped_second, taken_now}
 use Rattle.larch_prove_adding.proofs.adding.take.Goals as goal
-use Rattle.larch_prove_meaning.specs.Facts.{treatment}
+use Rattle.larch_prove_invariant.specs.ProveMeaningFacts.{treatment}
 use Rattle.larch_store.proofs.Growth.{grows_trans}
 
 pub returns-in_err-found-clause-refused : goal.returns-in_err-found-clause-refused

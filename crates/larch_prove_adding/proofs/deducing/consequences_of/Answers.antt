@@ -3,7 +3,7 @@ use Rattle.std.specs.List.{AllZip}
 use Rattle.std.proofs.Common.{ap, arith, rules, subst}
 use Rattle.larch_derive.specs.Predicates.{HasStatement}
 use Rattle.larch_derive.proofs.Growth.{extends_trans}
-use Rattle.larch_derive_formulas.specs.Consequences.{Follows, lines_of}
+use Rattle.larch_prove_invariant.specs.DeriveFormulasConsequences.{Follows, lines_of}
 use Rattle.larch_prove_adding.specs.Deductions.{Deduction, left_by}
 use Rattle.larch_prove_adding.proofs.Consequences.{further_none, none_deduced, some_deduced}
 use Rattle.larch_prove_adding.proofs.Deductions.{nothing_deduced}

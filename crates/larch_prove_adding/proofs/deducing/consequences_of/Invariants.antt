@@ -1,6 +1,6 @@
 use Rattle.std.specs.Prelude.{◌+◌, ◌<◌, ℕ, List}
 use Rattle.larch_derive.specs.Predicates.{Extends}
-use Rattle.larch_derive_formulas.specs.Consequences.{Follows}
+use Rattle.larch_prove_invariant.specs.DeriveFormulasConsequences.{Follows}
 use Rattle.larch_prove_adding.proofs.deducing.consequences_of.Given as goal
 use Rattle.larch_term.specs.declared.statement.Statement.{Statement}
 use Rattle.larch_term.specs.declared.statement.Statement.TheVariants.{Equation}

@@ -8,7 +8,7 @@ use Rattle.larch_prove_adding.proofs.Staying.{equations_stay, said_stays}
 use Rattle.larch_prove_adding.proofs.Values.{opposite, others_treated, same_dropped, true_false, value_contradicts}
 use Rattle.larch_prove_adding.proofs.Views.{contradicted}
 use Rattle.larch_prove_adding.proofs.treating.treat.Goals as goal
-use Rattle.larch_prove_meaning.specs.Facts.{is_value}
+use Rattle.larch_prove_invariant.specs.ProveMeaningFacts.{is_value}
 use Rattle.larch_rewrite_meaning.specs.Sides.{Sides}
 
 pub returns-then-same_term-clause-treated : goal.returns-then-same_term-clause-treated

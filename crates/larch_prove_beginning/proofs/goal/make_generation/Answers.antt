@@ -1,7 +1,7 @@
 -- The predicate's name is new.
 use Rattle.std.proofs.Common.{ap, ◌∙◌}
 use Rattle.larch_prove_beginning.proofs.goal.make_generation.Goals as goal
-use Rattle.larch_prove_plans.specs.ClauseGoals.{generation_goal}
+use Rattle.larch_prove_opening.specs.ProvePlansClauseGoals.{generation_goal}
 use Rattle.larch_prove_settling.proofs.Leaving.{if_answered}
 
 pub returns : goal.returns

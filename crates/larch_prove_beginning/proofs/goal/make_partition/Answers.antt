@@ -3,7 +3,7 @@ use Rattle.std.specs.Prelude.{codes}
 use Rattle.std.proofs.Common.{ap, ap₂, ◌∙◌, ◌∷◌}
 use Rattle.larch_prove_beginning.proofs.goal.make_partition.Goals as goal
 use Rattle.larch_prove_meaning.specs.NewNames.{free_name}
-use Rattle.larch_prove_plans.specs.ClauseGoals.{partition_goal}
+use Rattle.larch_prove_opening.specs.ProvePlansClauseGoals.{partition_goal}
 use Rattle.larch_prove_settling.proofs.Leaving.{if_answered}
 
 pub returns : goal.returns

@@ -1,6 +1,6 @@
 use Rattle.std.proofs.Common.{ap₂, map, ◌++◌, ◌∙◌}
 use Rattle.larch_prove_beginning.proofs.goal.taken_names.Goals as goal
-use Rattle.larch_prove_plans.specs.Planning.{names_of_operators}
+use Rattle.larch_prove_opening.specs.ProvePlansPlanning.{names_of_operators}
 use Rattle.larch_prove_settling.proofs.Leaving.{if_answered}
 
 pub returns : goal.returns

@@ -1,12 +1,12 @@
 -- The first goal is stored, and gets its normal form.
 use Rattle.std.proofs.Common.{ap, subst, sym, ◌∙◌}
 use Rattle.std.proofs.lemmas.Result.{err_from_is_err_and}
-use Rattle.larch_prove_adding.proofs.Staying.{belongs_further}
-use Rattle.larch_prove_adding.proofs.Views.{start_tells}
-use Rattle.larch_prove_adding.specs.KeptFacts.{facts_of}
-use Rattle.larch_prove_levels.proofs.Telling.{tells_code}
-use Rattle.larch_prove_levels.specs.Supposing.{TellsCode}
-use Rattle.larch_prove_levels.specs.declared.level.Level.{Level}
+use Rattle.larch_prove_opening.proofs.ProveAddingStaying.{belongs_further}
+use Rattle.larch_prove_opening.proofs.ProveAddingViews.{start_tells}
+use Rattle.larch_prove_opening.specs.ProveAddingKeptFacts.{facts_of}
+use Rattle.larch_prove_settling.proofs.ProveLevelsTelling.{tells_code}
+use Rattle.larch_prove_settling.specs.ProveLevelsSupposing.{TellsCode}
+use Rattle.larch_prove_settling.specs.ProveLevelsLevelLevel.{Level}
 use Rattle.larch_prove_meaning.specs.Facts.{rules_of}
 use Rattle.larch_prove_meaning.specs.Levels.{work_result}
 use Rattle.larch_prove_settling.proofs.Leaving.{said_as}

@@ -2,8 +2,8 @@
 use Rattle.std.proofs.Common.{map}
 use Rattle.std.proofs.lemmas.Result.{err_from_is_err_and}
 use Rattle.larch_derive.proofs.Growth.{extends_trans, stays_said}
-use Rattle.larch_prove_adding.specs.Equation.{sides_in}
-use Rattle.larch_prove_adding.specs.KeptFacts.{facts_of}
+use Rattle.larch_prove_opening.specs.ProveAddingEquation.{sides_in}
+use Rattle.larch_prove_opening.specs.ProveAddingKeptFacts.{facts_of}
 use Rattle.larch_prove_beginning.proofs.Entering.{entered_as, entering_refused, supposing_refused}
 use Rattle.larch_prove_beginning.proofs.level.open_level.Goals as goal
 use Rattle.larch_store.proofs.Growth.{grows_trans}

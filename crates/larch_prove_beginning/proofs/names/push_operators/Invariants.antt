@@ -1,5 +1,5 @@
 use Rattle.std.proofs.Common.{◌≡◌, ◌++◌, take}
-use Rattle.larch_prove_plans.specs.Planning.{names_of_operators}
+use Rattle.larch_prove_opening.specs.ProvePlansPlanning.{names_of_operators}
 use Rattle.larch_prove_beginning.proofs.names.push_operators.Given as goal
 
 -- the names so far

@@ -3,13 +3,13 @@ use Rattle.std.proofs.Common.{[], ap, fold, map, ◌∙◌}
 use Rattle.std.proofs.lemmas.Result.{err_from_is_err_and}
 use Rattle.larch_derive.proofs.Growth.{extends_grows}
 use Rattle.larch_order.specs.Precedence.{with_constant}
-use Rattle.larch_prove_adding.specs.Equation.{sides_in}
-use Rattle.larch_prove_adding.specs.KeptFacts.{facts_of}
+use Rattle.larch_prove_opening.specs.ProveAddingEquation.{sides_in}
+use Rattle.larch_prove_opening.specs.ProveAddingKeptFacts.{facts_of}
 use Rattle.larch_prove_beginning.proofs.Starting.{answered_by, facts_inside, facts_refused, level_opens}
 use Rattle.larch_prove_beginning.proofs.Starting.{level_refused, may_pose, posed_there}
 use Rattle.larch_prove_beginning.proofs.opening.start_level.Goals as goal
 use Rattle.larch_prove_beginning.specs.Level.{opened_in}
-use Rattle.larch_prove_invariant.proofs.Held.{holds_grows}
+use Rattle.larch_prove_opening.proofs.ProveInvariantHeld.{holds_grows}
 use Rattle.larch_prove_settling.proofs.Leaving.{if_refused}
 use Rattle.larch_store.proofs.Growth.{grows_trans}
 

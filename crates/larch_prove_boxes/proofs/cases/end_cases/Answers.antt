@@ -1,4 +1,4 @@
-use Rattle.larch_prove_meaning.specs.Plans.{Cases}
+use Rattle.larch_prove_invariant.specs.ProveMeaningPlans.{Cases}
 use Rattle.larch_prove_boxes.proofs.Ended.{cases_both, cases_left, shared_there}
 use Rattle.larch_prove_boxes.proofs.Handed.{cases_grow, cases_say}
 use Rattle.larch_prove_boxes.proofs.cases.end_cases.Goals as goal

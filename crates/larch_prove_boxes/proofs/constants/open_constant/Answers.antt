@@ -1,7 +1,7 @@
 use Rattle.std.specs.Prelude.{◌≡◌, [], ◌∷◌}
 use Rattle.std.proofs.Common.{subst, ◌∙◌}
-use Rattle.larch_derive_boxes.specs.Boxes.{Opens}
-use Rattle.larch_methods.specs.Opening.{MayOpen}
+use Rattle.larch_prove_invariant.specs.DeriveBoxesBoxes.{Opens}
+use Rattle.larch_prove_invariant.specs.MethodsOpening.{MayOpen}
 use Rattle.larch_prove_boxes.proofs.Extras.{OpensOneMore, constant_open, if_both}
 use Rattle.larch_prove_boxes.proofs.constants.open_constant.Goals as goal
 

@@ -1,5 +1,5 @@
 use Rattle.std.proofs.Common.{ap, ◌∙◌}
-use Rattle.larch_prove_meaning.specs.Plans.{Contradiction, closed_by}
+use Rattle.larch_prove_invariant.specs.ProveMeaningPlans.{Contradiction, closed_by}
 use Rattle.larch_prove_boxes.proofs.Ended.{contradiction_left, contradiction_only, shared_there}
 use Rattle.larch_prove_boxes.proofs.Handed.{contradiction_grows, contradiction_says}
 use Rattle.larch_prove_boxes.proofs.contradiction.end_contradiction.Goals as goal

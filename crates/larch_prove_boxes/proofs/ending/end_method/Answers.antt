@@ -1,7 +1,8 @@
 use Rattle.std.specs.Prelude.{option_map}
 use Rattle.std.proofs.Common.{ap}
-use Rattle.larch_prove_meaning.specs.Plans.{Cases, Conjunction, Contradiction, Implication, Induction, Partition}
-use Rattle.larch_prove_plans.specs.Planning.{method_of}
+use Rattle.larch_prove_invariant.specs.ProveMeaningPlans.{Cases, Conjunction, Contradiction}
+use Rattle.larch_prove_invariant.specs.ProveMeaningPlans.{Implication, Induction, Partition}
+use Rattle.larch_prove_invariant.specs.ProvePlansPlanning.{method_of}
 use Rattle.larch_prove_boxes.proofs.Ended.{left_by}
 use Rattle.larch_prove_boxes.proofs.Handed.{boxed_says, boxed_stands, plain_says, plain_stands, some_says, some_stands}
 use Rattle.larch_prove_boxes.proofs.ending.end_method.Goals as goal

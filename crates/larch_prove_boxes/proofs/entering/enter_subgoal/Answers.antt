@@ -1,5 +1,5 @@
 use Rattle.std.proofs.Common.{ap}
-use Rattle.larch_prove_plans.specs.declared.subgoals.Subgoal.{Subgoal}
+use Rattle.larch_prove_invariant.specs.ProvePlansSubgoalsSubgoal.{Subgoal}
 use Rattle.larch_prove_boxes.proofs.Entrances.{bare_shape, bare_supposes_nothing, boxed_shape, goal_inside, goal_there}
 use Rattle.larch_prove_boxes.proofs.Entrances.{subgoal_begins}
 use Rattle.larch_prove_boxes.proofs.Results.{ok_kept}

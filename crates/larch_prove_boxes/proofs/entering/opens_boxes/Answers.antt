@@ -1,5 +1,5 @@
 use Rattle.std.proofs.Common.{ap}
-use Rattle.larch_prove_plans.specs.Planning.{method_of}
+use Rattle.larch_prove_invariant.specs.ProvePlansPlanning.{method_of}
 use Rattle.larch_prove_invariant.specs.Holding.{entrances}
 use Rattle.larch_prove_boxes.proofs.entering.opens_boxes.Goals as goal
 

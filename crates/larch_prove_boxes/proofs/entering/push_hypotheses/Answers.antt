@@ -3,7 +3,7 @@ use Rattle.std.specs.List.{AllZip}
 use Rattle.std.proofs.Common.{rules, subst, sym, take}
 use Rattle.larch_derive.specs.Predicates.{Extends, HasStatement}
 use Rattle.larch_derive.proofs.Growth.{extends_grows, extends_refl}
-use Rattle.larch_derive_boxes.proofs.Supposing.{grown_open}
+use Rattle.larch_prove_invariant.proofs.DeriveBoxesSupposing.{grown_open}
 use Rattle.larch_prove_boxes.proofs.Hypotheses.{said_further}
 use Rattle.larch_prove_boxes.proofs.entering.push_hypotheses.Goals as goal
 

@@ -3,7 +3,7 @@ use Rattle.std.specs.List.{AllZip}
 use Rattle.std.proofs.Common.{take}
 use Rattle.larch_derive.specs.Predicates.{Extends, HasStatement}
 use Rattle.larch_derive.specs.declared.open_box.OpenBox.{OpenBox}
-use Rattle.larch_derive_boxes.specs.Boxes.{IsOpen}
+use Rattle.larch_prove_invariant.specs.DeriveBoxesBoxes.{IsOpen}
 use Rattle.larch_prove_boxes.proofs.entering.push_hypotheses.Given as goal
 
 -- lines say the hypotheses so far

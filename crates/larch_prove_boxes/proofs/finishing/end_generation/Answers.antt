@@ -1,4 +1,4 @@
-use Rattle.larch_methods.proofs.Undoing.{found_so}
+use Rattle.larch_prove_invariant.proofs.MethodsUndoing.{found_so}
 use Rattle.larch_prove_boxes.proofs.Ends.{generation_finished}
 use Rattle.larch_prove_boxes.proofs.finishing.end_generation.Goals as goal
 

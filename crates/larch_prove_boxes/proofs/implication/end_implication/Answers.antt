@@ -1,5 +1,5 @@
 use Rattle.std.proofs.Common.{ap, ◌∙◌}
-use Rattle.larch_prove_meaning.specs.Plans.{Implication, closed_by}
+use Rattle.larch_prove_invariant.specs.ProveMeaningPlans.{Implication, closed_by}
 use Rattle.larch_prove_boxes.proofs.Ended.{implication_left, implication_only, is_implication, shared_there}
 use Rattle.larch_prove_boxes.proofs.Handed.{implication_grows, implication_says}
 use Rattle.larch_prove_boxes.proofs.implication.end_implication.Goals as goal

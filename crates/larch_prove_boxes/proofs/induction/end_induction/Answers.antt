@@ -1,7 +1,7 @@
 use Rattle.std.specs.Prelude.{◌≡◌, None, ◌∷◌}
 use Rattle.std.proofs.Common.{subst, sym}
 use Rattle.larch_term.specs.Statement.{statement_zero}
-use Rattle.larch_prove_meaning.specs.Plans.{generators}
+use Rattle.larch_prove_invariant.specs.ProveMeaningPlans.{generators}
 use Rattle.larch_prove_boxes.proofs.Ended.{generating_there, variable_there}
 use Rattle.larch_prove_boxes.proofs.Handed.{induction_grows, induction_says}
 use Rattle.larch_prove_boxes.proofs.induction.end_induction.Goals as goal

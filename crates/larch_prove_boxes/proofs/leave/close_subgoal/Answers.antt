@@ -1,7 +1,7 @@
 use Rattle.std.proofs.Common.{subst, sym}
 use Rattle.larch_derive.specs.Predicates.{HasEquation}
 use Rattle.larch_prove_invariant.specs.Holding.{said_of}
-use Rattle.larch_prove_plans.specs.Planning.{method_of}
+use Rattle.larch_prove_invariant.specs.ProvePlansPlanning.{method_of}
 use Rattle.larch_prove_boxes.specs.Saying.{MaySay}
 use Rattle.larch_prove_boxes.proofs.Closes.{box_closed, goal_said, may_say}
 use Rattle.larch_prove_boxes.proofs.leave.close_subgoal.Goals as goal

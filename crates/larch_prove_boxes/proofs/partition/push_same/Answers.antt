@@ -2,7 +2,7 @@ use Rattle.std.specs.Prelude.{◌≡◌, None, ◌∷◌}
 use Rattle.std.proofs.Common.{subst, sym}
 use Rattle.larch_term.specs.Sorts.{sort_of}
 use Rattle.larch_term.specs.Statement.{statement_zero}
-use Rattle.larch_prove_meaning.specs.Plans.{observers}
+use Rattle.larch_prove_invariant.specs.ProveMeaningPlans.{observers}
 use Rattle.larch_prove_boxes.proofs.Ended.{partition_boxed, partitioning_there}
 use Rattle.larch_prove_boxes.proofs.Handed.{partition_grows, partition_says}
 use Rattle.larch_prove_boxes.proofs.partition.push_same.Goals as goal

@@ -2,7 +2,7 @@ use Rattle.std.proofs.Common.{subst, sym}
 use Rattle.larch_term.specs.Tree.{Tree}
 use Rattle.larch_term.specs.Truth.{truth}
 use Rattle.larch_derive.specs.Predicates.{HasEquation}
-use Rattle.larch_methods.specs.Methods.{IsKnownFormula}
+use Rattle.larch_prove_invariant.specs.MethodsMethods.{IsKnownFormula}
 use Rattle.larch_prove_invariant.specs.Holding.{premise}
 use Rattle.larch_prove_boxes.proofs.Results.{ok_kept, there_too}
 use Rattle.larch_prove_boxes.proofs.saying.say_implied.Goals as goal

@@ -1,6 +1,6 @@
 use Rattle.std.proofs.Common.{ap, ap₂, ◌∙◌}
 use Rattle.larch_calculus.specs.Formula.{implication}
-use Rattle.larch_prove_plans.specs.declared.subgoals.Subgoal.{Subgoal}
+use Rattle.larch_prove_invariant.specs.ProvePlansSubgoalsSubgoal.{Subgoal}
 use Rattle.larch_prove_boxes.proofs.Results.{ok_kept}
 use Rattle.larch_prove_boxes.proofs.saying.whole_of.Goals as goal
 

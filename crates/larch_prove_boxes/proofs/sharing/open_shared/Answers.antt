@@ -1,8 +1,8 @@
 use Rattle.std.specs.Prelude.{[], ◌∷◌, if◌then◌else◌}
 use Rattle.std.proofs.Common.{ap, subst, ◌∙◌}
-use Rattle.larch_derive_boxes.specs.Boxes.{Opens}
-use Rattle.larch_methods.specs.Opening.{MayOpen}
-use Rattle.larch_prove_meaning.specs.Plans as defined
+use Rattle.larch_prove_invariant.specs.DeriveBoxesBoxes.{Opens}
+use Rattle.larch_prove_invariant.specs.MethodsOpening.{MayOpen}
+use Rattle.larch_prove_invariant.specs.ProveMeaningPlans as defined
 use Rattle.larch_prove_invariant.specs.Holding.{making, shared_shapes}
 use Rattle.larch_prove_boxes.proofs.Shared.{nothing_open, shared_open}
 use Rattle.larch_prove_boxes.proofs.sharing.open_shared.Goals as goal

@@ -3,10 +3,10 @@ use Rattle.std.proofs.Common.{ap, sym, ◌∙◌}
 use Rattle.std.proofs.lemmas.List.{append_assoc, map-append}
 use Rattle.larch_term.specs.Operator.{PlainOperator, name_bytes}
 use Rattle.larch_term.specs.Statement.{statement_zero}
-use Rattle.larch_prove_meaning.specs.Levels.{Proof}
-use Rattle.larch_prove_meaning.specs.Plans.{plan}
-use Rattle.larch_prove_meaning.specs.Steps.{setting_of}
-use Rattle.larch_prove_plans.specs.Planning.{method_of, names_of_operators, planned_by, setting_over}
+use Rattle.larch_methods.specs.ProveMeaningLevels.{Proof}
+use Rattle.larch_methods.specs.ProveMeaningPlans.{plan}
+use Rattle.larch_methods.specs.ProveMeaningSteps.{setting_of}
+use Rattle.larch_methods.specs.ProvePlansPlanning.{method_of, names_of_operators, planned_by, setting_over}
 use Rattle.larch_prove_invariant.specs.Holding.{theory_for}
 use Rattle.larch_prove_invariant.specs.Setting.{names_beside}
 use Rattle.larch_prove_invariant.proofs.constants.settings_agree.Goals as goal

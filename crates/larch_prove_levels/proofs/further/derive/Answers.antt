@@ -2,18 +2,18 @@
 use Rattle.std.proofs.Common.{ap, arith, inl, inr, ◌<◌}
 use Rattle.std.proofs.lemmas.Bool.{cases_lt}
 use Rattle.larch_base.specs.declared.fact_name.FactLetter.TheVariants.{Derived}
-use Rattle.larch_derive.proofs.Growth.{extends_trans, stays_said}
+use Rattle.larch_prove_boxes.proofs.DeriveGrowth.{extends_trans, stays_said}
 use Rattle.larch_prove_adding.specs.Equation.{sides_in}
 use Rattle.larch_prove_adding.specs.KeptFacts.{facts_of}
 use Rattle.larch_prove_levels.specs.Derived.{with_normal_goal}
 use Rattle.larch_prove_levels.proofs.Hypotheses.{too_many}
 use Rattle.larch_prove_levels.proofs.further.derive.Goals as goal
-use Rattle.larch_prove_meaning.specs.Facts.{Facts, max_fact_number, whole_name}
-use Rattle.larch_prove_meaning.specs.Levels.{all_serve, work_result}
-use Rattle.larch_rewrite_meaning.specs.Work.{Work}
+use Rattle.larch_prove_boxes.specs.ProveMeaningFacts.{Facts, max_fact_number, whole_name}
+use Rattle.larch_prove_boxes.specs.ProveMeaningLevels.{all_serve, work_result}
+use Rattle.larch_prove_adding.specs.RewriteMeaningWork.{Work}
 use Rattle.larch_store.proofs.Growth.{belongs_stays, grows_trans}
 use Rattle.larch_store.specs.Numbered.{term_of}
-use Rattle.larch_traits_items.specs.Steps.{after}
+use Rattle.larch_base_meaning.specs.Steps.{after}
 
 pub returns-in_default-clause-refused : goal.returns-in_default-clause-refused
 returns-in_default-clause-refused c =

@@ -1,7 +1,7 @@
 -- A goal that is true is said by its way; and where true is false, anything is.
 use Rattle.std.proofs.Common.{ap, subst, sym, ◌∙◌}
 use Rattle.std.specs.Prelude.{is_some}
-use Rattle.larch_derive.specs.Predicates.{HasEquation}
+use Rattle.larch_prove_boxes.specs.DerivePredicates.{HasEquation}
 use Rattle.larch_prove_adding.specs.KeptFacts.{facts_of}
 use Rattle.larch_prove_levels.proofs.Settling.{may_show, said_of_same, settled_open, settled_true}
 use Rattle.larch_prove_levels.proofs.settled.line_of_goal.Goals as goal

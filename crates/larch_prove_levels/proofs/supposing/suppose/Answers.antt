@@ -6,10 +6,10 @@ use Rattle.larch_prove_adding.specs.Equation.{sides_in}
 use Rattle.larch_prove_adding.specs.KeptFacts.{facts_of}
 use Rattle.larch_prove_levels.proofs.Hypotheses.{too_many}
 use Rattle.larch_prove_levels.proofs.supposing.suppose.Goals as goal
-use Rattle.larch_prove_meaning.specs.Facts.{Facts, max_fact_number, whole_name}
-use Rattle.larch_prove_meaning.specs.Levels.{all_serve, work_result}
-use Rattle.larch_rewrite_meaning.specs.Work.{Work}
-use Rattle.larch_traits_items.specs.Steps.{after}
+use Rattle.larch_prove_boxes.specs.ProveMeaningFacts.{Facts, max_fact_number, whole_name}
+use Rattle.larch_prove_boxes.specs.ProveMeaningLevels.{all_serve, work_result}
+use Rattle.larch_prove_adding.specs.RewriteMeaningWork.{Work}
+use Rattle.larch_base_meaning.specs.Steps.{after}
 
 pub returns-in_default-clause-refused : goal.returns-in_default-clause-refused
 returns-in_default-clause-refused c =

@@ -3,7 +3,7 @@ use Rattle.std.proofs.Common.{All, ap, map, subst, sym, ◌++◌, ◌∙◌, ◌
 use Rattle.std.proofs.lemmas.List.{map-append}
 use Rattle.std.proofs.lemmas.List.Elements.{All-head, All-tail}
 use Rattle.std.proofs.lemmas.Result.{err_from_is_err_and}
-use Rattle.larch_derive.proofs.Growth.{extends_trans}
+use Rattle.larch_prove_boxes.proofs.DeriveGrowth.{extends_trans}
 use Rattle.larch_prove_adding.proofs.Staying.{equations_stay}
 use Rattle.larch_prove_adding.specs.Equation.{IsSaid, sides_in}
 use Rattle.larch_prove_adding.specs.KeptFacts.{facts_of}

@@ -1,9 +1,9 @@
 use Rattle.std.proofs.Common.{◌≡◌, ◌++◌, All, Ok, map}
-use Rattle.larch_derive.specs.Predicates.{Extends}
+use Rattle.larch_prove_boxes.specs.DerivePredicates.{Extends}
 use Rattle.larch_prove_adding.specs.Equation.{IsSaid, sides_in}
 use Rattle.larch_prove_adding.specs.KeptFacts.{AreSaid, facts_of}
 use Rattle.larch_prove_levels.specs.Supposing.{with_hypotheses}
-use Rattle.larch_rewrite.specs.RuleSet.{BelongsTo}
+use Rattle.larch_prove_adding.specs.RewriteRuleSet.{BelongsTo}
 use Rattle.larch_store.specs.Stored.{Grows}
 use Rattle.larch_prove_levels.proofs.supposing.suppose_all.Given as goal
 

@@ -4,7 +4,7 @@ use Rattle.larch_prove_adding.specs.KeptFacts.{AreSaid, facts_of}
 use Rattle.larch_prove_opening.specs.FirstFacts.{facts_with_axioms}
 use Rattle.larch_prove_opening.specs.Stating.{AreStated}
 use Rattle.larch_prove_opening.proofs.opening.add_axioms.Given as goal
-use Rattle.larch_rewrite.specs.RuleSet.{BelongsTo}
+use Rattle.larch_prove_adding.specs.RewriteRuleSet.{BelongsTo}
 use Rattle.larch_store.specs.Stored.{Grows}
 
 -- what is left to add comes to what the whole adding does, and all that was added is said

@@ -1,7 +1,7 @@
 use Rattle.std.specs.Prelude.{◌≡◌, List, [], ◌∷◌, map, refl}
 use Rattle.std.specs.List.{flat_map}
 use Rattle.std.proofs.Common.{ap, ap₂}
-use Rattle.larch_rewrite_meaning.specs.Sides.{Sides, sides_of}
+use Rattle.larch_prove_meaning.specs.RewriteMeaningSides.{Sides, sides_of}
 use Rattle.larch_prove_meaning.specs.Plans as defined
 use Rattle.larch_prove_plans.specs.Planning.{equate, plain_subgoal, subgoal_of}
 use Rattle.larch_prove_plans.proofs.laws.subgoals_are_plain.Goals as goal

@@ -3,15 +3,15 @@ use Rattle.std.proofs.Common.{All, ap, length, map, subst, sym, ◌∙◌}
 use Rattle.std.proofs.lemmas.List.{length-map}
 use Rattle.std.proofs.lemmas.Result.{err_from_is_err_and}
 use Rattle.larch_derive.proofs.Growth.{extends_trans, stays_said}
-use Rattle.larch_prove_adding.proofs.Staying.{belongs_further}
-use Rattle.larch_prove_adding.proofs.Views.{start_tells}
-use Rattle.larch_prove_adding.specs.Equation.{sides_in}
-use Rattle.larch_prove_adding.specs.KeptFacts.{facts_of}
-use Rattle.larch_prove_invariant.proofs.Planned.{subgoal_known}
-use Rattle.larch_prove_levels.proofs.Telling.{tells_code}
-use Rattle.larch_prove_levels.specs.declared.level.Level.{Level}
-use Rattle.larch_prove_plans.specs.Planning.{equate}
-use Rattle.larch_prove_plans.specs.declared.subgoals.Subgoal as stated
+use Rattle.larch_prove_draft.proofs.ProveAddingStaying.{belongs_further}
+use Rattle.larch_prove_draft.proofs.ProveAddingViews.{start_tells}
+use Rattle.larch_prove_draft.specs.ProveAddingEquation.{sides_in}
+use Rattle.larch_prove_draft.specs.ProveAddingKeptFacts.{facts_of}
+use Rattle.larch_prove_draft.proofs.ProveInvariantPlanned.{subgoal_known}
+use Rattle.larch_prove_draft.proofs.ProveLevelsTelling.{tells_code}
+use Rattle.larch_prove_draft.specs.ProveLevelsLevelLevel.{Level}
+use Rattle.larch_prove_draft.specs.ProvePlansPlanning.{equate}
+use Rattle.larch_prove_draft.specs.ProvePlansSubgoalsSubgoal as stated
 use Rattle.larch_prove_settling.proofs.EntersUpon.{entered_so, now_there}
 use Rattle.larch_prove_settling.proofs.Hypotheses.{all_equations, equations_said, facts_said_inside, goal_refused}
 use Rattle.larch_prove_settling.proofs.Hypotheses.{hypotheses_refused, opened_as, sides_said, zip_lengths}

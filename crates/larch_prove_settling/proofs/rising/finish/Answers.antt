@@ -1,8 +1,8 @@
 -- The lines are a certificate, as the end of a duty says.
 use Rattle.std.specs.Prelude.{option_map}
 use Rattle.std.proofs.Common.{ap, refl, sym, ◌∙◌}
-use Rattle.larch_prove_boxes.proofs.Ends.{has_entrance}
-use Rattle.larch_prove_boxes.specs.BoxLists.{box_list}
+use Rattle.larch_prove_draft.proofs.ProveBoxesEnds.{has_entrance}
+use Rattle.larch_prove_draft.specs.ProveBoxesBoxLists.{box_list}
 use Rattle.larch_prove_settling.proofs.Leaving.{finish_leads, lowest_entered, lowest_leaving}
 use Rattle.larch_prove_settling.proofs.rising.finish.Goals as goal
 

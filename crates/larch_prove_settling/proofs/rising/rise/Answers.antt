@@ -2,8 +2,8 @@
 use Rattle.std.specs.Prelude.{◌≡◌, None, map, true, []}
 use Rattle.std.proofs.Common.{ap}
 use Rattle.larch_prove_draft.proofs.Alike.{leads_on, over_alike}
-use Rattle.larch_prove_levels.proofs.Telling.{tells_same}
-use Rattle.larch_prove_meaning.specs.Levels.{rise, with_mark}
+use Rattle.larch_prove_draft.proofs.ProveLevelsTelling.{tells_same}
+use Rattle.larch_prove_draft.specs.ProveMeaningLevels.{rise, with_mark}
 use Rattle.larch_prove_settling.proofs.Leaving.{if_answered, if_any, if_each, if_refused, if_some_then}
 use Rattle.larch_prove_settling.proofs.Measures.{falls_still, falls_under}
 use Rattle.larch_prove_settling.proofs.Popping.{formula_rises, formula_so, lowest_so, marked_alike, none_there}

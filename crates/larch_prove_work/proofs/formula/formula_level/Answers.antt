@@ -1,10 +1,10 @@
 -- The goal is the formula itself, and gets its normal form by the facts of the parent.
 use Rattle.std.proofs.Common.{ap, subst, sym, ◌∙◌}
 use Rattle.std.proofs.lemmas.Result.{err_from_is_err_and}
-use Rattle.larch_prove_adding.proofs.Views.{start_tells}
-use Rattle.larch_prove_adding.specs.KeptFacts.{facts_of}
-use Rattle.larch_prove_levels.proofs.Telling.{tells_code}
-use Rattle.larch_prove_levels.specs.declared.level.Level.{Level}
+use Rattle.larch_prove_settling.proofs.ProveAddingViews.{start_tells}
+use Rattle.larch_prove_settling.specs.ProveAddingKeptFacts.{facts_of}
+use Rattle.larch_prove_settling.proofs.ProveLevelsTelling.{tells_code}
+use Rattle.larch_prove_settling.specs.ProveLevelsLevelLevel.{Level}
 use Rattle.larch_prove_settling.proofs.Leaving.{said_as}
 use Rattle.larch_prove_work.proofs.Upon.{normal_as, refused_as}
 use Rattle.larch_prove_work.proofs.formula.formula_level.Goals as goal

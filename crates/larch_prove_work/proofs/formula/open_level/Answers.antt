@@ -1,12 +1,12 @@
 -- The level is put upon the current one, and then the levels settle.
 use Rattle.std.proofs.Common.{None}
 use Rattle.std.proofs.lemmas.Result.{err_from_is_err_and}
-use Rattle.larch_prove_draft.proofs.Alike.{leads_on}
-use Rattle.larch_prove_draft.specs.Draft.{Leads}
-use Rattle.larch_prove_levels.proofs.Telling.{tells_same}
-use Rattle.larch_prove_levels.specs.Supposing.{TellsCode}
-use Rattle.larch_prove_meaning.specs.Levels.{settle_goal}
-use Rattle.larch_prove_meaning.specs.Steps.{level_opened}
+use Rattle.larch_prove_settling.proofs.ProveDraftAlike.{leads_on}
+use Rattle.larch_prove_settling.specs.ProveDraftDraft.{Leads}
+use Rattle.larch_prove_settling.proofs.ProveLevelsTelling.{tells_same}
+use Rattle.larch_prove_settling.specs.ProveLevelsSupposing.{TellsCode}
+use Rattle.larch_prove_settings.specs.ProveMeaningLevels.{settle_goal}
+use Rattle.larch_prove_settings.specs.ProveMeaningSteps.{level_opened}
 use Rattle.larch_prove_settling.proofs.Leaving.{if_answered, if_refused}
 use Rattle.larch_prove_work.proofs.Upon.{holds_upon, level_refused, opened_upon, proof_upon, some_upon, upon_alike}
 use Rattle.larch_prove_work.proofs.formula.open_level.Goals as goal

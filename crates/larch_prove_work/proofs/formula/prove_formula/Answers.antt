@@ -1,6 +1,6 @@
 -- The draft stands, and what it leads to is worked on.
 use Rattle.std.proofs.Common.{refl, subst, sym}
-use Rattle.larch_prove_meaning.specs.Steps.{level_opened}
+use Rattle.larch_prove_settings.specs.ProveMeaningSteps.{level_opened}
 use Rattle.larch_prove_settings.specs.Telling.{Tells}
 use Rattle.larch_prove_work.proofs.Carried.{made_so, some_provable, told_so, work_over, work_stands}
 use Rattle.larch_prove_work.proofs.formula.prove_formula.Goals as goal

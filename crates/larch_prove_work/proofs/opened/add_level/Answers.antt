@@ -2,7 +2,7 @@
 use Rattle.std.proofs.Common.{◌++◌, List, None, Option, Some, ap, sym, ◌∙◌}
 use Rattle.std.proofs.lemmas.List.{append-nil}
 use Rattle.larch_derive.specs.declared.open_box.OpenBox.{OpenBox}
-use Rattle.larch_prove_boxes.specs.BoxLists.{box_list}
+use Rattle.larch_prove_settling.specs.ProveBoxesBoxLists.{box_list}
 use Rattle.larch_prove_settling.proofs.Leaving.{if_answered}
 use Rattle.larch_prove_work.proofs.Constants.{level_done}
 use Rattle.larch_prove_work.proofs.opened.add_level.Goals as goal

@@ -1,6 +1,6 @@
 -- Level by level.
 use Rattle.std.proofs.Common.{◌++◌, ap, arith, ◌∙◌}
-use Rattle.larch_prove_levels.specs.declared.level.Level.{Level}
+use Rattle.larch_prove_settling.specs.ProveLevelsLevelLevel.{Level}
 use Rattle.larch_prove_work.proofs.Constants.{level_added, levels_added}
 use Rattle.larch_prove_work.proofs.opened.add_levels.Goals as goal
 use Rattle.larch_prove_work.specs.Opened.{boxes_in_level, constants_in_boxes}

@@ -2,7 +2,7 @@
 use Rattle.std.specs.declared.alloc.Global.{Global}
 use Rattle.std.specs.declared.rc.Rc.{Rc}
 use Rattle.std.proofs.Common.{◌++◌, List, ap, ap₂, map, reverse, ◌∙◌}
-use Rattle.larch_prove_levels.specs.declared.level.Level.{Level}
+use Rattle.larch_prove_settling.specs.ProveLevelsLevelLevel.{Level}
 use Rattle.larch_prove_work.proofs.opened.constants_of_levels.Goals as goal
 use Rattle.larch_prove_work.specs.Opened.{boxes_in_level, constants_in_boxes, constants_in_levels}
 use Rattle.larch_term.specs.Operator.{PlainOperator}

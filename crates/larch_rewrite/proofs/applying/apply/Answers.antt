@@ -1,7 +1,7 @@
 use Rattle.std.proofs.Common.{arith}
 use Rattle.std.proofs.lemmas.Result.{err_from_is_err_and}
 use Rattle.larch_derive.proofs.Growth.{extends_trans}
-use Rattle.larch_derive_lines.proofs.Ways.{leads_stays}
+use Rattle.larch_rewrite_step.proofs.DeriveLinesWays.{leads_stays}
 use Rattle.larch_rewrite.proofs.Roots.{application_tells}
 use Rattle.larch_rewrite.proofs.applying.apply.Goals as goal
 

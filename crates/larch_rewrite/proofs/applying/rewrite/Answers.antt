@@ -1,17 +1,20 @@
-use Rattle.std.specs.Prelude.{Some}
+use Rattle.std.specs.Prelude.{Some, refl}
 use Rattle.std.proofs.Common.{sym, subst}
 use Rattle.std.proofs.lemmas.List.Elements.{All-nil}
 use Rattle.larch_rewrite_step.specs.Holding.{RuleHolds}
 use Rattle.larch_derive.specs.Predicates.{Known}
 use Rattle.larch_derive.proofs.Growth.{stays_known}
-use Rattle.larch_rewrite_match.specs.Bound.{entries_of}
-use Rattle.larch_rewrite_match.specs.Search.{IsBy}
+use Rattle.larch_rewrite_step.specs.RewriteMatchBound.{entries_of}
+use Rattle.larch_rewrite_step.specs.RewriteMatchRule.{right_of}
+use Rattle.larch_rewrite_step.specs.RewriteMatchSearch.{IsBy}
 use Rattle.larch_store.specs.Numbered.{term_of}
 use Rattle.larch_store.specs.Stored.{Belongs}
+use Rattle.larch_term.specs.Substitution.{instance_of}
 use Rattle.larch_store.proofs.Growth.{belongs_stays}
-use Rattle.larch_derive_lines.proofs.Ways.{leads_known}
+use Rattle.larch_rewrite_step.proofs.DeriveLinesWays.{leads_known}
+use Rattle.larch_rewrite.specs.RuleSet.{sides_in}
 use Rattle.larch_rewrite.specs.Search.{IsRedex}
-use Rattle.larch_rewrite.proofs.Roots.{found_holds}
+use Rattle.larch_rewrite.proofs.Roots.{found_holds, root_is_made}
 use Rattle.larch_rewrite.proofs.applying.rewrite.Goals as goal
 
 pub returns-clause-turn : goal.returns-clause-turn
@@ -21,6 +24,17 @@ returns-clause-turn c = (
   c.in_ok-level.ensures.belongs,
   All-nil _,
 )
+
+pub returns-clause-work : goal.returns-clause-work
+returns-clause-work c =
+    let m : IsRedex c.in_ok-rows.rows.now c.args.rules.now (term_of c.args.level.term) (Some c.in-Some.found) =
+    subst (IsRedex c.in_ok-rows.rows.now c.args.rules.now (term_of c.args.level.term)) c.in-Some.is
+    c.in_ok-found.ensures.found in
+    root_is_made (sides_in c.args.rules.now) c.args.level.term (term_of c.args.level.term)
+    (instance_of (entries_of c.in-Some.found.by) (right_of c.in-Some.found.rule.now))
+    (term_of c.in_ok-level.level.term) c.args.means.now.left c.apply.new.means.left
+    (c.sizes_are_told.ensures.small c.args.level.term c.requires.turn.1) refl m.2 c.in_ok-level.ensures.term
+    c.in_ok-level.ensures.spent
 
 pub returns-clause-says : goal.returns-clause-says
 returns-clause-says c x r w d =

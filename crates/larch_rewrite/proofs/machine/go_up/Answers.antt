@@ -26,14 +26,14 @@ returns-clause-works c rs whole budget kept h =
     (frames_popped c).1.3 c.in_ok-frame.ensures.level c.in_ok-frame.ensures.done h
 
 pub returns-clause-says : goal.returns-clause-says
-returns-clause-says c rules kept h =
+returns-clause-says c rules kept h d =
     let q = first_way _ _ _ _ _ _ _ (popped c) h in
     says_up _ _ _ _ _ _ _ _ _ (popped c) (frames_popped c).1.3 c.in_ok-frame.ensures.level c.in_ok-frame.ensures.done
-    (c.in_ok-frame.ensures.extends q.0 h.way.1 q.1) (c.in_ok-frame.ensures.says q.0 h.way.1 q.1) h
+    (c.in_ok-frame.ensures.extends q.0 h.way.1 q.1 d) (c.in_ok-frame.ensures.says q.0 h.way.1 q.1 d) h
 
 pub returns-clause-extends : goal.returns-clause-extends
-returns-clause-extends c rules kept h =
-    let q = first_way _ _ _ _ _ _ _ (popped c) h in c.in_ok-frame.ensures.extends q.0 h.way.1 q.1
+returns-clause-extends c rules kept h d =
+    let q = first_way _ _ _ _ _ _ _ (popped c) h in c.in_ok-frame.ensures.extends q.0 h.way.1 q.1 d
 
 pub returns-clause-turn : goal.returns-clause-turn
 returns-clause-turn c =

@@ -66,22 +66,25 @@ returns-then-is_last-clause-says c m =
     let w = last_way _ _ _ _ _ (c.is_last.ensures c.if-is_last.true) (c.loop.invariant.says m) in
     last_says _ _ c.loop.turn _ _ (last_start _ _ _ _ _ _ _
     (c.is_last.ensures c.if-is_last.true) c.loop.invariant.works)
-    c.in_ok-normal.ensures.form (c.in_ok-normal.ensures.says _ w.0 w.1)
+    c.in_ok-normal.ensures.form (c.in_ok-normal.ensures.says _ w.0 w.1 (c.loop.invariant.encodings m))
 
 pub returns-then-is_last-clause-led : goal.returns-then-is_last-clause-led
 returns-then-is_last-clause-led c m =
     let w = last_way _ _ _ _ _ (c.is_last.ensures c.if-is_last.true) (c.loop.invariant.says m) in
-    led_stays _ _ _ (c.in_ok-normal.ensures.extends _ w.0 w.1) (c.loop.invariant.says m).kept_led
+    led_stays _ _ _ (c.in_ok-normal.ensures.extends _ w.0 w.1 (c.loop.invariant.encodings m))
+    (c.loop.invariant.says m).kept_led
 
 pub returns-then-is_last-clause-extends : goal.returns-then-is_last-clause-extends
 returns-then-is_last-clause-extends c m =
     let w = last_way _ _ _ _ _ (c.is_last.ensures c.if-is_last.true) (c.loop.invariant.says m) in
-    extends_trans _ _ _ (c.loop.invariant.extends m) (c.in_ok-normal.ensures.extends _ w.0 w.1)
+    extends_trans _ _ _ (c.loop.invariant.extends m)
+    (c.in_ok-normal.ensures.extends _ w.0 w.1 (c.loop.invariant.encodings m))
 
 pub returns-in_err-normal-clause-extends : goal.returns-in_err-normal-clause-extends
 returns-in_err-normal-clause-extends c m =
     let w = last_way _ _ _ _ _ (c.is_last.ensures c.if-is_last.true) (c.loop.invariant.says m) in
-    extends_trans _ _ _ (c.loop.invariant.extends m) (c.in_err-normal.ensures.extends _ w.0 w.1)
+    extends_trans _ _ _ (c.loop.invariant.extends m)
+    (c.in_err-normal.ensures.extends _ w.0 w.1 (c.loop.invariant.encodings m))
 
 pub returns-in_err-turn-clause-refused : goal.returns-in_err-turn-clause-refused
 returns-in_err-turn-clause-refused c =

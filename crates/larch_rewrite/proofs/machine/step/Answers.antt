@@ -1,12 +1,11 @@
-use Rattle.std.specs.Prelude.{All}
-use Rattle.std.proofs.Common.{sym, subst}
+use Rattle.std.specs.Prelude.{refl}
+use Rattle.std.proofs.Common.{subst}
 use Rattle.std.proofs.lemmas.Result.{err_from_is_err_and}
 use Rattle.larch_rewrite_step.proofs.Written.{of_store_stay}
-use Rattle.larch_rewrite.specs.Kept.{IsOfStore}
 use Rattle.larch_rewrite.specs.Level.{IsTurnOf}
 use Rattle.larch_rewrite.proofs.Turns.{tells_whole, works_from, works_kept, works_on}
 use Rattle.larch_rewrite.proofs.Lines.{means_written, says_from, says_kept, says_on}
-use Rattle.larch_rewrite.proofs.Stored.{all_kept, front_at, front_same, frames_stay, kept_from, kept_stay, means_stay}
+use Rattle.larch_rewrite.proofs.Stored.{all_kept, front_at, front_same, frames_stay, kept_stay, means_stay}
 use Rattle.larch_rewrite.proofs.machine.step.Goals as goal
 
 -- ---- a term's work begins
@@ -84,32 +83,29 @@ returns-in_ok-turn-in-Arguments-clause-encodings c d =
 
 pub keep-requires-in-Root-clause-kept : goal.keep-requires-in-Root-clause-kept
 keep-requires-in-Root-clause-kept c =
-    subst (All (IsOfStore _)) (sym c.in_ok-turn-in-Root.ensures.kept)
-    (kept_stay _ _ _ c.in_ok-turn-in-Root.ensures.grows c.requires.stored.kept_are)
+    kept_stay _ _ _ c.in_ok-turn-in-Root.ensures.grows c.requires.stored.kept_are
 
 pub returns-in_ok-turn-in-Root-clause-stored : goal.returns-in_ok-turn-in-Root-clause-stored
 returns-in_ok-turn-in-Root-clause-stored c = record {
-  kept_are = all_kept _ _ _ _ _
-      (kept_from _ _ _ _ _ c.in_ok-turn-in-Root.ensures.kept c.keep-in-Root.ensures) c.in_ok-turn-in-Root.ensures.turn
+  kept_are = all_kept _ _ _ _ _ c.keep-in-Root.ensures c.in_ok-turn-in-Root.ensures.turn
       (kept_stay _ _ _ c.in_ok-turn-in-Root.ensures.grows c.requires.stored.kept_are);
   frames_are = frames_stay _ _ _ c.in_ok-turn-in-Root.ensures.grows c.requires.stored.frames_are;
   turn_is = c.in_ok-turn-in-Root.ensures.turn;
 }
 
 pub returns-in_ok-turn-in-Root-clause-front : goal.returns-in_ok-turn-in-Root-clause-front
-returns-in_ok-turn-in-Root-clause-front c =
-    front_at _ _ _ _ (kept_from _ _ _ _ _ c.in_ok-turn-in-Root.ensures.kept c.keep-in-Root.ensures)
+returns-in_ok-turn-in-Root-clause-front c = front_at _ _ _ _ c.keep-in-Root.ensures
 
 pub returns-in_ok-turn-in-Root-clause-works : goal.returns-in_ok-turn-in-Root-clause-works
 returns-in_ok-turn-in-Root-clause-works c whole budget h =
     let g = works_from _ _ _ _ _ _ _ _ c.in-Root.is h in
-    works_kept _ _ _ _ _ _ _ _ (kept_from _ _ _ _ _ c.in_ok-turn-in-Root.ensures.kept c.keep-in-Root.ensures)
+    works_kept _ _ _ _ _ _ _ _ c.keep-in-Root.ensures
     (works_on _ _ _ _ _ _ _ _ _ c.in_ok-turn-in-Root.ensures.start c.in_ok-turn-in-Root.ensures.work g)
 
 pub returns-in_ok-turn-in-Root-clause-says : goal.returns-in_ok-turn-in-Root-clause-says
 returns-in_ok-turn-in-Root-clause-says c h d =
     let g = says_from _ _ _ _ _ _ c.in-Root.is h in
-    says_kept _ _ _ _ _ _ _ (kept_from _ _ _ _ _ c.in_ok-turn-in-Root.ensures.kept c.keep-in-Root.ensures)
+    says_kept _ _ _ _ _ _ _ c.keep-in-Root.ensures
     (says_on _ _ _ _ _ _ _ (c.in_ok-turn-in-Root.ensures.extends _ g.rules_said g.way d)
     c.in_ok-turn-in-Root.ensures.start
     (c.in_ok-turn-in-Root.ensures.says _ g.rules_said g.way d) g)
@@ -123,7 +119,7 @@ returns-in_err-turn-in-Root-clause-refused c =
     tells_whole _ _ _ _ _ _ _ _ (works_from _ _ _ _ _ _ _ _ c.in-Root.is h) c.in_err-turn-in-Root.ensures.refused)
 
 pub returns-in_err-turn-in-Root-clause-front : goal.returns-in_err-turn-in-Root-clause-front
-returns-in_err-turn-in-Root-clause-front c = front_same _ _ c.in_err-turn-in-Root.ensures.kept
+returns-in_err-turn-in-Root-clause-front c = front_same _ _ refl
 
 -- ---- a normal form
 
@@ -133,20 +129,12 @@ returns-in_ok-turn-in-Finish-clause-works c whole budget h =
 
 pub returns-in_ok-turn-in-Finish-clause-says : goal.returns-in_ok-turn-in-Finish-clause-says
 returns-in_ok-turn-in-Finish-clause-says c h d =
-    c.in_ok-turn-in-Finish.ensures.says _ _ (says_from _ _ _ _ _ _ c.in-Finish.is h)
+    c.in_ok-turn-in-Finish.ensures.says _ _ (says_from _ _ _ _ _ _ c.in-Finish.is h) d
 
 pub returns-in_ok-turn-in-Finish-clause-extends : goal.returns-in_ok-turn-in-Finish-clause-extends
 returns-in_ok-turn-in-Finish-clause-extends c h d =
-    c.in_ok-turn-in-Finish.ensures.extends _ _ (says_from _ _ _ _ _ _ c.in-Finish.is h)
+    c.in_ok-turn-in-Finish.ensures.extends _ _ (says_from _ _ _ _ _ _ c.in-Finish.is h) d
 
 pub returns-in_err-turn-in-Finish-clause-extends : goal.returns-in_err-turn-in-Finish-clause-extends
 returns-in_err-turn-in-Finish-clause-extends c h d =
-    c.in_err-turn-in-Finish.ensures.extends _ _ (says_from _ _ _ _ _ _ c.in-Finish.is h)
-
-pub returns-in_ok-turn-in-Finish-clause-belong : goal.returns-in_ok-turn-in-Finish-clause-belong
-returns-in_ok-turn-in-Finish-clause-belong c =
-    means_stay _ _ _ c.in_ok-turn-in-Finish.ensures.means c.requires.encodings
-
-pub returns-in_ok-turn-in-Finish-clause-encodings : goal.returns-in_ok-turn-in-Finish-clause-encodings
-returns-in_ok-turn-in-Finish-clause-encodings c d =
-    means_written c.args.builder.now _ _ c.in_ok-turn-in-Finish.ensures.means d
+    c.in_err-turn-in-Finish.ensures.extends _ _ (says_from _ _ _ _ _ _ c.in-Finish.is h) d

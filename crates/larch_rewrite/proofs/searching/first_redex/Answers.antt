@@ -1,5 +1,5 @@
 use Rattle.std.proofs.Common.{rules, subst}
-use Rattle.larch_rewrite_match.specs.Search.{IsFirst}
+use Rattle.larch_rewrite_step.specs.RewriteMatchSearch.{IsFirst}
 use Rattle.larch_store.specs.Numbered.{term_of}
 use Rattle.larch_rewrite.proofs.Found.{row_first, rules_decide}
 use Rattle.larch_rewrite.proofs.searching.first_redex.Goals as goal

@@ -1,7 +1,7 @@
 use Rattle.std.proofs.Common.{sym, subst}
 use Rattle.std.proofs.lemmas.List.Elements.{All-contains}
 use Rattle.larch_derive.proofs.Growth.{stays_known}
-use Rattle.larch_derive_lines.specs.Way.{Leads}
+use Rattle.larch_rewrite_step.specs.DeriveLinesWay.{Leads}
 use Rattle.larch_rewrite.specs.Kept.{IsLed}
 use Rattle.larch_rewrite.proofs.Levels.{done_none}
 use Rattle.larch_rewrite.proofs.Roots.{kept_is_made, leads_as}

@@ -1,6 +1,6 @@
 use Rattle.std.proofs.Common.{Some, sym, ◌∙◌, ap, subst}
 use Rattle.larch_rewrite_meaning.specs.Sides.{sides_of}
-use Rattle.larch_tables.specs.Statement.{offered_row}
+use Rattle.larch_rewrite_meaning.specs.TablesStatement.{offered_row}
 use Rattle.larch_rewrite_match.specs.Rule.{RowSays}
 use Rattle.larch_rewrite_match.proofs.RowSteps.{row_given, row_is_offered, row_said}
 use Rattle.larch_rewrite_match.proofs.rows.row_at.Goals as goal

@@ -1,12 +1,12 @@
 use Rattle.std.proofs.Common.{◌∙◌, IfSome, ap, length, subst, suc, sym}
-use Rattle.larch_sorts_counts.specs.Count.{count_at, sum_to}
-use Rattle.larch_sorts_counts.specs.Counted.{counts_in}
-use Rattle.larch_sorts_counts.specs.Counts.{AreCounts}
-use Rattle.larch_sorts_meaning.specs.Readings.{Reads}
-use Rattle.larch_sorts_counts.specs.declared.count.Count.TheVariants.{Never, Often, Once}
-use Rattle.larch_sorts_counts.proofs.Counting.{count_once}
+use Rattle.larch_sorts_signature.specs.SortsCountsCount.{count_at, sum_to}
+use Rattle.larch_sorts_signature.specs.SortsCountsCounted.{counts_in}
+use Rattle.larch_sorts_signature.specs.SortsCountsCounts.{AreCounts}
+use Rattle.larch_sorts_signature.specs.SortsMeaningReadings.{Reads}
+use Rattle.larch_sorts_signature.specs.SortsCountsCountCount.TheVariants.{Never, Often, Once}
+use Rattle.larch_sorts_signature.proofs.SortsCountsCounting.{count_once}
 use Rattle.larch_sorts.proofs.ToldByCounts.{picked_reads}
-use Rattle.larch_sorts_counts.proofs.CountsTold.{total_told}
+use Rattle.larch_sorts_signature.proofs.SortsCountsCountsTold.{total_told}
 use Rattle.larch_sorts.proofs.counted.counted_anywhere.Goals as goal
 
 pub returns-in-Never-clause-tells : goal.returns-in-Never-clause-tells

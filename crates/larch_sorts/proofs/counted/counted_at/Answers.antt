@@ -1,12 +1,12 @@
 use Rattle.std.proofs.Common.{◌∙◌, ◌<◌, IfSome, ap, arith, length, subst, sym}
-use Rattle.larch_sorts_counts.specs.Count.{count_at}
-use Rattle.larch_sorts_counts.specs.Counted.{counts_in}
-use Rattle.larch_sorts_counts.specs.Counts.{AreCounts}
-use Rattle.larch_sorts_meaning.specs.Readings.{ReadsAt}
-use Rattle.larch_sorts_counts.specs.Numbers.{number_of}
-use Rattle.larch_sorts_counts.specs.declared.count.Count.TheVariants.{Never, Often, Once}
-use Rattle.larch_sorts_counts.proofs.Counting.{count_once}
-use Rattle.larch_sorts_counts.proofs.CountsTold.{count_told}
+use Rattle.larch_sorts_signature.specs.SortsCountsCount.{count_at}
+use Rattle.larch_sorts_signature.specs.SortsCountsCounted.{counts_in}
+use Rattle.larch_sorts_signature.specs.SortsCountsCounts.{AreCounts}
+use Rattle.larch_sorts_signature.specs.SortsMeaningReadings.{ReadsAt}
+use Rattle.larch_sorts_signature.specs.SortsCountsNumbers.{number_of}
+use Rattle.larch_sorts_signature.specs.SortsCountsCountCount.TheVariants.{Never, Often, Once}
+use Rattle.larch_sorts_signature.proofs.SortsCountsCounting.{count_once}
+use Rattle.larch_sorts_signature.proofs.SortsCountsCountsTold.{count_told}
 use Rattle.larch_sorts.proofs.counted.counted_at.Goals as goal
 
 pub returns-in-Never-clause-tells : goal.returns-in-Never-clause-tells

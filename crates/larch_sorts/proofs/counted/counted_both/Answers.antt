@@ -1,9 +1,9 @@
 use Rattle.std.proofs.Common.{◌∙◌, IfSome, Some, ap, refl, subst}
-use Rattle.larch_sorts_counts.specs.Counted.{counts_in}
-use Rattle.larch_sorts_counts.specs.Counts.{AreCounts}
+use Rattle.larch_sorts_signature.specs.SortsCountsCounted.{counts_in}
+use Rattle.larch_sorts_signature.specs.SortsCountsCounts.{AreCounts}
 use Rattle.larch_sorts.specs.Sides.{ReadBoth}
-use Rattle.larch_sorts_counts.specs.declared.count.Count.TheVariants.{Never, Often, Once}
-use Rattle.larch_sorts_counts.proofs.Counting.{count_once}
+use Rattle.larch_sorts_signature.specs.SortsCountsCountCount.TheVariants.{Never, Often, Once}
+use Rattle.larch_sorts_signature.proofs.SortsCountsCounting.{count_once}
 use Rattle.larch_sorts.proofs.ToldByCounts.{met_told}
 use Rattle.larch_sorts.proofs.counted.counted_both.Goals as goal
 

@@ -1,7 +1,7 @@
 use Rattle.std.proofs.Common.{◌∙◌, IfSome, Some, ap, subst}
-use Rattle.larch_sorts_meaning.specs.Found.{Tells}
-use Rattle.larch_sorts_meaning.specs.Readings.{ReadsAt, Reads}
-use Rattle.larch_sorts_meaning.specs.declared.found.Found.TheVariants.{Several}
+use Rattle.larch_sorts_signature.specs.SortsMeaningFound.{Tells}
+use Rattle.larch_sorts_signature.specs.SortsMeaningReadings.{ReadsAt, Reads}
+use Rattle.larch_sorts_signature.specs.SortsMeaningFoundFound.TheVariants.{Several}
 use Rattle.larch_sorts.proofs.SidesTold.{formula_of}
 use Rattle.larch_sorts.proofs.counted.counted_formula.Goals as goal
 

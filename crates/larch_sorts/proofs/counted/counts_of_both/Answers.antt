@@ -1,11 +1,11 @@
 use Rattle.std.proofs.Common.{◌++◌, IfSome, subst, sym}
 use Rattle.std.proofs.lemmas.Result.{err_from_is_err_and}
-use Rattle.larch_sorts_counts.specs.Counts.{AreRead}
-use Rattle.larch_sorts_meaning.specs.Parts.{parts}
-use Rattle.larch_sorts_meaning.specs.Read.{unread_in}
-use Rattle.larch_sorts_meaning.specs.Refusal.{Unread}
+use Rattle.larch_sorts_signature.specs.SortsCountsCounts.{AreRead}
+use Rattle.larch_sorts_signature.specs.SortsMeaningParts.{parts}
+use Rattle.larch_sorts_signature.specs.SortsMeaningRead.{unread_in}
+use Rattle.larch_sorts_signature.specs.SortsMeaningRefusal.{Unread}
 use Rattle.larch_sorts.proofs.ToldByCounts.{second_unread}
-use Rattle.larch_sorts_meaning.proofs.Unread.{unread_first}
+use Rattle.larch_sorts_signature.proofs.SortsMeaningUnread.{unread_first}
 use Rattle.larch_sorts.proofs.counted.counts_of_both.Goals as goal
 
 pub returns-in_err-lefts-clause-unread : goal.returns-in_err-lefts-clause-unread

@@ -1,5 +1,5 @@
 use Rattle.std.proofs.Common.{IfSome, subst}
-use Rattle.larch_sorts_meaning.specs.Readings.{ReadsAt}
+use Rattle.larch_sorts_signature.specs.SortsMeaningReadings.{ReadsAt}
 use Rattle.larch_sorts.proofs.ToldByCounts.{sides_picked}
 use Rattle.larch_sorts.proofs.counted.picked_both.Goals as goal
 

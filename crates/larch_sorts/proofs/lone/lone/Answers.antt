@@ -2,9 +2,9 @@ use Rattle.std.proofs.Common.{◌∙◌, Some, Ok, Err, sym, ap}
 use Rattle.std.specs.Option.{option_copied}
 use Rattle.std.proofs.lemmas.Result.{err_from_is_err_and}
 use Rattle.larch_base.specs.declared.code.Code.TheVariants.{NoReading}
-use Rattle.larch_sorts_meaning.specs.Faults.{fault}
-use Rattle.larch_sorts_meaning.proofs.Answers.{decided}
-use Rattle.larch_sorts_meaning.proofs.ReadAnswers.{term_unknown, term_unread_told, term_found}
+use Rattle.larch_sorts_signature.specs.SortsMeaningFaults.{fault}
+use Rattle.larch_sorts_signature.proofs.SortsMeaningAnswers.{decided}
+use Rattle.larch_sorts_signature.proofs.SortsMeaningReadAnswers.{term_unknown, term_unread_told, term_found}
 use Rattle.larch_sorts.proofs.lone.lone.Goals as goal
 
 pub returns-in-Some : goal.returns-in-Some

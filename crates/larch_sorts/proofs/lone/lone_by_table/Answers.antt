@@ -1,7 +1,7 @@
 use Rattle.std.proofs.Common.{◌∙◌, Some, sym, ap, subst}
 use Rattle.std.specs.Option.{option_copied}
-use Rattle.larch_sorts_meaning.specs.Readings.{ReadsLone}
-use Rattle.larch_sorts_meaning.specs.Found.{Tells}
+use Rattle.larch_sorts_signature.specs.SortsMeaningReadings.{ReadsLone}
+use Rattle.larch_sorts_signature.specs.SortsMeaningFound.{Tells}
 use Rattle.larch_sorts.proofs.SidesTold.{lone_anywhere, lone_at}
 use Rattle.larch_sorts.proofs.lone.lone_by_table.Goals as goal
 

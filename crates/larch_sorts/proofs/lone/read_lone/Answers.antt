@@ -1,5 +1,6 @@
 use Rattle.std.specs.Option.{option_copied}
-use Rattle.larch_sorts_meaning.proofs.ReadAnswers.{lone_known, lone_only, lone_stands, lone_over, lone_in_scope}
+use Rattle.larch_sorts_signature.proofs.SortsMeaningReadAnswers.{lone_known, lone_only, lone_stands}
+use Rattle.larch_sorts_signature.proofs.SortsMeaningReadAnswers.{lone_over, lone_in_scope}
 use Rattle.larch_sorts.proofs.lone.read_lone.Goals as goal
 
 pub returns-clause-known : goal.returns-clause-known

@@ -4,8 +4,8 @@ use Rattle.std.proofs.lemmas.Slice.Eq.{bytes_eq-Decides}
 use Rattle.larch_raw.specs.RawTree.{apply, qualified, raw_forest}
 use Rattle.larch_raw.specs.RawView.{view_node}
 use Rattle.larch_sorts_signature.specs.Makers.{maker_among, making}
-use Rattle.larch_sorts_meaning.specs.Readings.{ReadAt, ReadsAt, IsOnly}
-use Rattle.larch_sorts_meaning.specs.Signature.{operators_named, taking_part}
+use Rattle.larch_sorts_signature.specs.SortsMeaningReadings.{ReadAt, ReadsAt, IsOnly}
+use Rattle.larch_sorts_signature.specs.SortsMeaningSignature.{operators_named, taking_part}
 use Rattle.larch_sorts.proofs.OnlyReadings.{OnlyAll, maker_only, not_false, only_next, only_taken, qualified_only}
 use Rattle.larch_sorts.proofs.OnlyReadings.{variable_only}
 use Rattle.larch_sorts.proofs.narrow.+narrow.Goals as goal

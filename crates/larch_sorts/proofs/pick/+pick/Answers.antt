@@ -4,8 +4,8 @@ use Rattle.std.proofs.lemmas.Slice.Eq.{bytes_eq-Decides}
 use Rattle.larch_raw.specs.RawTree.{apply, raw_forest}
 use Rattle.larch_raw.specs.RawView.{view_node}
 use Rattle.larch_term.specs.Tree.{app, forest_of}
-use Rattle.larch_sorts_meaning.specs.Readings.{ReadAt, ReadsAt}
-use Rattle.larch_sorts_meaning.specs.Signature.{operators_named, taking_part}
+use Rattle.larch_sorts_signature.specs.SortsMeaningReadings.{ReadAt, ReadsAt}
+use Rattle.larch_sorts_signature.specs.SortsMeaningSignature.{operators_named, taking_part}
 use Rattle.larch_sorts.proofs.OnlyReadings.{not_false}
 use Rattle.larch_sorts.proofs.Picked.{operator_picked, picked_next, picked_taken, qualified_picked, variable_picked}
 use Rattle.larch_sorts.proofs.pick.+pick.Goals as goal

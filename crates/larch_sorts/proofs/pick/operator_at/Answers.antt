@@ -1,5 +1,5 @@
 use Rattle.std.proofs.Common.{◌∙◌, Some, ap, length, sym}
-use Rattle.larch_sorts_meaning.specs.Signature.{operators_named, taking_part}
+use Rattle.larch_sorts_signature.specs.SortsMeaningSignature.{operators_named, taking_part}
 use Rattle.larch_sorts.proofs.Picked.{maker_picked}
 use Rattle.larch_sorts.proofs.pick.operator_at.Goals as goal
 

@@ -1,10 +1,10 @@
 use Rattle.std.proofs.Common.{◌∙◌, Some, Ok, Err, sym, ap}
 use Rattle.std.proofs.lemmas.Result.{err_from_is_err_and}
 use Rattle.larch_base.specs.declared.code.Code.TheVariants.{NoReading}
-use Rattle.larch_sorts_meaning.specs.Faults.{fault}
-use Rattle.larch_sorts_meaning.proofs.Answers.{decided}
+use Rattle.larch_sorts_signature.specs.SortsMeaningFaults.{fault}
+use Rattle.larch_sorts_signature.proofs.SortsMeaningAnswers.{decided}
 use Rattle.larch_sorts.proofs.SidesAnswers.{as_statement, equation_found}
-use Rattle.larch_sorts_meaning.proofs.ReadAnswers.{equation_unread_told}
+use Rattle.larch_sorts_signature.proofs.SortsMeaningReadAnswers.{equation_unread_told}
 use Rattle.larch_sorts.proofs.read.by_sides.Goals as goal
 
 pub returns-in-None : goal.returns-in-None

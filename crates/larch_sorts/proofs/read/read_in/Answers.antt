@@ -1,5 +1,5 @@
-use Rattle.larch_sorts_meaning.proofs.ReadAnswers.{result_known, result_only, result_stands, result_over}
-use Rattle.larch_sorts_meaning.proofs.ReadAnswers.{result_in_scope}
+use Rattle.larch_sorts_signature.proofs.SortsMeaningReadAnswers.{result_known, result_only, result_stands, result_over}
+use Rattle.larch_sorts_signature.proofs.SortsMeaningReadAnswers.{result_in_scope}
 use Rattle.larch_sorts.proofs.read.read_in.Goals as goal
 
 pub returns-clause-known : goal.returns-clause-known

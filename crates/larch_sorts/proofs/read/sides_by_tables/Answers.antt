@@ -1,6 +1,6 @@
 use Rattle.std.proofs.Common.{sym, subst}
 use Rattle.std.proofs.lemmas.Result.{err_from_is_err_and}
-use Rattle.larch_sorts_meaning.specs.Found.{Tells}
+use Rattle.larch_sorts_signature.specs.SortsMeaningFound.{Tells}
 use Rattle.larch_sorts.specs.Sides.{ReadsSides}
 use Rattle.larch_sorts.proofs.SidesTold.{left_unread, right_unread, formula_tells, sides_tell, sides_read}
 use Rattle.larch_sorts.proofs.read.sides_by_tables.Goals as goal

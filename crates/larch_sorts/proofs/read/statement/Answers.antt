@@ -1,6 +1,6 @@
 use Rattle.std.proofs.Common.{◌∙◌, Ok, sym, ap}
 use Rattle.larch_sorts.proofs.OnlyReadings.{sides_answered}
-use Rattle.larch_sorts_meaning.proofs.ReadAnswers.{equation_unknown}
+use Rattle.larch_sorts_signature.proofs.SortsMeaningReadAnswers.{equation_unknown}
 use Rattle.larch_sorts.proofs.read.statement.Goals as goal
 
 pub returns-in-Some : goal.returns-in-Some

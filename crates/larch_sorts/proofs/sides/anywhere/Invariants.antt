@@ -2,7 +2,7 @@ use Rattle.std.proofs.Common.{◌≡◌}
 use Rattle.std.specs.List.{fold}
 use Rattle.larch_term.specs.Equality.{same_tree}
 use Rattle.larch_sorts_signature.specs.Table.{reading_at}
-use Rattle.larch_sorts_meaning.specs.Found.{with_found}
+use Rattle.larch_sorts_signature.specs.SortsMeaningFound.{with_found}
 use Rattle.larch_sorts.specs.Sides.{found_anywhere}
 use Rattle.larch_sorts.proofs.sides.anywhere.Given as goal
 

@@ -1,7 +1,7 @@
 use Rattle.std.proofs.Common.{◌≡◌}
 use Rattle.std.specs.List.{fold}
 use Rattle.larch_sorts_signature.specs.Table.{reading_at, sorts_in}
-use Rattle.larch_sorts_meaning.specs.Found.{with_found}
+use Rattle.larch_sorts_signature.specs.SortsMeaningFound.{with_found}
 use Rattle.larch_sorts.specs.Sides.{pair_sides, same_sides, sides_found}
 use Rattle.larch_sorts.proofs.sides.sides_among.Given as goal
 

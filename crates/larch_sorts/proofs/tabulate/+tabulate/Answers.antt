@@ -3,17 +3,18 @@ use Rattle.std.specs.Option.{option_copied}
 use Rattle.std.proofs.lemmas.Result.{err_from_is_err_and}
 use Rattle.larch_raw.specs.RawTree.{apply, raw_forest, qualified}
 use Rattle.larch_raw.specs.RawView.{view_node}
-use Rattle.larch_sorts_meaning.specs.Read.{unread_in}
-use Rattle.larch_sorts_meaning.specs.Parts.{parts_of, inner_parts}
-use Rattle.larch_sorts_meaning.specs.Readings.{Reads}
+use Rattle.larch_sorts_signature.specs.SortsMeaningRead.{unread_in}
+use Rattle.larch_sorts_signature.specs.SortsMeaningParts.{parts_of, inner_parts}
+use Rattle.larch_sorts_signature.specs.SortsMeaningReadings.{Reads}
 use Rattle.larch_sorts.specs.Tabulate.{TableTells}
 use Rattle.larch_sorts_signature.specs.Overloads.{IsMade}
-use Rattle.larch_sorts_meaning.specs.Signature.{operators_named, taking_part}
+use Rattle.larch_sorts_signature.specs.SortsMeaningSignature.{operators_named, taking_part}
 use Rattle.larch_base.specs.declared.code.Code.TheVariants.{NoReading}
-use Rattle.larch_sorts_meaning.specs.Faults.{fault, fault_at}
+use Rattle.larch_sorts_signature.specs.SortsMeaningFaults.{fault, fault_at}
 use Rattle.larch_sorts.proofs.Tables.{application_tells, variable_tells, narrowed_tells, unread_here, read_here}
 use Rattle.larch_sorts.proofs.Tables.{all_tell_next}
-use Rattle.larch_sorts_meaning.proofs.Unread.{variable_read, argument_read, arguments_unread, nothing_unread}
+use Rattle.larch_sorts_signature.proofs.SortsMeaningUnread.{variable_read, argument_read}
+use Rattle.larch_sorts_signature.proofs.SortsMeaningUnread.{arguments_unread, nothing_unread}
 use Rattle.larch_sorts.proofs.tabulate.+tabulate.Goals as goal
 
 pub table_from_parts-returns-in-Some-clause-tells : goal.table_from_parts-returns-in-Some-clause-tells

@@ -1,7 +1,7 @@
 use Rattle.std.proofs.Common.{◌≡◌, ◌+◌, ◌*◌, take, drop, map, sum_by}
 use Rattle.larch_raw.specs.RawTree.{raw_nodes, raw_forest}
-use Rattle.larch_sorts_meaning.specs.Read.{unread_in}
-use Rattle.larch_sorts_meaning.specs.Parts.{parts_of}
+use Rattle.larch_sorts_signature.specs.SortsMeaningRead.{unread_in}
+use Rattle.larch_sorts_signature.specs.SortsMeaningParts.{parts_of}
 use Rattle.larch_sorts.specs.Tabulate.{AllTell}
 use Rattle.larch_sorts.proofs.tabulate.+tabulate.Given as goal
 

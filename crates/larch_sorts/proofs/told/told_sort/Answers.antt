@@ -2,8 +2,8 @@ use Rattle.std.proofs.Common.{◌≡◌, ◌∙◌, sym, ap, subst}
 use Rattle.std.specs.Option.{option_copied}
 use Rattle.larch_raw.specs.RawTree.{apply, raw_forest}
 use Rattle.larch_raw.specs.RawView.{view_node}
-use Rattle.larch_sorts_meaning.specs.Readings.{Reads}
-use Rattle.larch_sorts_meaning.specs.Signature.{kept}
+use Rattle.larch_sorts_signature.specs.SortsMeaningReadings.{Reads}
+use Rattle.larch_sorts_signature.specs.SortsMeaningSignature.{kept}
 use Rattle.larch_sorts.proofs.OnlyReadings.{one_sort}
 use Rattle.larch_sorts.proofs.told.told_sort.Goals as goal
 

@@ -1,6 +1,6 @@
 use Rattle.std.proofs.Common.{◌≡◌, ◌+◌, ◌*◌, drop, sum_by}
 use Rattle.larch_raw.specs.RawTree.{raw_nodes, raw_forest}
-use Rattle.larch_sorts_meaning.specs.Unknown.{unknown_among, sort_words_of}
+use Rattle.larch_sorts_signature.specs.SortsMeaningUnknown.{unknown_among, sort_words_of}
 use Rattle.larch_sorts.proofs.unknown.+unknown.Given as goal
 
 -- the nodes that are left

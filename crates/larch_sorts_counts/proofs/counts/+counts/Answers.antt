@@ -1,9 +1,9 @@
 use Rattle.std.proofs.Common.{◌≡◌, ◌∙◌, Some, IfSome, ap, map, subst, sym, arith, length, suc}
 use Rattle.std.specs.Option.{option_copied}
 use Rattle.std.proofs.lemmas.Result.{err_from_is_err_and}
-use Rattle.larch_raw.specs.RawTree.{raw_forest}
-use Rattle.larch_raw.specs.RawView.{view_node}
-use Rattle.larch_base.specs.declared.code.Code.TheVariants.{NoReading}
+use Rattle.larch_sorts_meaning.specs.RawRawTree.{raw_forest}
+use Rattle.larch_sorts_meaning.specs.RawRawView.{view_node}
+use Rattle.larch_sorts_meaning.specs.BaseCodeCode.TheVariants.{NoReading}
 use Rattle.larch_sorts_counts.specs.Count.{count_at, sum_to}
 use Rattle.larch_sorts_counts.specs.Counted.{counts_in}
 use Rattle.larch_sorts_counts.specs.Counts.{AllCounts, AreCounts, AreRead}

@@ -1,6 +1,6 @@
 use Rattle.std.proofs.Common.{◌≡◌, ◌+◌, ◌*◌, List, drop, map, sum_by, take}
-use Rattle.larch_raw.specs.RawTree.{raw_forest, raw_nodes}
-use Rattle.larch_term.specs.Operator.{PlainOperator}
+use Rattle.larch_sorts_meaning.specs.RawRawTree.{raw_forest, raw_nodes}
+use Rattle.larch_sorts_meaning.specs.TermOperator.{PlainOperator}
 use Rattle.larch_sorts_counts.specs.Counted.{counts_in}
 use Rattle.larch_sorts_counts.specs.Counts.{AllCounts}
 use Rattle.larch_sorts_counts.specs.Numbers.{AreNumbers}

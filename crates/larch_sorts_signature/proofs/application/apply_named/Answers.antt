@@ -1,7 +1,7 @@
 use Rattle.std.proofs.Common.{map, sym, ap, subst}
 use Rattle.std.specs.Option.{option_copied}
 use Rattle.larch_sorts_signature.specs.Overloads.{IsMade}
-use Rattle.larch_sorts_meaning.specs.Signature.{kept}
+use Rattle.larch_sorts_counts.specs.SortsMeaningSignature.{kept}
 use Rattle.larch_sorts_signature.proofs.application.apply_named.Goals as goal
 
 pub returns-in_ok-table-in-Some : goal.returns-in_ok-table-in-Some

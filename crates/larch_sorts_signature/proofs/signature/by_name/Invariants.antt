@@ -1,5 +1,5 @@
 use Rattle.std.proofs.Common.{◌≡◌, ◌++◌, ℕ, List, drop}
-use Rattle.larch_sorts_meaning.specs.Signature.{kept_under, operators_named}
+use Rattle.larch_sorts_counts.specs.SortsMeaningSignature.{kept_under, operators_named}
 use Rattle.larch_sorts_signature.proofs.signature.by_name.Given as goal
 
 -- the operators of each name that are kept, with those that are left, are all

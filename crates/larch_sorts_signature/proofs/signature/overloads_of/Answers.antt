@@ -1,6 +1,6 @@
 use Rattle.std.proofs.Common.{◌≡◌, ◌⊎◌, ◌∙◌, ◌∷◌, Contains, sym, ap, subst, inl, inr}
-use Rattle.larch_sorts_meaning.specs.Signature.{kept_under}
-use Rattle.larch_sorts_meaning.proofs.Kept.{named_or_nothing, one_kept}
+use Rattle.larch_sorts_counts.specs.SortsMeaningSignature.{kept_under}
+use Rattle.larch_sorts_counts.proofs.SortsMeaningKept.{named_or_nothing, one_kept}
 use Rattle.larch_sorts_signature.proofs.signature.overloads_of.Goals as goal
 
 pub loop-name-init : goal.loop-name-init

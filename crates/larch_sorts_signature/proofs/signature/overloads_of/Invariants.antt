@@ -1,5 +1,5 @@
 use Rattle.std.proofs.Common.{◌≡◌, ◌⊎◌, ℕ, List, Contains}
-use Rattle.larch_sorts_meaning.specs.Signature.{kept_under}
+use Rattle.larch_sorts_counts.specs.SortsMeaningSignature.{kept_under}
 use Rattle.larch_sorts_signature.proofs.signature.overloads_of.Given as goal
 
 -- each name is left, or its operators are kept under it

@@ -1,7 +1,7 @@
 use Rattle.std.proofs.Common.{length, arith}
-use Rattle.larch_flat_meaning.proofs.DeepEnough.{deep_enough}
-use Rattle.larch_flat_sources.specs.Sources.{files_in, names_in}
-use Rattle.larch_flat_sources.proofs.Tables.{among, names_length}
+use Rattle.larch_duties_meaning.proofs.FlatMeaningDeepEnough.{deep_enough}
+use Rattle.larch_flat.specs.FlatSourcesSources.{files_in, names_in}
+use Rattle.larch_flat.proofs.FlatSourcesTables.{among, names_length}
 use Rattle.larch_traits.specs.Reading.{read_files}
 use Rattle.larch_traits.proofs.laws.each_flat_trait_is_told.Goals as goal
 

@@ -1,6 +1,6 @@
 use Rattle.std.proofs.Common.{length}
-use Rattle.larch_flat_meaning.proofs.Theory.{flat_discharge, flat_stated, flat_theory}
-use Rattle.larch_flat_sources.specs.Sources.{files_in}
+use Rattle.larch_duties_meaning.proofs.FlatMeaningTheory.{flat_discharge, flat_stated, flat_theory}
+use Rattle.larch_flat.specs.FlatSourcesSources.{files_in}
 use Rattle.larch_traits.specs.Reading.{read_files}
 use Rattle.larch_traits.proofs.Worded.{read_worded}
 use Rattle.larch_traits.proofs.laws.flat_traits_are_theories.Goals as goal

@@ -1,7 +1,7 @@
 use Rattle.std.proofs.Common.{length}
-use Rattle.larch_flat_meaning.proofs.Variables.{discharge_in_words, variables_words}
-use Rattle.larch_flat_meaning.proofs.Words.{operators_words, statements_words}
-use Rattle.larch_flat_sources.specs.Sources.{files_in}
+use Rattle.larch_duties_meaning.proofs.FlatMeaningVariables.{discharge_in_words, variables_words}
+use Rattle.larch_duties_meaning.proofs.FlatMeaningWords.{operators_words, statements_words}
+use Rattle.larch_flat.specs.FlatSourcesSources.{files_in}
 use Rattle.larch_traits.specs.Reading.{read_files}
 use Rattle.larch_traits.proofs.Worded.{read_worded}
 use Rattle.larch_traits.proofs.laws.flat_traits_have_words.Goals as goal

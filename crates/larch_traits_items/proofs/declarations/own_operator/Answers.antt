@@ -2,7 +2,7 @@ use Rattle.std.proofs.Common.{if◌then◌else◌, Ok, Err, sym, ◌∙◌, ap}
 use Rattle.larch_base.specs.declared.code.Code.TheVariants.{BuiltIn}
 use Rattle.larch_term.specs.BuiltIn.{is_built_in}
 use Rattle.larch_term.proofs.BuiltIns.{built_in_told}
-use Rattle.larch_sorts_meaning.specs.Faults.{fault}
+use Rattle.larch_sorts.specs.SortsMeaningFaults.{fault}
 use Rattle.larch_traits_items.specs.Declarations.{operator_of}
 use Rattle.larch_traits_items.proofs.declarations.own_operator.Goals as goal
 

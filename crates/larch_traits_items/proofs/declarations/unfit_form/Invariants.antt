@@ -1,6 +1,6 @@
 use Rattle.std.proofs.Common.{◌≡◌, not, drop}
 use Rattle.larch_traits_items.specs.Declarations.{fits}
-use Rattle.larch_traits_items.specs.Steps.{first_position}
+use Rattle.larch_base_meaning.specs.Steps.{first_position}
 use Rattle.larch_traits_items.proofs.declarations.unfit_form.Given as goal
 
 -- what is left is answered as all forms are

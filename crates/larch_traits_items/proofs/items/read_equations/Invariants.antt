@@ -1,6 +1,6 @@
 use Rattle.std.proofs.Common.{◌≡◌, drop}
-use Rattle.larch_sorts_meaning.specs.Read.{read_equation}
-use Rattle.larch_traits_items.specs.Steps.{all_taken, each, one_behind}
+use Rattle.larch_sorts.specs.SortsMeaningRead.{read_equation}
+use Rattle.larch_base_meaning.specs.Steps.{all_taken, each, one_behind}
 use Rattle.larch_traits_items.proofs.items.read_equations.Given as goal
 
 -- the statements so far, with those of the equations that are left, are all

@@ -1,6 +1,6 @@
 use Rattle.std.proofs.Common.{◌≡◌, drop}
 use Rattle.larch_traits_items.specs.Items.{item_states, items_state}
-use Rattle.larch_traits_items.specs.Steps.{all_behind, all_taken}
+use Rattle.larch_base_meaning.specs.Steps.{all_behind, all_taken}
 use Rattle.larch_traits_items.proofs.items.state_items_by.Given as goal
 
 -- the statements so far, with those of the items that are left, are all

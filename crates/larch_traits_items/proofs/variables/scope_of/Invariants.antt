@@ -1,5 +1,5 @@
 use Rattle.std.proofs.Common.{◌≡◌, [], drop}
-use Rattle.larch_traits_items.specs.Steps.{all_taken}
+use Rattle.larch_base_meaning.specs.Steps.{all_taken}
 use Rattle.larch_traits_items.specs.Variables.{with_declared}
 use Rattle.larch_traits_items.proofs.variables.scope_of.Given as goal
 

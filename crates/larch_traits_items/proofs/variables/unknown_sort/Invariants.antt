@@ -1,6 +1,6 @@
 use Rattle.std.proofs.Common.{◌≡◌, not, drop}
-use Rattle.larch_sorts_known.specs.Sorts.{exists_sort}
-use Rattle.larch_traits_items.specs.Steps.{first_position}
+use Rattle.larch_sorts.specs.SortsKnownSorts.{exists_sort}
+use Rattle.larch_base_meaning.specs.Steps.{first_position}
 use Rattle.larch_traits_items.proofs.variables.unknown_sort.Given as goal
 
 -- what is left is answered as all variables are

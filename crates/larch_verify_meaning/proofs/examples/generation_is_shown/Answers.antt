@@ -1,7 +1,7 @@
 use Rattle.std.proofs.Common.{refl}
 use Rattle.std.specs.Fmt.{digits}
-use Rattle.larch_term.specs.Equality.{same_tree, same_statement}
-use Rattle.larch_term.specs.OperatorKey.{same_operator}
+use Rattle.larch_certificate.specs.TermEquality.{same_tree, same_statement}
+use Rattle.larch_certificate.specs.TermOperatorKey.{same_operator}
 use Rattle.larch_verify_meaning.proofs.examples.generation_is_shown.Goals as goal
 
 pub returns : goal.returns

@@ -1,6 +1,6 @@
 use Rattle.std.proofs.Common.{refl}
-use Rattle.larch_term.specs.Equality.{same_tree, same_statement}
-use Rattle.larch_term.specs.OperatorKey.{same_operator}
+use Rattle.larch_certificate.specs.TermEquality.{same_tree, same_statement}
+use Rattle.larch_certificate.specs.TermOperatorKey.{same_operator}
 use Rattle.larch_verify_meaning.proofs.examples.other_boxes_are_refused.Goals as goal
 
 pub returns : goal.returns

@@ -1,6 +1,6 @@
 use Rattle.std.proofs.Common.{rules, codes, map, false, ◌≡◌, []}
 use Rattle.clap.specs.Words.{found_of, rows_of}
-use Rattle.larch_words.specs.Call.{has_option}
+use Rattle.larch_words.specs.Call.{has_other_option}
 use Rattle.larch_words.specs.CommandLine.{Request, request_in}
 use Rattle.larch_words.proofs.Given.{all_taken, asks_for, none_taken}
 use Rattle.larch_words.proofs.call.asked.Goals as goal
@@ -8,10 +8,10 @@ use Rattle.larch_words.proofs.call.asked.Goals as goal
 pub returns-in_ok-call-in-Some : goal.returns-in_ok-call-in-Some
 returns-in_ok-call-in-Some c =
     let request : Request = request_in (rows_of (found_of c.args.matches.now)) in
-    let none : has_option request ≡ false = search rules in
-    asks_for request c.command_in-command.result.now
+    let none : has_other_option request ≡ false = search rules in
+    asks_for request c.command_in-command.result.now c.is_given-given.result c.limit_in-limit.result
     (map (λ word. word.now) c.in-Some.words.now) c.in_ok-call-in-Some.call
-    none c.command_in-command.ensures
+    none c.command_in-command.ensures c.is_given-given.ensures c.limit_in-limit.ensures
     (all_taken (λ s. map (λ word. word.now) s.now) (found_of c.args.matches.now)
     (codes "WORD") c.get_strs.result c.in-Some.words
     c.in-Some.is c.get_strs.ensures) c.in_ok-call-in-Some.ensures
@@ -19,7 +19,8 @@ returns-in_ok-call-in-Some c =
 pub returns-in-None : goal.returns-in-None
 returns-in-None c =
     let request : Request = request_in (rows_of (found_of c.args.matches.now)) in
-    let none : has_option request ≡ false = search rules in
-    asks_for request c.command_in-command.result.now [] c.call_without_words.result none c.command_in-command.ensures
+    let none : has_other_option request ≡ false = search rules in
+    asks_for request c.command_in-command.result.now c.is_given-given.result c.limit_in-limit.result []
+    c.call_without_words.result none c.command_in-command.ensures c.is_given-given.ensures c.limit_in-limit.ensures
     (none_taken (λ s. map (λ word. word.now) s.now) (found_of c.args.matches.now) (codes "WORD") c.get_strs.result
-    c.in-None.is c.get_strs.ensures) c.call_without_words.ensures
+    c.in-None.is c.get_strs.ensures) (c.call_without_words.ensures c.is_given-given.result)

@@ -1,4 +1,4 @@
-use Rattle.larch_flat_meaning.specs.Gathered.{Gathered, with_asserted}
+use Rattle.larch_flat_statements.specs.FlatMeaningGathered.{Gathered, with_asserted}
 use Rattle.larch_flat_gathering.specs.Keeping.{Keeps}
 use Rattle.larch_flat_gathering.proofs.store.Gathering.assert_all.Given as goal
 

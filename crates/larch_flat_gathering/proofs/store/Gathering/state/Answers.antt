@@ -1,8 +1,8 @@
 -- Items state the same over equal operators.
 use Rattle.std.proofs.Common.{◌≡◌, ◌∙◌, subst}
 use Rattle.larch_base.specs.Answering.{Answers}
-use Rattle.larch_traits_items.specs.Items.{items_state}
-use Rattle.larch_traits_items.specs.Refusal.{cause}
+use Rattle.larch_flat_statements.specs.TraitsItemsItems.{items_state}
+use Rattle.larch_flat_statements.specs.TraitsItemsRefusal.{cause}
 use Rattle.larch_flat_gathering.proofs.store.Gathering.state.Goals as goal
 
 pub returns : goal.returns

@@ -1,8 +1,8 @@
 use Rattle.std.proofs.Common.{sym, ◌∙◌, ap, subst}
 use Rattle.std.proofs.lemmas.Result.{err_from_is_err_and}
-use Rattle.larch_traits_items.specs.Declarations.{declared_operators}
-use Rattle.larch_traits_items.specs.Refusal.{cause}
-use Rattle.larch_flat_meaning.specs.Gathered.{with_operators}
+use Rattle.larch_flat_statements.specs.TraitsItemsDeclarations.{declared_operators}
+use Rattle.larch_flat_statements.specs.TraitsItemsRefusal.{cause}
+use Rattle.larch_flat_statements.specs.FlatMeaningGathered.{with_operators}
 use Rattle.larch_flat_gathering.specs.Keeping.{Keeps}
 use Rattle.larch_flat_gathering.proofs.Leaving.{own_left, own_refused}
 use Rattle.larch_flat_gathering.proofs.store.Gathering.take_own.Goals as goal

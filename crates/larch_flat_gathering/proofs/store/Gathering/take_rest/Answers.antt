@@ -1,8 +1,8 @@
 use Rattle.std.proofs.Common.{◌≡◌, Err, IfSome, subst}
 use Rattle.std.proofs.lemmas.Result.{err_from_is_err_and}
-use Rattle.larch_traits_items.specs.Refusal.{cause}
-use Rattle.larch_traits_items.specs.Steps.{all_taken}
-use Rattle.larch_flat_meaning.specs.Flat.{take_shorthand}
+use Rattle.larch_flat_statements.specs.TraitsItemsRefusal.{cause}
+use Rattle.larch_base_meaning.specs.Steps.{all_taken}
+use Rattle.larch_flat_statements.specs.FlatMeaningFlat.{take_shorthand}
 use Rattle.larch_flat_gathering.specs.Keeping.{KeepsAnswer}
 use Rattle.larch_flat_gathering.proofs.Leaving.{rest_end_refused, rest_own_told, rest_shorthands_refused, rest_told}
 use Rattle.larch_flat_gathering.proofs.store.Gathering.take_rest.Goals as goal

@@ -1,5 +1,5 @@
 use Rattle.std.proofs.Common.{sym, ◌∙◌, subst}
-use Rattle.larch_flat_meaning.specs.Gathered.{with_operators}
+use Rattle.larch_flat_statements.specs.FlatMeaningGathered.{with_operators}
 use Rattle.larch_flat_gathering.specs.Keeping.{Keeps}
 use Rattle.larch_flat_gathering.proofs.Leaving.{full_left}
 use Rattle.larch_flat_gathering.proofs.store.Gathering.take_shorthand.Goals as goal

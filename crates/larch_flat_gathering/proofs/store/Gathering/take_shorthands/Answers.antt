@@ -1,7 +1,7 @@
 use Rattle.std.proofs.lemmas.Result.{err_from_is_err_and}
-use Rattle.larch_traits_items.specs.Refusal.{cause}
-use Rattle.larch_traits_items.specs.Steps.{all_taken}
-use Rattle.larch_flat_meaning.specs.Flat.{take_shorthand}
+use Rattle.larch_flat_statements.specs.TraitsItemsRefusal.{cause}
+use Rattle.larch_base_meaning.specs.Steps.{all_taken}
+use Rattle.larch_flat_statements.specs.FlatMeaningFlat.{take_shorthand}
 use Rattle.larch_flat_gathering.proofs.Leaving.{goes_on, goes_refused}
 use Rattle.larch_flat_gathering.proofs.store.Gathering.take_shorthands.Goals as goal
 

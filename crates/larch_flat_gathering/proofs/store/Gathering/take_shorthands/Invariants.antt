@@ -1,6 +1,6 @@
-use Rattle.larch_traits_items.specs.Steps.{all_taken}
-use Rattle.larch_flat_meaning.specs.Flat.{take_shorthand}
-use Rattle.larch_flat_meaning.specs.Gathered.{Gathered}
+use Rattle.larch_base_meaning.specs.Steps.{all_taken}
+use Rattle.larch_flat_statements.specs.FlatMeaningFlat.{take_shorthand}
+use Rattle.larch_flat_statements.specs.FlatMeaningGathered.{Gathered}
 use Rattle.larch_flat_gathering.specs.Keeping.{Keeps}
 use Rattle.larch_flat_gathering.proofs.Leaving.{Goes}
 use Rattle.larch_flat_gathering.proofs.store.Gathering.take_shorthands.Given as goal

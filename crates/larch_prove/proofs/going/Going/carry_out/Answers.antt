@@ -4,7 +4,7 @@ use Rattle.std.proofs.lemmas.Result.{on_err_weaker}
 use Rattle.larch_prove.proofs.Reached.{settings_made, settings_told}
 use Rattle.larch_prove.proofs.Turns.{works_on_proof}
 use Rattle.larch_prove.proofs.going.Going.carry_out.Goals as goal
-use Rattle.larch_prove_settings.specs.Changing.{ChangesSettings}
+use Rattle.larch_prove_beginning.specs.ProveSettingsChanging.{ChangesSettings}
 
 pub change-requires : goal.change-requires
 change-requires c =

@@ -2,8 +2,8 @@
 use Rattle.std.proofs.lemmas.Result.{err_from_is_err_and}
 use Rattle.std.proofs.Common.{subst, sym}
 use Rattle.larch_prove.proofs.Reached.{made_on_copy, may_work}
-use Rattle.larch_prove_draft.specs.Proving.{IsProvable}
-use Rattle.larch_prove_work.specs.declared.work.Claim.{Claim}
+use Rattle.larch_prove_resuming.specs.ProveDraftProving.{IsProvable}
+use Rattle.larch_prove_resuming.specs.ProveWorkWorkClaim.{Claim}
 use Rattle.larch_prove.proofs.going.Going.carry_out_on_copy.Goals as goal
 
 pub carry_out_on-requires-clause-provable : goal.carry_out_on-requires-clause-provable

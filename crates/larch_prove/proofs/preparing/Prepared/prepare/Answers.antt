@@ -3,7 +3,7 @@ use Rattle.std.proofs.Common.{inl, inr, subst, sym}
 use Rattle.larch_prove.proofs.Prepares.{checked_so, other_refused, prepared_so, refused_so}
 use Rattle.larch_prove.proofs.preparing.Prepared.prepare.Goals as goal
 use Rattle.larch_prove.specs.Prepared.{prepared_proof}
-use Rattle.larch_prove_settings.specs.Changing.{ChangesSettings}
+use Rattle.larch_prove_beginning.specs.ProveSettingsChanging.{ChangesSettings}
 
 pub change-requires : goal.change-requires
 change-requires c =

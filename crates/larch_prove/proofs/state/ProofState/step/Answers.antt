@@ -3,7 +3,7 @@ use Rattle.std.proofs.Common.{subst}
 use Rattle.larch_prove.proofs.Located.{goes_on, going_now, never_refused, refused_here, same_state}
 use Rattle.larch_prove.proofs.state.ProofState.step.Goals as goal
 use Rattle.larch_prove_meaning.specs.Replays.{step}
-use Rattle.larch_prove_settings.specs.Telling.{Tells}
+use Rattle.larch_prove_beginning.specs.ProveSettingsTelling.{Tells}
 
 pub unreachable-requires : goal.unreachable-requires
 unreachable-requires g c =

@@ -6,7 +6,7 @@ use Rattle.larch_prove_adding.specs.KeptFacts.{AreSaid, facts_of}
 use Rattle.larch_prove_adding.specs.Turns.{HasRoom, course_of}
 use Rattle.larch_prove_adding.proofs.Turning.{Goes}
 use Rattle.larch_prove_adding.proofs.facts.Facts.add_beside.Given as goal
-use Rattle.larch_prove_meaning.specs.Taking.{enough}
+use Rattle.larch_prove_invariant.specs.ProveMeaningTaking.{enough}
 use Rattle.larch_rewrite.specs.RuleSet.{BelongsTo}
 use Rattle.larch_store.specs.Stored.{Grows}
 

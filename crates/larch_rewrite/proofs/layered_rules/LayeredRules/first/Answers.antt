@@ -1,5 +1,5 @@
 use Rattle.std.proofs.Common.{IfOk, ◌++◌, map, subst, ◌∙◌}
-use Rattle.larch_rewrite_match.specs.Search.{IsFirst}
+use Rattle.larch_rewrite_step.specs.RewriteMatchSearch.{IsFirst}
 use Rattle.larch_store.specs.Layers.{join_layers}
 use Rattle.larch_store.specs.Numbered.{term_of}
 use Rattle.larch_rewrite.specs.RuleSet.{rule_of}

@@ -1,8 +1,0 @@
-use Rattle.std.proofs.Common.{subst, sym}
-use Rattle.std.specs.Str.{IsUtf8}
-use Rattle.larch_main.proofs.NameTexts.{name_is_text}
-use Rattle.larch_main.proofs.gather.text_of.Goals as goal
-
-pub unreachable-requires : goal.unreachable-requires
-unreachable-requires c =
-    c.in-Err.ensures.cases.0 (subst IsUtf8 (sym c.bytes.ensures) (name_is_text c.args.name.now c.requires))

@@ -1,5 +1,0 @@
-use Rattle.larch_main.proofs.Complete.{there_is_done}
-use Rattle.larch_main.proofs.laws.what_is_gathered_is_done.Goals as goal
-
-pub returns : goal.returns
-returns c = there_is_done

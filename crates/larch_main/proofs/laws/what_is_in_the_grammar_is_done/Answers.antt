@@ -1,5 +1,0 @@
-use Rattle.larch_main.proofs.Entries.{input_is_done}
-use Rattle.larch_main.proofs.laws.what_is_in_the_grammar_is_done.Goals as goal
-
-pub returns : goal.returns
-returns c = input_is_done

@@ -1,0 +1,65 @@
+ghost use Rattle.std.specs.Prelude.{◌≡◌, ◌≤◌, ◌+◌, [], IfErr, IfOk, IfSome, OnOk, true};
+ghost use Rattle.std.specs.List.{list_all};
+ghost use Rattle.larch_base.specs.FileName.{is_file_name};
+ghost use Rattle.larch_prove_meaning.specs.Redo.{redo};
+ghost use Rattle.larch_main_session.specs.SessionSourcesJustified.{IsJustifiedReport};
+ghost use Rattle.larch_main_files.specs.SessionMeaningRedone.{replayed_on};
+ghost use Rattle.larch_words.specs.declared.call.Question.TheVariants.{Replay as question_replay};
+ghost use Rattle.larch_main_files.specs.Answer.{answer_of};
+ghost use Rattle.larch_main_files.specs.Look.{GatherFaults};
+ghost use Rattle.larch_main_files.specs.Questions.{Answered};
+ghost use Rattle.larch_main.specs.Replay.{Replays};
+ghost use Rattle.larch_main_files.specs.Replay.{replay_answer};
+ghost use Rattle.larch_main_files.specs.Turns.{LookInTurn, looks_of};
+
+use larch_base::{FileName, Memory, Steps};
+use larch_io::Folder;
+use larch_main_files::gather::{GatherRefusal, gather};
+use larch_main_files::{Answer, report_answer};
+use larch_main_session::larch_session::Session;
+use larch_main_status::larch_traits::Files;
+use std::alloc::Global;
+use std::sync::ledger::Ledger;
+
+/// What is answered where the files of these names are to be replayed: the report on them, each duty beginning with
+/// this rewriting limit.
+pub fn replay<F: Folder, L: Ledger>(
+    alloc: Global,
+    limit: u32,
+    names: &[FileName],
+    folder: &mut F,
+    steps: &mut Steps<L>,
+) -> Result<Answer, GatherRefusal>
+    requires { list_all is_file_name names.now ≡ true }
+    ensures answer { IfSome (answer_of result) (λ answer.
+        Answered (question_replay limit) names.now (F.files folder.old) answer) }
+    ensures replays { Replays limit names.now (F.files folder.old) steps.old steps.new (answer_of result) }
+    ensures same { F.files folder.new ≡ F.files folder.old }
+    ensures fine { OnOk result (F.faults folder.new ≡ F.faults folder.old) }
+    ensures faults { IfErr result (λ refusal. GatherFaults refusal (F.faults folder.old) (F.faults folder.new)) }
+    ensures looks { LookInTurn (F.files folder.old) (looks_of (question_replay limit) names.now)
+        (F.looks folder.old) (F.looks folder.new) }
+{
+    let files = gather(alloc, names, folder)?;
+    let answer = report(alloc, limit, files, steps)?;
+    Ok(answer)
+}
+
+// The report on these files.
+fn report<L: Ledger>(
+    alloc: Global,
+    limit: u32,
+    files: Files,
+    steps: &mut Steps<L>,
+) -> Result<Answer, Memory>
+    ensures answer { IfOk result (λ answer. answer ≡ replay_answer limit files) }
+    ensures proved { OnOk result (IsJustifiedReport limit files) }
+    ensures least { steps.old ≤ steps.new }
+    ensures most { steps.new ≤ steps.old + redo [] (replayed_on limit files) }
+{
+    let mut session = Session::with_files(alloc, limit, files);
+    match session.report(steps) {
+        Ok(lines) => report_answer(alloc, lines.as_slice()),
+        Err(memory) => Err(memory),
+    }
+}

@@ -1,0 +1,23 @@
+use Rattle.std.proofs.Common.{refl}
+use Rattle.larch_main_files.specs.Examples.{answering}
+use Rattle.larch_main_files.proofs.examples.certificates_are_told.Goals as goal
+
+pub returns-clause-accepted : goal.returns-clause-accepted
+unfolding answering
+returns-clause-accepted c = (refl, refl)
+
+pub returns-clause-refused : goal.returns-clause-refused
+unfolding answering
+returns-clause-refused c = (refl, refl)
+
+pub returns-clause-without_lines : goal.returns-clause-without_lines
+unfolding answering
+returns-clause-without_lines c = (refl, refl)
+
+pub returns-clause-malformed : goal.returns-clause-malformed
+unfolding answering
+returns-clause-malformed c = (refl, refl)
+
+pub returns-clause-no_duty : goal.returns-clause-no_duty
+unfolding answering
+returns-clause-no_duty c = (refl, refl)

@@ -1,0 +1,35 @@
+use Rattle.std.proofs.lemmas.Result.{err_from_is_err_and}
+use Rattle.larch_words.specs.declared.call.Question.TheVariants.{Model}
+use Rattle.larch_main_files.specs.Answer.{IsAnswer}
+use Rattle.larch_main_files.specs.Gather.{Whole}
+use Rattle.larch_main_files.specs.Model.{trial_answer}
+use Rattle.larch_main_files.proofs.Answering.{evidence_answered, evidence_refused, is_answer}
+use Rattle.larch_main_files.proofs.NameTexts.{model_is_no_file}
+use Rattle.larch_main_files.proofs.model.model.Goals as goal
+
+pub gather_evidence-requires-clause-other : goal.gather_evidence-requires-clause-other
+gather_evidence-requires-clause-other g c = model_is_no_file c.args.tried.now.model c.requires.other
+
+pub returns-in_err-evidence-clause-answer : goal.returns-in_err-evidence-clause-answer
+returns-in_err-evidence-clause-answer g c =
+    let p = err_from_is_err_and c.from_residual.result c.from_residual.ensures.1 in
+    rw (p.1, p.2)
+    (evidence_refused (Model c.args.tried.now) c.args.names.now (g.F.Folder.files c.args.folder.now)
+    c.args.tried.now.model (λ evidence. IsAnswer (trial_answer c.args.tried.now.stem evidence))
+    (λ folder text status by. by) c.in_err-evidence.field-0.0 c.in_err-evidence.ensures.found)
+
+pub returns-clause-answer : goal.returns-clause-answer
+returns-clause-answer g c =
+    evidence_answered (Model c.args.tried.now) c.args.names.now (g.F.Folder.files c.args.folder.now)
+    c.args.tried.now.model (λ evidence. IsAnswer (trial_answer c.args.tried.now.stem evidence))
+    (λ folder text status by. by) (Whole c.in_ok-evidence.evidence) c.in_ok-trial_answer.field-0
+    c.in_ok-evidence.ensures.found (is_answer _ _ c.in_ok-trial_answer.ensures)
+
+pub returns-in_err-evidence-clause-looks : goal.returns-in_err-evidence-clause-looks
+returns-in_err-evidence-clause-looks g c = c.gather_evidence.ensures.looks
+
+pub returns-in_err-trial_answer-clause-looks : goal.returns-in_err-trial_answer-clause-looks
+returns-in_err-trial_answer-clause-looks g c = c.gather_evidence.ensures.looks
+
+pub returns-clause-looks : goal.returns-clause-looks
+returns-clause-looks g c = c.gather_evidence.ensures.looks

@@ -1,0 +1,10 @@
+-- The text is read as these lines.
+use Rattle.larch_main_files.specs.Verify.{duty_in}
+use Rattle.larch_main_files.proofs.Left.{told_left}
+use Rattle.larch_main_files.proofs.trim.trimming_answer.Goals as goal
+
+pub returns-in-Ok : goal.returns-in-Ok
+returns-in-Ok c =
+    told_left (duty_in c.args.evidence.now.files c.args.stem.now c.args.label) c.bytes.result.now
+    c.args.evidence.now.text c.in-Ok.read.second c.in-Ok.read.lines c.left_of.result c.bytes.ensures
+    c.in-Ok.ensures.read c.left_of.ensures

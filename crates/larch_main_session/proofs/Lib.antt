@@ -1,0 +1,11 @@
+pub mod Commands
+pub mod Digits
+pub mod Endings
+pub mod Entries
+pub mod Found
+pub mod Once
+pub mod Reporting
+pub mod Shapes
+pub mod Spelled
+pub mod Statuses
+pub mod Steps

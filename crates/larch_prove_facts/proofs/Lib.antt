@@ -1,0 +1,13 @@
+pub mod Among
+pub mod Asked
+pub mod Beside
+pub mod Formed
+pub mod Instantiated
+pub mod Opened
+pub mod Paired
+pub mod Reading
+pub mod Searching
+pub mod Turns
+pub mod Undone
+pub mod Worked
+pub mod Written

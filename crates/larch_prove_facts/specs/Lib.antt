@@ -1,0 +1,4 @@
+pub mod Derivation
+pub mod Entries
+pub mod Instance
+pub mod Pairs

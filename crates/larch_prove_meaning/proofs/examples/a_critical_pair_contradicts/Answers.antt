@@ -1,7 +1,0 @@
-use Rattle.std.specs.Prelude.{refl}
-use Rattle.larch_prove_meaning.specs.Computing.{replaying}
-use Rattle.larch_prove_meaning.proofs.examples.a_critical_pair_contradicts.Goals as goal
-
-pub returns : goal.returns
-unfolding replaying
-returns c = refl

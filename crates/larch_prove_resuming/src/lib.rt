@@ -1,0 +1,14 @@
+//! The commands that resume a proof by a method: what the method makes of the current goal, and what that leads to.
+#![tactic(auto)]
+
+mod beginning;
+mod cases;
+mod commands;
+mod planning;
+mod resuming;
+
+pub use commands::resume_by;
+
+// Passed on to crates above, which then needn't list them.
+pub use larch_prove_work;
+pub use larch_prove_work::{larch_prove_draft, larch_prove_levels, larch_rewrite};

@@ -1,0 +1,5 @@
+pub mod Derived
+pub mod Fronts
+pub mod Joining
+pub mod Lemmas
+pub mod Over

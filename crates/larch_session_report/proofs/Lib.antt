@@ -1,0 +1,3 @@
+-- Lemmas.
+pub mod Right
+pub mod Strays

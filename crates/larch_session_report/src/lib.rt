@@ -1,0 +1,9 @@
+//! The report on files of traits and scripts as they stand.
+#![tactic(auto)]
+
+mod report;
+
+pub use report::report_on;
+
+// Passed on to crates above, which then needn't list them.
+pub use larch_session_replay::larch_traits;
