@@ -1,3 +1,5 @@
+pub mod Derive
+pub mod Generate
 pub mod Questions
 pub mod Replay
 pub mod Running

@@ -15,7 +15,8 @@ use Rattle.larch_term.specs.declared.statement.Statement.{Statement}
 use Rattle.larch_traits.specs.Files.{Table}
 use Rattle.larch_traits.specs.Reading.{read_files}
 use Rattle.larch_words.specs.declared.call.Question.{Question}
-use Rattle.larch_words.specs.declared.call.Question.TheVariants.{Check, Model, Obligations, Replay, Trim, Verify}
+use Rattle.larch_words.specs.declared.call.Question.TheVariants.{Check, Complete, Derive, Model, Obligations}
+use Rattle.larch_words.specs.declared.call.Question.TheVariants.{Replay, Trim, Verify}
 use Rattle.larch_main_files.specs.Gather.{Whole, evidence_in, gather_names}
 use Rattle.larch_main_files.specs.declared.gather.Evidence.{Evidence}
 
@@ -65,17 +66,21 @@ abbrev pub IsThere : Question → List (List ℕ) → FileMap → Type 0
 IsThere Check names folder = (files : Table) × (gather_names folder [] names ≡ Whole files)
 IsThere Obligations names folder = (files : Table) × (gather_names folder [] names ≡ Whole files)
 IsThere (Replay limit) names folder = (files : Table) × (gather_names folder [] names ≡ Whole files)
+IsThere (Derive asked limit) names folder = (files : Table) × (gather_names folder [] names ≡ Whole files)
 IsThere (Verify asked) names folder = IsCertificateThere asked.certificate names folder
 IsThere (Trim asked) names folder = IsCertificateThere asked.certificate names folder
 IsThere (Model tried) names folder =
     (evidence : Evidence) × (evidence_in folder tried.model names ≡ Whole evidence)
     × Suits (trait_own_claims (read_files evidence.files) tried.stem) evidence.text
+IsThere (Complete stem limit) names folder = (files : Table) × (gather_names folder [] names ≡ Whole files)
 
 -- a folder has what a question is about
 abbrev pub HasAll : Question → List (List ℕ) → FileMap → Type 0
 HasAll Check names folder = HasFiles folder names
 HasAll Obligations names folder = HasFiles folder names
 HasAll (Replay limit) names folder = HasFiles folder names
+HasAll (Derive asked limit) names folder = HasFiles folder names
 HasAll (Verify asked) names folder = HasCertificate folder asked.certificate × HasFiles folder names
 HasAll (Trim asked) names folder = HasCertificate folder asked.certificate × HasFiles folder names
 HasAll (Model tried) names folder = HasModel folder tried.model tried.stem names × HasFiles folder names
+HasAll (Complete stem limit) names folder = HasFiles folder names

@@ -3,6 +3,7 @@ use Rattle.std.specs.Prelude.{ℕ, codes, List, [], ◌∷◌, ◌++◌}
 use Rattle.larch_base.specs.declared.label.Label.{Label}
 use Rattle.larch_certificate_text.specs.CertificateText.{read_certificate}
 use Rattle.larch_certificate_text.specs.TermText.{run}
+use Rattle.larch_complete_answer.specs.Examples.{telling}
 use Rattle.larch_duties_meaning.specs.Examples.{computing}
 use Rattle.larch_io.specs.Folder.{FileMap}
 use Rattle.larch_lexer.specs.Lexing.{lexing_of}
@@ -12,7 +13,7 @@ use Rattle.larch_words.specs.declared.call.Question.TheVariants.{Model, Trim, Ve
 
 -- all words that an example unfolds
 unfoldable pub answering : Unit {0}
-unfolding computing lexing_of read_certificate read_model run
+unfolding computing lexing_of read_certificate read_model run telling
 answering = tt
 
 -- a trait of one constant c that implies c == c
@@ -38,6 +39,15 @@ trimmed_of_one label = Trim (record { stem = codes "One"; label = label; certifi
 -- a folder of a trait of two constants that implies that they are the same
 abbrev pub differing : FileMap
 differing = (codes "Wk.lsl", codes "Wk: trait introduces c, d: -> S implies c == d") ∷ []
+
+-- a folder of a trait with a function that is another one when it is applied twice
+abbrev pub twofold : FileMap
+twofold = (codes "Cm.lsl", codes "Cm: trait introduces g, f: S -> S asserts \\forall x: S f(f(x)) == g(x)") ∷ []
+
+-- a folder of a trait with sums that may be exchanged
+abbrev pub exchanging : FileMap
+exchanging =
+    (codes "Com.lsl", codes "Com: trait introduces __ + __: N, N -> N asserts \\forall x, y: N x + y == y + x") ∷ []
 
 -- the question whether m.mod is a model of a trait
 abbrev pub model_of : List ℕ → Question

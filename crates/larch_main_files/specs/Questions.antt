@@ -3,11 +3,14 @@ use Rattle.std.specs.Prelude.{◌≡◌, ℕ, true, List, [], Option}
 use Rattle.larch_io.specs.Folder.{FileMap}
 use Rattle.larch_words.specs.Call.{is_certificate, is_model}
 use Rattle.larch_words.specs.declared.call.Question.{Question}
-use Rattle.larch_words.specs.declared.call.Question.TheVariants.{Check, Model, Obligations, Replay, Trim, Verify}
+use Rattle.larch_words.specs.declared.call.Question.TheVariants.{Check, Complete, Derive, Model, Obligations}
+use Rattle.larch_words.specs.declared.call.Question.TheVariants.{Replay, Trim, Verify}
 use Rattle.larch_words.specs.declared.call.Trial.{Trial}
 use Rattle.larch_words.specs.declared.call.Verification.{Verification}
 use Rattle.larch_main_files.specs.Answer.{AnswersBy, IsAnswer}
 use Rattle.larch_main_files.specs.Check.{check_answer}
+use Rattle.larch_main_files.specs.Completion.{completion_answer}
+use Rattle.larch_main_files.specs.Derive.{MayDerive}
 use Rattle.larch_main_files.specs.Gather.{IsFolder, evidence_in, gather_names}
 use Rattle.larch_main_files.specs.Model.{trial_answer}
 use Rattle.larch_main_files.specs.Obligations.{obligations_answer}
@@ -24,6 +27,7 @@ MayAnswer Obligations names folder =
     AnswersBy (λ files. IsAnswer (obligations_answer files)) (gather_names folder [] names)
 MayAnswer (Replay limit) names folder =
     AnswersBy (λ files. IsAnswer (replay_answer limit files)) (gather_names folder [] names)
+MayAnswer (Derive asked limit) names folder = AnswersBy (MayDerive limit asked) (gather_names folder [] names)
 MayAnswer (Verify asked) names folder =
     AnswersBy (λ evidence. IsAnswer (verification_answer asked.stem asked.label evidence))
     (evidence_in folder asked.certificate names)
@@ -32,6 +36,8 @@ MayAnswer (Model tried) names folder =
 MayAnswer (Trim asked) names folder =
     AnswersBy (λ evidence. IsAnswer (trimming_answer asked.stem asked.label evidence))
     (evidence_in folder asked.certificate names)
+MayAnswer (Complete stem limit) names folder =
+    AnswersBy (λ files. IsAnswer (completion_answer stem limit files)) (gather_names folder [] names)
 
 -- the certificate that a question names has the name of one
 abbrev pub IsCertified : Question → Type 0

@@ -7,7 +7,8 @@ use Rattle.larch_io.specs.Folder.{FileMap, IsFile, with_look}
 use Rattle.larch_words.specs.declared.call.Call.{Call}
 use Rattle.larch_words.specs.declared.call.Call.TheVariants as call_
 use Rattle.larch_words.specs.declared.call.Question.{Question}
-use Rattle.larch_words.specs.declared.call.Question.TheVariants.{Check, Model, Obligations, Replay, Trim, Verify}
+use Rattle.larch_words.specs.declared.call.Question.TheVariants.{Check, Complete, Derive, Model, Obligations}
+use Rattle.larch_words.specs.declared.call.Question.TheVariants.{Replay, Trim, Verify}
 
 -- the looks with one more for a name that wasn't looked for
 abbrev pub next_look : List (List ℕ) → List ℕ → List (List ℕ)
@@ -22,9 +23,11 @@ abbrev pub looks_of : Question → List (List ℕ) → List (List ℕ)
 looks_of Check names = looks_for names
 looks_of Obligations names = looks_for names
 looks_of (Replay limit) names = looks_for names
+looks_of (Derive asked limit) names = looks_for names
 looks_of (Verify asked) names = asked.certificate ∷ looks_for names
 looks_of (Model tried) names = tried.model ∷ looks_for names
 looks_of (Trim asked) names = asked.certificate ∷ looks_for names
+looks_of (Complete stem limit) names = looks_for names
 
 -- there is a file of this name, where the folder tells
 abbrev pub IsThere : Option FileMap → List ℕ → Type 0
@@ -45,6 +48,8 @@ pub record LookInTurn (told : Option FileMap) (wanted : List (List ℕ)) (before
 abbrev pub CallLooks : Call → Option FileMap → Option (List (List ℕ)) → Option (List (List ℕ)) → Type 0
 CallLooks (call_.Session limit) told before now = now ≡ before
 CallLooks (call_.OnFiles question names) told before now = LookInTurn told (looks_of question names) before now
+CallLooks (call_.Migrate certificate) told before now = LookInTurn told (certificate ∷ []) before now
+CallLooks (call_.Generate traits) told before now = now ≡ before
 CallLooks call_.Nothing told before now = now ≡ before
 
 -- a name is looked for, unless its file was put in before

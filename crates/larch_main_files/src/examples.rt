@@ -3,9 +3,10 @@ ghost use Rattle.std.specs.Prelude.{◌≡◌, ◌<◌, ◌++◌, ℕ, List, [],
 ghost use Rattle.larch_base.specs.declared.label.Label.TheVariants.{Imply};
 ghost use Rattle.larch_base.specs.declared.limits.TheConstants.{MAX_FILE_BYTES};
 ghost use Rattle.larch_io.specs.Folder.{FileMap, file_of};
-ghost use Rattle.larch_words.specs.declared.call.Question.TheVariants.{Check, Obligations};
+ghost use Rattle.larch_words.specs.declared.call.Question.TheVariants.{Check, Complete, Obligations};
 ghost use Rattle.larch_main_files.specs.Examples.{asked_of_one, differing, model_of, one_file, one_folder, with_certificate};
-ghost use Rattle.larch_main_files.specs.Examples.{trimmed_of_one, with_model};
+ghost use Rattle.larch_main_files.specs.Examples.{exchanging, trimmed_of_one, twofold, with_model};
+ghost use Rattle.larch_main_files.specs.Migrate.{MayMigrate};
 ghost use Rattle.larch_main_files.specs.Questions.{MayAnswer};
 ghost use Rattle.larch_main_status.specs.declared.status.Status.TheVariants.{Good, Malformed, NoFile, Remains, Size};
 
@@ -68,6 +69,29 @@ pub fn models_are_told()
     ensures malformed { MayAnswer (model_of (codes "One")) (one_file ∷ []) (with_model one_folder (codes "op 1 1\n"))
         (codes "malformed at line 2\n") Malformed }
     ensures no_trait { MayAnswer (model_of (codes "Two")) (one_file ∷ []) (with_model one_folder [])
+        (codes "no trait\n") Remains }
+{}
+
+/// A certificate is written in the second version, whichever version it has; a text may be none.
+pub fn certificates_are_migrated()
+    ensures first { MayMigrate (codes "c.cert") (with_certificate (codes "1 refl #1\n2 sym 1\n"))
+        (codes "certificate 2\n" ++ codes "refl term=#1\nsym line=1\n") Good }
+    ensures second { MayMigrate (codes "c.cert")
+        ((codes "c.cert", codes "certificate 2\n" ++ codes "refl term=#1\nsym line=1\n") ∷ [])
+        (codes "certificate 2\n" ++ codes "refl term=#1\nsym line=1\n") Good }
+    ensures malformed { MayMigrate (codes "c.cert") (with_certificate (codes "1 refl\n"))
+        (codes "malformed at line 2\n") Malformed }
+    ensures absent { MayMigrate (codes "c.cert") one_folder (codes "no file c.cert\n") NoFile }
+{}
+
+/// Rules decide the equations of a trait; an equation may not be oriented; that there is no such trait comes first.
+pub fn rules_are_told()
+    ensures complete { MayAnswer (Complete (codes "Cm") 1000) (codes "Cm.lsl" ∷ []) twofold
+        (codes "complete 2 rules\n" ++ (codes "R1 f(f(x)) -> g(x)\n" ++ (codes "R2 f(g(v1)) -> g(f(v1))\n"
+        ++ codes "end\n"))) Good }
+    ensures unoriented { MayAnswer (Complete (codes "Com") 1000) (codes "Com.lsl" ∷ []) exchanging
+        (codes "unoriented x + y == y + x\n") Remains }
+    ensures no_trait { MayAnswer (Complete (codes "Two") 1000) (one_file ∷ []) one_folder
         (codes "no trait\n") Remains }
 {}
 

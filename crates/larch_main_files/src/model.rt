@@ -96,8 +96,8 @@ fn ending_status(ending: Ending) -> Status
     }
 }
 
-// There is no such trait, or something is wrong with it.
-fn no_trait(alloc: Global) -> Result<Answer, Memory>
+/// There is no such trait, or something is wrong with it.
+pub(crate) fn no_trait(alloc: Global) -> Result<Answer, Memory>
     ensures { IfOk result (λ answer. answer ≡ no_trait) }
 {
     said(alloc, b"no trait\n", Status::Remains)

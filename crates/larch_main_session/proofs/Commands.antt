@@ -1,10 +1,11 @@
 -- What the commands of lines do, as steps.
-use Rattle.std.proofs.Common.{◌≡◌, ℕ, ◌+◌, ◌<◌, ◌≤◌, inr, true, false, cond, List, [], ◌++◌}
+use Rattle.std.proofs.Common.{◌≡◌, ℕ, ◌+◌, ◌<◌, ◌≤◌, inr, Bool, true, false, cond, List, [], ◌++◌}
 use Rattle.std.proofs.Common.{Option, Some, None, Result, Ok, Err, IfOk, IfErr, OnOk, nat_lt, refl, sym, ap}
-use Rattle.std.proofs.Common.{subst, arith}
+use Rattle.std.proofs.Common.{subst, arith, ◌∙◌}
 use Rattle.std.proofs.lemmas.Bool.Decides.{nat_tests}
+use Rattle.larch_base.specs.declared.label.Label.{Label}
 use Rattle.larch_base.specs.declared.limits.TheConstants.{MAX_FILE_BYTES}
-use Rattle.larch_io.specs.Reader.{ReadsBytes}
+use Rattle.larch_io.specs.Reader.{ReadsBytes, Taken}
 use Rattle.larch_main_status.specs.TraitsFiles.{drop_file}
 use Rattle.larch_main_session.specs.declared.progress.Progress.{Progress}
 use Rattle.larch_main_session.specs.declared.progress.Move.{Move}
@@ -12,27 +13,26 @@ use Rattle.larch_main_session.specs.declared.progress.Move.TheVariants.{Goes, St
 use Rattle.larch_main_status.specs.declared.halt.Halt.{Halt}
 use Rattle.larch_main_status.specs.declared.halt.Halt.TheVariants.{ReadFault, Memory}
 use Rattle.larch_main_session.specs.declared.command.Command.{Command}
-use Rattle.larch_main_session.specs.declared.command.Command.TheVariants.{Drop, Put, Quit, Report, Skip}
+use Rattle.larch_main_session.specs.declared.command.Command.TheVariants.{Derive, Drop, Put, Quit, Report, Skip}
 use Rattle.larch_main_status.specs.declared.status.Status.TheVariants.{Malformed, Size}
 use Rattle.larch_prove_meaning.specs.Redo.{redo}
 use Rattle.larch_report.specs.Counts.{counts_of, is_good}
-use Rattle.larch_report.specs.Text.{report_text}
-use Rattle.larch_session.specs.SessionSourcesJustified.{IsJustifiedReport}
+use Rattle.larch_session_derive.specs.SessionSourcesJustified.{IsJustifiedReport}
 use Rattle.larch_session.specs.declared.session.Session.{Session as Holder}
-use Rattle.larch_session.specs.SessionMeaningFiles.{report_of}
-use Rattle.larch_session.specs.SessionMeaningRedone.{replayed_on}
-use Rattle.larch_main_session.specs.Session.{nothing, reported, goes, stops}
-use Rattle.larch_main_session.specs.Session.{status_of, malformed_reply, too_large}
-use Rattle.larch_main_session.specs.Progress.{state_of, at_command, at_bytes}
-use Rattle.larch_main_session.specs.Progress.{Moves, IsStop}
+use Rattle.larch_session_derive_meaning.specs.SessionMeaningFiles.{report_of}
+use Rattle.larch_session_derive_meaning.specs.SessionMeaningRedone.{replayed_on}
+use Rattle.larch_main_session.specs.Replies.{Reply, nothing, reported, derived, Justifies, Spells, steps_of}
+use Rattle.larch_main_session.specs.Session.{goes, stops, status_of, malformed_text, large_text}
+use Rattle.larch_main_session.specs.Progress.{state_of, at_command, at_bytes, IsAnswer, IsStop, Moves}
+use Rattle.larch_main_session.proofs.Derived.{derivation_shows}
 use Rattle.larch_main_session.proofs.Steps.{reads_none, stop_moves}
 
 -- the line is no command
 pub none_moves : (p : Progress) (x : Option (List ℕ)) (n before : ℕ) (result : Result Move Halt)
-    → IsStop (malformed_reply before) Malformed result
+    → IsStop (malformed_text before) Malformed result
     → Moves (at_command before (state_of p) None) p p x x n n result
 none_moves p x n before result is =
-    stop_moves (at_command before (state_of p) None) p p x x n [] (malformed_reply before) Malformed result
+    stop_moves (at_command before (state_of p) None) p p x x n [] (malformed_text before) Malformed result
     (reads_none p.reader x) (λ ended rest follows. refl) is
 
 -- the line is empty
@@ -40,8 +40,7 @@ pub skip_moves : (p : Progress) (x : Option (List ℕ)) (n before : ℕ) (writte
     → Moves (at_command before (state_of p) (Some Skip)) p p x x n n (Ok (Goes written))
 skip_moves p x n before written is = record {
   reply = nothing;
-  spells = is;
-  justifies = tt;
+  shown = record { spells = is; justifies = tt };
   least = omega arith;
   most = omega arith;
   makes = record { given = []; reads = reads_none p.reader x; step_is = λ ended rest follows. refl };
@@ -54,8 +53,7 @@ pub drop_moves : (p : Progress) (session : Holder) (x : Option (List ℕ)) (n be
     (Ok (Goes written))
 drop_moves p session x n before name written is nothing_said = record {
   reply = nothing;
-  spells = nothing_said;
-  justifies = tt;
+  shown = record { spells = nothing_said; justifies = tt };
   least = omega arith;
   most = omega arith;
   makes = record {
@@ -74,72 +72,103 @@ quit_moves p x n before command move quits is =
     subst (λ asked. Moves (at_command before (state_of p) asked) p p x x n n (Ok move)) (sym quits)
     (subst (λ made. Moves (at_command before (state_of p) (Some Quit)) p p x x n n (Ok made)) (sym is)
     (record {
-      reply = nothing;
-      spells = refl;
       none = refl;
       makes = record { given = []; reads = reads_none p.reader x; step_is = λ ended rest follows. refl };
     }))
 
--- `report` was answered, or memory ran out in it
-module _ (p q : Progress) (x : Option (List ℕ)) (before was is : ℕ)
+-- `report` or `derive` was answered, or memory ran out in it: so many steps were taken, and of the state only whether
+-- the last report was good may be another
+module _ (p q : Progress) (x : Option (List ℕ)) (command : Command) (before was is : ℕ) (reply : Reply) (good : Bool)
+    (command_is : (ended : Bool) (rest : List ℕ) → at_command before (state_of p) (Some command) ended rest
+    ≡ goes (record (state_of p) { good = good }) reply rest)
     (reader : q.reader ≡ p.reader) (files : q.session.files ≡ p.session.files)
-    (limit : q.session.limit ≡ p.session.limit)
-    (least : was ≤ is) (most : is ≤ was + redo [] (replayed_on p.session.limit p.session.files)) where
+    (limit : q.session.limit ≡ p.session.limit) (least : was ≤ is) (most : is ≤ was + steps_of reply) where
   reads_same : ReadsBytes p.reader q.reader x x []
   reads_same = subst (λ r. ReadsBytes p.reader r x x []) (sym reader) (reads_none p.reader x)
 
-  pub report_moves : (result : Result Move Halt)
-      → IfOk result (λ move. move ≡ Goes (report_text (report_of p.session.limit p.session.files)))
-      → OnOk result (q.good ≡ is_good (counts_of (report_of p.session.limit p.session.files)))
-      → OnOk result (IsJustifiedReport p.session.limit p.session.files)
-      → IfErr result (λ halt. halt ≡ Memory)
-      → Moves (at_command before (state_of p) (Some Report)) p q x x was is result
-  report_moves (Ok (Goes written)) told good proved memory =
-      let same : written ≡ report_text (report_of p.session.limit p.session.files) = cc in
-      record {
-        reply = reported (report_of p.session.limit p.session.files);
-        spells = same;
-        justifies = proved;
-        least = least;
-        most = most;
-        makes = record {
-          given = [];
-          reads = reads_same;
-          step_is = λ ended rest follows. λ i.
-              goes (record {
-                limit = sym limit i;
-                files = sym files i;
-                taken = (sym reader i).count;
-                good = sym good i;
-              }) (reported (report_of p.session.limit p.session.files)) ((sym reader i).kept ++ rest);
-        };
-      }
-  report_moves (Ok (Stops text status)) told good proved memory = cc
-  report_moves (Err ReadFault) told good proved memory = cc
-  report_moves (Err Memory) told good proved memory = inr (record {
-    next = record (state_of p) { good = is_good (counts_of (report_of p.session.limit p.session.files)) };
-    lines = report_of p.session.limit p.session.files;
+  pub answer_moves : (result : Result Move Halt) → IfOk result (IsAnswer reply)
+      → ((written : List ℕ) → result ≡ Ok (Goes written) → Spells reply written → Justifies reply written)
+      → OnOk result (q.good ≡ good) → IfErr result (λ halt. halt ≡ Memory)
+      → Moves (at_command before (state_of p) (Some command)) p q x x was is result
+  answer_moves (Ok (Goes written)) told justifies goodness memory = record {
+    reply = reply;
+    shown = record { spells = told; justifies = justifies written refl told };
     least = least;
     most = most;
     makes = record {
       given = [];
       reads = reads_same;
-      step_is = λ ended rest follows. λ i.
-          goes (record (state_of p) { good = is_good (counts_of (report_of p.session.limit p.session.files)) })
-          (reported (report_of p.session.limit p.session.files)) ((sym reader i).kept ++ rest);
+      step_is = λ ended rest follows.
+          let same : goes (record (state_of p) { good = good }) reply (p.reader.kept ++ rest)
+          ≡ goes (state_of q) reply (q.reader.kept ++ rest) = λ i.
+          goes (record {
+            limit = sym limit i;
+            files = sym files i;
+            taken = (sym reader i).count;
+            good = sym goodness i;
+          }) reply ((sym reader i).kept ++ rest) in
+          command_is ended (p.reader.kept ++ rest) ∙ same;
+    };
+  }
+  answer_moves (Ok (Stops text status)) told justifies goodness memory = absurd told
+  answer_moves (Err ReadFault) told justifies goodness memory = cc
+  answer_moves (Err Memory) told justifies goodness memory = inr (record {
+    next = record (state_of p) { good = good };
+    reply = reply;
+    least = least;
+    most = most;
+    makes = record {
+      given = [];
+      reads = reads_same;
+      step_is = λ ended rest follows.
+          command_is ended (p.reader.kept ++ rest)
+          ∙ ap (λ (r : Taken). goes (record (state_of p) { good = good }) reply (r.kept ++ rest)) (sym reader);
     };
   })
+
+-- in a report each duty that it calls proved is derivable
+pub report_moves : (p q : Progress) (x : Option (List ℕ)) (before was is : ℕ)
+    → q.reader ≡ p.reader → q.session.files ≡ p.session.files → q.session.limit ≡ p.session.limit
+    → was ≤ is → is ≤ was + redo [] (replayed_on p.session.limit p.session.files)
+    → (result : Result Move Halt) → IfOk result (IsAnswer (reported p.session.limit p.session.files))
+    → OnOk result (q.good ≡ is_good (counts_of (report_of p.session.limit p.session.files)))
+    → OnOk result (IsJustifiedReport p.session.limit p.session.files) → IfErr result (λ halt. halt ≡ Memory)
+    → Moves (at_command before (state_of p) (Some Report)) p q x x was is result
+report_moves p q x before was is reader files limit least most result told good proved memory =
+    answer_moves p q x Report before was is (reported p.session.limit p.session.files)
+    (is_good (counts_of (report_of p.session.limit p.session.files))) (λ ended rest. refl) reader files limit least
+    most result told
+    (λ written ok spells. subst (λ r. OnOk r (IsJustifiedReport p.session.limit p.session.files)) ok proved)
+    good memory
+
+-- a derivation shows that its duty is derivable
+pub derive_moves : (p q : Progress) (x : Option (List ℕ)) (before was is : ℕ) (stem : List ℕ) (label : Label)
+    → q.reader ≡ p.reader → q.session.files ≡ p.session.files → q.session.limit ≡ p.session.limit
+    → was ≤ is → is ≤ was + redo [] (replayed_on p.session.limit p.session.files)
+    → (result : Result Move Halt)
+    → IfOk result (IsAnswer (derived p.session.limit p.session.files stem label)) → q.good ≡ p.good
+    → IfErr result (λ halt. halt ≡ Memory)
+    → Moves (at_command before (state_of p) (Some (Derive stem label))) p q x x was is result
+derive_moves p q x before was is stem label reader files limit least most result told good memory =
+    answer_moves p q x (Derive stem label) before was is (derived p.session.limit p.session.files stem label) p.good
+    (λ ended rest. refl) reader files limit least most result told
+    (λ written ok spells. derivation_shows p.session.limit p.session.files stem label written spells)
+    (on_ok result good) memory
+  where
+    on_ok : {A : Type 0} (made : Result Move Halt) → A → OnOk made A
+    on_ok (Ok move) a = a
+    on_ok (Err halt) a = tt
 
 -- a length above the limit
 pub put_too_large : (p : Progress) (x : Option (List ℕ)) (n before : ℕ) (name : List ℕ) (count : ℕ)
     (result : Result Move Halt)
-    → MAX_FILE_BYTES < count → IsStop too_large Size result
+    → MAX_FILE_BYTES < count → IsStop large_text Size result
     → Moves (at_command before (state_of p) (Some (Put name count))) p p x x n n result
 put_too_large p x n before name count result large is =
     let test : nat_lt MAX_FILE_BYTES count ≡ true = grind (arith, nat_tests) in
-    stop_moves _ p p x x n [] too_large Size result (reads_none p.reader x)
+    stop_moves _ p p x x n [] large_text Size result (reads_none p.reader x)
     (λ ended rest follows. ap (λ larger.
-    cond larger (stops (state_of p) too_large Size)
+    cond larger (stops (state_of p) large_text Size)
     (at_bytes before (state_of p) name count ended (p.reader.kept ++ rest))) test)
     is
 
@@ -152,5 +181,5 @@ put_passes p q x y n before name count result within moves =
     let test : nat_lt MAX_FILE_BYTES count ≡ false = grind (arith, nat_tests) in
     subst
     (λ large. Moves (λ ended input.
-    cond large (stops (state_of p) too_large Size) (at_bytes before (state_of p) name count ended input)) p q x y n n
+    cond large (stops (state_of p) large_text Size) (at_bytes before (state_of p) name count ended input)) p q x y n n
     result) (sym test) moves

@@ -4,8 +4,7 @@ use Rattle.std.proofs.Common.{Some, refl, sym, subst, ap, ◌∙◌, arith, code
 use Rattle.std.proofs.lemmas.Bool.Decides.{nat_tests}
 use Rattle.larch_base.specs.declared.limits.TheConstants.{MAX_FILE_BYTES, MAX_SOURCE_BYTES}
 use Rattle.larch_report.specs.Counts.{counts_of, is_good}
-use Rattle.larch_report.specs.Text.{report_text}
-use Rattle.larch_session.specs.SessionMeaningFiles.{report_of}
+use Rattle.larch_session_derive_meaning.specs.SessionMeaningFiles.{report_of}
 use Rattle.larch_main_status.specs.TraitsFiles.{Table, drop_file, put_file}
 use Rattle.larch_main_session.specs.declared.command.Command.TheVariants.{Put}
 use Rattle.larch_main_status.specs.declared.status.Status.{Status}
@@ -13,44 +12,38 @@ use Rattle.larch_main_status.specs.declared.status.Status.TheVariants.{Good, Rem
 use Rattle.larch_main_session.specs.Command.{command_of, number_of_digits}
 use Rattle.larch_main_status.specs.Status.{IsDone}
 use Rattle.larch_main_session.specs.Input.{Entry}
-use Rattle.larch_main_session.specs.Input.{IsSpelled, empty_line, put_line, drop_line, report_line, quit_line}
+use Rattle.larch_main_session.specs.Input.{IsSpelled, empty_line, put_line, drop_line, report_line, derive_line}
+use Rattle.larch_main_session.specs.Input.{quit_line}
 use Rattle.larch_main_session.specs.Input.{IsInputOf, no_more, one_more, last_one, quit_before}
 use Rattle.larch_main_session.specs.Input.{HasRoom, bytes_behind, files_behind}
 use Rattle.larch_main_session.specs.Lines.{bytes, line, line_at, bytes_at}
 use Rattle.larch_main_session.specs.Session.{State, took, start, Step, goes, stops, waits, step, on_line, on_command}
 use Rattle.larch_main_session.specs.Session.{on_bytes}
 use Rattle.larch_main_status.specs.Limits.{put_is_refused}
-use Rattle.larch_main_session.specs.Session.{room_left, status_of, Reply, nothing, said, reported}
-use Rattle.larch_main_session.specs.Session.{too_large}
-use Rattle.larch_main_session.specs.Session.{Spells, Session, goes_on, ends, with_status}
+use Rattle.larch_main_session.specs.Replies.{Reply, nothing, said}
+use Rattle.larch_main_session.specs.Session.{room_left, status_of, large_text}
+use Rattle.larch_main_session.specs.Session.{Course, Session, goes_on, ends, with_status}
 use Rattle.larch_main_session.proofs.Found.{bytes_found, last_found, line_found, none_found}
 use Rattle.larch_main_session.proofs.Once.{once}
-use Rattle.larch_main_session.proofs.Spelled.{drop_is_spelled, put_is_spelled, spelled_is_line}
+use Rattle.larch_main_session.proofs.Spelled.{derive_is_spelled, drop_is_spelled, put_is_spelled, spelled_is_line}
 
 -- from this state, on this whole input, a session is done
 abbrev IsDoneOn : State → List ℕ → Type 0
 IsDoneOn state input =
-    (output : List ℕ) × (status : Status) × (last : State) × IsDone status
-    × Session true state input output (with_status status) last
+    (replies : List Reply) × (status : Status) × (last : State) × IsDone status
+    × Course true state input replies (with_status status) last
 
 -- a step that leads there
 abbrev LeadsOn : Step → Type 0
 LeadsOn (goes next reply rest) = IsDoneOn next rest
-LeadsOn (stops last reply status) = IsDone status
+LeadsOn (stops last text status) = IsDone status
 LeadsOn waits = ⊥
-
-spelled : (reply : Reply) → (written : List ℕ) × Spells reply written
-spelled (said these) = (these, refl)
-spelled (reported lines) = (report_text lines, refl)
 
 by_step : (state : State) (input : List ℕ) (made : Step) → step true state input ≡ made → LeadsOn made
     → IsDoneOn state input
 by_step state input (goes next reply rest) is end =
-    let first = spelled reply in
-    (first.0 ++ end.0, end.1, end.2, end.3, goes_on reply first.0 is first.1 end.4)
-by_step state input (stops last reply status) is end =
-    let only = spelled reply in
-    (only.0, status, last, end, ends reply is only.1)
+    (reply ∷ end.0, end.1, end.2, end.3, goes_on reply is end.4)
+by_step state input (stops last text status) is end = (said text ∷ [], status, last, end, ends is)
 by_step state input waits is end = absurd end
 
 status_done : (state : State) → IsDone (status_of state)
@@ -84,9 +77,9 @@ put_leads before state name file rest count is short room fits more =
     let next : State = record behind { files = put_file state.files name file } in
     let fitting : state.taken + (length (file ++ rest) - length rest) + length rest ≤ MAX_SOURCE_BYTES =
     omega (arith, long, fits) in
-    else_leads (nat_lt MAX_FILE_BYTES count) (stops state too_large Size) _ small
+    else_leads (nat_lt MAX_FILE_BYTES count) (stops state large_text Size) _ small
     (subst (λ f. LeadsOn (on_bytes before state name (file ++ rest) f)) (sym found)
-    (else_leads (put_is_refused state.files name) (stops behind too_large Size) (goes next nothing rest) room
+    (else_leads (put_is_refused state.files name) (stops behind large_text Size) (goes next nothing rest) room
     (more next refl fitting)))
 
 -- a command that its line spells is carried out
@@ -104,6 +97,10 @@ command_leads before state rest (drop_line name blank p named) room fits more =
     (more (record state { files = drop_file state.files name }) refl fits)
 command_leads before state rest report_line room fits more =
     more (record state { good = is_good (counts_of (report_of state.limit state.files)) }) refl fits
+command_leads before state rest (derive_line stem word label blank between p q named is) room fits more =
+    subst (λ c. LeadsOn (on_command true before state rest c))
+    (sym (derive_is_spelled stem word label blank between p q named is))
+    (more state refl fits)
 command_leads before state rest quit_line room fits more = status_done state
 
 -- the state once a line is taken
@@ -125,7 +122,7 @@ line_leads {entry} state input words rest spells room found within fits more =
 -- where nothing is left it ends
 nothing_left : (state : State) → IsDoneOn state []
 nothing_left state =
-    by_step state [] (stops state nothing (status_of state)) (ap (on_line true state []) (none_found (room_left state)))
+    by_step state [] (stops state [] (status_of state)) (ap (on_line true state []) (none_found (room_left state)))
     (status_done state)
 
 some_or_none : (xs : List ℕ) → (xs ≡ []) ⊎ (0 < length xs)
@@ -170,4 +167,4 @@ pub input_is_done : (limit : ℕ) (entries : List Entry) (input output : List �
     → Session true (start limit) input output (with_status status) last → IsDone status
 input_is_done limit entries input output status last is fits session =
     let end = done_on is (start limit) refl (omega (arith, fits)) in
-    same_status end.1 status (once end.4 session).0 end.3
+    same_status end.1 status (once end.4 session.course).1 end.3

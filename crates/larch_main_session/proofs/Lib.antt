@@ -1,11 +1,13 @@
 pub mod Commands
+pub mod Derived
 pub mod Digits
 pub mod Endings
 pub mod Entries
 pub mod Found
 pub mod Once
-pub mod Reporting
+pub mod Plain
 pub mod Shapes
 pub mod Spelled
 pub mod Statuses
 pub mod Steps
+pub mod Texts

@@ -1,31 +1,30 @@
 -- What every step of a session keeps, and that every session ends.
 use Rattle.std.proofs.Common.{◌≡◌, ℕ, zero, suc, ◌+◌, ◌<◌, ◌≤◌, ◌&&◌, ◌==◌, Bool, true, false, not, cond, nat_lt}
-use Rattle.std.proofs.Common.{nat_le, List, [], ◌++◌, length, take, drop, Option, Some, None, refl, arith, length-drop}
+use Rattle.std.proofs.Common.{nat_le, List, [], ◌∷◌, length, take, drop, Option, Some, None, refl, arith, length-drop}
 use Rattle.std.specs.List.{position_or_len}
 use Rattle.std.proofs.lemmas.Bool.Decides.{nat_tests}
 use Rattle.std.proofs.lemmas.List.Sums.{prefix_len-le-length}
 use Rattle.larch_main_status.specs.declared.status.Status.TheVariants.{Good, Remains, Size}
 use Rattle.larch_main_session.specs.declared.command.Command.{Command}
-use Rattle.larch_main_session.specs.declared.command.Command.TheVariants.{Skip, Put, Drop, Report, Quit}
+use Rattle.larch_main_session.specs.declared.command.Command.TheVariants.{Skip, Put, Drop, Report, Derive, Quit}
 use Rattle.larch_base.specs.declared.limits.TheConstants.{MAX_FILE_BYTES, MAX_LINE_BYTES}
 use Rattle.larch_main_session.specs.Command.{command_of}
 use Rattle.larch_main_status.specs.Status.{IsEnd}
 use Rattle.larch_main_session.specs.Laws.{Ends}
-use Rattle.larch_report.specs.Text.{report_text}
 use Rattle.larch_main_session.specs.Lines.{is_newline, passes_room, LineFound, line, no_line, long_line, full}
 use Rattle.larch_main_session.specs.Lines.{unfinished}
 use Rattle.larch_main_session.specs.Lines.{line_at, line_of_size, BytesFound, bytes, cut, too_many, wanting, bytes_at}
 use Rattle.larch_main_session.specs.Session.{State, took, Step, goes, stops, waits, step, on_line, on_command, on_bytes}
 use Rattle.larch_main_status.specs.Limits.{put_is_refused}
-use Rattle.larch_main_session.specs.Session.{room_left, status_of, Reply, said, reported, Spells}
-use Rattle.larch_main_session.specs.Session.{too_large}
+use Rattle.larch_main_session.specs.Replies.{said}
+use Rattle.larch_main_session.specs.Session.{room_left, status_of, large_text}
 use Rattle.larch_main_session.specs.Session.{goes_on, ends}
 
 -- a step on so many bytes that goes on leaves fewer, one that stops has such a status, and one waits only where more
 -- may come
 abbrev pub Shape : Bool → ℕ → Step → Type 0
 Shape ended size (goes state reply rest) = length rest < size
-Shape ended size (stops last reply status) = IsEnd status
+Shape ended size (stops last text status) = IsEnd status
 Shape ended size waits = ended ≡ false
 
 abbrev LineShape : Bool → ℕ → LineFound → Type 0
@@ -83,7 +82,7 @@ bytes_step : (ended : Bool) (size before : ℕ) (state : State) (name input : Li
     → length input < size → BytesShape ended (length input) found
     → Shape ended size (on_bytes before state name input found)
 bytes_step ended size before state name input (bytes text rest) less shape =
-    chosen (Shape ended size) (put_is_refused state.files name) (stops (took state input rest) too_large Size) _
+    chosen (Shape ended size) (put_is_refused state.files name) (stops (took state input rest) large_text Size) _
     (λ _. tt) (λ _. let p : length rest ≤ length input = shape in omega arith)
 bytes_step ended size before state name input cut less shape = tt
 bytes_step ended size before state name input too_many less shape = tt
@@ -94,10 +93,11 @@ command_step : (ended : Bool) (size before : ℕ) (state : State) (rest : List �
 command_step ended size before state rest None less = tt
 command_step ended size before state rest (Some Skip) less = less
 command_step ended size before state rest (Some Report) less = less
+command_step ended size before state rest (Some (Derive stem label)) less = less
 command_step ended size before state rest (Some Quit) less = status_shape state
 command_step ended size before state rest (Some (Drop name)) less = less
 command_step ended size before state rest (Some (Put name count)) less =
-    chosen (Shape ended size) (nat_lt MAX_FILE_BYTES count) (stops state too_large Size) _ (λ _. tt)
+    chosen (Shape ended size) (nat_lt MAX_FILE_BYTES count) (stops state large_text Size) _ (λ _. tt)
     (λ _. bytes_step ended size before state name rest (bytes_at ended (room_left state) count rest) less
     (bytes_shape ended (room_left state) count rest))
 
@@ -116,21 +116,13 @@ step_shape ended state input =
     (line_shape ended (room_left state) (position_or_len is_newline input) input
     (prefix_len-le-length (λ byte. not (is_newline byte)) input))
 
--- each reply has a text
-spelled : (reply : Reply) → (written : List ℕ) × Spells reply written
-spelled (said these) = (these, refl)
-spelled (reported lines) = (report_text lines, refl)
-
 ends_after : (state : State) (input : List ℕ) (made : Step) → step true state input ≡ made
     → Shape true (length input) made
     → ((next : State) (rest : List ℕ) → length rest < length input → Ends next rest) → Ends state input
 ends_after state input (goes next reply rest) is shape more =
     let end = more next rest shape in
-    let first = spelled reply in
-    (first.0 ++ end.0, end.1, end.2, end.3, goes_on reply first.0 is first.1 end.4)
-ends_after state input (stops last reply status) is shape more =
-    let only = spelled reply in
-    (only.0, status, last, shape, ends reply is only.1)
+    (reply ∷ end.0, end.1, end.2, end.3, goes_on reply is end.4)
+ends_after state input (stops last text status) is shape more = (said text ∷ [], status, last, shape, ends is)
 ends_after state input waits is shape more = cc
 
 ends_within : (size : ℕ) (state : State) (input : List ℕ) → length input < size → Ends state input

@@ -3,8 +3,8 @@ use Rattle.std.proofs.Common.{◌≡◌, ◌≢◌, ℕ, ◌+◌, ◌<◌, ◌�
 use Rattle.std.proofs.Common.{[], ◌∷◌, ◌++◌, length, take, drop, get_or}
 use Rattle.std.proofs.Common.{Option, Some, None, refl, sym, subst, ap, ap₂, ◌∙◌}
 use Rattle.std.proofs.Common.{if◌then◌else◌, arith, codes, length-append, length-drop}
-use Rattle.std.specs.Char.{is_ascii_digit}
-use Rattle.std.specs.List.{All, list_all, position_or_len, before_first, after_first}
+use Rattle.std.specs.Prelude.{option_map}
+use Rattle.std.specs.List.{All, position_or_len, before_first, after_first}
 use Rattle.std.specs.Str.{bytes_eq}
 use Rattle.std.specs.Cmp.Lexicographic.{bytes_decides}
 use Rattle.std.proofs.lemmas.Bool.Decides.{nat_tests}
@@ -13,25 +13,19 @@ use Rattle.std.proofs.lemmas.List.Elements.{All-append, All-cons, All-nil, All-w
 use Rattle.std.proofs.lemmas.List.Sums.{passes_at_first, position_or_len_is, split_at_first}
 use Rattle.std.proofs.Math.Seq.{take-append_seam, drop-append-add}
 use Rattle.larch_base.proofs.Bools.{and_both, and_left, and_right}
-use Rattle.larch_base.specs.FileName.{ending_of, is_dot, is_file_name, is_script_file, is_stem, is_stem_byte}
+use Rattle.larch_base.specs.FileName.{ending_of, is_dot, is_file_name, is_script_file, is_stem}
 use Rattle.larch_base.specs.FileName.{is_trait_file, stem_of}
+use Rattle.larch_base.specs.Label.{read_label}
+use Rattle.larch_base.specs.declared.label.Label.{Label}
 use Rattle.larch_io.specs.Take.{HasNoNewline, IsLine}
 use Rattle.larch_main_session.specs.declared.command.Command.{Command}
-use Rattle.larch_main_session.specs.declared.command.Command.TheVariants.{Drop, Put}
-use Rattle.larch_main_session.specs.Command.{are_digits, command_of, drop_of, is_blank, is_length, number_of_digits}
-use Rattle.larch_main_session.specs.Command.{put_of}
+use Rattle.larch_main_session.specs.declared.command.Command.TheVariants.{Derive, Drop, Put}
+use Rattle.larch_main_session.specs.Command.{are_digits, command_of, derive_of, drop_of, is_blank, is_length}
+use Rattle.larch_main_session.specs.Command.{number_of_digits, put_of}
 use Rattle.larch_main_session.specs.Input.{Entry}
-use Rattle.larch_main_session.specs.Input.{IsSpelled, empty_line, put_line, drop_line, report_line, quit_line}
-
--- a byte that stands in a word: no blank and no newline
-abbrev pub IsPlain : ℕ → Type 0
-IsPlain byte = 33 ≤ byte
-
-stem_byte_plain : (byte : ℕ) → is_stem_byte byte ≡ true → 33 ≤ byte
-stem_byte_plain byte e = grind (arith, nat_tests)
-
-digit_plain : (byte : ℕ) → is_ascii_digit byte ≡ true → 33 ≤ byte
-digit_plain byte e = grind (arith, nat_tests)
+use Rattle.larch_main_session.specs.Input.{IsSpelled, empty_line, put_line, drop_line, report_line, derive_line}
+use Rattle.larch_main_session.specs.Input.{quit_line}
+use Rattle.larch_main_session.proofs.Plain.{IsPlain, IsShortWord, label_word, plain_digits, plain_word, stem_word}
 
 dot_plain : (byte : ℕ) → is_dot byte ≡ true → 33 ≤ byte
 dot_plain byte e = grind (arith, nat_tests)
@@ -44,17 +38,6 @@ blank_is_no_newline byte e same = absurd (grind (arith, nat_tests))
 
 plain_is_no_blank : (byte : ℕ) → 33 ≤ byte → is_blank byte ≡ false
 plain_is_no_blank byte e = grind (arith, nat_tests)
-
-plain_by : (p : ℕ → Bool) → ((byte : ℕ) → p byte ≡ true → 33 ≤ byte) → (bytes : List ℕ) → list_all p bytes ≡ true
-    → All IsPlain bytes
-plain_by p each [] e = All-nil IsPlain
-plain_by p each (byte ∷ bytes) e =
-    All-cons IsPlain byte bytes (each byte (and_left (p byte) (list_all p bytes) e))
-    (plain_by p each bytes (and_right (p byte) (list_all p bytes) e))
-
--- a word of plain bytes, of so many at most
-abbrev pub IsShortWord : ℕ → List ℕ → Type 0
-IsShortWord most word = All IsPlain word × (length word ≤ most)
 
 module _ (name ending : List ℕ) (stem : is_stem (stem_of name) ≡ true) (is : ending_of name ≡ ending)
     (some : 0 < length ending) (few : length ending ≤ 3) (plain : All IsPlain ending) where
@@ -69,13 +52,8 @@ module _ (name ending : List ℕ) (stem : is_stem (stem_of name) ≡ true) (is :
   parts_plain : All IsPlain name
   parts_plain =
       subst (All IsPlain) (sym split)
-      (All-append IsPlain (stem_of name) _ (plain_by is_stem_byte stem_byte_plain (stem_of name) (and_right _ _ stem))
+      (All-append IsPlain (stem_of name) _ (stem_word (stem_of name) stem).0
       (All-cons IsPlain _ _ (dot_plain _ (passes_at_first is_dot name 0 inside)) (subst (All IsPlain) (sym is) plain)))
-
-  stem_short : length (stem_of name) ≤ 64
-  stem_short =
-      let e : nat_le (length (stem_of name)) 64 ≡ true = and_right _ _ (and_left _ _ stem) in
-      grind (arith, nat_tests, e)
 
   parts_short : length name ≤ 68
   parts_short =
@@ -83,16 +61,13 @@ module _ (name ending : List ℕ) (stem : is_stem (stem_of name) ≡ true) (is :
       ≡ length (stem_of name) + length (get_or name (position_or_len is_dot name) 0 ∷ ending_of name) =
       ap length split ∙ length-append (stem_of name) (get_or name (position_or_len is_dot name) 0 ∷ ending_of name) in
       let last : length (ending_of name) ≡ length ending = ap length is in
-      let short = stem_short in omega (arith, long, last, short, few)
+      let short = (stem_word (stem_of name) stem).1 in omega (arith, long, last, short, few)
 
 trait_ending : All IsPlain (codes "lsl")
-trait_ending =
-    All-cons IsPlain 108 (115 ∷ 108 ∷ []) (omega arith)
-    (All-cons IsPlain 115 (108 ∷ []) (omega arith) (All-cons IsPlain 108 [] (omega arith) (All-nil IsPlain)))
+trait_ending = plain_word (codes "lsl") refl
 
 script_ending : All IsPlain (codes "lp")
-script_ending =
-    All-cons IsPlain 108 (112 ∷ []) (omega arith) (All-cons IsPlain 112 [] (omega arith) (All-nil IsPlain))
+script_ending = plain_word (codes "lp") refl
 
 trait_word : (name : List ℕ) → is_trait_file name ≡ true → IsShortWord 68 name
 trait_word name e =
@@ -125,7 +100,7 @@ length_word [] e = cc
 length_word (digit ∷ digits) e =
     let form = and_left _ _ e in
     let few : nat_le (length digits) 7 ≡ true = and_right (are_digits (digit ∷ digits)) _ form in (
-      plain_by is_ascii_digit digit_plain (digit ∷ digits) (and_left (are_digits (digit ∷ digits)) _ form),
+      plain_digits (digit ∷ digits) (and_left (are_digits (digit ∷ digits)) _ form),
       grind (arith, nat_tests, few),
     )
 
@@ -133,27 +108,13 @@ no_newlines : (word : List ℕ) → All IsPlain word → HasNoNewline word
 no_newlines word plain = All-weaker IsPlain (λ byte. byte ≢ 10) plain_is_no_newline word plain
 
 put_word : All IsPlain (codes "put")
-put_word =
-    All-cons IsPlain 112 (117 ∷ 116 ∷ []) (omega arith)
-    (All-cons IsPlain 117 (116 ∷ []) (omega arith) (All-cons IsPlain 116 [] (omega arith) (All-nil IsPlain)))
+put_word = plain_word (codes "put") refl
 
 drop_word : All IsPlain (codes "drop")
-drop_word =
-    All-cons IsPlain 100 (114 ∷ 111 ∷ 112 ∷ []) (omega arith)
-    (All-cons IsPlain 114 (111 ∷ 112 ∷ []) (omega arith)
-    (All-cons IsPlain 111 (112 ∷ []) (omega arith) (All-cons IsPlain 112 [] (omega arith) (All-nil IsPlain))))
+drop_word = plain_word (codes "drop") refl
 
-abbrev is_plain : ℕ → Bool
-is_plain byte = nat_le 33 byte
-
-plain_by_test : (byte : ℕ) → is_plain byte ≡ true → 33 ≤ byte
-plain_by_test byte e = grind (arith, nat_tests)
-
-report_word : All IsPlain (codes "report")
-report_word = plain_by is_plain plain_by_test (codes "report") refl
-
-quit_word : All IsPlain (codes "quit")
-quit_word = plain_by is_plain plain_by_test (codes "quit") refl
+derive_word : All IsPlain (codes "derive")
+derive_word = plain_word (codes "derive") refl
 
 -- words with a blank between them
 joined : (word rest : List ℕ) (blank : ℕ) → All IsPlain word → is_blank blank ≡ true → HasNoNewline rest
@@ -178,8 +139,17 @@ spelled_is_line (drop_line name blank p named) =
     let word = file_word name named in
     let a = word.1 in
     (joined (codes "drop") name blank drop_word p (no_newlines name word.0), omega (arith, a))
-spelled_is_line report_line = (no_newlines (codes "report") report_word, omega arith)
-spelled_is_line quit_line = (no_newlines (codes "quit") quit_word, omega arith)
+spelled_is_line report_line = (no_newlines (codes "report") (plain_word (codes "report") refl), omega arith)
+spelled_is_line (derive_line stem word label blank between p q named is) =
+    let first = stem_word stem named in
+    let second = label_word word label is in
+    let long = length-append stem (between ∷ word) in
+    let a = first.1 in let b = second.1 in (
+      joined (codes "derive") (stem ++ (between ∷ word)) blank derive_word p
+          (joined stem word between first.0 q (no_newlines word second.0)),
+      omega (arith, long, a, b),
+    )
+spelled_is_line quit_line = (no_newlines (codes "quit") (plain_word (codes "quit") refl), omega arith)
 
 -- a word ends where its blank stands
 word_size : (word rest : List ℕ) (blank : ℕ) → All IsPlain word → is_blank blank ≡ true
@@ -209,7 +179,8 @@ word_behind word rest blank plain is =
 abbrev by_words : List ℕ → List ℕ → Option Command
 by_words first behind =
     if bytes_eq first (codes "put") then put_of behind
-    else if bytes_eq first (codes "drop") then drop_of behind else None
+    else if bytes_eq first (codes "drop") then drop_of behind
+    else if bytes_eq first (codes "derive") then derive_of behind else None
 
 abbrev put_by : List ℕ → List ℕ → Option Command
 put_by name digits = if is_file_name name && is_length digits then Some (Put name (number_of_digits digits)) else None
@@ -237,3 +208,21 @@ drop_is_spelled name blank p named =
     ap₂ by_words (word_before (codes "drop") name blank drop_word p)
     (word_behind (codes "drop") name blank drop_word p) in
     first ∙ ap (λ b. if b then Some (Drop name) else None) named
+
+abbrev derive_by : List ℕ → List ℕ → Option Command
+derive_by stem word = if is_stem stem then option_map (Derive stem) (read_label word) else None
+
+pub derive_is_spelled : (stem word : List ℕ) (label : Label) (blank between : ℕ) → is_blank blank ≡ true
+    → is_blank between ≡ true → is_stem stem ≡ true → read_label word ≡ Some label
+    → command_of (codes "derive" ++ (blank ∷ (stem ++ (between ∷ word)))) ≡ Some (Derive stem label)
+derive_is_spelled stem word label blank between p q named is =
+    let rest : List ℕ = stem ++ (between ∷ word) in
+    let plain = (stem_word stem named).0 in
+    let first : by_words (before_first is_blank (codes "derive" ++ (blank ∷ rest)))
+    (after_first is_blank (codes "derive" ++ (blank ∷ rest))) ≡ derive_of rest =
+    ap₂ by_words (word_before (codes "derive") rest blank derive_word p)
+    (word_behind (codes "derive") rest blank derive_word p) in
+    let second : derive_of rest ≡ derive_by stem word =
+    ap₂ derive_by (word_before stem word between plain q) (word_behind stem word between plain q) in
+    first ∙ second ∙ ap (λ b. if b then option_map (Derive stem) (read_label word) else None) named
+    ∙ ap (option_map (Derive stem)) is

@@ -20,9 +20,10 @@ use Rattle.larch_main_status.specs.declared.status.Status.TheVariants.{Malformed
 use Rattle.larch_main_session.specs.Command.{command_of}
 use Rattle.larch_main_session.specs.Lines.{line, line_at}
 use Rattle.larch_session.specs.declared.session.Session.{Session as Holder}
-use Rattle.larch_main_session.specs.Session.{State, took, Reply, nothing, reported, Step, goes, stops, step, on_line}
+use Rattle.larch_main_session.specs.Replies.{nothing}
+use Rattle.larch_main_session.specs.Session.{State, took, Step, goes, stops, step, on_line}
 use Rattle.larch_main_session.specs.Session.{on_command, on_bytes, on_file}
-use Rattle.larch_main_session.specs.Session.{status_of, room_left, malformed_reply, too_large}
+use Rattle.larch_main_session.specs.Session.{status_of, room_left, malformed_text, large_text}
 use Rattle.larch_main_session.specs.Progress.{state_of, Machine, at_line, at_command, at_bytes, at_file, MayFollow}
 use Rattle.larch_main_session.specs.Progress.{Makes}
 use Rattle.larch_main_session.specs.Progress.{Wants, Moves, IsStop, Never, Refuses, PutsIn}
@@ -98,50 +99,45 @@ pub moves_after : {first second : Machine} (p : Progress) (reader : Taken) (r : 
     → Moves first p r x z was is result
 moves_after p reader r x y z was is (Ok (Goes written)) passes m = record {
   reply = m.reply;
-  spells = m.spells;
-  justifies = m.justifies;
+  shown = m.shown;
   least = m.least;
   most = m.most;
   makes = makes_after (λ rest. goes (state_of r) m.reply rest) passes m.makes;
 }
 moves_after p reader r x y z was is (Ok (Stops written status)) passes m = record {
-  reply = m.reply;
-  spells = m.spells;
   none = m.none;
-  makes = makes_after (λ rest. stops (state_of r) m.reply status) passes m.makes;
+  makes = makes_after (λ rest. stops (state_of r) written status) passes m.makes;
 }
 moves_after p reader r x y z was is (Err ReadFault) passes m = (wants_after passes m.0, m.1)
 moves_after p reader r x y z was is (Err Memory) passes m = elim m [
   | inl same ↦ inl same
   | inr lacks ↦ inr (record {
     next = lacks.next;
-    lines = lacks.lines;
+    reply = lacks.reply;
     least = lacks.least;
     most = lacks.most;
-    makes = makes_after (λ rest. goes lacks.next (reported lacks.lines) rest) passes lacks.makes;
+    makes = makes_after (λ rest. goes lacks.next lacks.reply rest) passes lacks.makes;
   })
 ]
 
 -- a machine that stops whatever follows
-pub stop_moves : (machine : Machine) (p q : Progress) (x y : Option (List ℕ)) (n : ℕ) (given : List ℕ) (reply : Reply)
+pub stop_moves : (machine : Machine) (p q : Progress) (x y : Option (List ℕ)) (n : ℕ) (given text : List ℕ)
     (status : Status) (result : Result Move Halt)
     → ReadsBytes p.reader q.reader x y given
     → ((ended : Bool) (rest : List ℕ) → MayFollow q.reader.ended ended rest
-    → machine ended (p.reader.kept ++ (given ++ rest)) ≡ stops (state_of q) reply status)
-    → IsStop reply status result → Moves machine p q x y n n result
-stop_moves machine p q x y n given reply status (Ok (Goes written)) reads stop is = absurd is
-stop_moves machine p q x y n given reply status (Ok (Stops written ended)) reads stop is = record {
-  reply = reply;
-  spells = is.0;
+    → machine ended (p.reader.kept ++ (given ++ rest)) ≡ stops (state_of q) text status)
+    → IsStop text status result → Moves machine p q x y n n result
+stop_moves machine p q x y n given text status (Ok (Goes written)) reads stop is = absurd is
+stop_moves machine p q x y n given text status (Ok (Stops written ended)) reads stop is = record {
   none = refl;
   makes = record {
     given = given;
     reads = reads;
-    step_is = λ e rest follows. stop e rest follows ∙ ap (stops (state_of q) reply) (sym is.1);
+    step_is = λ e rest follows. stop e rest follows ∙ ap₂ (stops (state_of q)) (sym is.0) (sym is.1);
   };
 }
-stop_moves machine p q x y n given reply status (Err ReadFault) reads stop is = absurd is
-stop_moves machine p q x y n given reply status (Err Memory) reads stop is = inl refl
+stop_moves machine p q x y n given text status (Err ReadFault) reads stop is = absurd is
+stop_moves machine p q x y n given text status (Err Memory) reads stop is = inl refl
 
 -- what was kept and given, and what follows
 seam : (kept given front now rest : List ℕ) → kept ++ given ≡ front ++ now
@@ -165,9 +161,9 @@ state_kept p reader counted =
     λ i. record { limit = p.session.limit; files = p.session.files; taken = e i; good = p.good }
 
 -- a step that stops in one state stops in an equal one
-stops_in : {made : Step} {a b : State} (reply : Reply) (status : Status) → made ≡ stops a reply status → a ≡ b
-    → made ≡ stops b reply status
-stops_in reply status is same = is ∙ ap (λ state. stops state reply status) same
+stops_in : {made : Step} {a b : State} (text : List ℕ) (status : Status) → made ≡ stops a text status → a ≡ b
+    → made ≡ stops b text status
+stops_in text status is same = is ∙ ap (λ state. stops state text status) same
 
 -- a line and its newline
 with_newline : (front rest : List ℕ) → (front ++ 10 ∷ []) ++ rest ≡ front ++ 10 ∷ rest
@@ -226,8 +222,8 @@ nothing_taken kept given now rest moved = seam kept given [] now rest moved
 pub line_refused : (p : Progress) (reader : Taken) (x y : Option (List ℕ)) (n : ℕ) (refusal : TakeRefusal)
     (result : Result Move Halt)
     → Takes p.reader reader x y [] → LineRefused refusal p.reader reader
-    → Refuses refusal (IsStop nothing (status_of (state_of p)))
-    (IsStop (malformed_reply p.reader.count) Malformed) result
+    → Refuses refusal (IsStop [] (status_of (state_of p)))
+    (IsStop (malformed_text p.reader.count) Malformed) result
     → Moves (at_line (state_of p)) p (record p { reader = reader }) x y n n result
 line_refused p reader x y n take_.ReadFault result t why is =
     subst (Moves (at_line (state_of p)) p (record p { reader = reader }) x y n n) (sym is) (
@@ -249,7 +245,7 @@ line_refused p reader x y n take_.End result t why is =
     let at_end = follows why.1 in
     let none : p.reader.kept ++ (t.given ++ rest) ≡ [] = nothing_taken p.reader.kept t.given reader.kept rest t.moved
     ∙ nothing_and_nothing reader.kept rest why.0 at_end.1 in
-    stops_in nothing (status_of (state_of p))
+    stops_in [] (status_of (state_of p))
     (ap₂ (λ e bytes. step e (state_of p) bytes) at_end.0 none
     ∙ ap (on_line true (state_of p) []) (none_found (room_left (state_of p))))
     (state_kept p reader t.counted))
@@ -257,7 +253,7 @@ line_refused p reader x y n take_.End result t why is =
 line_refused p reader x y n take_.TooLong result t why is =
     stop_moves _ p (record p { reader = reader }) x y n t.given _ _ result t.reads
     (λ ended rest follows.
-    stops_in (malformed_reply p.reader.count) Malformed
+    stops_in (malformed_text p.reader.count) Malformed
     (ap (λ bytes. step ended (state_of p) bytes) (nothing_taken p.reader.kept t.given reader.kept rest t.moved)
     ∙ ap (on_line ended (state_of p) (reader.kept ++ rest)) (long_found ended _ reader.kept rest why.0 why.1 why.2))
     (state_kept p reader t.counted))
@@ -265,7 +261,7 @@ line_refused p reader x y n take_.TooLong result t why is =
 line_refused p reader x y n take_.Full result t why is =
     stop_moves _ p (record p { reader = reader }) x y n t.given _ _ result t.reads
     (λ ended rest follows.
-    stops_in too_large Size
+    stops_in large_text Size
     (ap (λ bytes. step ended (state_of p) bytes) (nothing_taken p.reader.kept t.given reader.kept rest t.moved)
     ∙ ap (on_line ended (state_of p) (reader.kept ++ rest))
     (full_found ended _ reader.kept rest why.0
@@ -301,8 +297,7 @@ pub file_moves : (p : Progress) (session : Holder) (x : Option (List ℕ)) (n : 
     → Moves (at_file (state_of p) name text) p (record p { session = session }) x x n n result
 file_moves p session x n name text (Ok (Goes written)) puts = record {
   reply = nothing;
-  spells = puts.0;
-  justifies = tt;
+  shown = record { spells = puts.0; justifies = tt };
   least = omega arith;
   most = omega arith;
   makes = record {
@@ -314,15 +309,13 @@ file_moves p session x n name text (Ok (Goes written)) puts = record {
   };
 }
 file_moves p session x n name text (Ok (Stops written status)) puts = record {
-  reply = too_large;
-  spells = puts.0;
   none = refl;
   makes = record {
     given = [];
     reads = reads_none p.reader x;
     step_is =
         λ ended rest follows. rw puts.2
-        (λ i. stops (state_of (record p { session = sym puts.3 i })) too_large (sym puts.1 i));
+        (λ i. stops (state_of (record p { session = sym puts.3 i })) (sym puts.0 i) (sym puts.1 i));
   };
 }
 file_moves p session x n name text (Err ReadFault) puts = absurd puts
@@ -332,7 +325,7 @@ file_moves p session x n name text (Err Memory) puts = inl refl
 pub bytes_refused : (p : Progress) (reader : Taken) (x y : Option (List ℕ)) (n before : ℕ) (name : List ℕ) (count : ℕ)
     (refusal : TakeRefusal) (result : Result Move Halt)
     → Takes p.reader reader x y [] → BytesRefused refusal count p.reader reader
-    → Refuses refusal (IsStop (malformed_reply before) Malformed) Never result
+    → Refuses refusal (IsStop (malformed_text before) Malformed) Never result
     → Moves (at_bytes before (state_of p) name count) p (record p { reader = reader }) x y n n result
 bytes_refused p reader x y n before name count take_.ReadFault result t why is =
     subst (Moves (at_bytes before (state_of p) name count) p (record p { reader = reader }) x y n n) (sym is) (
@@ -354,7 +347,7 @@ bytes_refused p reader x y n before name count take_.End result t why is =
     ≡ reader.kept =
     nothing_taken p.reader.kept t.given reader.kept rest t.moved ∙ ap (λ bytes. reader.kept ++ bytes) at_end.1
     ∙ append-nil reader.kept in
-    stops_in (malformed_reply before) Malformed
+    stops_in (malformed_text before) Malformed
     (ap₂ (at_bytes before (state_of p) name count) at_end.0 all
     ∙ ap (on_bytes before (state_of p) name reader.kept) (cut_found _ count reader.kept why.1 why.2))
     (state_kept p reader t.counted))
@@ -363,7 +356,7 @@ bytes_refused p reader x y n before name count take_.TooLong result t why is = a
 bytes_refused p reader x y n before name count take_.Full result t why is =
     stop_moves _ p (record p { reader = reader }) x y n t.given _ _ result t.reads
     (λ ended rest follows.
-    stops_in too_large Size
+    stops_in large_text Size
     (ap (at_bytes before (state_of p) name count ended) (nothing_taken p.reader.kept t.given reader.kept rest t.moved)
     ∙ ap (on_bytes before (state_of p) name (reader.kept ++ rest))
     (too_many_found ended _ count reader.kept rest why.0 why.1))

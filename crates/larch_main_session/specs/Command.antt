@@ -1,12 +1,13 @@
 -- The lines of a session.
 use Rattle.std.specs.Prelude.{ℕ, ◌+◌, ◌-◌, ◌*◌, ◌==◌, ◌&&◌, ◌||◌, not, nat_le, if◌then◌else◌, fold, Bool, false}
-use Rattle.std.specs.Prelude.{List, [], ◌∷◌, length, Option, Some, None, codes}
+use Rattle.std.specs.Prelude.{List, [], ◌∷◌, length, Option, Some, None, codes, option_map}
 use Rattle.std.specs.Char.{is_ascii_digit}
 use Rattle.std.specs.List.{before_first, after_first, list_all}
 use Rattle.std.specs.Str.{bytes_eq}
-use Rattle.larch_base.specs.FileName.{is_file_name}
+use Rattle.larch_base.specs.FileName.{is_file_name, is_stem}
+use Rattle.larch_base.specs.Label.{read_label}
 use Rattle.larch_main_session.specs.declared.command.Command.{Command}
-use Rattle.larch_main_session.specs.declared.command.Command.TheVariants.{Skip, Put, Drop, Report, Quit}
+use Rattle.larch_main_session.specs.declared.command.Command.TheVariants.{Skip, Put, Drop, Report, Derive, Quit}
 
 -- a space or a tab stands between the words of a line
 abbrev pub is_blank : ℕ → Bool
@@ -36,6 +37,13 @@ put_of words =
 abbrev pub drop_of : List ℕ → Option Command
 drop_of words = if is_file_name words then Some (Drop words) else None
 
+-- `derive` with these words behind it: the name of a trait, and the label of one of its duties
+abbrev pub derive_of : List ℕ → Option Command
+derive_of words =
+    if is_stem (before_first is_blank words)
+    then option_map (Derive (before_first is_blank words)) (read_label (after_first is_blank words))
+    else None
+
 -- the command of a line, which has no newline; other lines aren't in the grammar
 abbrev pub command_of : List ℕ → Option Command
 command_of line =
@@ -44,4 +52,5 @@ command_of line =
     else if bytes_eq line (codes "quit") then Some Quit
     else if bytes_eq (before_first is_blank line) (codes "put") then put_of (after_first is_blank line)
     else if bytes_eq (before_first is_blank line) (codes "drop") then drop_of (after_first is_blank line)
+    else if bytes_eq (before_first is_blank line) (codes "derive") then derive_of (after_first is_blank line)
     else None

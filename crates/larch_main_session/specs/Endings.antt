@@ -1,7 +1,7 @@
 -- What a whole session writes and takes, by its status.
-use Rattle.std.specs.Prelude.{◌⊎◌, ℕ, true, false, List, ◌++◌, Option}
+use Rattle.std.specs.Prelude.{◌⊎◌, ℕ, true, false, List, Option}
 use Rattle.std.specs.Io.KnownBytes.{Appends, Consumes, IsAtEnd}
-use Rattle.larch_main_session.specs.Session.{State, IsInput, Session, start, waiting, with_status}
+use Rattle.larch_main_session.specs.Session.{State, IsInput, Session, SessionBegins, start, waiting, with_status}
 use Rattle.larch_main_status.specs.declared.status.Status.{Status}
 use Rattle.larch_main_status.specs.declared.status.Status.TheVariants.{Good, Remains, Words, ReadFault, WriteFault}
 use Rattle.larch_main_status.specs.declared.status.Status.TheVariants.{Memory, Malformed, Size, NoFile}
@@ -22,11 +22,8 @@ module _ (limit : ℕ) (left leaves held holds : Option (List ℕ)) where
   pub record SessionFront : Type 0 where
     pub input : List ℕ
     pub front : List ℕ
-    pub rest : List ℕ
-    pub status : Status
-    pub last : State
     pub is_input : IsInput left input
-    pub session : Session true (start limit) input (front ++ rest) (with_status status) last
+    pub begins : SessionBegins (start limit) input front
     pub written : Appends held holds front
 
   -- the replies to the whole commands in the bytes that the source gave were written: the session waits for more

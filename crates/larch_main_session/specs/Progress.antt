@@ -3,12 +3,8 @@ use Rattle.std.specs.Prelude.{◌≡◌, ◌<◌, ◌≤◌, ◌+◌, ◌⊎◌,
 use Rattle.larch_io.specs.Reader.{Taken, ReadsBytes}
 use Rattle.larch_io.specs.declared.refusal.TakeRefusal.{TakeRefusal}
 use Rattle.larch_io.specs.declared.refusal.TakeRefusal.TheVariants as take_
-use Rattle.larch_prove_meaning.specs.Redo.{redo}
-use Rattle.larch_report.specs.declared.line.ReportLine.{ReportLine}
-use Rattle.larch_session.specs.SessionSourcesJustified.{IsJustifiedReport}
 use Rattle.larch_session.specs.declared.session.Session.{Session as Holder}
-use Rattle.larch_session.specs.SessionMeaningRedone.{replayed_on}
-use Rattle.larch_main_status.specs.TraitsFiles.{Table, put_file}
+use Rattle.larch_main_status.specs.TraitsFiles.{put_file}
 use Rattle.larch_main_session.specs.declared.command.Command.{Command}
 use Rattle.larch_main_status.specs.declared.status.Status.{Status}
 use Rattle.larch_main_status.specs.declared.status.Status.TheVariants.{Size}
@@ -18,8 +14,9 @@ use Rattle.larch_main_session.specs.declared.progress.Move.TheVariants.{Goes, St
 use Rattle.larch_main_status.specs.declared.halt.Halt.{Halt}
 use Rattle.larch_main_status.specs.declared.halt.Halt.TheVariants.{ReadFault, Memory}
 use Rattle.larch_main_session.specs.Lines.{bytes_at}
-use Rattle.larch_main_session.specs.Session.{State, Reply, said, reported, Spells, Step, goes, stops, waits, step}
-use Rattle.larch_main_session.specs.Session.{on_command, on_bytes, on_file, room_left, too_large}
+use Rattle.larch_main_session.specs.Replies.{Reply, IsShown, Spells, steps_of}
+use Rattle.larch_main_session.specs.Session.{State, Step, goes, stops, waits, step}
+use Rattle.larch_main_session.specs.Session.{on_command, on_bytes, on_file, room_left, large_text}
 use Rattle.larch_main_status.specs.Limits.{put_is_refused}
 
 -- the state that a running session stands for
@@ -72,45 +69,32 @@ pub record Wants (machine : Machine) (old new : Taken) (before after : Option (L
   pub open_still : new.ended ≡ false
   pub step_is : machine false (old.kept ++ given) ≡ waits
 
--- what a reply shows: each duty that a report calls proved is derivable
-abbrev pub Justifies : ℕ → Table → Reply → Type 0
-Justifies limit files (said these) = Unit {0}
-Justifies limit files (reported lines) = IsJustifiedReport limit files
-
--- how many steps a reply takes at most
-abbrev pub most_steps : ℕ → Table → Reply → ℕ
-most_steps limit files (said these) = 0
-most_steps limit files (reported lines) = redo [] (replayed_on limit files)
-
 module _ (machine : Machine) (old new : Progress) (before after : Option (List ℕ)) (was is : ℕ) where
-  -- The machine goes on with a reply, as these bytes may be written; where this is a report, what it calls proved is
-  -- derivable; and so many steps were taken.
+  -- the machine goes on with a reply, as bytes that may be written and show what they are to show, and so many steps
+  -- were taken
   pub record Replies (written : List ℕ) : Type 0 where
     pub reply : Reply
-    pub spells : Spells reply written
-    pub justifies : Justifies old.session.limit old.session.files reply
+    pub shown : IsShown reply written
     pub least : was ≤ is
-    pub most : is ≤ was + most_steps old.session.limit old.session.files reply
+    pub most : is ≤ was + steps_of reply
     pub makes : Makes machine old.reader new.reader before after (λ rest. goes (state_of new) reply rest)
 
-  -- the machine stops with a reply, as these bytes may be written, and with this status; no step was taken
-  pub record Stopped (written : List ℕ) (status : Status) : Type 0 where
-    pub reply : Reply
-    pub spells : Spells reply written
+  -- the machine stops with this text and this status; no step was taken
+  pub record Stopped (text : List ℕ) (status : Status) : Type 0 where
     pub none : is ≡ was
-    pub makes : Makes machine old.reader new.reader before after (λ rest. stops (state_of new) reply status)
+    pub makes : Makes machine old.reader new.reader before after (λ rest. stops (state_of new) text status)
 
-  -- a report was to be made, and so many steps were taken for it
+  -- the machine goes on with a reply, for which so many steps were taken, and which was lost
   pub record Lacks : Type 0 where
     pub next : State
-    pub lines : List ReportLine
+    pub reply : Reply
     pub least : was ≤ is
-    pub most : is ≤ was + redo [] (replayed_on old.session.limit old.session.files)
-    pub makes : Makes machine old.reader new.reader before after (λ rest. goes next (reported lines) rest)
+    pub most : is ≤ was + steps_of reply
+    pub makes : Makes machine old.reader new.reader before after (λ rest. goes next reply rest)
 
--- What a step of the code did: it goes on or stops as the machine does, with bytes that may be written as its reply;
--- it waits as the machine does where the source failed; of a step that ran out of memory only steps are told, of which
--- there are none unless it was to make a report.
+-- What a step of the code did: it goes on or stops as the machine does, with bytes that may be written as its reply, or
+-- its text; it waits as the machine does where the source failed; of a step that ran out of memory only steps are told,
+-- of which there are none unless it was to make a reply.
 abbrev pub Moves : Machine → Progress → Progress → Option (List ℕ) → Option (List ℕ) → ℕ → ℕ → Result Move Halt
     → Type 0
 Moves machine old new before after was is (Ok (Goes written)) = Replies machine old new before after was is written
@@ -130,19 +114,24 @@ abbrev pub Follows : Progress → Progress → Move → Type 0
 Follows old new (Goes written) = old.reader.count ≤ new.reader.count
 Follows old new (Stops written status) = Unit {0}
 
--- the session stops with this reply and status; out of memory is free
-abbrev pub IsStop : Reply → Status → Result Move Halt → Type 0
-IsStop reply status (Ok (Goes written)) = ⊥
-IsStop reply status (Ok (Stops written ended)) = Spells reply written × (ended ≡ status)
-IsStop reply status (Err ReadFault) = ⊥
-IsStop reply status (Err Memory) = Unit {0}
+-- the session goes on with bytes that may be written as this reply
+abbrev pub IsAnswer : Reply → Move → Type 0
+IsAnswer reply (Goes written) = Spells reply written
+IsAnswer reply (Stops written status) = ⊥
+
+-- the session stops with this text and status; out of memory is free
+abbrev pub IsStop : List ℕ → Status → Result Move Halt → Type 0
+IsStop text status (Ok (Goes written)) = ⊥
+IsStop text status (Ok (Stops written ended)) = (written ≡ text) × (ended ≡ status)
+IsStop text status (Err ReadFault) = ⊥
+IsStop text status (Err Memory) = Unit {0}
 
 -- What is done where nothing could be taken: `at_end` where the input ended first, `at_limit` where a line is too long.
 abbrev pub Refuses : TakeRefusal → (at_end at_limit : Result Move Halt → Type 0) → Result Move Halt → Type 0
 Refuses take_.ReadFault at_end at_limit result = result ≡ Err ReadFault
 Refuses take_.End at_end at_limit result = at_end result
 Refuses take_.TooLong at_end at_limit result = at_limit result
-Refuses take_.Full at_end at_limit result = IsStop too_large Size result
+Refuses take_.Full at_end at_limit result = IsStop large_text Size result
 Refuses take_.Memory at_end at_limit result = result ≡ Err Memory
 
 -- it can't come
@@ -155,6 +144,6 @@ PutsIn old new name file (Ok (Goes written)) =
     (written ≡ []) × (put_is_refused old.files name ≡ false)
     × (new ≡ record old { files = put_file old.files name file })
 PutsIn old new name file (Ok (Stops written status)) =
-    Spells too_large written × (status ≡ Size) × (put_is_refused old.files name ≡ true) × (new ≡ old)
+    (written ≡ large_text) × (status ≡ Size) × (put_is_refused old.files name ≡ true) × (new ≡ old)
 PutsIn old new name file (Err ReadFault) = ⊥
 PutsIn old new name file (Err Memory) = Unit {0}

@@ -1,20 +1,19 @@
 -- What a session writes, as a machine over the bytes of its input.
 use Rattle.std.specs.Prelude.{◌≡◌, ℕ, ◌+◌, ◌-◌, nat_lt, if◌then◌else◌, Bool, true}
-use Rattle.std.specs.Prelude.{List, [], ◌++◌, length, decimal, codes, Option, Some, None, IfSome}
+use Rattle.std.specs.Prelude.{List, [], ◌∷◌, ◌++◌, length, decimal, codes, Option, Some, None, IfSome}
 use Rattle.larch_base.specs.declared.limits.TheConstants.{MAX_FILE_BYTES, MAX_SOURCE_BYTES}
 use Rattle.larch_report.specs.Counts.{counts_of, is_good}
-use Rattle.larch_report.specs.Text.{report_text}
-use Rattle.larch_report.specs.declared.line.ReportLine.{ReportLine}
-use Rattle.larch_session.specs.SessionMeaningFiles.{report_of}
+use Rattle.larch_session_derive_meaning.specs.SessionMeaningFiles.{report_of}
 use Rattle.larch_main_status.specs.TraitsFiles.{Table, drop_file, put_file}
 use Rattle.larch_main_status.specs.Limits.{put_is_refused}
 use Rattle.larch_main_status.specs.declared.status.Status.{Status}
 use Rattle.larch_main_status.specs.declared.status.Status.TheVariants.{Good, Remains, Malformed, Size}
 use Rattle.larch_main_session.specs.declared.command.Command.{Command}
-use Rattle.larch_main_session.specs.declared.command.Command.TheVariants.{Skip, Put, Drop, Report, Quit}
+use Rattle.larch_main_session.specs.declared.command.Command.TheVariants.{Skip, Put, Drop, Report, Derive, Quit}
 use Rattle.larch_main_session.specs.Command.{command_of}
 use Rattle.larch_main_session.specs.Lines.{LineFound, line, no_line, long_line, full, unfinished, line_at}
 use Rattle.larch_main_session.specs.Lines.{BytesFound, bytes, cut, too_many, wanting, bytes_at}
+use Rattle.larch_main_session.specs.Replies.{Reply, said, reported, derived, nothing, Spells, Texts, Front}
 
 -- a session between two commands
 pub record State : Type 0 where
@@ -43,70 +42,56 @@ took state input rest = record state { taken = state.taken + (length input - len
 abbrev pub status_of : State → Status
 status_of state = if state.good then Good else Remains
 
--- what a command answers
-pub data Reply : Type 0 where
-  -- these bytes
-  said : List ℕ → Reply
-  -- the report with these lines
-  reported : List ReportLine → Reply
-
--- a command without an answer
-abbrev pub nothing : Reply
-nothing = said []
-
--- these bytes may be written as the reply
-abbrev pub Spells : Reply → List ℕ → Type 0
-Spells (said these) written = written ≡ these
-Spells (reported lines) written = written ≡ report_text lines
-
 -- what is written where the input leaves the grammar: the number of bytes before the line
-abbrev pub malformed_reply : ℕ → Reply
-malformed_reply before = said (codes "malformed at byte " ++ decimal before ++ codes "\n")
+abbrev pub malformed_text : ℕ → List ℕ
+malformed_text before = codes "malformed at byte " ++ decimal before ++ codes "\n"
 
-abbrev pub too_large : Reply
-too_large = said (codes "too large\n")
+abbrev pub large_text : List ℕ
+large_text = codes "too large\n"
 
 -- one step of a session
 pub data Step : Type 0 where
   -- a whole command was carried out: the state behind it, its reply, and the bytes behind it
   goes : (next : State) (reply : Reply) (rest : List ℕ) → Step
-  -- the session ends in this state, with this reply and status
-  stops : (last : State) (reply : Reply) (status : Status) → Step
+  -- the session ends in this state, with this text and status
+  stops : (last : State) (text : List ℕ) (status : Status) → Step
   -- the bytes end inside a command, and more may come
   waits : Step
 
 abbrev pub on_file : State → List ℕ → List ℕ → List ℕ → Step
 on_file state name file rest =
-    if put_is_refused state.files name then stops state too_large Size
+    if put_is_refused state.files name then stops state large_text Size
     else goes (record state { files = put_file state.files name file }) nothing rest
 
 -- the bytes of a `put` whose line begins behind `before` bytes, the state being the one behind the line
 abbrev pub on_bytes : ℕ → State → List ℕ → List ℕ → BytesFound → Step
 on_bytes before state name input (bytes file rest) = on_file (took state input rest) name file rest
-on_bytes before state name input cut = stops state (malformed_reply before) Malformed
-on_bytes before state name input too_many = stops state too_large Size
+on_bytes before state name input cut = stops state (malformed_text before) Malformed
+on_bytes before state name input too_many = stops state large_text Size
 on_bytes before state name input wanting = waits
 
 -- a line's command, the state being the one behind the line
 abbrev pub on_command : Bool → ℕ → State → List ℕ → Option Command → Step
-on_command ended before state rest None = stops state (malformed_reply before) Malformed
+on_command ended before state rest None = stops state (malformed_text before) Malformed
 on_command ended before state rest (Some Skip) = goes state nothing rest
 on_command ended before state rest (Some Report) =
     goes (record state { good = is_good (counts_of (report_of state.limit state.files)) })
-    (reported (report_of state.limit state.files)) rest
-on_command ended before state rest (Some Quit) = stops state nothing (status_of state)
+    (reported state.limit state.files) rest
+on_command ended before state rest (Some (Derive stem label)) =
+    goes state (derived state.limit state.files stem label) rest
+on_command ended before state rest (Some Quit) = stops state [] (status_of state)
 on_command ended before state rest (Some (Drop name)) =
     goes (record state { files = drop_file state.files name }) nothing rest
 on_command ended before state rest (Some (Put name count)) =
-    if nat_lt MAX_FILE_BYTES count then stops state too_large Size
+    if nat_lt MAX_FILE_BYTES count then stops state large_text Size
     else on_bytes before state name rest (bytes_at ended (room_left state) count rest)
 
 abbrev pub on_line : Bool → State → List ℕ → LineFound → Step
 on_line ended state input (line words rest) =
     on_command ended state.taken (took state input rest) rest (command_of words)
-on_line ended state input no_line = stops state nothing (status_of state)
-on_line ended state input long_line = stops state (malformed_reply state.taken) Malformed
-on_line ended state input full = stops state too_large Size
+on_line ended state input no_line = stops state [] (status_of state)
+on_line ended state input long_line = stops state (malformed_text state.taken) Malformed
+on_line ended state input full = stops state large_text Size
 on_line ended state input unfinished = waits
 
 -- the first step on these bytes; where `ended` is true no others follow
@@ -122,20 +107,30 @@ pub data Ending : Type 0 where
   with_status : Status → Ending
   waiting : Ending
 
--- From a state, on these bytes, a session writes `output` and leaves off so, in the state `last`. What a step answers
--- is a reply; any bytes that may be written as this reply are written.
-pub data Session (ended : Bool) : State → List ℕ → List ℕ → Ending → State → Type 0 where
-  goes_on : {state next last : State} {input rest output : List ℕ} {ending : Ending}
-      (reply : Reply) (written : List ℕ)
+-- From a state, on these bytes, a session gives these replies and leaves off so, in the state `last`.
+pub data Course (ended : Bool) : State → List ℕ → List Reply → Ending → State → Type 0 where
+  goes_on : {state next last : State} {input rest : List ℕ} {replies : List Reply} {ending : Ending} (reply : Reply)
       → step ended state input ≡ goes next reply rest
-      → Spells reply written
-      → Session ended next rest output ending last
-      → Session ended state input (written ++ output) ending last
-  ends : {state last : State} {input written : List ℕ} {status : Status}
-      (reply : Reply)
-      → step ended state input ≡ stops last reply status
-      → Spells reply written
-      → Session ended state input written (with_status status) last
+      → Course ended next rest replies ending last
+      → Course ended state input (reply ∷ replies) ending last
+  ends : {state last : State} {input text : List ℕ} {status : Status}
+      → step ended state input ≡ stops last text status
+      → Course ended state input (said text ∷ []) (with_status status) last
   breaks_off : {state : State} {input : List ℕ}
       → step ended state input ≡ waits
-      → Session ended state input [] waiting state
+      → Course ended state input [] waiting state
+
+-- The same, and it writes `output`: of each reply, bytes that may be written as it.
+pub record Session (ended : Bool) (state : State) (input output : List ℕ) (ending : Ending) (last : State)
+    : Type 0 where
+  pub replies : List Reply
+  pub course : Course ended state input replies ending last
+  pub texts : Texts Spells replies output
+
+-- These bytes are a front of what it writes on this whole input: of such bytes of its replies, one behind the other.
+pub record SessionBegins (state : State) (input front : List ℕ) : Type 0 where
+  pub replies : List Reply
+  pub status : Status
+  pub last : State
+  pub course : Course true state input replies (with_status status) last
+  pub fronts : Front Spells replies front

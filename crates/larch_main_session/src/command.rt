@@ -1,9 +1,9 @@
 ghost use Rattle.std.specs.Prelude.{◌≡◌, ◌≤◌, ◌<◌, ◌^◌, length, IfOk, Some, None, IsTrue};
 ghost use Rattle.std.specs.List.{before_first, after_first, position_or_len};
 ghost use Rattle.larch_base.specs.FileName.{is_file_name};
-ghost use Rattle.larch_main_session.specs.Command.{is_blank, are_digits, is_length, number_of_digits, put_of, drop_of, command_of};
+ghost use Rattle.larch_main_session.specs.Command.{is_blank, are_digits, is_length, number_of_digits, put_of, drop_of, derive_of, command_of};
 
-use larch_base::{FileName, Memory, NameRefusal};
+use larch_base::{FileName, Label, Memory, Name, NameRefusal, is_stem, read_label};
 use std::alloc::Global;
 
 /// What a line of a session asks for.
@@ -17,6 +17,8 @@ pub enum Command {
     Drop(FileName),
     /// To write the report.
     Report,
+    /// To write what is derived of the duty of a trait with a label.
+    Derive(Name, Label),
     /// To end the session.
     Quit,
 }
@@ -35,6 +37,8 @@ pub fn command_of(alloc: Global, line: &[u8]) -> Result<Option<Command>, Memory>
                 put_of(alloc, words)
             } else if first == b"drop".as_slice() {
                 drop_of(alloc, words)
+            } else if first == b"derive".as_slice() {
+                derive_of(alloc, words)
             } else {
                 Ok(None)
             }
@@ -67,6 +71,23 @@ fn drop_of(alloc: Global, words: &[u8]) -> Result<Option<Command>, Memory>
         Ok(name) => Ok(Some(Command::Drop(name))),
         Err(NameRefusal::NotAName) => Ok(None),
         Err(NameRefusal::Memory) => Err(Memory),
+    }
+}
+
+// What `derive` with these words behind it asks for.
+fn derive_of(alloc: Global, words: &[u8]) -> Result<Option<Command>, Memory>
+    ensures { IfOk result (λ command. command ≡ derive_of words.now) }
+{
+    let (stem, label) = split_at_blank(words);
+    if !is_stem(stem) {
+        return Ok(None);
+    }
+    match read_label(label) {
+        Some(label) => {
+            let stem = Name::new(alloc, stem)?;
+            Ok(Some(Command::Derive(stem, label)))
+        }
+        None => Ok(None),
     }
 }
 

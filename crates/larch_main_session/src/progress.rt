@@ -3,22 +3,23 @@ ghost use Rattle.larch_base.specs.declared.limits.TheConstants.{MAX_FILE_BYTES, 
 ghost use Rattle.larch_main_session.specs.Command.{command_of};
 ghost use Rattle.larch_main_session.specs.Progress.{state_of, at_line, at_command, at_bytes, Moves, Advances};
 ghost use Rattle.larch_main_status.specs.Faults.{HaltFaults};
-ghost use Rattle.larch_main_session.specs.Progress.{Follows, IsStop, Never, PutsIn, Refuses};
+ghost use Rattle.larch_main_session.specs.Progress.{Follows, IsAnswer, IsStop, Never, PutsIn, Refuses};
+ghost use Rattle.larch_main_session.specs.Replies.{reported, derived};
 ghost use Rattle.larch_prove_meaning.specs.Redo.{redo};
 ghost use Rattle.larch_report.specs.Counts.{counts_of, is_good};
-ghost use Rattle.larch_report.specs.Text.{report_text};
-ghost use Rattle.larch_session.specs.SessionSourcesJustified.{IsJustifiedReport};
-ghost use Rattle.larch_session.specs.SessionMeaningFiles.{report_of};
-ghost use Rattle.larch_session.specs.SessionMeaningRedone.{replayed_on};
-ghost use Rattle.larch_main_session.specs.Session.{start, status_of, nothing, malformed_reply, too_large};
+ghost use Rattle.larch_session_derive.specs.SessionSourcesJustified.{IsJustifiedReport};
+ghost use Rattle.larch_session_derive_meaning.specs.SessionMeaningFiles.{report_of};
+ghost use Rattle.larch_session_derive_meaning.specs.SessionMeaningRedone.{replayed_on};
+ghost use Rattle.larch_main_session.specs.Session.{start, status_of, malformed_text, large_text};
 
 use crate::command::{Command, command_of};
 use larch_base::limits::MAX_FILE_BYTES;
-use larch_base::{Bytes, FileName, Memory, Steps};
+use larch_base::{Bytes, FileName, Label, Memory, Name, Steps};
 use larch_io::{Reader, Source, TakeRefusal, take_exact, take_line};
 use larch_main_status::{Halt, Status};
 use larch_report::{counts_of, is_good, report_text};
 use larch_session::{PutRefusal, Session};
+use larch_session_derive::derivation_reply;
 use std::alloc::Global;
 use std::sync::ledger::Ledger;
 
@@ -70,7 +71,7 @@ fn end_session(alloc: Global, progress: &Progress) -> Move
 
 // Refuses what isn't in the grammar; the line at fault stands behind so many bytes.
 fn refuse_malformed(alloc: Global, before: u64) -> Result<Move, Halt>
-    ensures { IsStop (malformed_reply before) Status.Malformed result }
+    ensures { IsStop (malformed_text before) Status.Malformed result }
 {
     let mut text = Bytes::new(alloc);
     let said = format!(in alloc; "malformed at byte {before}\n")?;
@@ -80,7 +81,7 @@ fn refuse_malformed(alloc: Global, before: u64) -> Result<Move, Halt>
 
 // Refuses what passes a limit.
 fn too_large(alloc: Global) -> Result<Move, Halt>
-    ensures { IsStop too_large Status.Size result }
+    ensures { IsStop large_text Status.Size result }
 {
     let mut text = Bytes::new(alloc);
     text.append(b"too large\n")?;
@@ -115,8 +116,8 @@ fn without_line(
     before: u64,
     refusal: TakeRefusal,
 ) -> Result<Move, Halt>
-    ensures { Refuses refusal (IsStop nothing (status_of (state_of progress.now)))
-        (IsStop (malformed_reply before) Status.Malformed) result }
+    ensures { Refuses refusal (IsStop [] (status_of (state_of progress.now)))
+        (IsStop (malformed_text before) Status.Malformed) result }
 {
     match refusal {
         TakeRefusal::ReadFault => Err(Halt::ReadFault),
@@ -147,6 +148,7 @@ fn carry_out<S: Source, L: Ledger>(
         None => refuse_malformed(alloc, before),
         Some(Command::Skip) => Ok(Move::Goes(Bytes::new(alloc))),
         Some(Command::Report) => answer_report(alloc, progress, steps),
+        Some(Command::Derive(stem, label)) => answer_derive(alloc, progress, steps, &stem, label),
         Some(Command::Quit) => Ok(end_session(alloc, progress)),
         Some(Command::Drop(name)) => {
             progress.session.drop_file(&name);
@@ -168,8 +170,8 @@ fn answer_report<L: Ledger>(
     progress: &mut Progress,
     steps: &mut Steps<L>,
 ) -> Result<Move, Halt>
-    ensures reply { IfOk result (λ move. move ≡ Move.Goes (report_text (report_of progress.old.session.limit
-        progress.old.session.files))) }
+    ensures reply { IfOk result (IsAnswer (reported progress.old.session.limit progress.old.session.files)) }
+    ensures further { IfOk result (λ move. Follows progress.old progress.new move) }
     ensures good { OnOk result (progress.new.good
         ≡ is_good (counts_of (report_of progress.old.session.limit progress.old.session.files))) }
     ensures proved { OnOk result (IsJustifiedReport progress.old.session.limit progress.old.session.files) }
@@ -184,6 +186,31 @@ fn answer_report<L: Ledger>(
     let lines = progress.session.report(steps)?;
     let text = report_text(alloc, lines.as_slice())?;
     progress.good = is_good(counts_of(lines.as_slice()));
+    Ok(Move::Goes(text))
+}
+
+// Answers `derive`.
+fn answer_derive<L: Ledger>(
+    alloc: Global,
+    progress: &mut Progress,
+    steps: &mut Steps<L>,
+    stem: &Name,
+    label: Label,
+) -> Result<Move, Halt>
+    ensures reply { IfOk result (IsAnswer (derived progress.old.session.limit progress.old.session.files stem.now
+        label)) }
+    ensures further { IfOk result (λ move. Follows progress.old progress.new move) }
+    ensures good { progress.new.good ≡ progress.old.good }
+    ensures memory { IfErr result (λ halt. halt ≡ Halt.Memory) }
+    ensures reader { progress.new.reader ≡ progress.old.reader }
+    ensures files { progress.new.session.files ≡ progress.old.session.files }
+    ensures limit { progress.new.session.limit ≡ progress.old.session.limit }
+    ensures least { steps.old ≤ steps.new }
+    ensures most { steps.new
+        ≤ steps.old + redo [] (replayed_on progress.old.session.limit progress.old.session.files) }
+{
+    let derived = progress.session.derive(stem, label, steps)?;
+    let text = derivation_reply(alloc, &derived)?;
     Ok(Move::Goes(text))
 }
 
@@ -213,7 +240,7 @@ fn put<S: Source>(
 // What a session does where it could not take the bytes of a `put`.
 fn without_bytes(alloc: Global, before: u64, refusal: TakeRefusal) -> Result<Move, Halt>
     requires { refusal ≢ TakeRefusal.TooLong }
-    ensures { Refuses refusal (IsStop (malformed_reply before) Status.Malformed) Never result }
+    ensures { Refuses refusal (IsStop (malformed_text before) Status.Malformed) Never result }
 {
     match refusal {
         TakeRefusal::ReadFault => Err(Halt::ReadFault),

@@ -21,7 +21,8 @@ pub fn run_session<S: Source, K: Sink, L: Ledger>(
         result }
     ensures input { TakesInput limit (S.left source.old) (S.left source.new) (K.held sink.old) (K.held sink.new)
         result }
-    // Each duty that a report calls proved is derivable, and the steps are at most those of the reports.
+    // Each duty that a report calls proved is derivable, and so is that of a derivation; the steps are at most those of
+    // the reports and derivations.
     ensures reports { Reported limit (S.left source.old) (K.held sink.old) (K.held sink.new) steps.old steps.new }
     ensures source_faults { Counts (read_failed result) (S.faults source.old) (S.faults source.new) }
     ensures sink_faults { Counts (sink_failed result) (K.faults sink.old) (K.faults sink.new) }

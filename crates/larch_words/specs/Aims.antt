@@ -1,6 +1,6 @@
 -- What a certificate is wanted for.
-use Rattle.larch_words.specs.declared.call.Aim.{Aim}
-use Rattle.larch_words.specs.declared.call.Aim.TheVariants as aim_
+use Rattle.larch_words.specs.declared.evidence.Aim.{Aim}
+use Rattle.larch_words.specs.declared.evidence.Aim.TheVariants as aim_
 use Rattle.larch_words.specs.declared.call.Question.{Question}
 use Rattle.larch_words.specs.declared.call.Question.TheVariants.{Trim, Verify}
 use Rattle.larch_words.specs.declared.call.Verification.{Verification}

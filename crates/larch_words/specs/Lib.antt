@@ -1,3 +1,4 @@
 pub mod Aims
 pub mod Call
 pub mod CommandLine
+pub mod Options

@@ -1,9 +1,9 @@
 -- The line's command, and what is done at it.
 use Rattle.std.proofs.Common.{◌≡◌, Some, None, sym, ap, ◌∙◌, arith}
-use Rattle.larch_main_session.specs.declared.command.Command.TheVariants.{Drop, Put, Quit, Report, Skip}
+use Rattle.larch_main_session.specs.declared.command.Command.TheVariants.{Derive, Drop, Put, Quit, Report, Skip}
 use Rattle.larch_main_session.specs.Command.{command_of}
-use Rattle.larch_main_session.proofs.Commands.{drop_moves, none_moves, put_passes, put_too_large, quit_moves}
-use Rattle.larch_main_session.proofs.Commands.{report_moves, skip_moves}
+use Rattle.larch_main_session.proofs.Commands.{derive_moves, drop_moves, none_moves, put_passes, put_too_large}
+use Rattle.larch_main_session.proofs.Commands.{quit_moves, report_moves, skip_moves}
 use Rattle.larch_main_session.proofs.progress.carry_out.Goals as goal
 
 pub returns-in-None-clause-moves : goal.returns-in-None-clause-moves
@@ -39,6 +39,15 @@ returns-in-Some-Report-clause-moves g c =
     rw is (report_moves c.args.progress.now c.answer_report.new.progress _ c.args.before _ _ ensured.reader
     ensured.files ensured.limit ensured.least ensured.most c.answer_report.result ensured.reply ensured.good
     ensured.proved ensured.memory)
+
+pub returns-in-Some-Derive-clause-moves : goal.returns-in-Some-Derive-clause-moves
+returns-in-Some-Derive-clause-moves g c =
+    let is : command_of c.args.line.now ≡ Some (Derive c.in-Some-Derive.stem c.in-Some-Derive.label) =
+    sym c.in_ok-command_of.ensures ∙ c.in-Some-Derive.is ∙ ap Some c.in-Some-Derive.field-0-is in
+    let ensured = c.answer_derive.ensures in
+    rw is (derive_moves c.args.progress.now c.answer_derive.new.progress _ c.args.before _ _ c.in-Some-Derive.stem
+    c.in-Some-Derive.label ensured.reader ensured.files ensured.limit ensured.least ensured.most
+    c.answer_derive.result ensured.reply ensured.good ensured.memory)
 
 pub returns-then-count-gt-MAX_FILE_BYTES-clause-moves :
     goal.returns-then-count-gt-MAX_FILE_BYTES-clause-moves

@@ -1,5 +1,0 @@
-use Rattle.larch_main_session.proofs.Once.{once}
-use Rattle.larch_main_session.proofs.laws.one_output.Goals as goal
-
-pub returns : goal.returns
-returns c ended state input first second here there last final one other = (once one other).2
