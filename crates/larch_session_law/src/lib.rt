@@ -9,7 +9,23 @@ pub use laws::{
     what_is_certified_is_derivable,
 };
 
-// Passed on to crates above, which then needn't list them.
-pub use larch_session_meaning::{
-    larch_duties, larch_flat, larch_flat_sources, larch_script, larch_traits,
-};
+// Passed on to crates above, which then needn't list these crates.
+pub mod larch_duties {
+    pub use larch_session_meaning::larch_duties::{Claims, place_of, trait_claims};
+}
+
+pub mod larch_flat {
+    pub use larch_session_meaning::larch_flat::{FlatTraits, flatten};
+}
+
+pub mod larch_flat_sources {
+    pub use larch_session_meaning::larch_flat_sources::Sources;
+}
+
+pub mod larch_script {
+    pub use larch_session_meaning::larch_script::read_script;
+}
+
+pub mod larch_traits {
+    pub use larch_session_meaning::larch_traits::{Files, TraitRefusal, read_files};
+}
