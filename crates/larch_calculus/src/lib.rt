@@ -6,10 +6,10 @@ pub mod example;
 pub mod laws;
 
 // Passed on to crates above, which then needn't list these crates.
-pub mod larch_base {
-    pub use larch_term::larch_base::{Memory, Name, Sequence};
+pub mod from_base {
+    pub use larch_term::from_base::{Memory, Name, Sequence};
 }
 
-pub mod larch_term {
+pub mod from_term {
     pub use larch_term::{BuiltIn, Sort, Statement, Term, Terms, bool_sort};
 }

@@ -16,6 +16,6 @@ pub use line::{
 pub use symbol::Symbol;
 
 // Passed on to crates above, which then needn't list these crates.
-pub mod larch_base {
-    pub use larch_term::larch_base::{Bytes, Memory, Sequence};
+pub mod from_base {
+    pub use larch_term::from_base::{Bytes, Memory, Sequence};
 }

@@ -18,7 +18,7 @@ pub use stack::Stack;
 pub use text::Text;
 
 // Passed on to crates above, which then needn't list these crates.
-pub mod larch_certificate {
+pub mod from_certificate {
     pub use larch_certificate::{
         Binding, Bindings, BoxPart, BoxParts, Certificate, Coded, CodedEquation, CodedEquations,
         CodedTerms, CodedVar, CodedVars, Line, Numbers, Path, Symbol,

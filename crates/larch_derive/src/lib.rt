@@ -15,6 +15,6 @@ pub use open_box::{OpenBox, OpenBoxes};
 pub use shared_list::ChunkedList;
 
 // Passed on to crates above, which then needn't list these crates.
-pub mod larch_certificate {
-    pub use larch_certificate_text::larch_certificate::{Binding, Bindings, Line, Path};
+pub mod from_certificate {
+    pub use larch_certificate_text::from_certificate::{Binding, Bindings, Line, Path};
 }

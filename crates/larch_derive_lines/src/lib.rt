@@ -14,6 +14,6 @@ pub use rules::{
 };
 
 // Passed on to crates above, which then needn't list these crates.
-pub mod larch_derive {
+pub mod from_derive {
     pub use larch_derive::Builder;
 }

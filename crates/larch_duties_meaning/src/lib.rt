@@ -22,6 +22,6 @@ pub use texts::{
 };
 
 // Passed on to crates above, which then needn't list these crates.
-pub mod larch_traits_items {
-    pub use larch_flat_meaning::larch_traits_items::TraitRefusal;
+pub mod from_traits_items {
+    pub use larch_flat_meaning::from_traits_items::TraitRefusal;
 }

@@ -11,6 +11,6 @@ pub use flat::Flat;
 pub use store::Gathering;
 
 // Passed on to crates above, which then needn't list these crates.
-pub mod larch_flat_statements {
+pub mod from_flat_statements {
     pub use larch_flat_statements::{MarkedStatements, new_among};
 }

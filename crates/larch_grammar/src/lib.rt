@@ -38,6 +38,6 @@ pub use trees::{
 };
 
 // Passed on to crates above, which then needn't list these crates.
-pub mod larch_grammar_law {
+pub mod from_grammar_law {
     pub use larch_grammar_law::Mark;
 }

@@ -12,6 +12,6 @@ pub use progress::{Move, Progress, advance};
 pub use session::run_session;
 
 // Passed on to crates above, which then needn't list these crates.
-pub mod larch_session {
+pub mod from_session {
     pub use larch_session::Session;
 }

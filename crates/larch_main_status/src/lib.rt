@@ -10,6 +10,6 @@ pub use say::say_at_end;
 pub use status::Status;
 
 // Passed on to crates above, which then needn't list these crates.
-pub mod larch_traits {
+pub mod from_traits {
     pub use larch_traits::Files;
 }

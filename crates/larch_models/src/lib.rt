@@ -19,6 +19,6 @@ pub use model_text::{ModelRefusal, read_model};
 pub use truth::{MAX_ASSIGNMENTS, ModelAnswer, check_model, fits, holds};
 
 // Passed on to crates above, which then needn't list these crates.
-pub mod larch_soundness {
+pub mod from_soundness {
     pub use larch_soundness::laws;
 }

@@ -14,6 +14,6 @@ pub use pair::{Pair, Pairs, Place, Rule};
 pub use pairs::critical_pairs;
 
 // Passed on to crates above, which then needn't list these crates.
-pub mod larch_pairs {
+pub mod from_pairs {
     pub use larch_pairs::{Entries, substitution_of};
 }

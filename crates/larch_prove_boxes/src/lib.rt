@@ -30,22 +30,22 @@ pub use leaving::close_extras;
 pub use sharing::open_shared;
 
 // Passed on to crates above, which then needn't list these crates.
-pub mod larch_derive {
+pub mod from_derive {
     pub use larch_derive::{Builder, OpenBox, OpenBoxes};
 }
 
-pub mod larch_derive_formulas {
-    pub use larch_prove_invariant::larch_derive_formulas::absurd;
+pub mod from_derive_formulas {
+    pub use larch_prove_invariant::from_derive_formulas::absurd;
 }
 
-pub mod larch_derive_lines {
-    pub use larch_prove_invariant::larch_derive_lines::{push_refl, push_trans};
+pub mod from_derive_lines {
+    pub use larch_prove_invariant::from_derive_lines::{push_refl, push_trans};
 }
 
-pub mod larch_order {
-    pub use larch_prove_invariant::larch_order::Precedence;
+pub mod from_order {
+    pub use larch_prove_invariant::from_order::Precedence;
 }
 
-pub mod larch_prove_plans {
-    pub use larch_prove_invariant::larch_prove_plans::{Method, Plan, Subgoal, formula};
+pub mod from_prove_plans {
+    pub use larch_prove_invariant::from_prove_plans::{Method, Plan, Subgoal, formula};
 }

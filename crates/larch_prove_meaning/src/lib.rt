@@ -15,10 +15,10 @@ pub use names::{names_of_facts_differ, numbers_of_lemmas_differ};
 pub use words::{commands_read_words, scopes_stay_in_words};
 
 // Passed on to crates above, which then needn't list these crates.
-pub mod larch_order {
+pub mod from_order {
     pub use larch_order::Precedence;
 }
 
-pub mod larch_pairs {
-    pub use larch_pairs_critical::larch_pairs::{Entries, substitution_of};
+pub mod from_pairs {
+    pub use larch_pairs_critical::from_pairs::{Entries, substitution_of};
 }

@@ -36,6 +36,6 @@ pub use subgoals::{Method, Plan, Subgoal, Subgoals};
 pub use terms::{constant, falsity, formula, truth};
 
 // Passed on to crates above, which then needn't list these crates.
-pub mod larch_order {
-    pub use larch_prove_meaning::larch_order::Precedence;
+pub mod from_order {
+    pub use larch_prove_meaning::from_order::Precedence;
 }

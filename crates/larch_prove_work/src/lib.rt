@@ -13,38 +13,38 @@ pub use refusal::command_refusal;
 pub use work::{Claim, Work};
 
 // Passed on to crates above, which then needn't list these crates.
-pub mod larch_derive {
+pub mod from_derive {
     pub use larch_derive::OpenBox;
 }
 
-pub mod larch_prove_adding {
-    pub use larch_prove_settling::larch_prove_adding::{
+pub mod from_prove_adding {
+    pub use larch_prove_settling::from_prove_adding::{
         Facts, Instance, LevelGoal, Manner, SaidEquation, normal_goal,
     };
 }
 
-pub mod larch_prove_boxes {
-    pub use larch_prove_settling::larch_prove_boxes::open_shared;
+pub mod from_prove_boxes {
+    pub use larch_prove_settling::from_prove_boxes::open_shared;
 }
 
-pub mod larch_prove_draft {
-    pub use larch_prove_settling::larch_prove_draft::{Draft, Proving};
+pub mod from_prove_draft {
+    pub use larch_prove_settling::from_prove_draft::{Draft, Proving};
 }
 
-pub mod larch_prove_levels {
-    pub use larch_prove_settling::larch_prove_levels::{
+pub mod from_prove_levels {
+    pub use larch_prove_settling::from_prove_levels::{
         Around, Level, Planned, Running, derive, line_of_goal, normalise_goal,
     };
 }
 
-pub mod larch_prove_settings {
+pub mod from_prove_settings {
     pub use larch_prove_settings::{CommandRefusal, Settings};
 }
 
-pub mod larch_prove_settling {
+pub mod from_prove_settling {
     pub use larch_prove_settling::{end_at_once, open_first, settle};
 }
 
-pub mod larch_rewrite {
-    pub use larch_prove_settling::larch_rewrite::RewriteRefusal;
+pub mod from_rewrite {
+    pub use larch_prove_settling::from_rewrite::RewriteRefusal;
 }

@@ -22,6 +22,6 @@ pub use refusal::RewriteRefusal;
 pub use rules::Rules;
 
 // Passed on to crates above, which then needn't list these crates.
-pub mod larch_derive_lines {
-    pub use larch_rewrite_step::larch_derive_lines::{push_axiom, push_sym, push_trans};
+pub mod from_derive_lines {
+    pub use larch_rewrite_step::from_derive_lines::{push_axiom, push_sym, push_trans};
 }

@@ -16,6 +16,6 @@ pub use laws::{
 };
 
 // Passed on to crates above, which then needn't list these crates.
-pub mod larch_tables {
+pub mod from_tables {
     pub use larch_tables::{Row, RowRefusal, built_in, row_statement};
 }

@@ -10,22 +10,22 @@ pub use laws::{
 };
 
 // Passed on to crates above, which then needn't list these crates.
-pub mod larch_duties {
-    pub use larch_session_meaning::larch_duties::{Claims, place_of, trait_claims};
+pub mod from_duties {
+    pub use larch_session_meaning::from_duties::{Claims, place_of, trait_claims};
 }
 
-pub mod larch_flat {
-    pub use larch_session_meaning::larch_flat::{FlatTraits, flatten};
+pub mod from_flat {
+    pub use larch_session_meaning::from_flat::{FlatTraits, flatten};
 }
 
-pub mod larch_flat_sources {
-    pub use larch_session_meaning::larch_flat_sources::Sources;
+pub mod from_flat_sources {
+    pub use larch_session_meaning::from_flat_sources::Sources;
 }
 
-pub mod larch_script {
-    pub use larch_session_meaning::larch_script::read_script;
+pub mod from_script {
+    pub use larch_session_meaning::from_script::read_script;
 }
 
-pub mod larch_traits {
-    pub use larch_session_meaning::larch_traits::{Files, TraitRefusal, read_files};
+pub mod from_traits {
+    pub use larch_session_meaning::from_traits::{Files, TraitRefusal, read_files};
 }

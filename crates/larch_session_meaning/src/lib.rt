@@ -10,25 +10,25 @@ pub use examples::{
 };
 
 // Passed on to crates above, which then needn't list these crates.
-pub mod larch_duties {
+pub mod from_duties {
     pub use larch_duties::{
         Claim, Claims, Duties, OwnClaims, duties_of, find_duty, list_trait, own_claims, place_of,
         trait_claims,
     };
 }
 
-pub mod larch_flat {
-    pub use larch_traits::larch_flat::{FlatTraits, flatten};
+pub mod from_flat {
+    pub use larch_traits::from_flat::{FlatTraits, flatten};
 }
 
-pub mod larch_flat_sources {
-    pub use larch_traits::larch_flat_sources::Sources;
+pub mod from_flat_sources {
+    pub use larch_traits::from_flat_sources::Sources;
 }
 
-pub mod larch_script {
+pub mod from_script {
     pub use larch_script::read_script;
 }
 
-pub mod larch_traits {
+pub mod from_traits {
     pub use larch_traits::{Files, TraitRefusal, read_files};
 }

@@ -14,18 +14,18 @@ pub use refusal::ReadRefusal;
 pub use scope::{Scope, variable_sort};
 
 // Passed on to crates above, which then needn't list these crates.
-pub mod larch_base {
+pub mod from_base {
     pub use larch_base::{Memory, Name, Sequence};
 }
 
-pub mod larch_raw {
+pub mod from_raw {
     pub use larch_raw::{RawNode, RawTerm, RawTerms};
 }
 
-pub mod larch_sorts_known {
+pub mod from_sorts_known {
     pub use larch_sorts_known::{SortSet, existing_sorts, push_built_ins};
 }
 
-pub mod larch_term {
+pub mod from_term {
     pub use larch_term::{Operator, Operators, Sort};
 }

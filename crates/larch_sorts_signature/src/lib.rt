@@ -22,16 +22,16 @@ pub use signature::{Signature, maker_of};
 pub use table::Table;
 
 // Passed on to crates above, which then needn't list these crates.
-pub mod larch_sorts_counts {
+pub mod from_sorts_counts {
     pub use larch_sorts_counts::{Count, Counted, Numbered, Numbers, SortCounts, counts_of, tally};
 }
 
-pub mod larch_sorts_known {
-    pub use larch_sorts_counts::larch_sorts_known::{SortSet, existing_sorts};
+pub mod from_sorts_known {
+    pub use larch_sorts_counts::from_sorts_known::{SortSet, existing_sorts};
 }
 
-pub mod larch_sorts_meaning {
-    pub use larch_sorts_counts::larch_sorts_meaning::{
+pub mod from_sorts_meaning {
+    pub use larch_sorts_counts::from_sorts_meaning::{
         Found, ReadRefusal, Scope, equation_head, head_of, variable_sort,
     };
 }

@@ -19,22 +19,22 @@ pub use refusal::TraitRefusal;
 pub use variables::declare_variables;
 
 // Passed on to crates above, which then needn't list these crates.
-pub mod larch_raw {
+pub mod from_raw {
     pub use larch_raw::{RawField, RawShorthand, RawWord};
 }
 
-pub mod larch_sorts {
+pub mod from_sorts {
     pub use larch_sorts::read_lone;
 }
 
-pub mod larch_sorts_known {
-    pub use larch_sorts::larch_sorts_known::{SortSet, existing_sorts};
+pub mod from_sorts_known {
+    pub use larch_sorts::from_sorts_known::{SortSet, existing_sorts};
 }
 
-pub mod larch_sorts_meaning {
-    pub use larch_sorts::larch_sorts_meaning::{ReadRefusal, Scope};
+pub mod from_sorts_meaning {
+    pub use larch_sorts::from_sorts_meaning::{ReadRefusal, Scope};
 }
 
-pub mod larch_sorts_signature {
-    pub use larch_sorts::larch_sorts_signature::Signature;
+pub mod from_sorts_signature {
+    pub use larch_sorts::from_sorts_signature::Signature;
 }

@@ -12,6 +12,6 @@ pub use fresh::judge_fresh;
 pub use induct::{Induction, judge_induct};
 
 // Passed on to crates above, which then needn't list these crates.
-pub mod larch_verify_decoding {
+pub mod from_verify_decoding {
     pub use larch_verify_decoding::decode_equation;
 }
