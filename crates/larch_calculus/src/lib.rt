@@ -5,6 +5,11 @@
 pub mod example;
 pub mod laws;
 
-// Passed on to crates above, which then needn't list them.
-pub use larch_term;
-pub use larch_term::larch_base;
+// Passed on to crates above, which then needn't list these crates.
+pub mod from_base {
+    pub use larch_term::from_base::{Memory, Name, Sequence};
+}
+
+pub mod from_term {
+    pub use larch_term::{BuiltIn, Sort, Statement, Term, Terms, bool_sort};
+}

@@ -6,7 +6,7 @@ ghost use Rattle.larch_certificate.specs.CodedView.{view_coded};
 
 use crate::symbol::Symbol;
 use larch_term::Sort;
-use larch_term::larch_base::{Memory, Name};
+use larch_term::from_base::{Memory, Name};
 use std::marker::Model;
 use std::rc::Rc;
 

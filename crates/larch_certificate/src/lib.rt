@@ -15,5 +15,7 @@ pub use line::{
 };
 pub use symbol::Symbol;
 
-// Passed on to crates above, which then needn't list them.
-pub use larch_term::larch_base;
+// Passed on to crates above, which then needn't list these crates.
+pub mod from_base {
+    pub use larch_term::from_base::{Bytes, Memory, Sequence};
+}

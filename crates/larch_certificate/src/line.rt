@@ -1,6 +1,6 @@
 use crate::coded::Coded;
 use larch_term::Sort;
-use larch_term::larch_base::{Name, Sequence};
+use larch_term::from_base::{Name, Sequence};
 
 /// Numbers of lines, boxes or operators, in order.
 pub type Numbers = Sequence<u64>;

@@ -17,5 +17,10 @@ pub use rule_word::RuleWord;
 pub use stack::Stack;
 pub use text::Text;
 
-// Passed on to crates above, which then needn't list them.
-pub use larch_certificate;
+// Passed on to crates above, which then needn't list these crates.
+pub mod from_certificate {
+    pub use larch_certificate::{
+        Binding, Bindings, BoxPart, BoxParts, Certificate, Coded, CodedEquation, CodedEquations,
+        CodedTerms, CodedVar, CodedVars, Line, Numbers, Path, Symbol,
+    };
+}

@@ -1,6 +1,6 @@
 use crate::stack::Stack;
 use crate::text::Text;
-use larch_certificate::larch_base::Sequence;
+use larch_certificate::from_base::Sequence;
 use larch_certificate::{Coded, Symbol};
 
 /// A symbol with the arguments that were read, while others are awaited.

@@ -1,7 +1,7 @@
 ghost use Rattle.std.specs.Prelude.{◌≡◌, ◌∷◌, [], IfSome, IfNone, OnOk, reverse};
 ghost use Rattle.larch_certificate_text.specs.Empty.{is_none_of};
 
-use larch_certificate::larch_base::Memory;
+use larch_certificate::from_base::Memory;
 use std::alloc::Global;
 use std::marker::Model;
 

@@ -1,6 +1,6 @@
 ghost use Rattle.std.specs.Prelude.{◌≡◌, ◌++◌, ◌∷◌, [], OnOk};
 
-use larch_certificate::larch_base::{Bytes, Memory};
+use larch_certificate::from_base::{Bytes, Memory};
 use std::alloc::Global;
 use std::marker::Model;
 

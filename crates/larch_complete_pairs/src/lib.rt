@@ -8,5 +8,7 @@ mod said;
 pub use pairs::{push_pairs, say_pair};
 pub use said::{SaidEquation, SaidRule};
 
-// Passed on to crates above, which then needn't list them.
-pub use larch_derive_lines;
+// Passed on to crates above, which then needn't list these crates.
+pub mod from_derive_lines {
+    pub use larch_derive_lines::{push_inst, push_refl};
+}

@@ -13,10 +13,10 @@ use crate::open_box::{OpenBox, OpenBoxes, copy_boxes};
 use crate::shared_list::ChunkedList;
 use crate::shared_theory::SharedTheory;
 use crate::small::{number_is_small, numbers_of_line_are_small};
-use larch_certificate_text::larch_certificate::{
+use larch_certificate_text::from_certificate::{
     BoxPart, BoxParts, Certificate, Coded, Line, Symbol,
 };
-use larch_term::larch_base::{Memory, Sequence, let_go};
+use larch_term::from_base::{Memory, Sequence, let_go};
 use larch_term::{Operator, Operators, Statements, Term, Theory, copy_operators};
 use std::alloc::Global;
 

@@ -6,10 +6,10 @@ ghost use Rattle.larch_derive.specs.Coding.{IsNameOf, IsCodeOf, AreCodesOf, AreC
 
 use crate::open_box::{OpenBox, constant_of};
 use crate::shared_theory::SharedTheory;
-use larch_certificate_text::larch_certificate::{
+use larch_certificate_text::from_certificate::{
     Coded, CodedEquation, CodedEquations, CodedTerms, Symbol,
 };
-use larch_term::larch_base::{Memory, Sequence};
+use larch_term::from_base::{Memory, Sequence};
 use larch_term::{Node, Operator, Statement, Term, Terms, built_in_of};
 use std::alloc::Global;
 

@@ -2,11 +2,11 @@ ghost use Rattle.std.specs.Prelude.{◌≡◌, IfOk};
 ghost use Rattle.larch_certificate_text.specs.CertificateLineLine.TheVariants.{BoxLine, Fresh, Generated, Induct, Inst};
 ghost use Rattle.larch_certificate_text.specs.CertificateLineLine.TheVariants.{Observe, Partitioned, Refl, Repl, Row};
 
-use larch_certificate_text::larch_certificate::{
+use larch_certificate_text::from_certificate::{
     Binding, Bindings, BoxPart, BoxParts, Coded, CodedEquation, CodedEquations, CodedVar,
     CodedVars, Line, Numbers, Path,
 };
-use larch_term::larch_base::{Memory, Name, Sequence, let_go};
+use larch_term::from_base::{Memory, Name, Sequence, let_go};
 use std::alloc::Global;
 
 // A line once more.

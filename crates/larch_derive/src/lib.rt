@@ -14,5 +14,7 @@ pub use builder::Builder;
 pub use open_box::{OpenBox, OpenBoxes};
 pub use shared_list::ChunkedList;
 
-// Passed on to crates above, which then needn't list them.
-pub use larch_certificate_text::larch_certificate;
+// Passed on to crates above, which then needn't list these crates.
+pub mod from_certificate {
+    pub use larch_certificate_text::from_certificate::{Binding, Bindings, Line, Path};
+}

@@ -1,7 +1,7 @@
 ghost use Rattle.std.specs.Prelude.{◌≡◌, IfOk};
 ghost use Rattle.larch_derive.specs.OpenBox.{place_from, constant_of};
 
-use larch_term::larch_base::{Memory, Sequence};
+use larch_term::from_base::{Memory, Sequence};
 use larch_term::{Operator, Operators, copy_operators};
 use std::alloc::Global;
 

@@ -1,6 +1,6 @@
 ghost use Rattle.std.specs.Prelude.{◌≡◌, ◌+◌, ◌++◌, ◌∷◌, [], OnOk, OnErr, IfOk, length, map};
 
-use larch_term::larch_base::Memory;
+use larch_term::from_base::Memory;
 use std::alloc::Global;
 use std::marker::Model;
 use std::rc::Rc;

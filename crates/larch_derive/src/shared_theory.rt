@@ -3,7 +3,7 @@ ghost use Rattle.larch_derive.specs.OpenBox.{place_from};
 ghost use Rattle.larch_derive.specs.Index.{IsIndex};
 
 use indexmap::IndexMap;
-use larch_term::larch_base::{Memory, let_go};
+use larch_term::from_base::{Memory, let_go};
 use larch_term::{Operator, Theory, copy_theory};
 use std::alloc::Global;
 use std::marker::Model;

@@ -1,7 +1,7 @@
 ghost use Rattle.larch_certificate_text.specs.Parts.{IsSmall, Each};
 ghost use Rattle.larch_derive.specs.Builder.{HasSmallNumbers};
 
-use larch_certificate_text::larch_certificate::Line;
+use larch_certificate_text::from_certificate::Line;
 
 // The numbers of a line are below 2 ^ 64, as all of the code are.
 pub(crate) fn numbers_of_line_are_small(line: &Line)

@@ -6,5 +6,7 @@ pub mod laws;
 
 pub use boxes::{close_box, push_cases, push_fresh, push_hyp};
 
-// Passed on to crates above, which then needn't list them.
-pub use larch_derive;
+// Passed on to crates above, which then needn't list these crates.
+pub mod from_derive {
+    pub use larch_derive::Builder;
+}

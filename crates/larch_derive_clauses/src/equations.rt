@@ -10,7 +10,7 @@ ghost use Rattle.larch_derive_clauses.specs.Showing.{ShowCases, ShowSame};
 
 use larch_base::Memory;
 use larch_certificate::{CodedEquation, CodedVar, Line, Numbers};
-use larch_derive_boxes::larch_derive::Builder;
+use larch_derive_boxes::from_derive::Builder;
 use larch_term::Term;
 
 /// A line that says an equation by induction on a variable, whose name is a word: by the clause of a line, and a closed

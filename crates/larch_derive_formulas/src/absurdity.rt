@@ -6,7 +6,7 @@ ghost use Rattle.larch_term.specs.Truth.{truth};
 
 use crate::instances::{of_values, push_reach};
 use larch_base::Memory;
-use larch_derive_lines::larch_derive::Builder;
+use larch_derive_lines::from_derive::Builder;
 use larch_term::{Term, sort_of};
 use std::alloc::Global;
 

@@ -18,7 +18,7 @@ use crate::deductions::{
 use crate::formulas::push_equivalent;
 use crate::instances::Places;
 use larch_base::Memory;
-use larch_derive_lines::larch_derive::Builder;
+use larch_derive_lines::from_derive::Builder;
 use larch_derive_lines::push_equal;
 use larch_term::{BuiltIn, Node, Operator, Term, same_operator, same_term};
 use std::alloc::Global;

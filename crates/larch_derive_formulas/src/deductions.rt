@@ -8,7 +8,7 @@ ghost use Rattle.larch_term.specs.Truth.{truth};
 
 use crate::instances::{Places, of_truths, push_reach};
 use larch_base::Memory;
-use larch_derive_lines::larch_derive::Builder;
+use larch_derive_lines::from_derive::Builder;
 use larch_derive_lines::push_sym;
 use larch_term::Term;
 use std::alloc::Global;

@@ -9,7 +9,7 @@ ghost use Rattle.larch_term.specs.Truth.{truth};
 
 use crate::instances::{Instance, of_truths, of_values, push_change, push_instance};
 use larch_base::Memory;
-use larch_derive_lines::larch_derive::Builder;
+use larch_derive_lines::from_derive::Builder;
 use larch_derive_lines::{push_equal, push_sym, push_trans};
 use larch_term::{Term, is_truth, sort_of};
 use std::alloc::Global;

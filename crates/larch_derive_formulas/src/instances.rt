@@ -6,7 +6,7 @@ ghost use Rattle.larch_term.specs.Substitution.{is_entry_of};
 ghost use Rattle.larch_term.specs.Tree.{Tree, app, forest_of};
 
 use larch_base::{Memory, Name};
-use larch_derive_lines::larch_derive::Builder;
+use larch_derive_lines::from_derive::Builder;
 use larch_derive_lines::{push_argument, push_inst, push_row, push_sym, push_trans};
 use larch_term::{Entry, Sort, Substitution, Term, bool_sort, copy};
 use std::alloc::Global;

@@ -14,5 +14,9 @@ pub use deductions::{
 };
 pub use formulas::{push_equality, push_equation, push_equivalent, push_formula};
 
-// Passed on to crates above, which then needn't list them.
-pub use larch_derive_lines;
+// Passed on to crates above, which then needn't list these crates.
+pub mod from_derive_lines {
+    pub use larch_derive_lines::{
+        push_again, push_argument, push_inst, push_refl, push_row, push_sym, push_trans,
+    };
+}

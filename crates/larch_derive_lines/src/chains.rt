@@ -7,7 +7,7 @@ ghost use Rattle.larch_derive_lines.specs.Way.{Leads};
 use crate::rules::{push_refl, push_repl, push_trans};
 use larch_derive::Builder;
 use larch_term::Term;
-use larch_term::larch_base::{Memory, Sequence};
+use larch_term::from_base::{Memory, Sequence};
 use std::alloc::Global;
 
 /// A line that says that the term at which a way begins equals the one to which a further line leads. A refused line

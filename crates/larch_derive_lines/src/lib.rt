@@ -13,5 +13,7 @@ pub use rules::{
     push_trans, push_written_inst,
 };
 
-// Passed on to crates above, which then needn't list them.
-pub use larch_derive;
+// Passed on to crates above, which then needn't list these crates.
+pub mod from_derive {
+    pub use larch_derive::Builder;
+}

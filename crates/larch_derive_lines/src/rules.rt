@@ -15,8 +15,8 @@ ghost use Rattle.larch_term.specs.Tree.{Tree};
 ghost use Rattle.larch_derive.specs.Predicates.{HasNoBadLine, Known, HasStatement, HasEquation, Extends};
 
 use larch_derive::Builder;
-use larch_derive::larch_certificate::{Binding, Bindings, Line, Path};
-use larch_term::larch_base::{Memory, Sequence};
+use larch_derive::from_certificate::{Binding, Bindings, Line, Path};
+use larch_term::from_base::{Memory, Sequence};
 use larch_term::{Entry, Sort, Substitution, Term};
 use std::alloc::Global;
 

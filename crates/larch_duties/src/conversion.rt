@@ -12,10 +12,10 @@ ghost use Rattle.larch_duties_meaning.specs.Conversions.{conversion_of, take_con
 use crate::among::Among;
 use crate::standing::has_one_of;
 use larch_base::{Code, Memory, Name, Sequence};
-use larch_flat_meaning::larch_sorts::read_lone;
-use larch_flat_meaning::larch_sorts_meaning::{ReadRefusal, Scope};
-use larch_flat_meaning::larch_sorts_signature::Signature;
-use larch_flat_meaning::larch_traits_items::{TraitRefusal, declare_variables, operator_of};
+use larch_flat_meaning::from_sorts::read_lone;
+use larch_flat_meaning::from_sorts_meaning::{ReadRefusal, Scope};
+use larch_flat_meaning::from_sorts_signature::Signature;
+use larch_flat_meaning::from_traits_items::{TraitRefusal, declare_variables, operator_of};
 use larch_raw::{RawConversion, RawEquation, RawOpRef};
 use larch_term::{Operator, Operators, Term};
 use std::alloc::Global;

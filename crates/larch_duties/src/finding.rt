@@ -10,7 +10,7 @@ use crate::conversion::Conversion;
 use crate::theories::{clause_theory, theory_of};
 use crate::trait_duties::Duties;
 use larch_base::{Label, Memory};
-use larch_flat::larch_flat_gathering::Flat;
+use larch_flat::from_flat_gathering::Flat;
 use larch_term::{Statement, Theory, copy_statement};
 use std::alloc::Global;
 

@@ -6,8 +6,8 @@ ghost use Rattle.larch_flat.specs.Known.{is_known};
 
 use larch_base::{Fault, Memory};
 use larch_flat::FlatTraits;
-use larch_flat::larch_flat_gathering::Flat;
-use larch_flat::larch_flat_statements::{MarkedStatements, new_among};
+use larch_flat::from_flat_gathering::Flat;
+use larch_flat::from_flat_statements::{MarkedStatements, new_among};
 use larch_term::{Statement, Statements, copy_statement};
 use std::alloc::Global;
 

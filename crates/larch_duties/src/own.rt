@@ -12,9 +12,9 @@ use crate::theories::theory_of;
 use crate::trait_duties::{Duties, duties_of};
 use larch_base::Memory;
 use larch_flat::FlatTraits;
-use larch_flat::larch_flat_gathering::Flat;
-use larch_flat::larch_flat_sources::Sources;
-use larch_flat_meaning::larch_traits_items::TraitRefusal;
+use larch_flat::from_flat_gathering::Flat;
+use larch_flat::from_flat_sources::Sources;
+use larch_flat_meaning::from_traits_items::TraitRefusal;
 use larch_term::{Statements, Theory, copy_statements};
 use std::alloc::Global;
 

@@ -8,8 +8,8 @@ use crate::clause::{Clause, Copied, copy_of};
 use crate::implied::join_statements;
 use crate::known::marked_at;
 use larch_base::{Memory, Sequence};
-use larch_flat::larch_flat_gathering::Flat;
-use larch_flat::larch_flat_statements::MarkedStatements;
+use larch_flat::from_flat_gathering::Flat;
+use larch_flat::from_flat_statements::MarkedStatements;
 use larch_term::{Operators, Statements, Theory, copy_operators, copy_statement};
 use std::alloc::Global;
 

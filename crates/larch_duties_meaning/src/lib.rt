@@ -21,5 +21,7 @@ pub use texts::{
     what_is_assumed_is_listed,
 };
 
-// Passed on to crates above, which then needn't list them.
-pub use larch_flat_meaning::larch_traits_items;
+// Passed on to crates above, which then needn't list these crates.
+pub mod from_traits_items {
+    pub use larch_flat_meaning::from_traits_items::TraitRefusal;
+}

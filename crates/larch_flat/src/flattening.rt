@@ -13,7 +13,7 @@ use crate::flat_traits::FlatTraits;
 use crate::taking::{take_target, target_of};
 use larch_base::{Code, Fault, Memory, Name};
 use larch_flat_gathering::{Flat, Gathering};
-use larch_flat_sources::larch_traits_items::TraitRefusal;
+use larch_flat_sources::from_traits_items::TraitRefusal;
 use larch_flat_sources::{Links, Sources, links_of};
 use larch_raw::{RawReference, RawTrait};
 use std::alloc::Global;

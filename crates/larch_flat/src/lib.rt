@@ -13,8 +13,19 @@ pub use flat_traits::FlatTraits;
 pub use flattening::{flatten, flatten_rest};
 pub use laws::what_is_known_is_known_elsewhere;
 
-// Passed on to crates above, which then needn't list them.
-pub use larch_flat_gathering;
-pub use larch_flat_gathering::larch_flat_statements;
-pub use larch_flat_replacing;
-pub use larch_flat_sources;
+// Passed on to crates above, which then needn't list these crates.
+pub mod from_flat_gathering {
+    pub use larch_flat_gathering::Flat;
+}
+
+pub mod from_flat_replacing {
+    pub use larch_flat_replacing::{NewNames, Replacements, replacements_of};
+}
+
+pub mod from_flat_sources {
+    pub use larch_flat_sources::{Sources, reached};
+}
+
+pub mod from_flat_statements {
+    pub use larch_flat_gathering::from_flat_statements::{MarkedStatements, new_among};
+}

@@ -6,8 +6,8 @@ ghost use Rattle.larch_flat_statements.specs.ShorthandRefusal.{cause as told_of_
 ghost use Rattle.larch_flat_statements.specs.ShorthandShorthand.{expand, expand_operators};
 
 use larch_base::Code;
-use larch_flat_statements::larch_shorthand::{ExpandRefusal, Expansion, expand, expand_operators};
-use larch_flat_statements::larch_traits_items::TraitRefusal;
+use larch_flat_statements::from_shorthand::{ExpandRefusal, Expansion, expand, expand_operators};
+use larch_flat_statements::from_traits_items::TraitRefusal;
 use larch_raw::RawShorthand;
 use larch_term::{Operators, Statements};
 use std::alloc::Global;

@@ -10,5 +10,7 @@ mod trait_;
 pub use flat::Flat;
 pub use store::Gathering;
 
-// Passed on to crates above, which then needn't list them.
-pub use larch_flat_statements;
+// Passed on to crates above, which then needn't list these crates.
+pub mod from_flat_statements {
+    pub use larch_flat_statements::{MarkedStatements, new_among};
+}

@@ -5,8 +5,8 @@ ghost use Rattle.larch_flat_meaning.specs.Replacements.{exactly, names_sort, wit
 ghost use Rattle.larch_flat_replacing.specs.Kept.{both_truth_values};
 
 use larch_base::{Memory, Name, Sequence};
-use larch_flat_meaning::larch_sorts_known::{SortSet, existing_sorts};
-use larch_flat_meaning::larch_traits_items::operator_of;
+use larch_flat_meaning::from_sorts_known::{SortSet, existing_sorts};
+use larch_flat_meaning::from_traits_items::operator_of;
 use larch_raw::{RawForm, RawSig};
 use larch_term::{BuiltIn, Operator, Operators, bool_sort};
 use std::alloc::Global;

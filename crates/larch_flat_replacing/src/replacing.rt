@@ -16,7 +16,7 @@ ghost use Rattle.larch_flat_meaning.specs.Stops.{refused_if};
 use crate::old_names::OldNames;
 use crate::replacements::Replacements;
 use larch_base::{Code, Memory, Pos};
-use larch_flat_meaning::larch_traits_items::TraitRefusal;
+use larch_flat_meaning::from_traits_items::TraitRefusal;
 use larch_raw::{RawActual, RawForm, RawRef, RawSig};
 use larch_term::{Operator, Sort, is_built_in};
 use std::alloc::Global;

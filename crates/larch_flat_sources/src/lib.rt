@@ -15,5 +15,7 @@ pub use marks::MarkedFiles;
 pub use reaching::reached;
 pub use sources::Sources;
 
-// Passed on to crates above, which then needn't list them.
-pub use larch_flat_meaning::larch_traits_items;
+// Passed on to crates above, which then needn't list these crates.
+pub mod from_traits_items {
+    pub use larch_flat_meaning::from_traits_items::TraitRefusal;
+}

@@ -11,5 +11,17 @@ mod marked;
 pub use known::new_among;
 pub use marked::MarkedStatements;
 
-// Passed on to crates above, which then needn't list them.
-pub use larch_flat_meaning::{larch_shorthand, larch_sorts_signature, larch_traits_items};
+// Passed on to crates above, which then needn't list these crates.
+pub mod from_shorthand {
+    pub use larch_flat_meaning::from_shorthand::{
+        ExpandRefusal, Expansion, expand, expand_operators,
+    };
+}
+
+pub mod from_sorts_signature {
+    pub use larch_flat_meaning::from_sorts_signature::Signature;
+}
+
+pub mod from_traits_items {
+    pub use larch_flat_meaning::from_traits_items::{TraitRefusal, declare, state_items};
+}

@@ -37,5 +37,7 @@ pub use trees::{
     qualified, with_term,
 };
 
-// Passed on to crates above, which then needn't list them.
-pub use larch_grammar_law;
+// Passed on to crates above, which then needn't list these crates.
+pub mod from_grammar_law {
+    pub use larch_grammar_law::Mark;
+}

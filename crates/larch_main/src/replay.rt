@@ -16,8 +16,8 @@ use larch_base::{FileName, Memory, Steps};
 use larch_io::Folder;
 use larch_main_files::gather::{GatherRefusal, gather};
 use larch_main_files::{Answer, report_answer};
-use larch_main_session::larch_session::Session;
-use larch_main_status::larch_traits::Files;
+use larch_main_session::from_session::Session;
+use larch_main_status::from_traits::Files;
 use std::alloc::Global;
 use std::sync::ledger::Ledger;
 

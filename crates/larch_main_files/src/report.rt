@@ -6,8 +6,8 @@ ghost use Rattle.larch_main_files.specs.Report.{IsLineOf, check_of, source_lines
 use larch_base::{Fault, Memory, Sequence};
 use larch_flat_sources::Sources;
 use larch_report::ReportLine;
-use larch_session_meaning::larch_duties::duties_of;
-use larch_traits::larch_flat::{FlatTraits, flatten};
+use larch_session_meaning::from_duties::duties_of;
+use larch_traits::from_flat::{FlatTraits, flatten};
 use larch_traits::{Files, read_files};
 use larch_traits_items::TraitRefusal;
 use std::alloc::Global;

@@ -11,5 +11,7 @@ pub use larch_main_status::{Halt, Status, say_at_end};
 pub use progress::{Move, Progress, advance};
 pub use session::run_session;
 
-// Passed on to crates above, which then needn't list them.
-pub use larch_session;
+// Passed on to crates above, which then needn't list these crates.
+pub mod from_session {
+    pub use larch_session::Session;
+}

@@ -9,5 +9,7 @@ pub use halt::Halt;
 pub use say::say_at_end;
 pub use status::Status;
 
-// Passed on to crates above, which then needn't list them.
-pub use larch_traits;
+// Passed on to crates above, which then needn't list these crates.
+pub mod from_traits {
+    pub use larch_traits::Files;
+}

@@ -13,7 +13,7 @@ use crate::refusals::undo_refused;
 use larch_base::{Memory, Sequence};
 use larch_certificate::{CodedVar, CodedVars};
 use larch_derive::Builder;
-use larch_derive_clauses::larch_derive_boxes::{close_box, push_fresh, push_hyp};
+use larch_derive_clauses::from_derive_boxes::{close_box, push_fresh, push_hyp};
 use larch_term::{BuiltIn, Statement, Statements, Term, Variable, copy};
 use std::alloc::Global;
 

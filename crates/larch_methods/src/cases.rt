@@ -9,7 +9,7 @@ use crate::boxes::write_freed;
 use crate::refusals::undo_refused;
 use larch_base::Memory;
 use larch_derive::Builder;
-use larch_derive_clauses::larch_derive_boxes::push_cases;
+use larch_derive_clauses::from_derive_boxes::push_cases;
 use larch_term::{Term, variables};
 use std::alloc::Global;
 

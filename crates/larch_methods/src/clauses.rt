@@ -13,7 +13,7 @@ use crate::refusals::undo_refused;
 use larch_base::Memory;
 use larch_certificate::Numbers;
 use larch_derive::Builder;
-use larch_derive_clauses::larch_derive_boxes::close_box;
+use larch_derive_clauses::from_derive_boxes::close_box;
 use larch_derive_clauses::{push_generated, push_partitioned};
 use larch_derive_lines::push_equal;
 use larch_term::{Operator, Sort, Theory};

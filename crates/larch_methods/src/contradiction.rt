@@ -13,7 +13,7 @@ use crate::boxes::{trivial_box, write_freed};
 use crate::refusals::undo_refused;
 use larch_base::Memory;
 use larch_derive::Builder;
-use larch_derive_clauses::larch_derive_boxes::{push_cases, push_hyp};
+use larch_derive_clauses::from_derive_boxes::{push_cases, push_hyp};
 use larch_derive_lines::push_trans;
 use larch_term::{Term, variables};
 use std::alloc::Global;

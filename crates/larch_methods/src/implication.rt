@@ -14,7 +14,7 @@ use crate::refusals::undo_refused;
 use crate::rows::{SaidArgument, push_settled};
 use larch_base::Memory;
 use larch_derive::Builder;
-use larch_derive_clauses::larch_derive_boxes::{close_box, push_cases, push_hyp};
+use larch_derive_clauses::from_derive_boxes::{close_box, push_cases, push_hyp};
 use larch_term::{Term, Variables, variables};
 use std::alloc::Global;
 

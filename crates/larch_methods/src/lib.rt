@@ -30,7 +30,19 @@ pub use opening::{open_constants, open_subgoal};
 pub use outside::push_outside;
 pub use partition::finish_partition;
 
-// Passed on to crates above, which then needn't list them.
-pub use larch_derive_clauses::larch_derive_boxes;
-pub use larch_prove_plans;
-pub use larch_prove_plans::larch_order;
+// Passed on to crates above, which then needn't list these crates.
+pub mod from_derive_boxes {
+    pub use larch_derive_clauses::from_derive_boxes::{close_box, push_hyp};
+}
+
+pub mod from_order {
+    pub use larch_prove_plans::from_order::Precedence;
+}
+
+pub mod from_prove_plans {
+    pub use larch_prove_plans::{
+        BinaryTerm, Method, Plan, Subgoal, closed_by, closed_implication, equality_in, formula,
+        free_name, generating_clause, generation_goal, induction_variable, partition_goal,
+        partitioning_clause, truth,
+    };
+}

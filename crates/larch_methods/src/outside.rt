@@ -10,7 +10,7 @@ use crate::naming::{letters_above, variables_for};
 use crate::refusals::undo_refused;
 use larch_base::Memory;
 use larch_derive::{Builder, OpenBox};
-use larch_derive_clauses::larch_derive_boxes::{close_box, push_fresh};
+use larch_derive_clauses::from_derive_boxes::{close_box, push_fresh};
 use larch_term::Term;
 use std::alloc::Global;
 

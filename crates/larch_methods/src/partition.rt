@@ -10,7 +10,7 @@ use crate::naming::{letters_above, variables_for};
 use larch_base::{Memory, Sequence};
 use larch_certificate::Numbers;
 use larch_derive::{Builder, OpenBox};
-use larch_derive_clauses::larch_derive_boxes::push_fresh;
+use larch_derive_clauses::from_derive_boxes::push_fresh;
 use larch_derive_clauses::push_observe;
 use larch_derive_lines::push_axiom;
 use larch_term::Term;

@@ -18,5 +18,7 @@ mod truth;
 pub use model_text::{ModelRefusal, read_model};
 pub use truth::{MAX_ASSIGNMENTS, ModelAnswer, check_model, fits, holds};
 
-// Passed on to crates above, which then needn't list them.
-pub use larch_soundness;
+// Passed on to crates above, which then needn't list these crates.
+pub mod from_soundness {
+    pub use larch_soundness::laws;
+}

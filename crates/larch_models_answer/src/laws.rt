@@ -11,7 +11,7 @@ ghost use Rattle.larch_term.specs.Statement.{IsWellSortedTheory};
 ghost use Rattle.larch_term.specs.declared.statement.Statement.{Statement};
 ghost use Rattle.larch_term.specs.declared.statement.Theory.{Theory};
 
-use larch_models::larch_soundness::laws::finite_models;
+use larch_models::from_soundness::laws::finite_models;
 
 /// In a model of a well sorted theory, the line of each claim that is derivable from it says that it holds. So where a
 /// line says `fails`, the claim isn't derivable.

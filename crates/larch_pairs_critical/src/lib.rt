@@ -13,5 +13,7 @@ mod pairs;
 pub use pair::{Pair, Pairs, Place, Rule};
 pub use pairs::critical_pairs;
 
-// Passed on to crates above, which then needn't list them.
-pub use larch_pairs;
+// Passed on to crates above, which then needn't list these crates.
+pub mod from_pairs {
+    pub use larch_pairs::{Entries, substitution_of};
+}

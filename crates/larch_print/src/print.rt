@@ -7,7 +7,7 @@ ghost use Rattle.larch_print.specs.Print.{fill_name, first_placed, pieces_of, ar
 ghost use Rattle.larch_print.specs.Print.{begins_with_bracket, begins_with_marker, inside_after, opens_bracket};
 ghost use Rattle.larch_print.specs.Print.{closes_bracket};
 
-use larch_term::larch_base::{Bytes, Memory, is_word};
+use larch_term::from_base::{Bytes, Memory, is_word};
 use larch_term::{Node, Operator, Sort, Statement, Term, Terms, is_truth};
 use std::alloc::Global;
 

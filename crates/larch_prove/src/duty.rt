@@ -3,8 +3,8 @@ ghost use Rattle.larch_calculus.specs.Theories.{with_statements};
 ghost use Rattle.larch_prove_beginning.specs.ProveOpeningStating.{duties_of, what_state};
 
 use larch_base::Memory;
-use larch_prove_beginning::larch_prove_opening::Lemma;
-use larch_prove_resuming::larch_prove_work::Claim;
+use larch_prove_beginning::from_prove_opening::Lemma;
+use larch_prove_resuming::from_prove_work::Claim;
 use larch_term::{Statement, Statements, Theory, copy_operators, copy_statement, copy_statements};
 use std::alloc::Global;
 

@@ -7,9 +7,9 @@ ghost use Rattle.larch_term.specs.declared.statement.Statement.{Statement as is_
 
 use crate::outcome::Outcome;
 use larch_base::Memory;
-use larch_prove_resuming::larch_prove_draft::Draft;
-use larch_prove_resuming::larch_prove_levels::Level;
-use larch_prove_resuming::larch_prove_work::{Claim, Work};
+use larch_prove_resuming::from_prove_draft::Draft;
+use larch_prove_resuming::from_prove_levels::Level;
+use larch_prove_resuming::from_prove_work::{Claim, Work};
 use std::alloc::Global;
 use std::rc::Rc;
 

@@ -11,6 +11,6 @@ mod state;
 mod stepping;
 
 pub use duty::ProofDuty;
-pub use larch_prove_beginning::larch_prove_opening::Lemma;
+pub use larch_prove_beginning::from_prove_opening::Lemma;
 pub use outcome::{Outcome, Place};
 pub use state::ProofState;

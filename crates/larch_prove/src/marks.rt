@@ -9,8 +9,8 @@ ghost use Rattle.larch_term.specs.declared.statement.Statement.{Statement};
 ghost use Rattle.larch_term.specs.declared.statement.Theory.{Theory};
 
 use larch_base::Code;
-use larch_prove_beginning::larch_prove_settings::CommandRefusal;
-use larch_prove_resuming::larch_prove_draft::Draft;
+use larch_prove_beginning::from_prove_settings::CommandRefusal;
+use larch_prove_resuming::from_prove_draft::Draft;
 
 // A mark: where boxes are checked, it must be the next one that waits.
 pub(crate) fn take_mark(draft: &mut Draft, is_proved: bool) -> Result<(), CommandRefusal>

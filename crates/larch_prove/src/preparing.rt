@@ -5,7 +5,7 @@ ghost use Rattle.larch_prove_beginning.specs.ProveSettingsTelling.{Tells};
 
 use crate::outcome::Place;
 use larch_base::{Code, Memory};
-use larch_prove_beginning::larch_prove_settings::{CommandRefusal, Settings};
+use larch_prove_beginning::from_prove_settings::{CommandRefusal, Settings};
 use larch_script_commands::{CommandKind, RawCommand};
 use std::alloc::Global;
 

@@ -11,7 +11,7 @@ use crate::going::Going;
 use crate::outcome::{Outcome, Place};
 use larch_base::{Code, Memory, Steps};
 use larch_certificate::Certificate;
-use larch_prove_beginning::larch_prove_settings::CommandRefusal;
+use larch_prove_beginning::from_prove_settings::CommandRefusal;
 use larch_script_commands::RawCommand;
 use std::sync::ledger::Ledger;
 

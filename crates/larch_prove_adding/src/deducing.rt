@@ -20,7 +20,7 @@ ghost use Rattle.larch_term.specs.declared.statement.Statement.{Statement};
 use crate::equation::SaidEquation;
 use larch_base::Memory;
 use larch_derive::Builder;
-use larch_prove_invariant::larch_derive_formulas::{BothLines, Consequences, deduce};
+use larch_prove_invariant::from_derive_formulas::{BothLines, Consequences, deduce};
 use larch_term::{BuiltIn, Node, Term, copy};
 use std::alloc::Global;
 

@@ -6,7 +6,7 @@ ghost use Rattle.larch_term.specs.Tree.{Tree};
 
 use larch_base::Memory;
 use larch_derive::Builder;
-use larch_rewrite::larch_derive_lines::{push_sym, push_trans};
+use larch_rewrite::from_derive_lines::{push_sym, push_trans};
 use larch_term::Term;
 use std::alloc::Global;
 

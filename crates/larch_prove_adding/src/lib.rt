@@ -17,7 +17,17 @@ pub use facts::Facts;
 pub use normal::{LevelGoal, normal_goal};
 pub use treating::Manner;
 
-// Passed on to crates above, which then needn't list them.
-pub use larch_prove_invariant::larch_prove_plans;
-pub use larch_rewrite;
-pub use larch_rewrite::larch_derive_lines;
+// Passed on to crates above, which then needn't list these crates.
+pub mod from_derive_lines {
+    pub use larch_rewrite::from_derive_lines::push_axiom;
+}
+
+pub mod from_prove_plans {
+    pub use larch_prove_invariant::from_prove_plans::{
+        Subgoal, free_name, generation_goal, partition_goal,
+    };
+}
+
+pub mod from_rewrite {
+    pub use larch_rewrite::RewriteRefusal;
+}

@@ -17,7 +17,7 @@ use crate::equation::{SaidEquation, push_between};
 use crate::facts::Facts;
 use larch_base::Memory;
 use larch_derive::Builder;
-use larch_rewrite::larch_derive_lines::push_trans;
+use larch_rewrite::from_derive_lines::push_trans;
 use larch_rewrite::{Normal, RewriteRefusal};
 use larch_store::{Shared, Store};
 use larch_term::Term;

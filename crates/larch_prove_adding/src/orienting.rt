@@ -12,8 +12,8 @@ ghost use Rattle.larch_term.specs.Truth.{truth};
 use crate::equation::{SaidEquation, exchange_sides};
 use larch_base::Memory;
 use larch_derive::Builder;
-use larch_prove_invariant::larch_derive_formulas::push_equality;
-use larch_prove_invariant::larch_order::Precedence;
+use larch_prove_invariant::from_derive_formulas::push_equality;
+use larch_prove_invariant::from_order::Precedence;
 use larch_term::{BuiltIn, Operator, Term, Terms, sort_of};
 use std::alloc::Global;
 

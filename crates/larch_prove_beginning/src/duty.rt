@@ -1,6 +1,6 @@
 use larch_prove_opening::Lemma;
 use larch_prove_settings::OrderedScope;
-use larch_prove_settling::larch_prove_draft::Draft;
+use larch_prove_settling::from_prove_draft::Draft;
 use larch_term::{Operators, Statement, Theory};
 
 /// A duty, with all that its proof may use.

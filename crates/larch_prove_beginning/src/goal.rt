@@ -10,10 +10,10 @@ use crate::hypotheses::said_equations;
 use crate::names::names_of;
 use larch_base::{Memory, Name, Sequence};
 use larch_derive::Builder;
-use larch_prove_opening::larch_prove_adding::SaidEquation;
-use larch_prove_opening::larch_prove_plans::{Subgoal, free_name, generation_goal, partition_goal};
+use larch_prove_opening::from_prove_adding::SaidEquation;
+use larch_prove_opening::from_prove_plans::{Subgoal, free_name, generation_goal, partition_goal};
 use larch_prove_settings::OrderedScope;
-use larch_prove_settling::larch_prove_boxes::{Beginning, begin_clause, begin_equation};
+use larch_prove_settling::from_prove_boxes::{Beginning, begin_clause, begin_equation};
 use larch_term::{Operator, Operators, Sort, Statement, Term, Theory, copy_operators, variables};
 use std::alloc::Global;
 

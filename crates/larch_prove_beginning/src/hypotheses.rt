@@ -2,7 +2,7 @@ ghost use Rattle.std.specs.Prelude.{◌≡◌, ◌++◌, IfOk, OnOk};
 ghost use Rattle.larch_prove_beginning.specs.Hypotheses.{all_said, said_by};
 
 use larch_base::Memory;
-use larch_prove_opening::larch_prove_adding::SaidEquation;
+use larch_prove_opening::from_prove_adding::SaidEquation;
 use larch_term::{Statement, copy};
 use std::alloc::Global;
 

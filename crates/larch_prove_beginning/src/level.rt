@@ -14,11 +14,11 @@ ghost use Rattle.larch_store.specs.Stored.{Grows};
 use crate::goal::FirstGoal;
 use larch_base::Sequence;
 use larch_derive::Builder;
-use larch_prove_opening::larch_prove_adding::{Facts, LevelGoal, SaidEquation};
-use larch_prove_opening::larch_rewrite::RewriteRefusal;
+use larch_prove_opening::from_prove_adding::{Facts, LevelGoal, SaidEquation};
+use larch_prove_opening::from_rewrite::RewriteRefusal;
 use larch_prove_settings::OrderedScope;
-use larch_prove_settling::larch_prove_boxes::Beginning;
-use larch_prove_settling::larch_prove_levels::{
+use larch_prove_settling::from_prove_boxes::Beginning;
+use larch_prove_settling::from_prove_levels::{
     Around, Level, Purpose, normalise_goal, suppose_all,
 };
 use larch_store::Store;

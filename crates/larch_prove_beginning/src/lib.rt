@@ -12,6 +12,11 @@ mod opening;
 pub use duty::{FirstDraft, Preamble, WholeDuty};
 pub use opening::open_duty;
 
-// Passed on to crates above, which then needn't list them.
-pub use larch_prove_opening;
-pub use larch_prove_settings;
+// Passed on to crates above, which then needn't list these crates.
+pub mod from_prove_opening {
+    pub use larch_prove_opening::Lemma;
+}
+
+pub mod from_prove_settings {
+    pub use larch_prove_settings::{CommandRefusal, OrderedScope, Settings};
+}

@@ -14,9 +14,9 @@ use crate::entering::push_hypotheses;
 use larch_base::{Memory, Sequence};
 use larch_certificate::Numbers;
 use larch_derive::{Builder, OpenBox};
-use larch_prove_invariant::larch_derive_lines::push_refl;
-use larch_prove_invariant::larch_methods::open_subgoal;
-use larch_prove_invariant::larch_prove_plans::{Subgoal, formula};
+use larch_prove_invariant::from_derive_lines::push_refl;
+use larch_prove_invariant::from_methods::open_subgoal;
+use larch_prove_invariant::from_prove_plans::{Subgoal, formula};
 use larch_term::{Term, copy};
 use std::alloc::Global;
 

@@ -10,7 +10,7 @@ use crate::leave::Leave;
 use crate::lefts::{both_numbers, shared_box};
 use larch_base::Memory;
 use larch_derive::{Builder, OpenBox};
-use larch_prove_invariant::larch_methods::finish_cases;
+use larch_prove_invariant::from_methods::finish_cases;
 use larch_term::Term;
 use std::alloc::Global;
 

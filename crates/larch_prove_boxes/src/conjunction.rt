@@ -10,7 +10,7 @@ use crate::leave::Leave;
 use crate::lefts::numbers_of;
 use larch_base::Memory;
 use larch_derive::Builder;
-use larch_prove_invariant::larch_methods::finish_conjunction;
+use larch_prove_invariant::from_methods::finish_conjunction;
 use larch_term::Term;
 use std::alloc::Global;
 

@@ -15,7 +15,7 @@ ghost use Rattle.larch_term.specs.Tree.{Tree};
 use crate::to_open::constants_to_open;
 use larch_base::{Memory, Sequence};
 use larch_derive::{Builder, OpenBox, OpenBoxes};
-use larch_prove_invariant::larch_methods::open_constants;
+use larch_prove_invariant::from_methods::open_constants;
 use larch_term::{Operator, Operators, Term};
 use std::alloc::Global;
 

@@ -9,8 +9,8 @@ use crate::leave::Leave;
 use crate::lefts::{only_number, shared_box};
 use larch_base::Memory;
 use larch_derive::{Builder, OpenBox};
-use larch_prove_invariant::larch_methods::finish_contradiction;
-use larch_prove_invariant::larch_prove_plans::closed_by;
+use larch_prove_invariant::from_methods::finish_contradiction;
+use larch_prove_invariant::from_prove_plans::closed_by;
 use larch_term::Term;
 use std::alloc::Global;
 

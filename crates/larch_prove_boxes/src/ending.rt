@@ -20,7 +20,7 @@ use crate::leave::Leave;
 use crate::partition::end_partition;
 use larch_base::Memory;
 use larch_derive::{Builder, OpenBox};
-use larch_prove_invariant::larch_prove_plans::Method;
+use larch_prove_invariant::from_prove_plans::Method;
 use larch_term::{Term, Theory};
 use std::alloc::Global;
 

@@ -18,10 +18,10 @@ ghost use Rattle.larch_prove_boxes.specs.Entering.{IsEntrance, IsKnownInside};
 use larch_base::{Memory, Sequence};
 use larch_certificate::Numbers;
 use larch_derive::{Builder, OpenBox};
-use larch_prove_invariant::larch_derive_boxes::push_hyp;
-use larch_prove_invariant::larch_derive_lines::push_refl;
-use larch_prove_invariant::larch_methods::open_subgoal;
-use larch_prove_invariant::larch_prove_plans::{Method, Subgoal};
+use larch_prove_invariant::from_derive_boxes::push_hyp;
+use larch_prove_invariant::from_derive_lines::push_refl;
+use larch_prove_invariant::from_methods::open_subgoal;
+use larch_prove_invariant::from_prove_plans::{Method, Subgoal};
 use larch_term::{Statements, Term};
 use std::alloc::Global;
 

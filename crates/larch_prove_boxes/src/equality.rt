@@ -7,7 +7,7 @@ ghost use Rattle.larch_term.specs.Truth.{truth};
 
 use larch_base::{Memory, Name};
 use larch_derive::Builder;
-use larch_prove_invariant::larch_derive_lines::{push_argument, push_inst, push_row, push_sym};
+use larch_prove_invariant::from_derive_lines::{push_argument, push_inst, push_row, push_sym};
 use larch_term::{Substitution, Term, copy, sort_of};
 use std::alloc::Global;
 

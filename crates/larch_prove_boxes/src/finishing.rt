@@ -20,9 +20,9 @@ ghost use Rattle.larch_traits_items.specs.Laws.{NamesOwn};
 
 use larch_base::Memory;
 use larch_derive::{Builder, OpenBox};
-use larch_prove_invariant::larch_derive_formulas::push_equation;
-use larch_prove_invariant::larch_derive_lines::push_again;
-use larch_prove_invariant::larch_methods::{Clause, finish_generated, finish_partitioned};
+use larch_prove_invariant::from_derive_formulas::push_equation;
+use larch_prove_invariant::from_derive_lines::push_again;
+use larch_prove_invariant::from_methods::{Clause, finish_generated, finish_partitioned};
 use larch_term::{Statement, Term, Theory};
 use std::alloc::Global;
 

@@ -15,8 +15,8 @@ use crate::leave::Leave;
 use crate::lefts::numbers_of;
 use larch_base::{Memory, Name};
 use larch_derive::Builder;
-use larch_prove_invariant::larch_methods::finish_induction;
-use larch_prove_invariant::larch_prove_plans::{generating_clause, induction_variable};
+use larch_prove_invariant::from_methods::finish_induction;
+use larch_prove_invariant::from_prove_plans::{generating_clause, induction_variable};
 use larch_term::{Sort, Statement, Term, Theory, Variable};
 use std::alloc::Global;
 

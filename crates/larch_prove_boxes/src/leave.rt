@@ -15,8 +15,8 @@ ghost use Rattle.larch_prove_boxes.specs.Saying.{ShowsSubgoal};
 use crate::saying::say_left;
 use larch_base::Memory;
 use larch_derive::{Builder, OpenBox};
-use larch_prove_invariant::larch_derive_boxes::close_box;
-use larch_prove_invariant::larch_prove_plans::{Method, Subgoal};
+use larch_prove_invariant::from_derive_boxes::close_box;
+use larch_prove_invariant::from_prove_plans::{Method, Subgoal};
 use std::alloc::Global;
 
 /// How a subgoal was left.

@@ -13,7 +13,7 @@ ghost use Rattle.larch_term.specs.declared.statement.Theory.{Theory};
 
 use larch_base::Memory;
 use larch_derive::{Builder, OpenBox};
-use larch_prove_invariant::larch_methods::push_outside;
+use larch_prove_invariant::from_methods::push_outside;
 use larch_term::Term;
 use std::alloc::Global;
 

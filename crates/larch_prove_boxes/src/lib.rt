@@ -29,8 +29,23 @@ pub use leave::{Leave, leave_subgoal};
 pub use leaving::close_extras;
 pub use sharing::open_shared;
 
-// Passed on to crates above, which then needn't list them.
-pub use larch_derive;
-pub use larch_prove_invariant::{
-    larch_derive_formulas, larch_derive_lines, larch_order, larch_prove_plans,
-};
+// Passed on to crates above, which then needn't list these crates.
+pub mod from_derive {
+    pub use larch_derive::{Builder, OpenBox, OpenBoxes};
+}
+
+pub mod from_derive_formulas {
+    pub use larch_prove_invariant::from_derive_formulas::absurd;
+}
+
+pub mod from_derive_lines {
+    pub use larch_prove_invariant::from_derive_lines::{push_refl, push_trans};
+}
+
+pub mod from_order {
+    pub use larch_prove_invariant::from_order::Precedence;
+}
+
+pub mod from_prove_plans {
+    pub use larch_prove_invariant::from_prove_plans::{Method, Plan, Subgoal, formula};
+}

@@ -19,8 +19,8 @@ use crate::leave::Leave;
 use crate::lefts::boxes_of;
 use larch_base::Memory;
 use larch_derive::Builder;
-use larch_prove_invariant::larch_methods::finish_partition;
-use larch_prove_invariant::larch_prove_plans::{BinaryTerm, equality_in, partitioning_clause};
+use larch_prove_invariant::from_methods::finish_partition;
+use larch_prove_invariant::from_prove_plans::{BinaryTerm, equality_in, partitioning_clause};
 use larch_term::{Sort, Statement, Term, Theory, sort_of};
 use std::alloc::Global;
 

@@ -11,9 +11,9 @@ ghost use Rattle.larch_prove_invariant.specs.RewriteMeaningSides.{Sides};
 
 use larch_base::Memory;
 use larch_derive::Builder;
-use larch_prove_invariant::larch_derive_formulas::push_equation;
-use larch_prove_invariant::larch_methods::{push_contradicted, push_implied};
-use larch_prove_invariant::larch_prove_plans::{Method, Subgoal, truth};
+use larch_prove_invariant::from_derive_formulas::push_equation;
+use larch_prove_invariant::from_methods::{push_contradicted, push_implied};
+use larch_prove_invariant::from_prove_plans::{Method, Subgoal, truth};
 use larch_term::{BuiltIn, Statement, Term, Terms, bool_sort, copy, two_arguments};
 use std::alloc::Global;
 

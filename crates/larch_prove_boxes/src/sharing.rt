@@ -11,8 +11,8 @@ ghost use Rattle.larch_term.specs.declared.statement.Statement.{Statement};
 
 use larch_base::Memory;
 use larch_derive::{Builder, OpenBox};
-use larch_prove_invariant::larch_methods::open_constants;
-use larch_prove_invariant::larch_prove_plans::{Method, Plan};
+use larch_prove_invariant::from_methods::open_constants;
+use larch_prove_invariant::from_prove_plans::{Method, Plan};
 use std::alloc::Global;
 
 /// Opens the box that all subgoals of a plan share, if the method has one, and answers it: it makes the plan's shared

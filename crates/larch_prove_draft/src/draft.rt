@@ -7,7 +7,7 @@ ghost use Rattle.larch_term.specs.declared.statement.Theory.{Theory};
 
 use larch_base::Memory;
 use larch_prove_levels::Level;
-use larch_prove_levels::larch_derive::Builder;
+use larch_prove_levels::from_derive::Builder;
 use larch_store::share_layers;
 use std::alloc::Global;
 use std::rc::Rc;

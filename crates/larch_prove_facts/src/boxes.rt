@@ -10,7 +10,7 @@ ghost use Rattle.larch_term.specs.declared.statement.Statement.{Statement as is_
 ghost use Rattle.larch_term.specs.declared.statement.Theory.{Theory as is_theory};
 
 use larch_base::Memory;
-use larch_prove_work::larch_prove_draft::Draft;
+use larch_prove_work::from_prove_draft::Draft;
 use larch_prove_work::open_boxes_for;
 use larch_term::{Entry, Operator};
 use std::alloc::Global;

@@ -17,12 +17,12 @@ ghost use Rattle.larch_term.specs.declared.statement.Statement.{Statement as is_
 ghost use Rattle.larch_term.specs.declared.statement.Theory.{Theory as is_theory};
 
 use larch_base::Memory;
-use larch_prove_work::larch_prove_adding::SaidEquation;
-use larch_prove_work::larch_prove_draft::{Draft, Proving};
-use larch_prove_work::larch_prove_levels::{Around, derive, line_of_goal};
-use larch_prove_work::larch_prove_settings::{CommandRefusal, Settings};
-use larch_prove_work::larch_prove_settling::settle;
-use larch_prove_work::larch_rewrite::RewriteRefusal;
+use larch_prove_work::from_prove_adding::SaidEquation;
+use larch_prove_work::from_prove_draft::{Draft, Proving};
+use larch_prove_work::from_prove_levels::{Around, derive, line_of_goal};
+use larch_prove_work::from_prove_settings::{CommandRefusal, Settings};
+use larch_prove_work::from_prove_settling::settle;
+use larch_prove_work::from_rewrite::RewriteRefusal;
 use larch_prove_work::{Claim, Work, command_refusal};
 use larch_store::Store;
 use std::alloc::Global;

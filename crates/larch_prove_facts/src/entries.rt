@@ -13,8 +13,8 @@ ghost use Rattle.larch_script_commands.specs.Worded.{WordedInstance, WordedLone}
 use crate::named::fact_named;
 use larch_base::{Code, FactName, Memory, Name, Sequence};
 use larch_pairs::{Entries, substitution_of};
-use larch_prove_work::larch_prove_adding::{Facts, SaidEquation};
-use larch_prove_work::larch_prove_settings::{CommandRefusal, Settings};
+use larch_prove_work::from_prove_adding::{Facts, SaidEquation};
+use larch_prove_work::from_prove_settings::{CommandRefusal, Settings};
 use larch_script_commands::RawInstance;
 use larch_term::{Entry, Substitution, Variable, Variables, variables};
 use std::alloc::Global;

@@ -18,14 +18,14 @@ ghost use Rattle.larch_term.specs.Substitution.{instance_of};
 ghost use Rattle.larch_term.specs.Tree.{Tree};
 
 use larch_base::{FactLetter, FactName, Memory};
-use larch_complete_pairs::larch_derive_lines::{push_inst, push_refl};
+use larch_complete_pairs::from_derive_lines::{push_inst, push_refl};
 use larch_derive::Builder;
 use larch_pairs::{PairRefusal, substitute_within};
-use larch_prove_work::larch_prove_adding::{
+use larch_prove_work::from_prove_adding::{
     Facts, Instance, LevelGoal, Manner, SaidEquation, normal_goal,
 };
-use larch_prove_work::larch_prove_levels::{Around, Level, normalise_goal};
-use larch_prove_work::larch_rewrite::RewriteRefusal;
+use larch_prove_work::from_prove_levels::{Around, Level, normalise_goal};
+use larch_prove_work::from_rewrite::RewriteRefusal;
 use larch_store::Store;
 use larch_term::{Substitution, Term};
 use std::alloc::Global;

@@ -13,9 +13,9 @@ ghost use Rattle.larch_term.specs.declared.statement.Statement.{Statement as is_
 ghost use Rattle.larch_term.specs.declared.statement.Theory.{Theory as is_theory};
 
 use larch_base::{Code, FactName, Memory};
-use larch_prove_work::larch_prove_adding::{Facts, SaidEquation};
-use larch_prove_work::larch_prove_draft::Draft;
-use larch_prove_work::larch_prove_settings::CommandRefusal;
+use larch_prove_work::from_prove_adding::{Facts, SaidEquation};
+use larch_prove_work::from_prove_draft::Draft;
+use larch_prove_work::from_prove_settings::CommandRefusal;
 use std::alloc::Global;
 
 // The equation of the fact of a name, with its line. It is refused with FACT where none has the name.

@@ -9,8 +9,8 @@ ghost use Rattle.larch_script_commands.specs.declared.command.CommandKind.TheVar
 use crate::derivation::derive_facts;
 use crate::named::{fact_named, take_out};
 use larch_base::{FactName, Memory};
-use larch_prove_work::larch_prove_adding::SaidEquation;
-use larch_prove_work::larch_prove_settings::CommandRefusal;
+use larch_prove_work::from_prove_adding::SaidEquation;
+use larch_prove_work::from_prove_settings::CommandRefusal;
 use larch_prove_work::{Claim, Work};
 use std::alloc::Global;
 

@@ -25,9 +25,9 @@ use larch_complete_pairs::{SaidEquation as SaidPair, SaidRule, say_pair};
 use larch_derive::Builder;
 use larch_pairs::PairRefusal;
 use larch_pairs_critical::{Pair, Rule, critical_pairs};
-use larch_prove_work::larch_prove_adding::{Facts, SaidEquation};
-use larch_prove_work::larch_prove_draft::Draft;
-use larch_prove_work::larch_prove_settings::CommandRefusal;
+use larch_prove_work::from_prove_adding::{Facts, SaidEquation};
+use larch_prove_work::from_prove_draft::Draft;
+use larch_prove_work::from_prove_settings::CommandRefusal;
 use larch_prove_work::{Claim, Work};
 use std::alloc::Global;
 

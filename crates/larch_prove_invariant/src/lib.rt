@@ -27,8 +27,39 @@ pub use terms::{
 };
 pub use words::{what_commands_read_is_in_words, words_are_words};
 
-// Passed on to crates above, which then needn't list them.
-pub use larch_derive_formulas;
-pub use larch_derive_formulas::larch_derive_lines;
-pub use larch_methods;
-pub use larch_methods::{larch_derive_boxes, larch_order, larch_prove_plans};
+// Passed on to crates above, which then needn't list these crates.
+pub mod from_derive_boxes {
+    pub use larch_methods::from_derive_boxes::{close_box, push_hyp};
+}
+
+pub mod from_derive_formulas {
+    pub use larch_derive_formulas::{
+        BothLines, Consequences, absurd, deduce, push_equality, push_equation,
+    };
+}
+
+pub mod from_derive_lines {
+    pub use larch_derive_formulas::from_derive_lines::{
+        push_again, push_argument, push_inst, push_refl, push_row, push_sym, push_trans,
+    };
+}
+
+pub mod from_methods {
+    pub use larch_methods::{
+        Clause, finish_cases, finish_conjunction, finish_contradiction, finish_generated,
+        finish_implication, finish_induction, finish_partition, finish_partitioned, open_constants,
+        open_subgoal, push_contradicted, push_implied, push_outside,
+    };
+}
+
+pub mod from_order {
+    pub use larch_methods::from_order::Precedence;
+}
+
+pub mod from_prove_plans {
+    pub use larch_methods::from_prove_plans::{
+        BinaryTerm, Method, Plan, Subgoal, closed_by, closed_implication, equality_in, formula,
+        free_name, generating_clause, generation_goal, induction_variable, partition_goal,
+        partitioning_clause, truth,
+    };
+}

@@ -9,8 +9,8 @@ ghost use Rattle.larch_term.specs.Truth.{truth, is_truth};
 
 use crate::level::Level;
 use larch_base::Memory;
-use larch_prove_boxes::larch_derive::Builder;
-use larch_prove_boxes::larch_derive_formulas::absurd;
+use larch_prove_boxes::from_derive::Builder;
+use larch_prove_boxes::from_derive_formulas::absurd;
 use larch_store::{Shared, Store};
 use larch_term::{BuiltIn, is_truth};
 use std::alloc::Global;

@@ -13,10 +13,10 @@ ghost use Rattle.larch_store.specs.Stored.{Grows};
 
 use crate::level::Level;
 use larch_base::{FactLetter, FactName};
-use larch_prove_adding::larch_rewrite::RewriteRefusal;
+use larch_prove_adding::from_rewrite::RewriteRefusal;
 use larch_prove_adding::{Facts, Manner, SaidEquation, normal_goal};
-use larch_prove_boxes::larch_derive::Builder;
-use larch_prove_boxes::larch_order::Precedence;
+use larch_prove_boxes::from_derive::Builder;
+use larch_prove_boxes::from_order::Precedence;
 use larch_store::Store;
 use std::alloc::Global;
 

@@ -14,6 +14,11 @@ pub use laws::{
 pub use names::{names_of_facts_differ, numbers_of_lemmas_differ};
 pub use words::{commands_read_words, scopes_stay_in_words};
 
-// Passed on to crates above, which then needn't list them.
-pub use larch_order;
-pub use larch_pairs_critical::larch_pairs;
+// Passed on to crates above, which then needn't list these crates.
+pub mod from_order {
+    pub use larch_order::Precedence;
+}
+
+pub mod from_pairs {
+    pub use larch_pairs_critical::from_pairs::{Entries, substitution_of};
+}

@@ -8,6 +8,17 @@ mod statements;
 pub use laws::openings_go_by_facts;
 pub use opening::{Lemma, Opening, open_facts};
 
-// Passed on to crates above, which then needn't list them.
-pub use larch_prove_adding;
-pub use larch_prove_adding::{larch_prove_plans, larch_rewrite};
+// Passed on to crates above, which then needn't list these crates.
+pub mod from_prove_adding {
+    pub use larch_prove_adding::{Facts, LevelGoal, SaidEquation};
+}
+
+pub mod from_prove_plans {
+    pub use larch_prove_adding::from_prove_plans::{
+        Subgoal, free_name, generation_goal, partition_goal,
+    };
+}
+
+pub mod from_rewrite {
+    pub use larch_prove_adding::from_rewrite::RewriteRefusal;
+}

@@ -16,7 +16,7 @@ use larch_base::FactLetter;
 use larch_derive::Builder;
 use larch_order::Precedence;
 use larch_prove_adding::Facts;
-use larch_prove_adding::larch_rewrite::RewriteRefusal;
+use larch_prove_adding::from_rewrite::RewriteRefusal;
 use larch_store::Store;
 use larch_term::{Statement, Theory};
 use std::alloc::Global;

@@ -12,8 +12,8 @@ ghost use Rattle.larch_term.specs.declared.statement.Statement.TheVariants.{Equa
 use larch_base::{FactLetter, FactName, Memory};
 use larch_derive::Builder;
 use larch_order::Precedence;
-use larch_prove_adding::larch_derive_lines::push_axiom;
-use larch_prove_adding::larch_rewrite::RewriteRefusal;
+use larch_prove_adding::from_derive_lines::push_axiom;
+use larch_prove_adding::from_rewrite::RewriteRefusal;
 use larch_prove_adding::{Facts, Manner, SaidEquation};
 use larch_store::Store;
 use larch_term::{Statement, Term, copy};

@@ -7,7 +7,7 @@ ghost use Rattle.larch_term.specs.Variable.{variables_of};
 use crate::new_names::{copy_names, new_constants};
 use crate::terms::constant;
 use larch_base::{Memory, Name, Sequence};
-use larch_prove_meaning::larch_pairs::{Entries, substitution_of};
+use larch_prove_meaning::from_pairs::{Entries, substitution_of};
 use larch_term::{Entry, Operator, Operators, Substitution, Term, Variable, substitute, variables};
 use std::alloc::Global;
 

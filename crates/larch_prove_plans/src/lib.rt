@@ -35,5 +35,7 @@ pub use shapes::{BinaryTerm, equality_in};
 pub use subgoals::{Method, Plan, Subgoal, Subgoals};
 pub use terms::{constant, falsity, formula, truth};
 
-// Passed on to crates above, which then needn't list them.
-pub use larch_prove_meaning::larch_order;
+// Passed on to crates above, which then needn't list these crates.
+pub mod from_order {
+    pub use larch_prove_meaning::from_order::Precedence;
+}

@@ -9,13 +9,13 @@ ghost use Rattle.larch_prove_resuming.specs.Resuming.{IsSomeStart, StandsBefore}
 
 use larch_base::{Memory, Sequence};
 use larch_prove_work::Claim;
-use larch_prove_work::larch_derive::OpenBox;
-use larch_prove_work::larch_prove_boxes::open_shared;
-use larch_prove_work::larch_prove_draft::{Draft, Proving};
-use larch_prove_work::larch_prove_levels::{Around, Planned, Running};
-use larch_prove_work::larch_prove_settings::Settings;
-use larch_prove_work::larch_prove_settling::{end_at_once, open_first};
-use larch_prove_work::larch_rewrite::RewriteRefusal;
+use larch_prove_work::from_derive::OpenBox;
+use larch_prove_work::from_prove_boxes::open_shared;
+use larch_prove_work::from_prove_draft::{Draft, Proving};
+use larch_prove_work::from_prove_levels::{Around, Planned, Running};
+use larch_prove_work::from_prove_settings::Settings;
+use larch_prove_work::from_prove_settling::{end_at_once, open_first};
+use larch_prove_work::from_rewrite::RewriteRefusal;
 use larch_store::Store;
 use std::alloc::Global;
 use std::rc::Rc;

@@ -10,7 +10,7 @@ ghost use Rattle.larch_script_commands.specs.declared.command.CommandKind.TheVar
 
 use crate::resuming::resume;
 use larch_prove_plans::Method;
-use larch_prove_work::larch_prove_settings::CommandRefusal;
+use larch_prove_work::from_prove_settings::CommandRefusal;
 use larch_prove_work::{Claim, Work, open_boxes_for};
 use larch_raw::RawEquation;
 use larch_term::{Term, bool_sort};

@@ -12,7 +12,7 @@ use crate::cases::resume_by_cases;
 use crate::resuming::resume;
 use larch_base::Memory;
 use larch_prove_plans::Method;
-use larch_prove_work::larch_prove_settings::CommandRefusal;
+use larch_prove_work::from_prove_settings::CommandRefusal;
 use larch_prove_work::{Claim, Work};
 use larch_script_commands::CommandKind;
 use std::alloc::Global;

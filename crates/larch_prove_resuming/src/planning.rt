@@ -10,8 +10,8 @@ ghost use Rattle.larch_prove_work.specs.Work.{MayWork};
 
 use larch_base::{Code, Memory, Name};
 use larch_prove_plans::{Method, Plan, PlanRefusal, plan};
-use larch_prove_work::larch_prove_levels::Planned;
-use larch_prove_work::larch_prove_settings::{CommandRefusal, Settings};
+use larch_prove_work::from_prove_levels::Planned;
+use larch_prove_work::from_prove_settings::{CommandRefusal, Settings};
 use larch_prove_work::{Claim, Work};
 use larch_term::{Operator, Operators, Variable, copy_operators};
 use std::alloc::Global;

@@ -11,8 +11,8 @@ ghost use Rattle.larch_prove_work.specs.Work.{Makes};
 use crate::beginning::begin;
 use crate::planning::{constants_of_plan, plan_method};
 use larch_prove_plans::Method;
-use larch_prove_work::larch_prove_levels::Planned;
-use larch_prove_work::larch_prove_settings::CommandRefusal;
+use larch_prove_work::from_prove_levels::Planned;
+use larch_prove_work::from_prove_settings::CommandRefusal;
 use larch_prove_work::{Claim, Work, command_refusal};
 use std::alloc::Global;
 

@@ -4,7 +4,7 @@ ghost use Rattle.larch_order.specs.Precedence.{with_constant};
 use crate::settings::Settings;
 use larch_base::Memory;
 use larch_order::Precedence;
-use larch_sorts::larch_sorts_signature::Signature;
+use larch_sorts::from_sorts_signature::Signature;
 use larch_term::{Operator, Operators, copy_operators};
 use std::alloc::Global;
 use std::rc::Rc;

@@ -6,7 +6,7 @@ ghost use Rattle.larch_sorts_known.specs.Sorts.{existing_sorts};
 use crate::scope::OrderedScope;
 use larch_base::{Memory, Sequence};
 use larch_order::Precedence;
-use larch_sorts::larch_sorts_signature::Signature;
+use larch_sorts::from_sorts_signature::Signature;
 use larch_sorts_known::{SortSet, existing_sorts};
 use larch_term::{Operators, Theory, copy_operators};
 use std::alloc::Global;

@@ -34,12 +34,12 @@ ghost use Rattle.larch_term.specs.declared.statement.Theory.{Theory as is_theory
 use crate::entering::{Entering, open_subgoal};
 use larch_base::{Memory, let_go};
 use larch_derive::{Builder, OpenBox};
-use larch_prove_draft::larch_derive_lines::push_trans;
-use larch_prove_draft::larch_prove_adding::LevelGoal;
-use larch_prove_draft::larch_prove_boxes::{Leave, Lefts, end_method, leave_subgoal};
-use larch_prove_draft::larch_prove_levels::{Level, Planned, Running, line_of_goal};
-use larch_prove_draft::larch_prove_plans::{Method, Subgoal};
-use larch_prove_draft::larch_rewrite::RewriteRefusal;
+use larch_prove_draft::from_derive_lines::push_trans;
+use larch_prove_draft::from_prove_adding::LevelGoal;
+use larch_prove_draft::from_prove_boxes::{Leave, Lefts, end_method, leave_subgoal};
+use larch_prove_draft::from_prove_levels::{Level, Planned, Running, line_of_goal};
+use larch_prove_draft::from_prove_plans::{Method, Subgoal};
+use larch_prove_draft::from_rewrite::RewriteRefusal;
 use larch_prove_draft::{Draft, Proving, mark};
 use larch_store::Store;
 use std::alloc::Global;

@@ -14,8 +14,8 @@ ghost use Rattle.larch_term.specs.declared.statement.Theory.{Theory};
 
 use larch_base::Memory;
 use larch_derive::Builder;
-use larch_prove_draft::larch_prove_boxes::close_extras;
-use larch_prove_draft::larch_prove_levels::Level;
+use larch_prove_draft::from_prove_boxes::close_extras;
+use larch_prove_draft::from_prove_levels::Level;
 use larch_store::Store;
 use larch_term::BuiltIn;
 use std::alloc::Global;

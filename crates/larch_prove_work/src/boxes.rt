@@ -10,8 +10,8 @@ ghost use Rattle.larch_term.specs.declared.statement.Theory.{Theory as is_theory
 use crate::opened::constants_of_levels;
 use larch_base::Memory;
 use larch_derive::OpenBoxes;
-use larch_prove_settling::larch_prove_boxes::open_constants_of;
-use larch_prove_settling::larch_prove_draft::Draft;
+use larch_prove_settling::from_prove_boxes::open_constants_of;
+use larch_prove_settling::from_prove_draft::Draft;
 use larch_term::{Operator, Term};
 use std::alloc::Global;
 

@@ -6,8 +6,8 @@ ghost use Rattle.larch_prove_work.specs.Opened.{boxes_in_level, constants_in_box
 
 use larch_base::{Memory, Sequence};
 use larch_derive::OpenBox;
-use larch_prove_settling::larch_prove_draft::Draft;
-use larch_prove_settling::larch_prove_levels::Level;
+use larch_prove_settling::from_prove_draft::Draft;
+use larch_prove_settling::from_prove_levels::Level;
 use larch_term::{Operator, Operators};
 use std::alloc::Global;
 use std::rc::Rc;

@@ -3,7 +3,7 @@ ghost use Rattle.larch_prove_work.specs.Work.{command_refusal};
 
 use larch_base::Code;
 use larch_prove_settings::CommandRefusal;
-use larch_prove_settling::larch_rewrite::RewriteRefusal;
+use larch_prove_settling::from_rewrite::RewriteRefusal;
 
 /// The refusal of a command whose work is refused.
 pub fn command_refusal(refusal: RewriteRefusal) -> CommandRefusal

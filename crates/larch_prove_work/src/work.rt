@@ -6,7 +6,7 @@ ghost use Rattle.larch_term.specs.declared.statement.Theory.{Theory as is_theory
 
 use larch_base::Memory;
 use larch_prove_settings::Settings;
-use larch_prove_settling::larch_prove_draft::Draft;
+use larch_prove_settling::from_prove_draft::Draft;
 use larch_store::Store;
 use larch_term::{Statement, Theory};
 use std::alloc::Global;

@@ -14,7 +14,7 @@ use crate::kept::{Kept, KeptForm};
 use crate::level::{Frame, Level, Turn};
 use larch_base::Memory;
 use larch_derive::Builder;
-use larch_rewrite_step::larch_derive_lines::push_argument;
+use larch_rewrite_step::from_derive_lines::push_argument;
 use larch_rewrite_step::{Encodings, push_shared_refl};
 use larch_store::{Shared, Store};
 

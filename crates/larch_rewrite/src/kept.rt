@@ -5,7 +5,7 @@ ghost use Rattle.larch_store.specs.Stored.{Belongs};
 
 use indexmap::IndexMap;
 use larch_base::Memory;
-use larch_rewrite_step::larch_rewrite_match::RowTables;
+use larch_rewrite_step::from_rewrite_match::RowTables;
 use larch_store::{Shared, Store};
 use std::alloc::Global;
 use std::cell::{Ref, RefCell};

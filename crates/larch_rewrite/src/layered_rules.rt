@@ -11,7 +11,7 @@ use crate::named_rule::NamedRule;
 use crate::named_rules::NamedRules;
 use crate::searching::first_among;
 use larch_base::{FactName, Memory, let_go};
-use larch_rewrite_step::larch_rewrite_match::Match;
+use larch_rewrite_step::from_rewrite_match::Match;
 use larch_store::{Shared, Store, all_layers, share_layers};
 use std::alloc::Global;
 use std::marker::Model;

@@ -21,5 +21,7 @@ pub use named_rule::NamedRule;
 pub use refusal::RewriteRefusal;
 pub use rules::Rules;
 
-// Passed on to crates above, which then needn't list them.
-pub use larch_rewrite_step::larch_derive_lines;
+// Passed on to crates above, which then needn't list these crates.
+pub mod from_derive_lines {
+    pub use larch_rewrite_step::from_derive_lines::{push_axiom, push_sym, push_trans};
+}

@@ -2,7 +2,7 @@ ghost use Rattle.std.specs.Prelude.{◌≡◌, IfOk};
 ghost use Rattle.larch_rewrite.specs.RuleSet.{has_name, rule_by, rule_of};
 
 use larch_base::{FactName, Memory};
-use larch_rewrite_step::larch_rewrite_match::{Reason, RewriteRule, SharedRule};
+use larch_rewrite_step::from_rewrite_match::{Reason, RewriteRule, SharedRule};
 use larch_term::{Term, copy};
 use std::alloc::Global;
 use std::marker::Model;

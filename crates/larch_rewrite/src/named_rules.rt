@@ -5,7 +5,7 @@ ghost use Rattle.larch_rewrite.specs.RuleSet.{has_name, rule_of, without};
 
 use crate::named_rule::NamedRule;
 use larch_base::{FactName, Memory};
-use larch_rewrite_step::larch_rewrite_match::RuleTable;
+use larch_rewrite_step::from_rewrite_match::RuleTable;
 use std::alloc::Global;
 use std::marker::Model;
 

@@ -10,7 +10,7 @@ ghost use Rattle.larch_store.specs.Stored.{Belongs};
 use crate::layered_rules::LayeredRules;
 use crate::named_rules::NamedRules;
 use larch_base::Memory;
-use larch_rewrite_step::larch_rewrite_match::{Match, SharedRule, first_in_table, first_match};
+use larch_rewrite_step::from_rewrite_match::{Match, SharedRule, first_in_table, first_match};
 use larch_store::{Shared, Store};
 use std::alloc::Global;
 use std::rc::Rc;

@@ -17,7 +17,7 @@ use crate::level::{Frame, Level, Turn};
 use crate::refusal::RewriteRefusal;
 use larch_base::Memory;
 use larch_derive::Builder;
-use larch_rewrite_step::larch_derive_lines::push_further;
+use larch_rewrite_step::from_derive_lines::push_further;
 use larch_store::{Shared, SharedList, SharedNode, Store};
 use std::alloc::Global;
 

@@ -12,7 +12,7 @@ use crate::rule::{Reason, RewriteRule};
 use crate::shared::SharedRule;
 use crate::table::RuleTable;
 use larch_base::Memory;
-use larch_rewrite_meaning::larch_tables::{Row, RowRefusal, built_in, row_statement};
+use larch_rewrite_meaning::from_tables::{Row, RowRefusal, built_in, row_statement};
 use larch_term::{Sort, Statement, bool_sort};
 use std::alloc::Global;
 

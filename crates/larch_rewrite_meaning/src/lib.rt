@@ -15,5 +15,7 @@ pub use laws::{
     normal_goes_on,
 };
 
-// Passed on to crates above, which then needn't list them.
-pub use larch_tables;
+// Passed on to crates above, which then needn't list these crates.
+pub mod from_tables {
+    pub use larch_tables::{Row, RowRefusal, built_in, row_statement};
+}

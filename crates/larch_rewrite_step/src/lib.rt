@@ -14,6 +14,13 @@ pub use exchanging::push_exchanged;
 pub use refusal::ApplyRefusal;
 pub use writing::push_shared_refl;
 
-// Passed on to crates above, which then needn't list them.
-pub use larch_derive_lines;
-pub use larch_rewrite_match;
+// Passed on to crates above, which then needn't list these crates.
+pub mod from_derive_lines {
+    pub use larch_derive_lines::{push_argument, push_axiom, push_further, push_sym, push_trans};
+}
+
+pub mod from_rewrite_match {
+    pub use larch_rewrite_match::{
+        Match, Reason, RewriteRule, RowTables, RuleTable, SharedRule, first_in_table, first_match,
+    };
+}

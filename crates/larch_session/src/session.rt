@@ -12,7 +12,7 @@ use larch_base::{Bytes, FileName, Label, Memory, Name, Sequence, Steps};
 use larch_certificate::Certificate;
 use larch_report::ReportLine;
 use larch_session_derive::derive_on;
-use larch_session_report::larch_traits::Files;
+use larch_session_report::from_traits::Files;
 use larch_session_report::report_on;
 use std::alloc::Global;
 use std::sync::ledger::Ledger;

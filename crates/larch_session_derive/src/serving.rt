@@ -4,7 +4,7 @@ ghost use Rattle.larch_prove_meaning.specs.Reports.{is_proved, may_serve};
 ghost use Rattle.larch_session_derive.specs.Parts.{may_be_lemma};
 
 use larch_session_replay::Replayed;
-use larch_session_replay::larch_prove::Outcome;
+use larch_session_replay::from_prove::Outcome;
 
 // Whether a duty is proved and may serve those of a clause, or of none.
 pub(crate) fn may_be_lemma(replayed: &Replayed, clause: Option<u32>) -> bool

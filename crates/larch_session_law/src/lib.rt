@@ -9,7 +9,23 @@ pub use laws::{
     what_is_certified_is_derivable,
 };
 
-// Passed on to crates above, which then needn't list them.
-pub use larch_session_meaning::{
-    larch_duties, larch_flat, larch_flat_sources, larch_script, larch_traits,
-};
+// Passed on to crates above, which then needn't list these crates.
+pub mod from_duties {
+    pub use larch_session_meaning::from_duties::{Claims, place_of, trait_claims};
+}
+
+pub mod from_flat {
+    pub use larch_session_meaning::from_flat::{FlatTraits, flatten};
+}
+
+pub mod from_flat_sources {
+    pub use larch_session_meaning::from_flat_sources::Sources;
+}
+
+pub mod from_script {
+    pub use larch_session_meaning::from_script::read_script;
+}
+
+pub mod from_traits {
+    pub use larch_session_meaning::from_traits::{Files, TraitRefusal, read_files};
+}

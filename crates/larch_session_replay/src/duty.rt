@@ -13,7 +13,7 @@ use larch_base::{Memory, Steps};
 use larch_prove::{ProofDuty, ProofState};
 use larch_script_commands::Script;
 use larch_session_blocks::commands_for;
-use larch_session_blocks::larch_duties::Claim;
+use larch_session_blocks::from_duties::Claim;
 use std::alloc::Global;
 use std::sync::ledger::Ledger;
 

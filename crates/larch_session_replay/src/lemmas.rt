@@ -8,7 +8,7 @@ ghost use Rattle.larch_session_replay.specs.Replayed.{answer_of};
 use crate::replayed::Replayed;
 use larch_base::{Memory, Sequence};
 use larch_prove::{Lemma, Outcome};
-use larch_session_blocks::larch_duties::Claim;
+use larch_session_blocks::from_duties::Claim;
 use larch_term::copy_statement;
 use std::alloc::Global;
 

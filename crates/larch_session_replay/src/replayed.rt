@@ -2,7 +2,7 @@ ghost use Rattle.std.specs.Prelude.{◌≡◌, ◌-◌, ◌^◌, min, sum_by};
 
 use larch_base::Sequence;
 use larch_prove::{Outcome, ProofState};
-use larch_session_blocks::larch_duties::Claim;
+use larch_session_blocks::from_duties::Claim;
 
 /// A duty that was replayed: its number among those of its trait, from 1, and what is claimed; what its block has come
 /// to, and the state behind the last command that was carried out. Where it is proved, that has its certificate, over

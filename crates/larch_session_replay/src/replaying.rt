@@ -10,7 +10,7 @@ use crate::duty::replay_duty;
 use crate::replayed::Replays;
 use larch_base::{Memory, Sequence, Steps};
 use larch_script_commands::Script;
-use larch_session_blocks::larch_duties::Claims;
+use larch_session_blocks::from_duties::Claims;
 use std::alloc::Global;
 use std::sync::ledger::Ledger;
 

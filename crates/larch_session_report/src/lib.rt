@@ -5,5 +5,7 @@ mod report;
 
 pub use report::report_on;
 
-// Passed on to crates above, which then needn't list them.
-pub use larch_session_replay::larch_traits;
+// Passed on to crates above, which then needn't list these crates.
+pub mod from_traits {
+    pub use larch_session_replay::from_traits::Files;
+}

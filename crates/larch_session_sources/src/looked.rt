@@ -1,6 +1,6 @@
-use larch_session_law::larch_flat::FlatTraits;
-use larch_session_law::larch_flat_sources::Sources;
-use larch_session_law::larch_traits::Files;
+use larch_session_law::from_flat::FlatTraits;
+use larch_session_law::from_flat_sources::Sources;
+use larch_session_law::from_traits::Files;
 
 /// What a report goes by: the files, what is read of them, their flat traits, and the rewriting limit.
 #[derive(Drop)]

@@ -8,8 +8,8 @@ ghost use Rattle.larch_session_law.specs.TraitsReading.{trait_text};
 
 use larch_base::{Bytes, FileName, Memory, NameRefusal, Sequence, is_stem};
 use larch_script_commands::Script;
-use larch_session_law::larch_script::read_script;
-use larch_session_law::larch_traits::Files;
+use larch_session_law::from_script::read_script;
+use larch_session_law::from_traits::Files;
 use std::alloc::Global;
 
 /// The script of a stem among files; one that isn't there is empty.

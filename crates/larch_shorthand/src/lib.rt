@@ -16,8 +16,25 @@ pub use expansion::Expansion;
 pub use refusal::ExpandRefusal;
 pub use shorthand::{expand, expand_operators};
 
-// Passed on to crates above, which then needn't list them.
-pub use larch_traits_items;
-pub use larch_traits_items::{
-    larch_sorts, larch_sorts_known, larch_sorts_meaning, larch_sorts_signature,
-};
+// Passed on to crates above, which then needn't list these crates.
+pub mod from_sorts {
+    pub use larch_traits_items::from_sorts::read_lone;
+}
+
+pub mod from_sorts_known {
+    pub use larch_traits_items::from_sorts_known::{SortSet, existing_sorts};
+}
+
+pub mod from_sorts_meaning {
+    pub use larch_traits_items::from_sorts_meaning::{ReadRefusal, Scope};
+}
+
+pub mod from_sorts_signature {
+    pub use larch_traits_items::from_sorts_signature::Signature;
+}
+
+pub mod from_traits_items {
+    pub use larch_traits_items::{
+        TraitRefusal, declare, declare_variables, operator_of, state_items,
+    };
+}

@@ -15,7 +15,7 @@ use crate::union_::{union_, union_operators};
 use indexmap::IndexSet;
 use larch_base::{Memory, Name, Pos, Sequence};
 use larch_term::{Operators, Sort};
-use larch_traits_items::larch_raw::{RawField, RawShorthand, RawWord};
+use larch_traits_items::from_raw::{RawField, RawShorthand, RawWord};
 use std::alloc::Global;
 
 /// What a shorthand stands for: its operators, and what is stated of them, each in order. `FieldTwice` stands at the

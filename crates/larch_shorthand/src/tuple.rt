@@ -10,7 +10,7 @@ use crate::expansion::Expansion;
 use crate::operators::{from_one, from_two, name_of, on, on_two, only};
 use larch_base::{Bytes, Memory, Name, Sequence};
 use larch_term::{Operator, Operators, Sort, Sorts, Statement, Statements, Term, Terms, copy};
-use larch_traits_items::larch_raw::RawField;
+use larch_traits_items::from_raw::RawField;
 use std::alloc::Global;
 
 /// What belongs to a field of a tuple: its operators, the variable for its value and that for another value.

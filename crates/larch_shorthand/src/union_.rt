@@ -15,7 +15,7 @@ use crate::operators::{constant, constant_of, from_one, name_of, on};
 use crate::tuple::{getter, getters};
 use larch_base::{Memory, Name, Sequence};
 use larch_term::{Operator, Operators, Sort, Statement, Statements, Term, copy};
-use larch_traits_items::larch_raw::RawField;
+use larch_traits_items::from_raw::RawField;
 use std::alloc::Global;
 
 /// What belongs to a field of a union: its operators, its tag, and the variable for its value.

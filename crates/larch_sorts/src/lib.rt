@@ -16,6 +16,15 @@ mod width;
 pub use lone::read_lone;
 pub use read::read_in;
 
-// Passed on to crates above, which then needn't list them.
-pub use larch_sorts_signature;
-pub use larch_sorts_signature::{larch_sorts_known, larch_sorts_meaning};
+// Passed on to crates above, which then needn't list these crates.
+pub mod from_sorts_known {
+    pub use larch_sorts_signature::from_sorts_known::{SortSet, existing_sorts};
+}
+
+pub mod from_sorts_meaning {
+    pub use larch_sorts_meaning::{ReadRefusal, Scope};
+}
+
+pub mod from_sorts_signature {
+    pub use larch_sorts_signature::Signature;
+}

@@ -15,7 +15,7 @@ use crate::sides::anywhere;
 use crate::tabulate::table_of;
 use crate::unknown::unknown_sort;
 use larch_raw::RawEquation;
-use larch_sorts_signature::larch_sorts_meaning::{Found, ReadRefusal, Scope, equation_head};
+use larch_sorts_signature::from_sorts_meaning::{Found, ReadRefusal, Scope, equation_head};
 use larch_sorts_signature::table::{at, copy_found};
 use larch_sorts_signature::{Reading, Signature, term_of};
 use larch_term::{Sort, Term};

@@ -8,7 +8,7 @@ use crate::counted::counted_at;
 use crate::tabulate::table_of;
 use larch_base::{Memory, Name, Sequence};
 use larch_raw::{RawNode, RawTerm, RawTerms};
-use larch_sorts_signature::larch_sorts_meaning::{Found, ReadRefusal, Scope, variable_sort};
+use larch_sorts_signature::from_sorts_meaning::{Found, ReadRefusal, Scope, variable_sort};
 use larch_sorts_signature::table::at;
 use larch_sorts_signature::{Reading, Signature, maker_of};
 use larch_term::{Operator, Sort};

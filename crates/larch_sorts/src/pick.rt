@@ -6,9 +6,9 @@ ghost use Rattle.larch_sorts_signature.specs.SortsMeaningSignature.{operators_na
 use crate::narrow::variable_at;
 use larch_base::{Memory, Name, Sequence};
 use larch_raw::{RawNode, RawTerm, RawTerms};
-use larch_sorts_signature::larch_sorts_counts::tally::product;
-use larch_sorts_signature::larch_sorts_counts::{Count, Counted, Numbered};
-use larch_sorts_signature::larch_sorts_meaning::{Found, Scope, variable_sort};
+use larch_sorts_signature::from_sorts_counts::tally::product;
+use larch_sorts_signature::from_sorts_counts::{Count, Counted, Numbered};
+use larch_sorts_signature::from_sorts_meaning::{Found, Scope, variable_sort};
 use larch_sorts_signature::{Reading, Signature, maker_of};
 use larch_term::{Operator, Sort};
 use std::alloc::Global;

@@ -19,7 +19,7 @@ use crate::told::only_sides;
 use crate::unknown::unknown_sort;
 use larch_base::Memory;
 use larch_raw::RawEquation;
-use larch_sorts_signature::larch_sorts_meaning::{Found, ReadRefusal, Scope, equation_head};
+use larch_sorts_signature::from_sorts_meaning::{Found, ReadRefusal, Scope, equation_head};
 use larch_sorts_signature::{Signature, term_of};
 use larch_term::Statement;
 use std::alloc::Global;

@@ -9,7 +9,7 @@ ghost use Rattle.larch_sorts_signature.specs.SortsMeaningFoundFound.TheVariants.
 
 use crate::found::Sides;
 use larch_base::Memory;
-use larch_sorts_signature::larch_sorts_meaning::Found;
+use larch_sorts_signature::from_sorts_meaning::Found;
 use larch_sorts_signature::table::{at, copy_found, is_same, join};
 use larch_sorts_signature::{Reading, Table};
 use larch_term::{BuiltIn, Sort, bool_sort};

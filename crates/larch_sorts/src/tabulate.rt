@@ -12,7 +12,7 @@ ghost use Rattle.larch_sorts_signature.specs.Table.{reading_at};
 use larch_base::{Memory, Name, Sequence};
 use larch_raw::{RawNode, RawTerm, RawTerms};
 use larch_sorts_signature::application::apply_named;
-use larch_sorts_signature::larch_sorts_meaning::{
+use larch_sorts_signature::from_sorts_meaning::{
     Found, ReadRefusal, Scope, head_of, variable_sort,
 };
 use larch_sorts_signature::table::{narrow_to, single};

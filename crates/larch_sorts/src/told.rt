@@ -13,7 +13,7 @@ use crate::sides::truth;
 use larch_base::Memory;
 use larch_raw::{RawEquation, RawNode, RawTerm};
 use larch_sorts_signature::Signature;
-use larch_sorts_signature::larch_sorts_meaning::{Scope, variable_sort};
+use larch_sorts_signature::from_sorts_meaning::{Scope, variable_sort};
 use larch_term::{Sort, bool_sort};
 use std::alloc::Global;
 

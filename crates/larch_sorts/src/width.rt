@@ -1,7 +1,7 @@
 use crate::told::told_sort;
 use larch_base::Memory;
 use larch_raw::{RawNode, RawTerm, RawTerms};
-use larch_sorts_signature::larch_sorts_meaning::{Scope, variable_sort};
+use larch_sorts_signature::from_sorts_meaning::{Scope, variable_sort};
 use larch_sorts_signature::{Overloads, Signature};
 use larch_term::BuiltIn;
 

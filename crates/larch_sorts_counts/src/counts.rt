@@ -12,9 +12,9 @@ ghost use Rattle.larch_sorts_counts.specs.declared.count.Count.TheVariants.{Once
 use crate::count::Count;
 use crate::numbers::Numbers;
 use crate::tally::{SortCounts, alone, count_at, counts_made, total};
-use larch_sorts_meaning::larch_base::{Memory, Name, Sequence};
-use larch_sorts_meaning::larch_raw::{RawNode, RawTerm, RawTerms};
-use larch_sorts_meaning::larch_term::Sort;
+use larch_sorts_meaning::from_base::{Memory, Name, Sequence};
+use larch_sorts_meaning::from_raw::{RawNode, RawTerm, RawTerms};
+use larch_sorts_meaning::from_term::Sort;
 use larch_sorts_meaning::{ReadRefusal, Scope, head_of, variable_sort};
 use std::alloc::Global;
 

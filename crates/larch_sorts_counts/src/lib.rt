@@ -15,6 +15,13 @@ pub use number_list::NumberList;
 pub use numbers::{Numbered, Numbers, all_differ};
 pub use tally::SortCounts;
 
-// Passed on to crates above, which then needn't list them.
-pub use larch_sorts_meaning;
-pub use larch_sorts_meaning::larch_sorts_known;
+// Passed on to crates above, which then needn't list these crates.
+pub mod from_sorts_known {
+    pub use larch_sorts_meaning::from_sorts_known::{SortSet, existing_sorts, push_built_ins};
+}
+
+pub mod from_sorts_meaning {
+    pub use larch_sorts_meaning::{
+        Found, ReadRefusal, Scope, equation_head, head_of, variable_sort,
+    };
+}

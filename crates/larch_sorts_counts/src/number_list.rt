@@ -1,7 +1,7 @@
 ghost use Rattle.std.specs.Prelude.{◌≡◌, IfOk};
 ghost use Rattle.larch_sorts_counts.specs.NumberView.{view_held};
 
-use larch_sorts_meaning::larch_base::Memory;
+use larch_sorts_meaning::from_base::Memory;
 use std::alloc::Global;
 use std::marker::Model;
 use std::rc::RcSlice;

@@ -8,8 +8,8 @@ use crate::number_list::NumberList;
 use crate::tally::SortCounts;
 use crate::words::words_of;
 use indexmap::{IndexMap, IndexSet};
-use larch_sorts_meaning::larch_base::{Memory, Name, Sequence};
-use larch_sorts_meaning::larch_term::{Operator, Operators, Sort};
+use larch_sorts_meaning::from_base::{Memory, Name, Sequence};
+use larch_sorts_meaning::from_term::{Operator, Operators, Sort};
 use std::alloc::Global;
 
 // Names of at most so many operators come before those of more.

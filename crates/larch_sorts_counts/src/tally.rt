@@ -8,7 +8,7 @@ use crate::count::Count;
 use crate::counts::Counted;
 use crate::numbers::Numbered;
 use crate::pairing::count_pairs;
-use larch_sorts_meaning::larch_base::Memory;
+use larch_sorts_meaning::from_base::Memory;
 use std::alloc::Global;
 use std::marker::Model;
 

@@ -6,7 +6,7 @@ ghost use Rattle.larch_sorts_counts.specs.Numbers.{AreWords, numbers_under};
 use crate::numbers::Numbered;
 use crate::tally::{SortCounts, counts_made, made_between};
 use indexmap::IndexMap;
-use larch_sorts_meaning::larch_base::{Memory, Name, Sequence};
+use larch_sorts_meaning::from_base::{Memory, Name, Sequence};
 use std::alloc::Global;
 
 // The counts of a name are kept where they are at most so many times its operators.

@@ -3,7 +3,7 @@ ghost use Rattle.larch_term.specs.BuiltIn.{built_in, built_in_name, bool_sort};
 ghost use Rattle.larch_term.specs.Operator.{plain};
 ghost use Rattle.larch_sorts_known.specs.BuiltIns.{built_ins_at, propositional};
 
-use larch_term::larch_base::{Memory, Name, Sequence};
+use larch_term::from_base::{Memory, Name, Sequence};
 use larch_term::{BuiltIn, Operator, Operators, Sort, Sorts, bool_sort};
 use std::alloc::Global;
 

@@ -3,7 +3,7 @@ ghost use Rattle.std.specs.List.{fold, list_any};
 ghost use Rattle.larch_sorts_known.specs.Sorts.{with_sort, existing_sorts};
 
 use indexmap::IndexSet;
-use larch_term::larch_base::Memory;
+use larch_term::from_base::Memory;
 use larch_term::{Operator, Sort, bool_sort};
 use std::alloc::Global;
 use std::marker::Model;

@@ -13,8 +13,19 @@ pub use heads::{equation_head, head_of};
 pub use refusal::ReadRefusal;
 pub use scope::{Scope, variable_sort};
 
-// Passed on to crates above, which then needn't list them.
-pub use larch_base;
-pub use larch_raw;
-pub use larch_sorts_known;
-pub use larch_term;
+// Passed on to crates above, which then needn't list these crates.
+pub mod from_base {
+    pub use larch_base::{Memory, Name, Sequence};
+}
+
+pub mod from_raw {
+    pub use larch_raw::{RawNode, RawTerm, RawTerms};
+}
+
+pub mod from_sorts_known {
+    pub use larch_sorts_known::{SortSet, existing_sorts, push_built_ins};
+}
+
+pub mod from_term {
+    pub use larch_term::{Operator, Operators, Sort};
+}

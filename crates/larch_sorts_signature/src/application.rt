@@ -17,7 +17,7 @@ use crate::reading::Reading;
 use crate::table::Table;
 use indexmap::IndexMap;
 use larch_base::{Memory, Name};
-use larch_sorts_counts::larch_sorts_meaning::Found;
+use larch_sorts_counts::from_sorts_meaning::Found;
 use std::alloc::Global;
 
 // Arguments of few sorts are looked at first, and those of more only where the fewer leave more operators than that.

@@ -21,6 +21,17 @@ pub use reading::{Reading, term_of};
 pub use signature::{Signature, maker_of};
 pub use table::Table;
 
-// Passed on to crates above, which then needn't list them.
-pub use larch_sorts_counts;
-pub use larch_sorts_counts::{larch_sorts_known, larch_sorts_meaning};
+// Passed on to crates above, which then needn't list these crates.
+pub mod from_sorts_counts {
+    pub use larch_sorts_counts::{Count, Counted, Numbered, Numbers, SortCounts, counts_of, tally};
+}
+
+pub mod from_sorts_known {
+    pub use larch_sorts_counts::from_sorts_known::{SortSet, existing_sorts};
+}
+
+pub mod from_sorts_meaning {
+    pub use larch_sorts_counts::from_sorts_meaning::{
+        Found, ReadRefusal, Scope, equation_head, head_of, variable_sort,
+    };
+}

@@ -10,7 +10,7 @@ ghost use Rattle.larch_sorts_counts.specs.SortsMeaningFound.{merged_by};
 use crate::place::Place;
 use indexmap::IndexMap;
 use larch_base::Memory;
-use larch_sorts_counts::larch_sorts_meaning::Found;
+use larch_sorts_counts::from_sorts_meaning::Found;
 use larch_term::{Operator, same_operator};
 use std::alloc::Global;
 

@@ -9,7 +9,7 @@ use crate::reading::Reading;
 use crate::table::{Table, add, at};
 use indexmap::IndexMap;
 use larch_base::{Memory, Name, Sequence};
-use larch_sorts_counts::larch_sorts_meaning::Found;
+use larch_sorts_counts::from_sorts_meaning::Found;
 use larch_term::{Operator, Sort};
 use std::alloc::Global;
 

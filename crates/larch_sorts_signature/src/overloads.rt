@@ -11,7 +11,7 @@ use crate::place::Place;
 use crate::places::Places;
 use crate::table::Table;
 use larch_base::Memory;
-use larch_sorts_counts::larch_sorts_meaning::Found;
+use larch_sorts_counts::from_sorts_meaning::Found;
 use larch_term::{Operator, Operators};
 use std::alloc::Global;
 use std::marker::Model;

@@ -7,7 +7,7 @@ ghost use Rattle.larch_sorts_signature.specs.Table.{reading_at, merge, applicati
 use crate::reading::{Reading, same_reading};
 use indexmap::IndexMap;
 use larch_base::{Memory, Name, Sequence};
-use larch_sorts_counts::larch_sorts_meaning::Found;
+use larch_sorts_counts::from_sorts_meaning::Found;
 use larch_term::{Operator, Sort};
 use std::alloc::Global;
 use std::rc::Rc;

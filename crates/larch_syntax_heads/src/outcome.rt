@@ -3,7 +3,7 @@ ghost use Rattle.larch_grammar.specs.Machine.{at_head, outside, plainly};
 ghost use Rattle.larch_syntax_heads.specs.Outcome.{outcome};
 ghost use Rattle.larch_syntax_heads.specs.declared.outcome.Outcome.TheVariants.{Stops};
 
-use larch_grammar::larch_grammar_law::Mark;
+use larch_grammar::from_grammar_law::Mark;
 use larch_grammar::{Draft, Stack, State, Terminal, Whole};
 use larch_raw::RawTerm;
 

@@ -6,8 +6,8 @@ ghost use Rattle.larch_tables.specs.Spelling.{words, variables, arity, word_befo
 ghost use Rattle.larch_tables.specs.Spelling.{spelled_side, equation_of};
 
 use crate::row::{Side, Sides};
-use larch_calculus::larch_base::{Memory, Name, Sequence};
-use larch_calculus::larch_term::{BuiltIn, Sort, Statement, Term, Terms, bool_sort};
+use larch_calculus::from_base::{Memory, Name, Sequence};
+use larch_calculus::from_term::{BuiltIn, Sort, Statement, Term, Terms, bool_sort};
 use std::alloc::Global;
 
 // What the codes from 0 on stand for.

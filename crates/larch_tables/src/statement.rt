@@ -6,8 +6,8 @@ ghost use Rattle.larch_tables.specs.declared.statement.RowRefusal.TheVariants.{M
 use crate::row::Row;
 use crate::spelling::equation_of;
 use crate::tables::built_in;
-use larch_calculus::larch_base::Memory;
-use larch_calculus::larch_term::{Sort, Statement};
+use larch_calculus::from_base::Memory;
+use larch_calculus::from_term::{Sort, Statement};
 use std::alloc::Global;
 use thiserror::Error;
 

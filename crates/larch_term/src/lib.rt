@@ -35,5 +35,7 @@ pub use term::{Node, Term, Terms};
 pub use truth::is_truth;
 pub use variable::{Variable, Variables, add_variables, variables};
 
-// Passed on to crates above, which then needn't list them.
-pub use larch_base;
+// Passed on to crates above, which then needn't list these crates.
+pub mod from_base {
+    pub use larch_base::{Bytes, Memory, Name, Sequence, is_word, let_go};
+}

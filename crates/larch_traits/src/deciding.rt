@@ -4,7 +4,7 @@ ghost use Rattle.larch_traits.specs.Reading.{AreDeciding};
 use crate::files::Files;
 use crate::reading::read_files;
 use larch_base::{Memory, Name, Sequence};
-use larch_flat::larch_flat_sources::reached;
+use larch_flat::from_flat_sources::reached;
 use std::alloc::Global;
 
 /// The stems of the trait files that decide the trait of a stem and its duties: itself and all that is reached over

@@ -7,8 +7,8 @@ ghost use Rattle.larch_traits.specs.Reading.{read_files, read_text, with_file};
 
 use crate::files::Files;
 use larch_base::{Code, Fault, FileName, Memory, Name};
-use larch_duties_meaning::larch_traits_items::TraitRefusal;
-use larch_flat::larch_flat_sources::Sources;
+use larch_duties_meaning::from_traits_items::TraitRefusal;
+use larch_flat::from_flat_sources::Sources;
 use larch_lexer::{LexRefusal, Tokens, lex_lsl};
 use larch_syntax::{RawTrait, SyntaxRefusal, read_trait};
 use std::alloc::Global;

@@ -18,7 +18,23 @@ pub use references::find_operator;
 pub use refusal::TraitRefusal;
 pub use variables::declare_variables;
 
-// Passed on to crates above, which then needn't list them.
-pub use larch_raw;
-pub use larch_sorts;
-pub use larch_sorts::{larch_sorts_known, larch_sorts_meaning, larch_sorts_signature};
+// Passed on to crates above, which then needn't list these crates.
+pub mod from_raw {
+    pub use larch_raw::{RawField, RawShorthand, RawWord};
+}
+
+pub mod from_sorts {
+    pub use larch_sorts::read_lone;
+}
+
+pub mod from_sorts_known {
+    pub use larch_sorts::from_sorts_known::{SortSet, existing_sorts};
+}
+
+pub mod from_sorts_meaning {
+    pub use larch_sorts::from_sorts_meaning::{ReadRefusal, Scope};
+}
+
+pub mod from_sorts_signature {
+    pub use larch_sorts::from_sorts_signature::Signature;
+}

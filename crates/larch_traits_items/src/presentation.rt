@@ -6,7 +6,7 @@ use crate::declarations::declare;
 use crate::items::state_items;
 use crate::refusal::TraitRefusal;
 use larch_raw::RawTrait;
-use larch_sorts::larch_sorts_signature::Signature;
+use larch_sorts::from_sorts_signature::Signature;
 use larch_term::Theory;
 use std::alloc::Global;
 

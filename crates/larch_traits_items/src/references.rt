@@ -12,7 +12,7 @@ use crate::index::{Index, key_of, only_seen};
 use crate::refusal::TraitRefusal;
 use larch_base::{Code, Memory, Name, Sequence};
 use larch_raw::{ClauseKind, RawOpRef};
-use larch_sorts::larch_sorts_signature::Signature;
+use larch_sorts::from_sorts_signature::Signature;
 use larch_term::{Operator, Operators, Sort};
 use std::alloc::Global;
 

@@ -8,8 +8,8 @@ ghost use Rattle.larch_traits_items.specs.Variables.{variables_declared, with_de
 use crate::refusal::TraitRefusal;
 use larch_base::{Code, Pos};
 use larch_raw::RawVar;
-use larch_sorts::larch_sorts_meaning::Scope;
-use larch_sorts::larch_sorts_signature::Signature;
+use larch_sorts::from_sorts_meaning::Scope;
+use larch_sorts::from_sorts_signature::Signature;
 use std::alloc::Global;
 
 /// Variables as a scope, in order. `Wrong` has UNKNOWN-SORT at the first sort that doesn't exist, or else

@@ -9,7 +9,7 @@ ghost use Rattle.larch_verify_history.specs.Past.{IsPast, IsEquated, equated_in,
 use larch_base::{Memory, Sequence};
 use larch_certificate::{BoxPart, BoxParts, CodedEquation};
 use larch_term::Theory;
-use larch_verify_box_rules::larch_verify_decoding::decode_equation;
+use larch_verify_box_rules::from_verify_decoding::decode_equation;
 use larch_verify_history::{Context, EquatedList, KeptHistory};
 use larch_verify_pool::Pool;
 use std::alloc::Global;

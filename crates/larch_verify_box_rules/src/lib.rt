@@ -11,5 +11,7 @@ pub use cases::judge_cases;
 pub use fresh::judge_fresh;
 pub use induct::{Induction, judge_induct};
 
-// Passed on to crates above, which then needn't list them.
-pub use larch_verify_decoding;
+// Passed on to crates above, which then needn't list these crates.
+pub mod from_verify_decoding {
+    pub use larch_verify_decoding::decode_equation;
+}
