@@ -19,7 +19,7 @@ use larch_base::{FileName, Memory, Name};
 use larch_complete_answer::{Told, tell_completion};
 use larch_io::Folder;
 use larch_term::Theory;
-use larch_traits::larch_flat::flatten;
+use larch_traits::from_flat::flatten;
 use larch_traits::{Files, read_files};
 use larch_traits_items::TraitRefusal;
 use std::alloc::Global;

@@ -10,7 +10,7 @@ use larch_flat_gathering::Flat;
 use larch_flat_sources::Sources;
 use larch_flat_statements::MarkedStatements;
 use larch_term::{Statement, Statements, Theory, copy_operators, copy_statement};
-use larch_traits::larch_flat::FlatTraits;
+use larch_traits::from_flat::FlatTraits;
 use larch_traits_items::TraitRefusal;
 use std::alloc::Global;
 
