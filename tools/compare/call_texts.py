@@ -1,4 +1,4 @@
-"""Texts of traits, a script, certificates and files at the limits, for calls that name files: right ones and wrong ones."""
+"""Texts of traits, a script, certificates and files at the limits, for calls that name files: right and wrong ones."""
 LONG = "n" * 64 + ".lsl"
 TEXTS = {
     "One.lsl": b"One: trait\n  introduces\n    c: -> S\n",

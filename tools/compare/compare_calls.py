@@ -11,10 +11,10 @@ all rules of both versions, whatever that says.
 A quarter of the calls are over one folder of right and wrong traits, scripts, certificates and files at and above the
 limit of size. The others are over random sets of traits with claims (random_sets.py), a few calls over each set, with
 certificates for some of its duties: right ones (duty_proofs.py), tampered ones, and no certificates. The commands are
-`check`, `obligations`, `replay`, `derive`, `verify`, `migrate`, `complete`, `generate` and `session`, and words that mean
-none; names that are there, absent, twice, or no names; labels of duties that are there or not, and no labels; options in
-every place, doubled, without a value, unknown; `--`; more files than one call takes. A session gets a few random lines.
-Derivations are looked at by both, and not compared (derivations.py).
+`check`, `obligations`, `replay`, `derive`, `verify`, `migrate`, `complete`, `generate` and `session`, and words that
+mean none; names that are there, absent, twice, or no names; labels of duties that are there or not, and no labels;
+options in every place, doubled, without a value, unknown; `--`; more files than one call takes. A session gets a few
+random lines. The reference writes no derivations: those of the program are looked at as derivations.py says.
 
 The seed is printed first, and at the end how often each command ended with each status. Of the first five calls on
 which the two differ the words and the answers are printed, and the folder's files, the words and the input are kept in
@@ -45,8 +45,8 @@ CALLS_PER_SET, DUTIES_PER_SET, KEPT = 25, 8, 5
 NAMED = ("check", "obligations", "replay", "derive", "verify", "migrate", "complete", "generate", "session")
 ON_FILES = ("check", "obligations", "replay", "derive", "verify", "complete")
 # How often each command comes; the last ones are none.
-COMMANDS = [*["check", "obligations", "replay", "derive", "complete"] * 6, *["verify"] * 12, *["session", "migrate"] * 4,
-            *["generate"] * 3, "frobnicate", "Check", "", None]
+COMMANDS = [*["check", "obligations", "replay", "derive", "complete"] * 6, *["verify"] * 12,
+            *["session", "migrate"] * 4, *["generate"] * 3, "frobnicate", "Check", "", None]
 LABELS = ["imply.1", "imply.2", "imply.3", "assume.1", "convert.1", "convert.2", "imply.999999"]
 NO_LABELS = ["imply.0", "imply.01", "imply.1000000", "imply", "imply.", "imply.1 ", "Imply.1", "prove.1", "imply.1.1",
              ""]

@@ -1,6 +1,6 @@
 #!/usr/bin/env python3
-"""Compares a program with larch's command line with a reference on random sessions, replays and derivations of traits with
-scripts.
+"""Compares a program with larch's command line with a reference on random sessions, replays and derivations of traits
+with scripts.
 
     compare_reports.py PROGRAM REFERENCE [--count N] [--seed N] [--jobs N]
 
@@ -29,7 +29,7 @@ import random_reports
 from compare_calls import KEPT, Reference, answer, in_big_stack, keep, shown, started
 
 CALLS_PER_PART, CALLS_PER_DESK = 24, 8
-COMMANDS = ("session", "replay", "derive")
+COMMANDS, CALLS = ("session", "replay", "derive"), [random_reports.replay, random_reports.derive]
 
 
 class Reading:
@@ -74,7 +74,7 @@ def tried(number):
         if place_of % CALLS_PER_DESK == 0:
             desk = random_reports.Desk(pick, Reads)
             Ours.known.clear()
-        make = random_reports.session if place_of % 3 < 2 else pick.choice([random_reports.replay, random_reports.derive])
+        make = pick.choice(CALLS) if place_of % 3 == 2 else random_reports.session
         words, text, files = make(pick, desk.copy())
         files = {name: content.encode("latin-1") for name, content in files.items()}
         with tempfile.TemporaryDirectory() as place:

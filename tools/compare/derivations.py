@@ -1,5 +1,5 @@
-"""Derivations in what a program writes: the package `larchref` writes none, and says alone where one is owed. What stands
-there shows its duty, or it doesn't: `Checker` asks the program itself in other calls, and the reference."""
+"""Derivations in what a program writes: the package `larchref` writes none, and says alone where one is owed. What
+stands there shows its duty, or it doesn't: `Checker` asks the program itself in other calls, and the reference."""
 import pathlib
 import re
 import tempfile
@@ -21,7 +21,7 @@ class Duty(typing.NamedTuple):
 
 
 def remembered(main, owed, known):
-    """Has the reference put each duty into a list of which a session owes a derivation, and keep what blocks come to."""
+    """Has the reference list each duty of which a session owes a derivation, and keep what blocks come to."""
     evaluate = main.evaluate
 
     class Session(main.Session):

@@ -1,5 +1,5 @@
-"""Random traits with scripts, and sessions and calls over them, derivations of duties among what they ask for: `Desk` has the files of a session, and edits them.
-Scripts are dear to write, so a few calls are over copies of one desk.
+"""Random traits with scripts, and sessions and calls over them that ask for reports and derivations: `Desk` has the files
+of a session, and edits them. Scripts are dear to write, so a few calls are over copies of one desk.
 
 The traits are those of `block_traits.py`, with those that they refer to, or random sets that claim something
 (`random_sets.py`). A script has a preamble and blocks for some duties, in their order or another, written by what
@@ -238,7 +238,8 @@ def derive(pick, desk):
     """The words and the folder of a call that derives a duty of a desk's files."""
     front = ["derive", *a_duty(pick, desk)]
     if pick.random() < 0.04:
-        front[1:] = pick.choice([["Nope", "imply.1"], front[1:2], [front[1], pick.choice(NO_LABELS)], ["a-b", front[2]]])
+        front[1:] = pick.choice([["Nope", "imply.1"], front[1:2], [front[1], pick.choice(NO_LABELS)],
+                                 ["a-b", front[2]]])
     return call(pick, desk, front)
 
 

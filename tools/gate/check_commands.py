@@ -117,7 +117,7 @@ MODELS = {"Nat.mod": b"model\nsort N 2\nop 1 0\nop 2 1 0\nop 3 0 1 1 0\n", "Near
           "Near.mod": b"model\nsort S 2\nop 1 0\n", "Sixteen.mod": b"model\nsort S 16\nop 1 0\n",
           "Point.mod": b"model\nop 1 0\n", "Big.mod": b"model\n".ljust(1048577, b" ")}
 # Traits whose completions end in each way.
-COMPLETED = {
+ENDINGS = {
     "Rules.lsl": b"Rules: trait\n  introduces\n    g, f: -> S\n  asserts\n    f == g\n",
     "Com.lsl": b"Com: trait\n  introduces\n    __ + __: N, N -> N\n  asserts \\forall x, y: N\n    x + y == y + x\n",
     "Grown.lsl": b"Grown: trait\n  introduces\n    p: S, S -> S\n    c: -> S\n    f: S -> S\n  asserts\n"
@@ -347,7 +347,7 @@ def main():
     tests = Tests()
     with tempfile.TemporaryDirectory() as place:
         folder = pathlib.Path(place)
-        for name, text in {**call_texts.fixed_folder(), **MODELS, **COMPLETED, **TRIMMED}.items():
+        for name, text in {**call_texts.fixed_folder(), **MODELS, **ENDINGS, **TRIMMED}.items():
             (folder / name).write_bytes(text)
         (folder / "a-b.lsl").write_text("")
         agreement(tests, program, folder)

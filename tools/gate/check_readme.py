@@ -1,12 +1,13 @@
 #!/usr/bin/env python3
-"""Runs what README.md and docs/COMPLETION.md show: python3 tools/gate/check_readme.py PROGRAM [--unproved]
+"""Runs what README.md and two more pages show: python3 tools/gate/check_readme.py PROGRAM [--unproved]
 
-PROGRAM is a command, in quotes where it has words of its own. In a folder of each page each block `lsl` is written to
-the file of its trait, and each block `text` to the file that the paragraph above it names last; each line `$ COMMAND`
-of a block `console` is run by bash, `larch` being ./larch with PROGRAM; what it writes has to be the lines below it. A
-command of a tool in the running text of README.md has to end well. What builds the program is run by .ci/run, which has
-to have that line; the try without a proof takes a compiler a minute, and is run with --unproved alone. README.md has
-less than 1,200 words. Ends with 'N passed, N failed', and status 1 where one failed."""
+The other pages are docs/CERTIFICATES.md and docs/COMPLETION.md. PROGRAM is a command, in quotes where it has words of
+its own. In a folder of each page each block `lsl` is written to the file of its trait, and each block `text` to the
+file that the paragraph above it names last; each line `$ COMMAND` of a block `console` is run by bash, `larch` being
+./larch with PROGRAM; what it writes has to be the lines below it. A command of a tool in the running text of README.md
+has to end well. What builds the program is run by .ci/run, which has to have that line; the try without a proof takes a
+compiler a minute, and is run with --unproved alone. README.md has less than 1,200 words. Ends with 'N passed, N
+failed', and status 1 where one failed."""
 import os
 import pathlib
 import re
@@ -19,7 +20,7 @@ import tempfile
 from tests import Tests
 
 TOP = pathlib.Path(__file__).resolve().parents[2]
-PAGE, OTHERS = TOP / "README.md", [TOP / "docs/COMPLETION.md"]
+PAGE, OTHERS = TOP / "README.md", [TOP / "docs" / name for name in ("CERTIFICATES.md", "COMPLETION.md")]
 MOST_WORDS = 1200
 BLOCK = re.compile(r"((?:[^\n]+\n)*)\n```(\w+)\n(.*?)^```$", re.M | re.S)
 FILE, TRAIT = re.compile(r"`(\w+\.(?:lsl|lp|cert))`"), re.compile(r"\w+")
