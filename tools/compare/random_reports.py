@@ -1,5 +1,5 @@
-"""Random traits with scripts, and sessions and calls over them that ask for reports and derivations: `Desk` has the files
-of a session, and edits them. Scripts are dear to write, so a few calls are over copies of one desk.
+"""Random traits with scripts, and sessions and calls over them that ask for reports and derivations: `Desk` has the
+files of a session, and edits them. Scripts are dear to write, so a few calls are over copies of one desk.
 
 The traits are those of `block_traits.py`, with those that they refer to, or random sets that claim something
 (`random_sets.py`). A script has a preamble and blocks for some duties, in their order or another, written by what
