@@ -4,6 +4,7 @@ use Rattle.std.proofs.Common.{◌≤◌, ◌+◌, refl, sym, subst, ap, ◌∙�
 use Rattle.std.proofs.KnownBytes.{Consumes-nil, Appends-nil}
 use Rattle.std.specs.Prelude.{IfErr, IfOk, MatchBool, OnOk}
 use Rattle.std.specs.Io.KnownBytes.{Appends}
+use Rattle.larch_base.specs.declared.limits.TheConstants.{DEFAULT_REWRITING_LIMIT}
 use Rattle.larch_io.specs.Faults.{Rose}
 use Rattle.larch_io.specs.Folder.{FileMap}
 use Rattle.larch_io.specs.Put.{PutsFront}
@@ -26,7 +27,10 @@ use Rattle.larch_main_status.specs.declared.status.Status.TheVariants.{Memory, M
 use Rattle.larch_main_files.specs.Gather.{IsFolder}
 use Rattle.larch_main_files.specs.Migrate.{Migrated}
 use Rattle.larch_main_files.specs.Questions.{Answered, IsCertified, NamesModel, TrimsCertificate}
-use Rattle.larch_main.specs.Generate.{Generates, IsGenerationJustified, generation_answer, generation_steps}
+use Rattle.larch_report.specs.Counts.{counts_of, is_good}
+use Rattle.larch_main_files.specs.SessionMeaningFiles.{report_of}
+use Rattle.larch_main.specs.Generate.{Generates, IsGenerationJustified, generated_table, generation_answer}
+use Rattle.larch_main.specs.Generate.{generation_steps}
 use Rattle.larch_main.specs.Running.{usage_text, Output, Answers, Begins, WritesBefore, WritesFront, Writes}
 use Rattle.larch_main.specs.Running.{CallReports}
 use Rattle.larch_main.specs.Running.{CallTakes, KeepsFolder, KeepsSource, folder_failed, source_failed, Shows}
@@ -231,14 +235,17 @@ module _ (certificate : List ℕ) (told : Option FileMap) where
 module _ (traits : Generation) (text : List ℕ) (answer : Answer) (is_text : text ≡ answer.text)
     (is : answer ≡ generation_answer traits) where
   generation_is_said : IsSaid answer.status
-  generation_is_said = subst IsSaid (sym (ap (λ a. a.status) is)) (either_said _)
+  generation_is_said =
+      subst IsSaid (sym (ap (λ (a : Answer). a.status) is))
+      (either_said (is_good (counts_of (report_of DEFAULT_REWRITING_LIMIT (generated_table traits)))))
 
   pub generation_writes : (told : Option FileMap) (left held kept : Option (List ℕ)) (before now : ℕ)
       (result : Status) → Says held kept before now text answer.status result
       → Writes (call_.Generate traits) told left left held kept result
   generation_writes told left held kept =
       said_writes (call_.Generate traits) refl told left held kept (known_files told) text answer.status
-      (folder_is told) (is_text ∙ ap (λ a. a.text) is, ap (λ a. a.status) is) generation_is_said
+      (folder_is told) (is_text ∙ ap (λ (a : Answer). a.text) is, ap (λ (a : Answer). a.status) is)
+      generation_is_said
 
   pub generation_sink : (held kept : Option (List ℕ)) (before now : ℕ) (result : Status)
       → Says held kept before now text answer.status result → Counts (sink_failed result) before now
