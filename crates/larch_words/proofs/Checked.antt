@@ -10,11 +10,11 @@ use Rattle.clap.specs.Walk.{is_empty}
 use Rattle.larch_base.specs.FileName.{is_file_name, is_stem}
 use Rattle.larch_base.specs.declared.label.Label.{Label}
 use Rattle.larch_base.proofs.Bools.{and_right}
-use Rattle.larch_words.specs.Call.{are_files, asked, call_in, call_of, call_from, files_named, generate_call}
+use Rattle.larch_words.specs.Call.{are_files, asked, call_of, call_from, files_named, generate_call}
 use Rattle.larch_words.specs.Call.{generated_by, has_seed_or_size, is_certificate}
-use Rattle.larch_words.specs.Call.{certificate_call, certified_by, complete_call, completed_by, derive_call, derived_by}
-use Rattle.larch_words.specs.Call.{is_model, limited_call, migrate_call, migrated_by, on_files, plain_call}
-use Rattle.larch_words.specs.Call.{session_call, takes_limit, takes_seed, trial_call}
+use Rattle.larch_words.specs.Call.{certificate_call, certified_by, complete_call, derive_call, derived_by}
+use Rattle.larch_words.specs.Call.{is_model, limited_call, migrate_call, on_files, plain_call}
+use Rattle.larch_words.specs.Call.{takes_limit, takes_seed, trial_call}
 use Rattle.larch_words.specs.CommandLine.{Request, request_of}
 use Rattle.larch_words.specs.Options.{limit_of, read_seed, read_size}
 use Rattle.larch_base.specs.Label.{read_label}

@@ -4,7 +4,7 @@ use Rattle.std.proofs.Common.{None, refl, arith}
 use Rattle.std.proofs.lemmas.Bool.Decides.{nat_tests}
 use Rattle.std.specs.Option.{option_and_then}
 use Rattle.larch_base.specs.Number.{is_number, read_number, value_of}
-use Rattle.larch_words.specs.Options.{read_positive, read_seed, read_size}
+use Rattle.larch_words.specs.Options.{read_seed, read_size}
 use Rattle.larch_words.specs.declared.options.TheConstants.{MAX_SEED, MAX_SIZE}
 
 -- a number, where there is one, is no larger
