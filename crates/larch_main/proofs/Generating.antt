@@ -40,6 +40,7 @@ module _ (traits : Generation) where
     }
 
   -- all are
-  pub puts_all : (files : Table) (rest : List GeneratedFile) → rest ≡ [] → Puts traits files rest
+  pub puts_all : (files : Table) (rest : List GeneratedFile) → length rest ≡ 0 → Puts traits files rest
       → files ≡ generated_table traits
-  puts_all files rest none puts = ap (fold with_generated files) (sym none) ∙ puts.onward
+  puts_all files [] none puts = puts.onward
+  puts_all files (file ∷ rest) none puts = cc

@@ -1,4 +1,4 @@
-ghost use Rattle.std.specs.Prelude.{◌≡◌, ◌<◌, ◌+◌, ◌++◌, ◌∷◌, [], get_or, length, slice_get, take, IfOk, None, Some};
+ghost use Rattle.std.specs.Prelude.{◌≡◌, ◌<◌, ◌+◌, ◌++◌, ◌∷◌, [], get_or, length, slice_get, take, true, IfOk, None, Some};
 ghost use Rattle.larch_base.specs.Answering.{Answers};
 ghost use Rattle.larch_traits.specs.FlatKnown.{AreAllKnown, Knows, is_known, stop_told};
 ghost use Rattle.larch_flat_meaning.specs.Gathered.{statements_in};

@@ -21,4 +21,5 @@ put-requires c =
 
 pub returns : goal.returns
 returns c =
-    puts_all c.args.traits c.loop-file.files c.loop-file.file-iterator.rest.items ? c.loop-file.invariant
+    puts_all c.args.traits c.loop-file.files c.loop-file.file-iterator.rest.items
+    (sym c.loop-file.file-iterator.rest.ok.0 ∙ c.in-None.ensures.steps.0) c.loop-file.invariant
