@@ -3,12 +3,14 @@
 
 PROGRAM is a command, in quotes where it has words of its own. A SET is `generate`, `handbook` or `rows`; without one all
 are looked at. `generate` is the traits that `larch generate --seed 1 --size 8` makes; `rows` the calls of a file of
-worked rows, where it lies beside the repository (--rows). Of each duty that is proved a derivation is asked for, and of
-that what trimming leaves of it. For each set: how many there are, their lines and bytes, the lines that are left, and
-the lines by rule. With --reference, the folder of a Python package `larchref`, it is told too how many applications of
-rules the proofs took, those of the lemmas in a derivation among them: a normal form that was known counts as often as it
-served. `python3 bench/derivations.py PROGRAM --chain N` times the derivation of the last of N duties of which each is
-proved by the one before it, of half as many, and of a quarter: its lines, seconds, and the peak of memory."""
+worked rows, where it lies beside the repository (--rows). Of each duty that is proved a derivation is asked for, and
+of that what trimming leaves of it. For each set: how many there are, their lines and bytes, the lines that are left,
+and the lines by rule. With --reference, the folder of a Python package `larchref`, it is told too how many applications
+of rules the proofs took, those of the lemmas in a derivation among them: a normal form that was known counts as often
+as it served.
+
+`python3 bench/derivations.py PROGRAM --chain N` times the derivation of the last of N duties of which each is proved by
+the one before it, of half as many, and of a quarter: its lines, seconds, and the peak of memory."""
 import argparse
 import collections
 import importlib
