@@ -1,8 +1,8 @@
 #!/usr/bin/env python3
 """Tells how long derivations are: python3 bench/derivations.py PROGRAM [SET ..] [--reference FOLDER] [--rows FILE]
 
-PROGRAM is a command, in quotes where it has words of its own. A SET is `generate`, `handbook` or `rows`; without one all
-are looked at. `generate` is the traits that `larch generate --seed 1 --size 8` makes; `rows` the calls of a file of
+PROGRAM is a command, in quotes where it has words of its own. A SET is `generate`, `handbook` or `rows`; without one
+all are looked at. `generate` is the traits that `larch generate --seed 1 --size 8` makes; `rows` the calls of a file of
 worked rows, where it lies beside the repository (--rows). Of each duty that is proved a derivation is asked for, and
 of that what trimming leaves of it. For each set: how many there are, their lines and bytes, the lines that are left,
 and the lines by rule. With --reference, the folder of a Python package `larchref`, it is told too how many applications
