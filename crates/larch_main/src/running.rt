@@ -62,7 +62,8 @@ pub fn run<F: Folder, S: Source, K: Sink, L: Ledger>(
         (S.left source.old) (S.left source.new) (K.held sink.old) (K.held sink.new) result }
     // Where `verify` or `trim` ends well, the duty that it was asked for is derivable from its theory, and fails in no
     // model; where `derive` does, `verify` accepts what was written for the duty.
-    ensures shown { Shows (call_of (map string_bytes words.now)) (F.files folder.old) result }
+    ensures shown { Shows (call_of (map string_bytes words.now)) (F.files folder.old)
+        (K.held sink.old) (K.held sink.new) result }
     // Each duty that a report calls proved is derivable from its own theory, and a step is counted at most for each
     // opening of a duty and each command that the reports replay.
     ensures reports { CallReports (call_of (map string_bytes words.now)) (F.files folder.old)

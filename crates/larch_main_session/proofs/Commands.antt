@@ -17,7 +17,7 @@ use Rattle.larch_main_session.specs.declared.command.Command.TheVariants.{Derive
 use Rattle.larch_main_status.specs.declared.status.Status.TheVariants.{Malformed, Size}
 use Rattle.larch_prove_meaning.specs.Redo.{redo}
 use Rattle.larch_report.specs.Counts.{counts_of, is_good}
-use Rattle.larch_session_derive.specs.SessionSourcesJustified.{IsJustifiedReport}
+use Rattle.larch_session.specs.SessionSourcesJustified.{IsJustifiedReport}
 use Rattle.larch_session.specs.declared.session.Session.{Session as Holder}
 use Rattle.larch_session_derive_meaning.specs.SessionMeaningFiles.{report_of}
 use Rattle.larch_session_derive_meaning.specs.SessionMeaningRedone.{replayed_on}

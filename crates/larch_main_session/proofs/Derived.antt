@@ -43,8 +43,8 @@ module _ (limit : ℕ) (files : Table) (stem : List ℕ) (label : Label) where
 
   none_where_said : (written : List ℕ) (derivation : Option (List Line)) → Derives limit files stem label derivation
       → written ≡ derivation_reply derivation → written ≡ codes "none\n" → Derives limit files stem label None
-  none_where_said written None derives is said = derives
-  none_where_said written (Some lines) derives is said = some_is_not_none lines (sym is ∙ said)
+  none_where_said written None derives is none = derives
+  none_where_said written (Some lines) derives is none = some_is_not_none lines (sym is ∙ none)
 
   said_where_none : (written : List ℕ) (derivation : Option (List Line)) → Derives limit files stem label derivation
       → written ≡ derivation_reply derivation → Derives limit files stem label None → written ≡ codes "none\n"
@@ -56,8 +56,8 @@ module _ (limit : ℕ) (files : Table) (stem : List ℕ) (label : Label) where
   pub none_is_said : (written : List ℕ) → SpellsDerivation limit files stem label written
       → (written ≡ codes "none\n") ↔ (calls_proved (report_of limit files) stem label ≡ false)
   none_is_said written s = (
-    λ said. (none_derived limit files stem label).0
-        (none_where_said written s.derivation s.derives s.is_text said),
+    λ none. (none_derived limit files stem label).0
+        (none_where_said written s.derivation s.derives s.is_text none),
     λ unproved. said_where_none written s.derivation s.derives s.is_text
         ((none_derived limit files stem label).1 unproved),
   )

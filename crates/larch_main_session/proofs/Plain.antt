@@ -1,5 +1,5 @@
 -- Words of plain bytes: names, lengths and labels.
-use Rattle.std.proofs.Common.{◌≡◌, ℕ, ◌+◌, ◌≤◌, ◌&&◌, ◌||◌, Bool, true, false, not, ◌==◌, nat_le, nat_lt, List}
+use Rattle.std.proofs.Common.{◌≡◌, ℕ, ◌≤◌, ◌&&◌, ◌||◌, Bool, true, false, not, ◌==◌, nat_le, nat_lt, List}
 use Rattle.std.proofs.Common.{[], ◌∷◌, ◌++◌, length, take, drop, fold, Option, Some, None, cond, refl, sym, subst}
 use Rattle.std.proofs.Common.{◌⊎◌, inl, inr, ap₂, ◌∙◌, arith, codes, length-append}
 use Rattle.std.specs.Prelude.{option_and_then, option_map}
@@ -55,7 +55,9 @@ IsShortWord most word = All IsPlain word × (length word ≤ most)
 
 pub stem_word : (stem : List ℕ) → is_stem stem ≡ true → IsShortWord 64 stem
 stem_word stem e =
-    let few : nat_le (length stem) 64 ≡ true = and_right _ _ (and_left _ _ e) in
+    let within : (nat_lt 0 (length stem) && nat_le (length stem) 64) ≡ true =
+    and_left _ (list_all is_stem_byte stem) e in
+    let few : nat_le (length stem) 64 ≡ true = and_right (nat_lt 0 (length stem)) (nat_le (length stem) 64) within in
     (plain_by is_stem_byte stem_byte_plain stem (and_right _ _ e), grind (arith, nat_tests, few))
 
 -- ---- labels

@@ -240,7 +240,7 @@ line_refused p reader x y n take_.ReadFault result t why is =
       refl,
     )
 line_refused p reader x y n take_.End result t why is =
-    stop_moves _ p (record p { reader = reader }) x y n t.given nothing _ result t.reads
+    stop_moves _ p (record p { reader = reader }) x y n t.given [] _ result t.reads
     (λ ended rest follows.
     let at_end = follows why.1 in
     let none : p.reader.kept ++ (t.given ++ rest) ≡ [] = nothing_taken p.reader.kept t.given reader.kept rest t.moved

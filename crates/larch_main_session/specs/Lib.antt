@@ -9,4 +9,4 @@ pub mod Reports
 pub mod Session
 pub mod SoFar
 -- passed on to crates above, which then needn't list the crates that these are of
-pub use Rattle.larch_session_derive.specs.SessionSourcesJustified as SessionSourcesJustified
+pub use Rattle.larch_session.specs.SessionSourcesJustified as SessionSourcesJustified

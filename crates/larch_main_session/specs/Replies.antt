@@ -4,7 +4,7 @@ use Rattle.larch_base.specs.declared.label.Label.{Label}
 use Rattle.larch_certificate.specs.declared.line.Line.{Line}
 use Rattle.larch_prove_meaning.specs.Redo.{redo}
 use Rattle.larch_report.specs.Text.{report_text}
-use Rattle.larch_session_derive.specs.SessionSourcesJustified.{IsJustifiedReport}
+use Rattle.larch_session.specs.SessionSourcesJustified.{IsJustifiedReport}
 use Rattle.larch_session_derive_meaning.specs.Derived.{Derives, derivation_reply}
 use Rattle.larch_session_derive_meaning.specs.Verified.{IsVerified}
 use Rattle.larch_session_derive_meaning.specs.SessionMeaningFiles.{report_of}

@@ -7,7 +7,7 @@ ghost use Rattle.larch_main_session.specs.Progress.{Follows, IsAnswer, IsStop, N
 ghost use Rattle.larch_main_session.specs.Replies.{reported, derived};
 ghost use Rattle.larch_prove_meaning.specs.Redo.{redo};
 ghost use Rattle.larch_report.specs.Counts.{counts_of, is_good};
-ghost use Rattle.larch_session_derive.specs.SessionSourcesJustified.{IsJustifiedReport};
+ghost use Rattle.larch_session.specs.SessionSourcesJustified.{IsJustifiedReport};
 ghost use Rattle.larch_session_derive_meaning.specs.SessionMeaningFiles.{report_of};
 ghost use Rattle.larch_session_derive_meaning.specs.SessionMeaningRedone.{replayed_on};
 ghost use Rattle.larch_main_session.specs.Session.{start, status_of, malformed_text, large_text};

@@ -1,11 +1,8 @@
-ghost use Rattle.std.specs.Prelude.{◌≡◌, ◌<◌};
-
-use larch_base::{Bytes, Memory, Name, Steps};
-use larch_io::{CleanSource, MemoryFolder, MemorySink};
-use larch_main::{Status, run};
+use crate::calls::{REPORT, SCRIPT, TRUTHS, call_over, put, verify};
+use larch_base::Memory;
+use larch_io::{MemoryFolder, MemorySink};
+use larch_main::Status;
 use std::alloc::Global;
-use std::marker::Brand;
-use std::sync::ledger::{Blank, Ledger};
 use std::test::Fail;
 
 const ONE: &[u8] = b"One: trait\n  introduces\n    c: -> S\n  implies\n    c == c\n";
@@ -28,67 +25,35 @@ const HOLDS: &[u8] = b"model\nimply.1 holds\nend\n";
 
 const LISTED: &[u8] = b"trait One\nop c: -> S\nimply.1 c == c\ntrait Two error 3:7 SYNTAX\nend\n";
 
+// A report on the third trait without its script.
+const WITHOUT_SCRIPT: &[u8] = b"trait Truths\nimply.1 suspended goals 1: holds(b)\n\
+    imply.2 suspended goals 1: b\n\
+    total 1 traits, 0 errors, 0 proved, 2 suspended, 0 refused\nend\n";
+
 const ONE_ALONE: &[u8] =
     b"trait One\ntotal 1 traits, 0 errors, 0 proved, 0 suspended, 0 refused\nend\n";
 
-// The status of a call with these words over this folder, its steps being counted in a ledger of their own.
-fn status_over<L: Ledger>(
-    rt: &HostRuntime,
-    blank: Blank,
-    words: &[String],
-    folder: &mut MemoryFolder,
-    sink: &mut MemorySink,
-) -> Result<Status, Memory>
-    requires name { blank.name ≡ L.name }
-    requires parts { blank.parts ≡ L.parts }
-    requires some { 0 < L.parts }
-{
-    let mut source = CleanSource::new(rt.alloc(), b"")?;
-    let mut steps: Steps<L> = Steps::start(blank, rt);
-    Ok(run(rt.alloc(), words, folder, &mut source, sink, &mut steps))
-}
-
-// The same, with a ledger.
-fn status_of(
-    rt: &HostRuntime,
-    words: &[String],
-    folder: &mut MemoryFolder,
-    sink: &mut MemorySink,
-) -> Result<Status, Memory> {
-    status_over::<Brand>(rt, Blank::new(1), words, folder, sink)
-}
-
-// These words.
-fn words_of(alloc: Global, texts: &[&str]) -> Result<Vec<String>, Memory> {
-    let mut words = Vec::new(alloc);
-    for text in texts {
-        words.push(String::from_str(alloc, text)?)?;
-    }
-    Ok(words)
-}
-
-// Puts a file into a folder.
-fn put(alloc: Global, folder: &mut MemoryFolder, name: &[u8], text: &[u8]) -> Result<(), Memory> {
-    let mut bytes = Bytes::new(alloc);
-    bytes.append(text)?;
-    folder.insert(Name::new(alloc, name)?, bytes)
-}
-
-// A folder with two traits, of which the second is wrong, a script, two certificates of what the first one implies, and
-// a model of it.
-fn two_traits(alloc: Global, failing: &[u64]) -> Result<MemoryFolder, Memory> {
+// A folder with two traits, of which the second is wrong, a file that is no script, two certificates of what the first
+// one implies, a model of it, and a third trait with its script.
+fn folder_of(alloc: Global, failing: &[u64]) -> Result<MemoryFolder, Memory> {
     let mut folder = MemoryFolder::new(alloc, failing)?;
-    put_all(alloc, &mut folder)?;
+    put_two(alloc, &mut folder)?;
+    put_third(alloc, &mut folder)?;
     Ok(folder)
 }
 
-fn put_all(alloc: Global, folder: &mut MemoryFolder) -> Result<(), Memory> {
+fn put_two(alloc: Global, folder: &mut MemoryFolder) -> Result<(), Memory> {
     put(alloc, folder, b"One.lsl", ONE)?;
     put(alloc, folder, b"Two.lsl", WRONG)?;
     put(alloc, folder, b"One.lp", b"not looked at")?;
     put(alloc, folder, b"One.cert", REFLEXIVE)?;
     put(alloc, folder, b"Idle.cert", IDLE)?;
     put(alloc, folder, b"One.mod", MODEL)
+}
+
+fn put_third(alloc: Global, folder: &mut MemoryFolder) -> Result<(), Memory> {
+    put(alloc, folder, b"Truths.lsl", TRUTHS)?;
+    put(alloc, folder, b"Truths.lp", SCRIPT)
 }
 
 // What a call with these words writes, one byte at a time, where the listed looks at the folder and writes fail.
@@ -98,11 +63,8 @@ fn called_with(
     looks: &[u64],
     writes: &[u64],
 ) -> Result<(Status, MemorySink), Memory> {
-    let words = words_of(rt.alloc(), texts)?;
-    let mut folder = two_traits(rt.alloc(), looks)?;
-    let mut sink = MemorySink::new(rt.alloc(), writes, 1)?;
-    let status = status_of(rt, &words, &mut folder, &mut sink)?;
-    Ok((status, sink))
+    let mut folder = folder_of(rt.alloc(), looks)?;
+    call_over(rt, texts, &mut folder, writes)
 }
 
 // The same, where no write fails.
@@ -245,6 +207,69 @@ fn lists_obligations(rt: HostRuntime) -> Result<(), Fail> {
     let (status, sink) = call_status(&rt, &["obligations", "Two.lsl", "One.lsl"], &[])?;
     assert_eq!(rt; status, Status::Remains);
     assert_eq!(rt; sink.bytes(), LISTED);
+    Ok(())
+}
+
+#[test]
+fn replays_by_a_script(rt: HostRuntime) -> Result<(), Fail> {
+    let (status, sink) = call_status(&rt, &["replay", "Truths.lp", "Truths.lsl"], &[])?;
+    assert_eq!(rt; status, Status::Remains);
+    assert_eq!(rt; sink.bytes(), REPORT);
+    let (status, sink) = call_status(&rt, &["replay", "Truths.lsl"], &[])?;
+    assert_eq!(rt; status, Status::Remains);
+    assert_eq!(rt; sink.bytes(), WITHOUT_SCRIPT);
+    Ok(())
+}
+
+// Each fault of the folder is told, with nothing written; where a write fails, a front of the report was written.
+#[test]
+fn replays_over_faults(rt: HostRuntime) -> Result<(), Fail> {
+    let words = ["replay", "Truths.lsl", "Truths.lp"];
+    let wrong = first_wrong_look(&rt, &words, 3)?;
+    assert_eq!(rt; wrong, None);
+    let wrong = first_wrong_write(&rt, &words, REPORT)?;
+    assert_eq!(rt; wrong, None);
+    Ok(())
+}
+
+// What is derived is accepted in another call; and not for the other duty.
+#[test]
+fn derives_what_is_verified(rt: HostRuntime) -> Result<(), Fail> {
+    let words = ["derive", "Truths", "imply.1", "Truths.lsl", "Truths.lp"];
+    let (status, sink) = call_status(&rt, &words, &[])?;
+    assert_eq!(rt; status, Status::Good);
+    let (status, said) = verify(&rt, "imply.1", sink.bytes())?;
+    assert_eq!(rt; status, Status::Good);
+    assert_eq!(rt; said.bytes(), b"accepted\n".as_slice());
+    let (status, _) = verify(&rt, "imply.2", sink.bytes())?;
+    assert_eq!(rt; status, Status::Remains);
+    Ok(())
+}
+
+// A duty that is left open, one that isn't there, and a trait that isn't.
+#[test]
+fn derives_nothing_else(rt: HostRuntime) -> Result<(), Fail> {
+    for (stem, label) in [
+        ("Truths", "imply.2"),
+        ("Truths", "imply.3"),
+        ("Other", "imply.1"),
+    ] {
+        let words = ["derive", stem, label, "Truths.lsl", "Truths.lp"];
+        let (status, sink) = call_status(&rt, &words, &[])?;
+        assert_eq!(rt; status, Status::Remains, "{stem} {label}");
+        assert_eq!(rt; sink.bytes(), b"none\n".as_slice(), "{stem} {label}");
+    }
+    Ok(())
+}
+
+#[test]
+fn derives_over_faults(rt: HostRuntime) -> Result<(), Fail> {
+    let words = ["derive", "One", "imply.1", "One.lsl", "Truths.lp"];
+    let wrong = first_wrong_look(&rt, &words, 3)?;
+    assert_eq!(rt; wrong, None);
+    let (_, whole) = call_status(&rt, &words, &[])?;
+    let wrong = first_wrong_write(&rt, &words, whole.bytes())?;
+    assert_eq!(rt; wrong, None);
     Ok(())
 }
 

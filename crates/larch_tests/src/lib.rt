@@ -2,6 +2,10 @@
 #![tactic(auto)]
 
 #[cfg(test)]
+mod calls;
+#[cfg(test)]
 mod files;
+#[cfg(test)]
+mod scripts;
 #[cfg(test)]
 mod streams;

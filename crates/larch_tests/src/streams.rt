@@ -1,11 +1,6 @@
-ghost use Rattle.std.specs.Prelude.{◌≡◌, ◌<◌};
-
-use larch_base::{Memory, Steps};
-use larch_io::{CleanFolder, MemorySink, MemorySource};
-use larch_main::{Status, run};
-use std::alloc::Global;
-use std::marker::Brand;
-use std::sync::ledger::{Blank, Ledger};
+use crate::calls::{session, status_over};
+use larch_io::{MemorySink, MemorySource};
+use larch_main::Status;
 use std::test::Fail;
 
 const ONE: &[u8] = b"put One.lsl 36\nOne: trait\n  introduces\n    c: -> S\nreport\nquit\n";
@@ -17,53 +12,6 @@ const CUT: &[u8] = b"report\nput One.lsl 36\nOne: trait\n";
 
 const CUT_OUTPUT: &[u8] =
     b"total 0 traits, 0 errors, 0 proved, 0 suspended, 0 refused\nend\nmalformed at byte 7\n";
-
-// The status of a session over these streams, its steps being counted in a ledger of their own.
-fn session_status<L: Ledger>(
-    rt: &HostRuntime,
-    blank: Blank,
-    words: &[String],
-    source: &mut MemorySource,
-    sink: &mut MemorySink,
-) -> Status
-    requires name { blank.name ≡ L.name }
-    requires parts { blank.parts ≡ L.parts }
-    requires some { 0 < L.parts }
-{
-    let mut folder = CleanFolder::new(rt.alloc());
-    let mut steps: Steps<L> = Steps::start(blank, rt);
-    run(rt.alloc(), words, &mut folder, source, sink, &mut steps)
-}
-
-// The status of a call with these words over these streams.
-fn status_of(
-    rt: &HostRuntime,
-    words: &[String],
-    source: &mut MemorySource,
-    sink: &mut MemorySink,
-) -> Status {
-    session_status::<Brand>(rt, Blank::new(1), words, source, sink)
-}
-
-fn word(alloc: Global, text: &str) -> Result<Vec<String>, Memory> {
-    let mut words = Vec::new(alloc);
-    words.push(String::from_str(alloc, text)?)?;
-    Ok(words)
-}
-
-// What a session on this input writes, one byte a call on both sides, where the listed calls fail.
-fn session(
-    rt: &HostRuntime,
-    input: &[u8],
-    reads: &[u64],
-    writes: &[u64],
-) -> Result<(Status, MemorySink), Memory> {
-    let words = word(rt.alloc(), "session")?;
-    let mut source = MemorySource::new(rt.alloc(), input, reads, 1)?;
-    let mut sink = MemorySink::new(rt.alloc(), writes, 1)?;
-    let status = status_of(rt, &words, &mut source, &mut sink);
-    Ok((status, sink))
-}
 
 #[test]
 fn answers_byte_by_byte(rt: HostRuntime) -> Result<(), Fail> {
@@ -117,10 +65,9 @@ fn keeps_a_front_at_a_write_fault(rt: HostRuntime) -> Result<(), Fail> {
 
 #[test]
 fn takes_no_other_words(rt: HostRuntime) -> Result<(), Fail> {
-    let words = word(rt.alloc(), "frobnicate")?;
     let mut source = MemorySource::new(rt.alloc(), ONE, &[1], 1)?;
     let mut sink = MemorySink::new(rt.alloc(), &[], 7)?;
-    let status = status_of(&rt, &words, &mut source, &mut sink);
+    let status = status_over(&rt, &["frobnicate"], &mut source, &mut sink)?;
     assert_eq!(rt; status, Status::Words);
     assert!(rt; sink.bytes().starts_with(b"usage: larch COMMAND"));
     Ok(())
