@@ -42,6 +42,8 @@ import random_sets
 from call_texts import AT_LIMITS, CERTIFICATES, TEXTS
 
 CALLS_PER_SET, DUTIES_PER_SET, KEPT = 25, 8, 5
+# How long a call of the program may take, also where other work is done beside it.
+SECONDS = 1200
 NAMED = ("check", "obligations", "replay", "derive", "verify", "migrate", "complete", "generate", "session")
 ON_FILES = ("check", "obligations", "replay", "derive", "verify", "complete")
 # How often each command comes; the last ones are none.
@@ -281,7 +283,7 @@ def answer(program, words, text, place):
     """What the program writes, and its status; none where it comes to no end."""
     try:
         done = subprocess.run(program + words, input=text, cwd=place, stdout=subprocess.PIPE,
-                              stderr=subprocess.DEVNULL, timeout=300, check=False)
+                              stderr=subprocess.DEVNULL, timeout=SECONDS, check=False)
     except subprocess.TimeoutExpired as trouble:
         return repr(trouble).encode(), None
     return done.stdout, done.returncode

@@ -16,9 +16,9 @@ import shlex
 import shutil
 import subprocess
 import sys
-import tempfile
 
 sys.path[:0] = [str(pathlib.Path(__file__).resolve().parents[1] / part) for part in ("", "make")]
+import derived  # noqa: E402
 import make_handbook  # noqa: E402
 from desk import TOP  # noqa: E402
 from companions.scope import reached  # noqa: E402
@@ -27,7 +27,6 @@ from tests import Tests  # noqa: E402
 BOOK, TOLD = TOP / "examples/handbook", TOP / "docs/HANDBOOK.md"
 TRAITS, DUTIES = 60, 600
 DUTY = re.compile(r"^(?:assume|imply|convert)\.\d+ ")
-DERIVATION = re.compile(rb"derivation (\d+)\n")
 TOTAL = "total {} traits, 0 errors, {} proved, 0 suspended, 0 refused\nend\n"
 
 
@@ -80,37 +79,19 @@ def replayed(tests, program, traits, duties):
     tests.see("replay: the count", written[-len(TOTAL.format(len(traits), count)):], TOTAL.format(len(traits), count))
 
 
-def derivations(program, name, labels, files):
-    """What a session derives of the duties of a trait with these labels: a text for each, empty where there is none."""
-    put = [b"put %s %d\n%s" % (file.encode(), len(text), text) for file, text in files.items()]
-    derive = [f"derive {name} {label}\n".encode() for label in labels]
-    done = subprocess.run([*program, "session"], input=b"".join(put + derive), stdout=subprocess.PIPE, timeout=1200,
-                          check=False)
-    place, found = 0, []
-    while len(found) < len(labels):
-        head = DERIVATION.match(done.stdout, place)
-        start = head.end() if head else place + len(b"none\n")
-        place = start + (int(head[1]) if head else 0)
-        found.append(done.stdout[start:place])
-    return found
-
-
 def verdicts(program, name, labels):
     """What `verify` says of each derivation of a trait's duties, and how many lines they have."""
-    texts = {path.name: path.read_bytes() for path in BOOK.glob("*.lsl")}
-    names = reached(texts, f"{name}.lsl")
-    files = {**{file: texts[file] for file in names}, f"{name}.lp": (BOOK / f"{name}.lp").read_bytes()}
+    texts = {path.name: path.read_bytes() for path in BOOK.glob("*.l*")}
+    files = {file: texts[file] for file in [*reached(texts, f"{name}.lsl"), f"{name}.lp"]}
+    duties = [(name, label) for label in labels]
     said, lines = [], 0
-    with tempfile.TemporaryDirectory() as place:
-        for label, text in zip(labels, derivations(program, name, labels, files)):
-            path = pathlib.Path(place, "Derived.cert")
-            path.write_bytes(text)
-            said.append((label, *run(program, "verify", name, label, str(path), *names)))
-            lines += max(0, text.count(b"\n") - 1)
+    for duty, text in zip(duties, derived.derivations(program, files, duties)):
+        said.append((duty[1], derived.told(program, "verify", files, duty, text)))
+        lines += max(0, text.count(b"\n") - 1)
     return name, said, lines
 
 
-def derived(tests, program, duties):
+def verified(tests, program, duties):
     """What is derived of each duty is accepted, as far as the program derives."""
     if run(program, "derive", "Nope", "imply.1", next(BOOK.glob("*.lsl")).name)[1] == 2:
         print("left out: the program doesn't derive")
@@ -120,8 +101,8 @@ def derived(tests, program, duties):
     with multiprocessing.pool.ThreadPool() as pool:
         for name, said, lines in pool.starmap(verdicts, asked, chunksize=1):
             count += lines
-            for label, *answer in said:
-                tests.see(f"verify of what is derived of {name} {label}", answer, ["accepted\n", 0])
+            for label, answer in said:
+                tests.see(f"verify of what is derived of {name} {label}", answer, (b"accepted\n", 0))
     print(f"derivations: {count} lines")
 
 
@@ -168,7 +149,7 @@ def main():
     tables(tests)
     told(tests, duties)
     replayed(tests, program, traits, duties)
-    derived(tests, program, duties)
+    verified(tests, program, duties)
     return tests.end("handbook")
 
 
