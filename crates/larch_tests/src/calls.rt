@@ -47,19 +47,16 @@ pub(crate) fn status_of(
     status_counted::<Brand>(rt, Blank::new(1), words, folder, source, sink)
 }
 
-// What a call with these words writes over this folder, one byte at a time, where the listed writes fail. Its input is
-// empty.
-pub(crate) fn call_over(
+// The same, where the input is empty.
+pub(crate) fn status_on(
     rt: &HostRuntime,
     texts: &[&str],
     folder: &mut MemoryFolder,
-    writes: &[u64],
-) -> Result<(Status, MemorySink), Memory> {
+    sink: &mut MemorySink,
+) -> Result<Status, Memory> {
     let words = words_of(rt.alloc(), texts)?;
     let mut source = MemorySource::new(rt.alloc(), b"", &[], 1)?;
-    let mut sink = MemorySink::new(rt.alloc(), writes, 1)?;
-    let status = status_of(rt, &words, folder, &mut source, &mut sink);
-    Ok((status, sink))
+    Ok(status_of(rt, &words, folder, &mut source, sink))
 }
 
 // What a session on this input writes, one byte a call on both sides, where the listed calls fail.
@@ -96,8 +93,18 @@ pub(crate) fn verify(
     let mut folder = MemoryFolder::new(rt.alloc(), &[])?;
     put(rt.alloc(), &mut folder, b"Truths.lsl", TRUTHS)?;
     put(rt.alloc(), &mut folder, b"Truths.cert", certificate)?;
+    verdict(rt, label, &mut folder)
+}
+
+fn verdict(
+    rt: &HostRuntime,
+    label: &str,
+    folder: &mut MemoryFolder,
+) -> Result<(Status, MemorySink), Memory> {
     let words = ["verify", "Truths", label, "Truths.cert", "Truths.lsl"];
-    call_over(rt, &words, &mut folder, &[])
+    let mut sink = MemorySink::new(rt.alloc(), &[], 1)?;
+    let status = status_on(rt, &words, folder, &mut sink)?;
+    Ok((status, sink))
 }
 
 // Puts a file into a folder.

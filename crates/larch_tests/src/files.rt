@@ -1,4 +1,4 @@
-use crate::calls::{REPORT, SCRIPT, TRUTHS, call_over, put, verify};
+use crate::calls::{REPORT, SCRIPT, TRUTHS, put, status_on, verify};
 use larch_base::Memory;
 use larch_io::{MemoryFolder, MemorySink};
 use larch_main::Status;
@@ -56,15 +56,18 @@ fn put_third(alloc: Global, folder: &mut MemoryFolder) -> Result<(), Memory> {
     put(alloc, folder, b"Truths.lp", SCRIPT)
 }
 
-// What a call with these words writes, one byte at a time, where the listed looks at the folder and writes fail.
+// What a call with these words writes, so many bytes at a time, where the listed looks at the folder and writes fail.
 fn called_with(
     rt: &HostRuntime,
     texts: &[&str],
     looks: &[u64],
     writes: &[u64],
+    most: usize,
 ) -> Result<(Status, MemorySink), Memory> {
     let mut folder = folder_of(rt.alloc(), looks)?;
-    call_over(rt, texts, &mut folder, writes)
+    let mut sink = MemorySink::new(rt.alloc(), writes, most)?;
+    let status = status_on(rt, texts, &mut folder, &mut sink)?;
+    Ok((status, sink))
 }
 
 // The same, where no write fails.
@@ -73,7 +76,7 @@ fn call_status(
     texts: &[&str],
     looks: &[u64],
 ) -> Result<(Status, MemorySink), Memory> {
-    called_with(rt, texts, looks, &[])
+    called_with(rt, texts, looks, &[], 1)
 }
 
 // The first look below a number at which a fault isn't told, or something is written all the same.
@@ -95,9 +98,26 @@ fn first_wrong_write(
     whole: &[u8],
 ) -> Result<Option<usize>, Memory> {
     for kept in 0..whole.len() {
-        let (status, sink) = called_with(rt, texts, &[], &[kept as u64 + 1])?;
+        let (status, sink) = called_with(rt, texts, &[], &[kept as u64 + 1], 1)?;
         if status != Status::WriteFault || sink.bytes() != &whole[..kept] {
             return Ok(Some(kept));
+        }
+    }
+    Ok(None)
+}
+
+// The first write of 16 bytes below a number that fails without being told, or behind something else than a front of
+// the whole output.
+fn first_wrong_piece(
+    rt: &HostRuntime,
+    texts: &[&str],
+    whole: &[u8],
+    behind: u64,
+) -> Result<Option<u64>, Memory> {
+    for write in 1..behind {
+        let (status, sink) = called_with(rt, texts, &[], &[write], 16)?;
+        if status != Status::WriteFault || !whole.starts_with(sink.bytes()) {
+            return Ok(Some(write));
         }
     }
     Ok(None)
@@ -227,7 +247,7 @@ fn replays_over_faults(rt: HostRuntime) -> Result<(), Fail> {
     let words = ["replay", "Truths.lsl", "Truths.lp"];
     let wrong = first_wrong_look(&rt, &words, 3)?;
     assert_eq!(rt; wrong, None);
-    let wrong = first_wrong_write(&rt, &words, REPORT)?;
+    let wrong = first_wrong_piece(&rt, &words, REPORT, 9)?;
     assert_eq!(rt; wrong, None);
     Ok(())
 }
@@ -268,7 +288,7 @@ fn derives_over_faults(rt: HostRuntime) -> Result<(), Fail> {
     let wrong = first_wrong_look(&rt, &words, 3)?;
     assert_eq!(rt; wrong, None);
     let (_, whole) = call_status(&rt, &words, &[])?;
-    let wrong = first_wrong_write(&rt, &words, whole.bytes())?;
+    let wrong = first_wrong_piece(&rt, &words, whole.bytes(), 9)?;
     assert_eq!(rt; wrong, None);
     Ok(())
 }

@@ -1,6 +1,6 @@
-use crate::calls::{REPORT, SCRIPT, TRUTHS, session, verify};
+use crate::calls::{REPORT, SCRIPT, TRUTHS, session, status_over, verify};
 use larch_base::{Bytes, Memory};
-use larch_io::MemorySink;
+use larch_io::{MemorySink, MemorySource};
 use larch_main::Status;
 use std::alloc::Global;
 use std::test::Fail;
@@ -13,9 +13,6 @@ const REPORT_THEN_NONE: &[u8] = b"trait Truths\nimply.1 proved\nimply.2 suspende
 const EQUAL: &[u8] =
     b"put One.lsl 57\nOne: trait\n  introduces\n    c: -> S\n  implies\n    c == c\n\
     report\nderive One imply.1\nquit\n";
-
-const EQUAL_REPORT: &[u8] =
-    b"trait One\nimply.1 proved\ntotal 1 traits, 0 errors, 1 proved, 0 suspended, 0 refused\nend\n";
 
 // The input of a session that puts the trait and its script in, and has these lines behind them.
 fn input_with(alloc: Global, lines: &[u8]) -> Result<Bytes, Memory> {
@@ -94,16 +91,17 @@ fn derives_nothing_once_the_script_is_gone(rt: HostRuntime) -> Result<(), Fail> 
     Ok(())
 }
 
-// The report is whole with byte 79 of the input, the derivation with byte 98, and the session ends with byte 103.
+// The report is whole with byte 229 of the input, the derivation with byte 251, and the session ends with byte 256.
 #[test]
 fn answers_whole_commands_before_a_read_fault(rt: HostRuntime) -> Result<(), Fail> {
-    let (_, whole) = session(&rt, EQUAL, &[], &[])?;
-    for call in 1..104 {
-        let (status, sink) = session(&rt, EQUAL, &[call], &[])?;
-        let expected = if call <= 79 {
+    let input = input_with(rt.alloc(), b"report\nderive Truths imply.1\nquit\n")?;
+    let (_, whole) = session(&rt, input.bytes(), &[], &[])?;
+    for call in [1, 19, 20, 222, 223, 229, 230, 251, 252, 256] {
+        let (status, sink) = session(&rt, input.bytes(), &[call], &[])?;
+        let expected: &[u8] = if call <= 229 {
             b""
-        } else if call <= 98 {
-            EQUAL_REPORT
+        } else if call <= 251 {
+            REPORT
         } else {
             whole.bytes()
         };
@@ -113,13 +111,33 @@ fn answers_whole_commands_before_a_read_fault(rt: HostRuntime) -> Result<(), Fai
     Ok(())
 }
 
+// What a session on this input writes, 16 bytes at a time, where one write fails.
+fn session_cut(rt: &HostRuntime, input: &[u8], write: u64) -> Result<(Status, MemorySink), Memory> {
+    let mut source = MemorySource::new(rt.alloc(), input, &[], 64)?;
+    let mut sink = MemorySink::new(rt.alloc(), &[write], 16)?;
+    let status = status_over(rt, &["session"], &mut source, &mut sink)?;
+    Ok((status, sink))
+}
+
+// The first write below a number that fails without being told, or behind something else than a front of what the
+// session writes.
+fn first_wrong_write(rt: &HostRuntime, input: &[u8], behind: u64) -> Result<Option<u64>, Memory> {
+    let (_, whole) = session(rt, input, &[], &[])?;
+    for write in 1..behind {
+        let (status, sink) = session_cut(rt, input, write)?;
+        if status != Status::WriteFault || !whole.bytes().starts_with(sink.bytes()) {
+            return Ok(Some(write));
+        }
+    }
+    Ok(None)
+}
+
 #[test]
 fn keeps_a_front_at_a_write_fault(rt: HostRuntime) -> Result<(), Fail> {
-    let (_, whole) = session(&rt, EQUAL, &[], &[])?;
-    for kept in 0..whole.bytes().len() {
-        let (status, sink) = session(&rt, EQUAL, &[], &[kept as u64 + 1])?;
-        assert_eq!(rt; status, Status::WriteFault, "behind {kept} bytes");
-        assert_eq!(rt; sink.bytes(), &whole.bytes()[..kept], "behind {kept} bytes");
-    }
+    let input = input_with(rt.alloc(), b"report\n")?;
+    let wrong = first_wrong_write(&rt, input.bytes(), 9)?;
+    assert_eq!(rt; wrong, None);
+    let wrong = first_wrong_write(&rt, EQUAL, 15)?;
+    assert_eq!(rt; wrong, None);
     Ok(())
 }
