@@ -95,45 +95,47 @@ nothing_written (call_.Generate traits) told left held =
     nothing_of (call_.Generate traits) told left held ((generation_answer traits).text, refl)
 nothing_written call_.Nothing told left held = nothing_of call_.Nothing told left held (usage_text, refl)
 
-module _ (call : Call) (none : reads_source call ≡ false) (told : Option FileMap) (left held kept : Option (List ℕ)) where
-  module _ (folder : FileMap) (text : List ℕ) (status : Status) (is : IsFolder told folder)
-      (defined : Output call folder (known_rest left) text status) where
-    whole : Appends held kept text → Answers call told left left held kept status
-    whole put = record {
-      folder = folder;
-      input = known_rest left;
-      output = text;
-      is_folder = is;
-      is_input = input_is left left [] (Consumes-nil left);
-      defined = defined;
-      written = put;
-    }
+module _ (call : Call) (none : reads_source call ≡ false) (told : Option FileMap)
+    (left held kept : Option (List ℕ))
+  where
+    module _ (folder : FileMap) (text : List ℕ) (status : Status) (is : IsFolder told folder)
+        (defined : Output call folder (known_rest left) text status) where
+      whole : Appends held kept text → Answers call told left left held kept status
+      whole put = record {
+        folder = folder;
+        input = known_rest left;
+        output = text;
+        is_folder = is;
+        is_input = input_is left left [] (Consumes-nil left);
+        defined = defined;
+        written = put;
+      }
 
-    cut : PutsFront held kept text → WritesFront call told left left held kept
-    cut put = record {
-      folder = folder;
-      input = known_rest left;
-      front = put.0;
-      is_folder = is;
-      is_input = input_is left left [] (Consumes-nil left);
-      begins =
-          output_begins call none folder (known_rest left) put.0 put.1 status
-          (subst (λ t. Output call folder (known_rest left) t status) put.2 defined);
-      written = put.4;
-    }
+      cut : PutsFront held kept text → WritesFront call told left left held kept
+      cut put = record {
+        folder = folder;
+        input = known_rest left;
+        front = put.0;
+        is_folder = is;
+        is_input = input_is left left [] (Consumes-nil left);
+        begins =
+            output_begins call none folder (known_rest left) put.0 put.1 status
+            (subst (λ t. Output call folder (known_rest left) t status) put.2 defined);
+        written = put.4;
+      }
 
-    -- a text that is the output was to be written
-    pub said_writes : IsSaid status → (before now : ℕ) (result : Status) → Says held kept before now text status result
-        → Writes call told left left held kept result
-    said_writes says before now result said = elim said [
-      | inl said_all ↦
-          subst (Writes call told left left held kept) (sym said_all.0)
-          (writes_said call told left left held kept status says (whole said_all.1))
-      | inr front ↦ elim front [
-        | inl failed ↦ subst (Writes call told left left held kept) (sym failed.0) (cut failed.1)
-        | inr lacking ↦ subst (Writes call told left left held kept) (sym lacking.0) (cut lacking.1)
+      -- a text that is the output was to be written
+      pub said_writes : IsSaid status → (before now : ℕ) (result : Status) → Says held kept before now text status result
+          → Writes call told left left held kept result
+      said_writes says before now result said = elim said [
+        | inl said_all ↦
+            subst (Writes call told left left held kept) (sym said_all.0)
+            (writes_said call told left left held kept status says (whole said_all.1))
+        | inr front ↦ elim front [
+          | inl failed ↦ subst (Writes call told left left held kept) (sym failed.0) (cut failed.1)
+          | inr lacking ↦ subst (Writes call told left left held kept) (sym lacking.0) (cut lacking.1)
+        ]
       ]
-    ]
 
 -- what a status that is said says of the folder
 module _ (status : Status) (says : IsSaid status) where

@@ -106,8 +106,8 @@ module _ (call : Call) (told : Option FileMap) (left leaves held holds : Option 
   Writes NoFile = Answers call told left leaves held holds NoFile
 
 -- What a call shows by its status, on some folder, the told one where it is told: `verify` or `trim` that ends well
--- shows that what was to be verified is so, and `derive` that ends well has written what `verify` accepts. The sink held
--- `held` and holds `holds`.
+-- shows that what was to be verified is so, and `derive` that ends well has written what `verify` accepts. The sink
+-- held `held` and holds `holds`.
 abbrev pub Shows : Call → Option FileMap → Option (List ℕ) → Option (List ℕ) → Status → Type 0
 Shows (call_.OnFiles (Verify asked) names) told held holds Good =
     (folder : FileMap) × IsFolder told folder × IsShown folder asked names

@@ -223,12 +223,12 @@ fn run_migrate<F: Folder, K: Sink>(
     ensures looks { CallLooks (call_migrate certificate.now) (F.files folder.old)
         (F.looks folder.old) (F.looks folder.new) }
 {
-    let answered = migrated(alloc, certificate, folder);
+    let answered = migration(alloc, certificate, folder);
     tell(sink, answered)
 }
 
 // What is answered where the certificate of this name is wanted in the second version.
-fn migrated<F: Folder>(
+fn migration<F: Folder>(
     alloc: Global,
     certificate: &EvidenceName,
     folder: &mut F,

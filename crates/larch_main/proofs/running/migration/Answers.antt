@@ -2,7 +2,7 @@
 use Rattle.larch_main_files.specs.Answer.{answer_to}
 use Rattle.larch_main_files.specs.Migrate.{Migrated}
 use Rattle.larch_main_files.proofs.Answering.{err_by, ok_by, refusal_answered}
-use Rattle.larch_main.proofs.running.migrated.Goals as goal
+use Rattle.larch_main.proofs.running.migration.Goals as goal
 
 pub returns-in-Err-clause-answer : goal.returns-in-Err-clause-answer
 returns-in-Err-clause-answer g c =
