@@ -125,8 +125,8 @@ module _ (call : Call) (none : reads_source call ≡ false) (told : Option FileM
       }
 
       -- a text that is the output was to be written
-      pub said_writes : IsSaid status → (before now : ℕ) (result : Status) → Says held kept before now text status result
-          → Writes call told left left held kept result
+      pub said_writes : IsSaid status → (before now : ℕ) (result : Status)
+          → Says held kept before now text status result → Writes call told left left held kept result
       said_writes says before now result said = elim said [
         | inl said_all ↦
             subst (Writes call told left left held kept) (sym said_all.0)
