@@ -324,6 +324,7 @@ def tried(number):
     pick = random.Random(f"{Work.seed} {number}")
     checker = derivations.Checker(pick, Work.reference, lambda words, place: answer(Work.program, words, b"", place))
     counted, differ = collections.Counter(), []
+    Work.reference.known.clear()
     folder = fixed() if number % 4 == 0 else random_folder(pick, Work.reference)
     with tempfile.TemporaryDirectory() as made:
         place = Work.fixed if number % 4 == 0 else made
