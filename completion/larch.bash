@@ -50,26 +50,29 @@ _larch_next() {
     local file given
     [[ ${1-} == --unproved ]] && shift
     case $#:${1-} in
-        0:) printf '%s\n' session replay check obligations verify model trim help explain watch
+        0:) printf '%s\n' session replay check obligations derive verify model trim migrate complete generate \
+            help explain watch
             _larch_options --build --help --install --program --uninstall --unproved --version ;;
-        1:help) printf '%s\n' session replay check obligations verify model trim explain watch
+        1:help) printf '%s\n' session replay check obligations derive verify model trim migrate complete generate \
+            explain watch
             _larch_codes ;;
         *:explain) _larch_codes; _larch_files lsl; _larch_folders ;;
         *:watch) _larch_folders; _larch_options --larch --no-hints --once ;;
         1:--install | 1:--uninstall) _larch_folders ;;
-        1:verify | 1:model | 1:trim) _larch_files lsl | sed 's/\.lsl$//' ;;
-        2:verify | 2:trim) _larch_labels "$2" ;;
+        1:derive | 1:verify | 1:model | 1:trim | 1:complete) _larch_files lsl | sed 's/\.lsl$//' ;;
+        2:derive | 2:verify | 2:trim) _larch_labels "$2" ;;
         2:model) _larch_files mod; _larch_folders ;;
-        3:verify | 3:trim) compgen -G "${current%"${current##*/}"}*.cert"; _larch_folders ;;
+        1:migrate | 3:verify | 3:trim) compgen -G "${current%"${current##*/}"}*.cert"; _larch_folders ;;
         *:session) _larch_options --limit ;;
-        *:replay | *:check | *:obligations | *:verify | *:model | *:trim)
+        *:generate) _larch_options --seed --size ;;
+        *:replay | *:check | *:obligations | *:derive | *:verify | *:model | *:trim | *:complete)
             given=" ${*:2} "
             _larch_files lsl lp | while IFS= read -r file; do
                 [[ $given == *" $file "* ]] || printf '%s\n' "$file"
             done
             _larch_folders
             [[ $1 == verify || $1 == model || $1 == trim ]] || _larch_options --with-included
-            [[ $1 == replay ]] && _larch_options --limit ;;
+            [[ $1 == replay || $1 == derive || $1 == complete ]] && _larch_options --limit ;;
     esac
 }
 

@@ -17,15 +17,24 @@ from companions.program import FILE_NAME, MOST_BYTES, MOST_FILES
 from companions.scope import reached
 from companions.spelling import nearest
 
-COMMANDS = ("session", "replay", "check", "obligations", "verify", "model", "trim")
-# Those that take a rewriting limit.
-LIMITED = ("session", "replay")
+COMMANDS = ("session", "replay", "check", "obligations", "derive", "verify", "model", "trim", "migrate", "complete",
+            "generate")
+# The options that commands take, and from where to where their values go.
+TAKEN = {**dict.fromkeys(("session", "replay", "derive", "complete"), ("--limit",)), "generate": ("--seed", "--size")}
+RANGES = {"--limit": (1, 100_000), "--seed": (0, 2_147_483_647), "--size": (1, 128)}
+# Those that take the files which a trait refers to with them, and of these those that take scripts.
+INCLUDING, SCRIPTED = ("check", "obligations", "replay", "derive", "complete"), ("replay", "derive")
+# Those that name no files of traits, with what they take.
+WITHOUT_FILES = {"session": "no words but --limit N; its files come over standard input",
+                 "migrate": "a certificate and nothing else", "generate": "no words but --seed N and --size N"}
 AROUND = ("help", "explain", "watch")
 OPTIONS = ("--build", "--help", "--install", "--program", "--uninstall", "--unproved", "--version")
 # What people type that isn't there, and what there is.
 NOT_THERE = {
     **dict.fromkeys(("show", "print", "list", "duties"), "`larch obligations FILE..` lists what a trait consists of"),
     **dict.fromkeys(("prove", "proof", "qed"), "`larch replay FILE..` carries out proof scripts; nothing finds proofs"),
+    **dict.fromkeys(("certify", "certificate", "derivation"), "`larch derive` writes the certificate of a proved duty"),
+    **dict.fromkeys(("convert", "upgrade"), "`larch migrate CERT` writes a certificate in the second version"),
     **dict.fromkeys(("shorten", "minimize", "prune"), "`larch trim` leaves out of a certificate what isn't needed"),
     **dict.fromkeys(("find", "find-model", "search"), "`tools/larch-find-model TRAIT FILE..` looks for a small model"),
     **dict.fromkeys(("eval", "reduce", "rewrite"), "nothing computes the value of a term yet"),
@@ -35,20 +44,30 @@ NOT_THERE = {
 FILE, CERT = re.compile(r"[A-Za-z0-9_]{1,64}\.(?:lsl|lp)"), re.compile(r"(?s).*\.cert")
 MODEL = re.compile(r"[A-Za-z0-9_]{1,64}\.mod")
 LABEL = re.compile(r"(?:assume|imply|convert)\.[1-9][0-9]{0,5}")
-LIMIT, LIMIT_OPTION = re.compile(r"[1-9][0-9]{0,4}|100000"), "--limit"
+# What the words before the files have to be, by what they stand for.
+FORMS = {"TRAIT": (re.compile(r"[A-Za-z0-9_]{1,64}"), "trait: its name without `.lsl` is wanted"),
+         "LABEL": (LABEL, "label: assume.N, imply.N or convert.N"),
+         "CERT": (CERT, "certificate: its name ends in `.cert`"),
+         "MODEL": (MODEL, "model: 1 to 64 letters, digits and `_` stand before its ending `.mod`")}
+NUMBER = re.compile(r"0|[1-9][0-9]{0,9}")
 WITH_INCLUDED = "--with-included"
 # The words before the files of a command.
-FRONTS = {"verify": ("TRAIT", "LABEL", "CERT"), "model": ("TRAIT", "MODEL"), "trim": ("TRAIT", "LABEL", "CERT")}
+FRONTS = {"derive": ("TRAIT", "LABEL"), "verify": ("TRAIT", "LABEL", "CERT"), "model": ("TRAIT", "MODEL"),
+          "trim": ("TRAIT", "LABEL", "CERT"), "migrate": ("CERT",), "complete": ("TRAIT",)}
 HELP = """\
 larch checks specifications in the Larch Shared Language.
 
   larch replay FILE.. [--limit N]       what is proved of these traits by the scripts among the files?
   larch check FILE..                    is something wrong with these traits?
   larch obligations FILE..              what each consists of, and what is to be proved of it
+  larch derive TRAIT LABEL FILE..       a certificate of a duty that is proved; [--limit N] as for replay
   larch verify TRAIT LABEL CERT FILE..  does this certificate show that duty?
   larch trim TRAIT LABEL CERT FILE..    the certificate without the lines that its end doesn't need
+  larch migrate CERT                    the certificate in the second version
   larch model TRAIT MODEL FILE..        is this a finite model of the trait, and which claims hold in it?
-  larch session [--limit N]             reports for programs, over standard input
+  larch complete TRAIT FILE..           rules that decide the trait's equations; [--limit N]
+  larch generate --seed N --size N      traits to try the prover with, and how many of their duties are proved
+  larch session [--limit N]             reports and certificates for programs, over standard input
 
   larch explain FILE..                  why a trait is refused, and how to mend it
   larch explain CODE                    what a code means; without a word, all codes
@@ -70,19 +89,17 @@ def say(text):
     print(f"larch: {text}", file=sys.stderr)
 
 
-def without_limit(words):
-    """The words of a call without those for its rewriting limit, and these."""
-    rest, given = [], []
-    if words[0] not in LIMITED:
-        return list(words), given
+def without_options(words):
+    """The words of a call without those for the options that its command takes, and these."""
+    rest, given, taken = [], [], TAKEN.get(words[0], ())
     words = iter(words)
     for word in words:
         if word == "--":
             return [*rest, word, *words], given
-        if word == LIMIT_OPTION:
-            given += [word, *itertools.islice(words, 1)]
-        elif word.startswith(LIMIT_OPTION + "="):
-            given.append(word)
+        if word in taken:
+            given.append([word, *itertools.islice(words, 1)])
+        elif word.partition("=")[0] in taken:
+            given.append([word])
         else:
             rest.append(word)
     return rest, given
@@ -90,13 +107,23 @@ def without_limit(words):
 
 def cut(words):
     """A call's command, the words before its files, its files, and whether what they reach is to be added."""
-    rest, wants = without_limit(words)[0][1:], False
-    if words[0] in ("check", "obligations", "replay") and WITH_INCLUDED in rest:
+    rest, wants = without_options(words)[0][1:], False
+    if words[0] in INCLUDING and WITH_INCLUDED in rest:
         rest, wants = [word for word in rest if word != WITH_INCLUDED], True
     if rest[:1] == ["--"]:
         rest = rest[1:]
     number = len(FRONTS.get(words[0], ()))
     return words[0], rest[:number], rest[number:], wants
+
+
+def kinds(command, front):
+    """The words before the files of a call, each behind what it stands for."""
+    return zip(FRONTS.get(command, ()), front)
+
+
+def evidence(command, front):
+    """The certificate or the model of a call, in a list."""
+    return [word for kind, word in kinds(command, front) if kind in ("CERT", "MODEL")]
 
 
 def bare(words):
@@ -134,30 +161,36 @@ def one_folder(files):
 def beside(words):
     """The words for what lies in the folder of a call: its files, and a model."""
     command, front, files, _ = cut(words)
-    return [*front[1:], *files] if command == "model" else files
+    return [*evidence(command, front), *files] if command == "model" else files
+
+
+def there(kind, word, folder):
+    """A word before the files of a call as it stands in their folder."""
+    if kind == "MODEL":
+        return os.path.basename(word)
+    if kind != "CERT" or os.path.samefile(folder, "."):
+        return word
+    place, name = os.path.split(word)
+    same = os.path.isdir(place or ".") and os.path.samefile(place or ".", folder)
+    return name if same else os.path.abspath(word)
 
 
 def words_there(words):
     """The folder and the words of the call there; nothing where the words are left as they are."""
-    if not words or words[0] not in COMMANDS:
+    if not words or words[0] not in COMMANDS or words[0] in WITHOUT_FILES:
         return None
     command, front, files, wants = cut(words)
     folder, _ = one_folder(beside(words))
     if folder is None:
         return None
     names = [os.path.basename(file) for file in files]
-    if command == "model":
-        front[1:] = [os.path.basename(name) for name in front[1:]]
-    if len(front) == 3 and not os.path.samefile(folder, "."):
-        place, name = os.path.split(front[2])
-        same = os.path.isdir(place or ".") and os.path.samefile(place or ".", folder)
-        front[2] = name if same else os.path.abspath(front[2])
+    front = [there(kind, word, folder) for kind, word in kinds(command, front)]
     if wants:
         known = Files(folder)
         names += [name for trait in list(names) for name in reached(known, trait)]
-        names += scripts_of(folder, names) if command == "replay" else []
+        names += scripts_of(folder, names) if command in SCRIPTED else []
         names = list(dict.fromkeys(names))
-    return [folder, command, *without_limit(words)[1], *front, *names]
+    return [folder, command, *itertools.chain(*without_options(words)[1]), *front, *names]
 
 
 def scripts_of(folder, names):
@@ -175,28 +208,34 @@ def why_usage(words):
     if words[0] not in COMMANDS:
         return why_no_command(words[0])
     command, front, files, _ = cut(words)
-    bad = why_limit(without_limit(words)[1])
+    wanted = [*FRONTS.get(command, ()), *(() if command in WITHOUT_FILES else ("FILE..",))]
+    bad = why_options(command, without_options(words)[1])
     if bad:
         return bad
-    if command == "session":
-        return "`session` takes no words but --limit N; its files come over standard input"
-    wanted = FRONTS.get(command, ())
-    if len(front) + len(files) < len(wanted) + 1:
-        return f"too few words: larch {' '.join([command, *wanted])} FILE.."
-    for bad in (*why_front(front), one_folder(beside(words))[1], *map(why_file, files)):
+    if command in WITHOUT_FILES and files:
+        return f"`{command}` takes {WITHOUT_FILES[command]}"
+    if len(front) + len(files) < len(wanted):
+        return f"too few words: larch {' '.join([command, *wanted])}"
+    for bad in (*why_front(command, front), one_folder(beside(words))[1], *map(why_file, files)):
         if bad:
             return bad
     return f"`larch help {command}` says what its words are"
 
 
-def why_limit(given):
-    """Why the words for a limit are none; empty where they are, or there are none."""
-    limit = given[0].partition("=")[2] if len(given) == 1 and "=" in given[0] else given[1] if len(given) == 2 else None
-    if not given or limit is not None and LIMIT.fullmatch(limit):
-        return ""
-    if limit is not None or given == [LIMIT_OPTION]:
-        return "behind --limit stands a number from 1 to 100,000, without leading zeros"
-    return "--limit stands more than once"
+def why_options(command, given):
+    """Why the words for options aren't those of a command; empty where they are."""
+    named = [words[0].partition("=")[0] for words in given]
+    for option in TAKEN.get(command, ()):
+        if named.count(option) > 1:
+            return f"{option} stands more than once"
+        if command == "generate" and option not in named:
+            return f"`generate` needs {' and '.join(f'{one} N' for one in TAKEN[command])}"
+    for option, words in zip(named, given):
+        value = words[1] if len(words) > 1 else words[0].partition("=")[2]
+        least, most = RANGES[option]
+        if not NUMBER.fullmatch(value) or not least <= int(value) <= most:
+            return f"behind {option} stands a number from {least} to {most:,}, without leading zeros"
+    return ""
 
 
 def why_no_command(word):
@@ -214,27 +253,27 @@ def why_no_command(word):
     return f"`{word}` is no command; `larch help` lists them"
 
 
-def why_front(front):
+def why_front(command, front):
     """Why the words before the files of a command are none."""
-    if front:
-        trait = front[0]
-        yield "" if FILE.fullmatch(trait + ".lsl") else f"`{trait}` is no trait: its name without `.lsl` is wanted"
-    if len(front) == 2:
-        name = os.path.basename(front[1])
-        meant = "1 to 64 letters, digits and `_` stand before its ending `.mod`"
-        yield "" if MODEL.fullmatch(name) else f"`{front[1]}` is no model: {meant}"
-    if len(front) == 3:
-        _, label, certificate = front
-        yield "" if LABEL.fullmatch(label) else f"`{label}` is no label: assume.N, imply.N or convert.N"
-        yield "" if CERT.fullmatch(certificate) else f"`{certificate}` is no certificate: its name ends in `.cert`"
+    for kind, word in kinds(command, front):
+        name = os.path.basename(word) if kind == "MODEL" else word
+        form, meant = FORMS[kind]
+        yield "" if form.fullmatch(name) else f"`{word}` is no {meant}"
+
+
+def in_a_sentence(names):
+    """Names, one or more, as a sentence has them."""
+    return " and ".join([", ".join(names[:-1]), names[-1]] if names[1:] else names)
 
 
 def why_file(word):
     """Why a word is no name of a file; empty where it is one."""
     if FILE.fullmatch(word):
         return ""
-    if word.partition("=")[0] == LIMIT_OPTION:
-        return f"only {' and '.join(f'`{command}`' for command in LIMITED)} take {LIMIT_OPTION}"
+    option = word.partition("=")[0]
+    if option in RANGES:
+        takes = [f"`{command}`" for command, options in TAKEN.items() if option in options]
+        return f"only {in_a_sentence(takes)} {'take' if takes[1:] else 'takes'} {option}"
     if word.startswith("-"):
         return f"no command takes the option {word}"
     if os.path.isdir(word):
@@ -251,7 +290,7 @@ def why_too_large(words):
     """Which number passes a limit."""
     command, front, files, _ = cut(words)
     more = f"; {TOP}/docs/SCALE.md says how more is checked"
-    for name in front[-1:] + files:
+    for name in evidence(command, front) + files:
         if os.path.isfile(name) and os.path.getsize(name) > MOST_BYTES:
             return f"{name} has {os.path.getsize(name):,} bytes, and a file {MOST_BYTES:,} at most{more}"
     number = len(set(files))
@@ -264,8 +303,8 @@ def why_too_large(words):
 
 def why_no_file(words):
     """Which file isn't there, and where it was looked for."""
-    _, front, files, _ = cut(words)
-    gone = next((name for name in front[-1:] + files if not os.path.exists(name)), None)
+    command, front, files, _ = cut(words)
+    gone = next((name for name in evidence(command, front) + files if not os.path.exists(name)), None)
     if gone is None:
         return "a file isn't there"
     folder = os.path.dirname(gone) or "."
@@ -290,7 +329,8 @@ def why(status, words):
     elif status == "6":
         command, front, _, _ = cut(words)
         kind, page = ("model", "MODELS") if command == "model" else ("certificate", "CERTIFICATES")
-        say(f"that is a line of the {kind} {front[-1]}; docs/{page}.md has its grammar")
+        for word in evidence(command, front):
+            say(f"that is a line of the {kind} {word}; docs/{page}.md has its grammar")
     elif status == "7":
         say(why_too_large(words))
     else:

@@ -11,9 +11,10 @@ all rules of both versions, whatever that says.
 A quarter of the calls are over one folder of right and wrong traits, scripts, certificates and files at and above the
 limit of size. The others are over random sets of traits with claims (random_sets.py), a few calls over each set, with
 certificates for some of its duties: right ones (duty_proofs.py), tampered ones, and no certificates. The commands are
-`check`, `obligations`, `replay`, `verify` and `session`, and words that mean none; names that are there, absent, twice,
-or no names; labels of duties that are there or not, and no labels; options in every place, doubled, without a value,
-unknown; `--`; more files than one call takes. A session gets a few random lines.
+`check`, `obligations`, `replay`, `derive`, `verify`, `migrate`, `complete`, `generate` and `session`, and words that
+mean none; names that are there, absent, twice, or no names; labels of duties that are there or not, and no labels;
+options in every place, doubled, without a value, unknown; `--`; more files than one call takes. A session gets a few
+random lines. The reference writes no derivations: those of the program are looked at as derivations.py says.
 
 The seed is printed first, and at the end how often each command ended with each status. Of the first five calls on
 which the two differ the words and the answers are printed, and the folder's files, the words and the input are kept in
@@ -34,13 +35,20 @@ import tempfile
 
 import call_texts
 import comparing
+import derivations
 import duty_proofs
 import random_certificates
 import random_sets
 from call_texts import AT_LIMITS, CERTIFICATES, TEXTS
 
 CALLS_PER_SET, DUTIES_PER_SET, KEPT = 25, 8, 5
-NAMED = ("check", "obligations", "replay", "verify", "session")
+# How long a call of the program may take, also where other work is done beside it.
+SECONDS = 1200
+NAMED = ("check", "obligations", "replay", "derive", "verify", "migrate", "complete", "generate", "session")
+ON_FILES = ("check", "obligations", "replay", "derive", "verify", "complete")
+# How often each command comes; the last ones are none.
+COMMANDS = [*["check", "obligations", "replay", "derive", "complete"] * 6, *["verify"] * 12,
+            *["session", "migrate"] * 4, *["generate"] * 3, "frobnicate", "Check", "", None]
 LABELS = ["imply.1", "imply.2", "imply.3", "assume.1", "convert.1", "convert.2", "imply.999999"]
 NO_LABELS = ["imply.0", "imply.01", "imply.1000000", "imply", "imply.", "imply.1 ", "Imply.1", "prove.1", "imply.1.1",
              ""]
@@ -51,6 +59,7 @@ OPTIONS = [["--limit", "5"], ["--limit=5"], ["--limit"], ["--seed", "1"], ["--si
            ["--help"], ["-h"], ["--version"], ["-V"], ["--"], ["-l"], ["--lim", "3"], ["--limit="], ["--limit", "-1"],
            ["--limit", "--"], ["--", "--"], ["--limit", "x"], ["--limit", "0"], ["--limit=007"], ["-x"],
            ["--unknown", "2"], ["--="]]
+SEEDS, SIZES = [0, 1, 7, 2147483647, 2147483648, "007", "x", ""], [1, 1, 2, 3, 5, 0, 128, 129, "01"]
 
 
 class Folder:
@@ -156,22 +165,46 @@ def some_files(pick, folder):
     return [word(pick, folder) for _ in range(pick.choice([0, 1, 1, 2, 2, 3, 4, 6]))]
 
 
+def fixed_words(pick, folder, command):
+    """The words before the files of a command."""
+    stem, label, certificate = (claim(pick, folder) + [None] * 3)[:3]
+    wanted = {"verify": [stem, label, certificate], "derive": [stem, label], "complete": [stem],
+              "migrate": [certificate]}.get(command, [])
+    return [word for word in wanted if word is not None]
+
+
+def generation(pick):
+    """Words for a seed and a size, mostly both."""
+    given = [("seed", pick.choice([pick.randrange(2 ** 31), *SEEDS])), ("size", pick.choice([*[1, 2, 3] * 5, *SIZES]))]
+    pick.shuffle(given)
+    return [word for name, value in given[:pick.choice([2] * 14 + [0, 1])]
+            for word in pick.choice([[f"--{name}", str(value)], [f"--{name}={value}"]])]
+
+
+def limit(pick, command):
+    """Words for a limit, now and then, of a command that takes one."""
+    if command not in ("replay", "derive", "complete", "session") or pick.random() < 0.8:
+        return []
+    return pick.choice([["--limit", "5"], ["--limit=1"], ["--limit", "100000"], ["--limit", "0"], ["--limit=30"]])
+
+
 def call(pick, folder):
     """Random words."""
-    command = pick.choice(["check"] * 8 + ["obligations"] * 8 + ["replay"] * 8 + ["verify"] * 14 + ["session"] * 4
-                          + ["frobnicate", "Check", "", None])
+    command = pick.choice(COMMANDS)
     words = [] if command is None else [command]
-    if command == "verify":
-        asked = claim(pick, folder)
-        words += asked + ([asked[0] + ".lsl"] if asked and folder.limits and pick.random() < 0.75 else [])
-    if command != "session":
+    front = fixed_words(pick, folder, command)
+    words += front
+    if command in ("derive", "verify", "complete") and front and folder.limits and pick.random() < 0.75:
+        words += [name for name in (front[0] + ".lsl", front[0] + ".lp") if name in folder.texts]
+    if command in ("session", "migrate", "generate"):
+        words += [word(pick, folder)] * (pick.random() < 0.1)
+    else:
         words += some_files(pick, folder)
-    elif pick.random() < 0.1:
-        words.append(word(pick, folder))
-    if command in ("check", "obligations", "replay", "verify") and pick.random() < 0.85:
+    if command in ON_FILES and pick.random() < 0.85:
         words = [one for one in words if one not in NO_NAMES or one == command]
-    if command in ("check", "obligations", "replay") and folder.limits and pick.random() < 0.02:
+    if command in ON_FILES and folder.limits and pick.random() < 0.02:
         words += [f"F{i}.lsl" for i in range(pick.randint(250, 260))] + [word(pick, folder)]
+    words += (generation(pick) if command == "generate" else []) + limit(pick, command)
     for _ in range(pick.choice([0] * 12 + [1, 1, 2])):
         place = pick.randint(0, len(words))
         words[place:place] = pick.choice(OPTIONS)
@@ -185,7 +218,8 @@ def stream(pick, folder):
     text = b"".join(pick.sample(puts, len(puts))) if pick.random() < 0.3 else b""
     for _ in range(pick.randint(0, 4)):
         drop = b"drop %s\n" % pick.choice(list(folder.texts)).encode()
-        text += pick.choice([pick.choice(puts)] * 2 + [b"report\n"] * 2 + [b"\n", drop, b"quit\n", b"bad\n"])
+        derive = b"derive %s %s\n" % tuple(one.encode() for one in pick.choice(folder.claims)[:2])
+        text += pick.choice([pick.choice(puts), b"report\n", derive] * 2 + [b"\n", drop, b"quit\n", b"bad\n"])
     return text + pick.choice([b"report\n", b""])
 
 
@@ -202,6 +236,9 @@ class Reference:
                  if len(form["rules"]) == len(certificate.SCHEMA) and len(form["versions"]) == 2]
         if all_rules:
             verify.stage_built = lambda: forms[0]
+        # The duties of which the last answer owes derivations, and what blocks came to.
+        self.owed, self.known = [], {}
+        derivations.remembered(self.main, self.owed, self.known)
 
     def duties(self, files):
         """A trait, a label, a theory and a statement for each duty of the traits with which nothing is wrong; and the
@@ -217,13 +254,15 @@ class Reference:
         return found, wrong
 
     def answer(self, words, text, place):
-        """What the reference writes, and its status; what it raises where it fails."""
+        """What the reference writes, and its status; what it raises where it fails. `owed` has the duties of which it
+        owes derivations then."""
         def look(name):
             try:
                 return pathlib.Path(place, os.fsdecode(name.encode("latin-1"))).read_bytes()
             except (FileNotFoundError, NotADirectoryError, IsADirectoryError):
                 return None
 
+        self.owed.clear()
         given, said = [os.fsencode(one) for one in words], []
         try:
             given = [one.decode() and one.decode("latin-1") for one in given]
@@ -233,6 +272,10 @@ class Reference:
             status = self.main.run(given, look, lambda: text, said.append)
         except Exception as trouble:
             return repr(trouble).encode(), None
+        if "".join(said).encode() == derivations.OWED and not self.owed:
+            _, (trait, label), names, _ = self.main.meaning(given)
+            files = {name: look(name).decode("latin-1") for name in names}
+            self.owed.append(derivations.Duty(trait, label, files, False))
         return "".join(said).encode("latin-1"), status
 
 
@@ -240,7 +283,7 @@ def answer(program, words, text, place):
     """What the program writes, and its status; none where it comes to no end."""
     try:
         done = subprocess.run(program + words, input=text, cwd=place, stdout=subprocess.PIPE,
-                              stderr=subprocess.DEVNULL, timeout=300, check=False)
+                              stderr=subprocess.DEVNULL, timeout=SECONDS, check=False)
     except subprocess.TimeoutExpired as trouble:
         return repr(trouble).encode(), None
     return done.stdout, done.returncode
@@ -249,7 +292,8 @@ def answer(program, words, text, place):
 def said_of(words, output, status):
     """What is counted of a call: its command, the status, and of a verdict the first word."""
     command = words[0] if words and words[0] in NAMED else "others"
-    verdict = output.decode("latin-1").split(" ")[0].strip() if command == "verify" and status in (0, 1) else ""
+    told = command in ("verify", "derive", "complete", "migrate") and status in (0, 1)
+    verdict = output[:40].decode("latin-1").split("\n")[0].split(" ")[0] if told else ""
     return command, status, verdict
 
 
@@ -278,7 +322,9 @@ def part(number):
 def tried(number):
     """The same, with the stack that there is."""
     pick = random.Random(f"{Work.seed} {number}")
+    checker = derivations.Checker(pick, Work.reference, lambda words, place: answer(Work.program, words, b"", place))
     counted, differ = collections.Counter(), []
+    Work.reference.known.clear()
     folder = fixed() if number % 4 == 0 else random_folder(pick, Work.reference)
     with tempfile.TemporaryDirectory() as made:
         place = Work.fixed if number % 4 == 0 else made
@@ -289,8 +335,10 @@ def tried(number):
             one = answer(Work.program, words, text, place)
             other = Work.reference.answer(words, text, place)
             counted[said_of(words, *one)] += 1
-            if one != other:
+            differs, wrong = checker.differences(one, other, list(Work.reference.owed))
+            if differs:
                 differ.append((words, text, one, other, {**folder.texts, **folder.certificates}))
+            differ += wrong
     return counted, differ
 
 

@@ -1,12 +1,15 @@
 #!/usr/bin/env python3
-"""Compares a program with larch's command line with a reference on random sessions and replays of traits with scripts.
+"""Compares a program with larch's command line with a reference on random sessions, replays and derivations of traits
+with scripts.
 
     compare_reports.py PROGRAM REFERENCE [--count N] [--seed N] [--jobs N]
 
 PROGRAM is a command, in quotes where it has words of its own; it is started for each call. REFERENCE is the folder with
 a Python package `larchref`, whose module `main` has `run`, which is called in the processes of this tool;
 LARCHREF_STAGE in the environment tells it how far the program is built. The calls are those of `random_reports.py`: two
-sessions to each replay.
+sessions to each call of `replay` or `derive`. The reference writes no derivations, and says where one is owed: of each
+that the program writes there, `verify` of the program, in another call, and the reference have to accept it, and both
+have to answer the same to it where it is trimmed or migrated, and where bytes of it are changed (`derivations.py`).
 
 The seed is printed first, and at the end how often each command ended with each status, and how often each kind of line
 came. Of the first five calls on which the two differ the words and the answers are printed, and the folder's files, the
@@ -21,10 +24,12 @@ import sys
 import tempfile
 
 import comparing
+import derivations
 import random_reports
 from compare_calls import KEPT, Reference, answer, in_big_stack, keep, shown, started
 
 CALLS_PER_PART, CALLS_PER_DESK = 24, 8
+COMMANDS, CALLS = ("session", "replay", "derive"), [random_reports.replay, random_reports.derive]
 
 
 class Reading:
@@ -37,6 +42,8 @@ class Reading:
 
 def kind_of(line):
     """What is counted of a line: what it says, without names and numbers."""
+    if line in (b"none", derivations.OWED.strip()):
+        return "none" if line == b"none" else "derivation"
     words = line.decode("latin-1").split(" ")
     if words[0] == "trait":
         return "trait wrong" if len(words) > 2 else "trait right"
@@ -61,11 +68,13 @@ def part(number):
 def tried(number):
     """The same, with the stack that there is."""
     pick = random.Random(f"{Said.seed} {number}")
+    checker = derivations.Checker(pick, Ours, lambda words, place: answer(Said.started, words, b"", place))
     counted, differ = collections.Counter(), []
     for place_of in range(min(CALLS_PER_PART, Said.count - number * CALLS_PER_PART)):
         if place_of % CALLS_PER_DESK == 0:
             desk = random_reports.Desk(pick, Reads)
-        make = random_reports.replay if place_of % 3 == 2 else random_reports.session
+            Ours.known.clear()
+        make = pick.choice(CALLS) if place_of % 3 == 2 else random_reports.session
         words, text, files = make(pick, desk.copy())
         files = {name: content.encode("latin-1") for name, content in files.items()}
         with tempfile.TemporaryDirectory() as place:
@@ -73,10 +82,12 @@ def tried(number):
                 pathlib.Path(place, name).write_bytes(content)
             one = answer(Said.started, words, text, place)
             other = Ours.answer(words, text, place)
-        counted[f"{words[0] if words[0] in ('session', 'replay') else 'replay'} status {one[1]}"] += 1
-        counted.update(f"line {kind_of(line)}" for line in one[0].splitlines())
-        if one != other:
+        counted[f"{next(word for word in words if word in COMMANDS)} status {one[1]}"] += 1
+        counted.update(f"line {kind_of(line)}" for line in other[0].splitlines())
+        differs, wrong = checker.differences(one, other, list(Ours.owed))
+        if differs:
             differ.append((words, text, one, other, files))
+        differ += wrong
     return counted, differ
 
 

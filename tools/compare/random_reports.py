@@ -1,5 +1,5 @@
-"""Random traits with scripts, and sessions and calls over them: `Desk` has the files of a session, and edits them.
-Scripts are dear to write, so a few calls are over copies of one desk.
+"""Random traits with scripts, and sessions and calls over them that ask for reports and derivations: `Desk` has the
+files of a session, and edits them. Scripts are dear to write, so a few calls are over copies of one desk.
 
 The traits are those of `block_traits.py`, with those that they refer to, or random sets that claim something
 (`random_sets.py`). A script has a preamble and blocks for some duties, in their order or another, written by what
@@ -11,6 +11,7 @@ import block_traits
 import random_blocks
 import random_sets
 
+LABELS = ["imply.1", "imply.2", "assume.1", "convert.1", "imply.999999"]
 NO_LABELS = ["imply.9", "assume.1", "convert.7", "imply.999999", "imply.0", "imply.01", "imply", "imply.1 imply.2",
              "Imply.1", ""]
 LIMITS = [1, 3, 10, 60, 100000, *[None] * 12]
@@ -115,7 +116,9 @@ class Desk:
     def __init__(self, pick, reference):
         self.pick, self.reference, self.limit = pick, reference, pick.choice(LIMITS)
         self.files = dict(traits(pick))
-        for stem, duties in self.duties().items():
+        claims = self.duties()
+        self.named = [(stem, str(duty.label)) for stem, duties in claims.items() for duty in duties]
+        for stem, duties in claims.items():
             if pick.random() < 0.85:
                 self.files[f"{stem}.lp"] = script(pick, reference, duties, self.limit or 1000)
         if list(self.files) == ["Sum.lsl"] or "Sum.lp" in self.files and len(self.files) == 2:
@@ -128,7 +131,7 @@ class Desk:
         other = Desk.__new__(Desk)
         other.pick, other.reference = self.pick, self.reference
         other.limit = self.limit if self.pick.random() < 0.7 else self.pick.choice(LIMITS)
-        other.files = dict(self.files)
+        other.files, other.named = dict(self.files), self.named
         for _ in range(self.pick.choice([0, 0, 1, 2])):
             other.edit()
         return other
@@ -190,15 +193,34 @@ def put(name, text):
     return b"put %s %d\n" % (name.encode(), len(text)) + text
 
 
+def a_duty(pick, desk):
+    """A trait and a label, mostly of a duty that is there."""
+    if desk.named and pick.random() < 0.9:
+        return pick.choice(desk.named)
+    return pick.choice([*desk.stems(), "Nope"]), pick.choice([*LABELS, *[label for _, label in desk.named]])
+
+
+def asked(pick, desk):
+    """Lines that ask for reports and derivations."""
+    derive = [b"derive %s %s\n" % tuple(word.encode() for word in a_duty(pick, desk))
+              for _ in range(pick.choice([0, 0, 1, 1, 2, 3]))]
+    lines = [b"report\n"] * (pick.random() < 0.85 or not derive) + derive
+    if pick.random() < 0.2:
+        pick.shuffle(lines)
+    return b"".join(lines)
+
+
 def session(pick, desk):
     """The words and the input of a session that begins with the files of a desk."""
     names = pick.sample(sorted(desk.files), len(desk.files))
-    text = b"".join(put(name, desk.files[name]) for name in names) + b"report\n"
+    text = b"".join(put(name, desk.files[name]) for name in names) + asked(pick, desk)
     for _ in range(pick.choice([0, 0, 1, 2, 3])):
-        text += b"".join(desk.edit() for _ in range(pick.choice([1, 1, 2]))) + b"report\n"
+        text += b"".join(desk.edit() for _ in range(pick.choice([1, 1, 2]))) + asked(pick, desk)
     if pick.random() < 0.08:
         place = pick.randint(0, len(text))
-        text = text[:place] + pick.choice([b"", b"x", b"\n", b"put T.lp 3\n"]) + pick.choice([text[place:], b""])
+        wrong = [b"", b"x", b"\n", b"put T.lp 3\n", b"derive T imply.1 \n", b"derive T\timply.1\n",
+                 b"derive T %s\n" % pick.choice(NO_LABELS).encode()]
+        text = text[:place] + pick.choice(wrong) + pick.choice([text[place:], b""])
     return ["session", *option(pick, desk.limit)], text, {}
 
 
@@ -209,10 +231,24 @@ def option(pick, limit):
 
 def replay(pick, desk):
     """The words and the folder of a replay of the files of a desk."""
+    return call(pick, desk, ["replay"])
+
+
+def derive(pick, desk):
+    """The words and the folder of a call that derives a duty of a desk's files."""
+    front = ["derive", *a_duty(pick, desk)]
+    if pick.random() < 0.04:
+        front[1:] = pick.choice([["Nope", "imply.1"], front[1:2], [front[1], pick.choice(NO_LABELS)],
+                                 ["a-b", front[2]]])
+    return call(pick, desk, front)
+
+
+def call(pick, desk, front):
+    """A command over the files of a desk, now and then with fewer or other words."""
     names = pick.sample(sorted(desk.files), len(desk.files))
     if pick.random() < 0.15:
         names = names[:pick.randint(0, len(names))] + pick.choice([[], ["Nope.lsl"], ["Nope.lp"], names[:1]])
-    words = ["replay", *names]
+    words = [*front, *names]
     place = pick.choice([0, 1, len(words)])
     words[place:place] = option(pick, desk.limit)
     if pick.random() < 0.04:

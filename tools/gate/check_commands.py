@@ -35,6 +35,7 @@ def put(name):
 
 PUT, WRONG = put("One.lsl"), put("Two.lsl")
 # The last line of the certificate of Nat in the second version, and a line that it doesn't need.
+TOTAL = "total {} traits, 0 errors, {} proved, 0 suspended, 0 refused"
 LAST = "induct line=11 var=x:N goal=#3(#1,x:N)==x:N boxes=8,5"
 IDLE = call_texts.proof((12, b"12 refl #1\n13 induct 1 x:N #3(#1,x:N)==x:N 4,7"))
 # Calls for each status and command: the words, the input, and the last line, of which nothing is said by None.
@@ -56,6 +57,13 @@ CALLS = {
                **{status: [(words, b"", last) for words, last in FILES[status]] for status in (7, 8)}},
     "check": {status: [(words, b"", last) for words, last in calls] for status, calls in FILES.items()},
     "obligations": {status: [(words, b"", last) for words, last in calls] for status, calls in FILES.items()},
+    "derive": {0: [("Nat imply.1 Nat.lsl Nat.lp", b"", None), ("--limit 900 Nat imply.1 Nat.lp Nat.lsl", b"", None)],
+               1: [("Nat imply.1 Nat.lsl", b"", "none"), ("Nat imply.9 Nat.lsl Nat.lp", b"", "none"),
+                   ("Two imply.1 Two.lsl", b"", "none"), ("Nope imply.1 Nat.lsl", b"", "none"),
+                   ("--limit=1 Nat imply.1 Nat.lsl Nat.lp", b"", "none")],
+               2: [("Nat imply.1", b"", "USAGE"), ("Nat imply.0 Nat.lsl", b"", "USAGE"),
+                   ("Nat imply.1 Nat.lsl --seed 1", b"", "USAGE")],
+               **{status: [("Nat imply.1 " + words, b"", last) for words, last in FILES[status]] for status in (7, 8)}},
     "verify": {0: [("Nat imply.1 Nat.cert Nat.lsl", b"", "accepted")],
                1: [("Nat imply.1 Place.cert Nat.lsl", b"", "refused 10"),
                    ("Nat imply.9 Nat.cert Nat.lsl", b"", "no duty"), ("Two imply.1 Nat.cert Two.lsl", b"", "no duty")],
@@ -82,6 +90,24 @@ CALLS = {
              7: [("Nat imply.1 Big.cert Nat.lsl", b"", "too large")],
              8: [("Nat imply.1 Nope.cert Nat.lsl", b"", "no file Nope.cert"),
                  ("Nat imply.1 Nat.cert Nope.lsl", b"", "no file Nope.lsl")]},
+    "migrate": {0: [("Nat.cert", b"", LAST), ("-- Left.cert", b"", LAST), ("Short.cert", b"", "done")],
+                2: [("", b"", "USAGE"), ("Nat.lsl", b"", "USAGE"), ("Nat.cert Nat.cert", b"", "USAGE"),
+                    ("Nat.cert --limit 5", b"", "USAGE")],
+                6: [("Form.cert", b"", "malformed at line 2")], 7: [("Big.cert", b"", "too large")],
+                8: [("Nope.cert", b"", "no file Nope.cert")]},
+    "complete": {0: [("Rules Rules.lsl", b"", "end"), ("One One.lsl One.lp", b"", "end"),
+                     ("Rules Rules.lsl --limit=2", b"", "end")],
+                 1: [("Near One.lsl", b"", "no trait"), ("Two Two.lsl", b"", "no trait"),
+                     ("Com Com.lsl", b"", "unoriented x + y == y + x"), ("Grown Grown.lsl", b"", "SIZE"),
+                     ("Grown Grown.lsl --limit 1", b"", "LIMIT"), ("Spent Spent.lsl", b"", "spent")],
+                 2: [("Rules", b"", "USAGE"), ("a-b Rules.lsl", b"", "USAGE"),
+                     ("Rules Rules.lsl --limit 0", b"", "USAGE")],
+                 **{status: [("One " + words, b"", last) for words, last in FILES[status]] for status in (7, 8)}},
+    "generate": {0: [("--seed 1 --size 1", b"", TOTAL.format(1, 2)), ("--size=3 --seed=0", b"", TOTAL.format(3, 6))],
+                 2: [("", b"", "USAGE"), ("--seed 1", b"", "USAGE"), ("--size 1", b"", "USAGE"),
+                     ("--seed 1 --size 0", b"", "USAGE"), ("--seed 1 --size 129", b"", "USAGE"),
+                     ("--seed 2147483648 --size 1", b"", "USAGE"), ("--seed 1 --size 1 x", b"", "USAGE"),
+                     ("--seed 1 --size 1 --limit 5", b"", "USAGE")]},
 }
 # Traits and models beside the texts that calls are compared on.
 NEAR = (b"Near: trait\n  introduces\n    c: -> S\n  implies\n    \\forall p, q, r, t, u: S\n"
@@ -90,8 +116,16 @@ MODELS = {"Nat.mod": b"model\nsort N 2\nop 1 0\nop 2 1 0\nop 3 0 1 1 0\n", "Near
           "Wrong.mod": b"model\nsort N 2\nop 1 0\nop 2 1 0\nop 3 0 0 1 1\n", "Form.mod": b"model\nsort N 2\nop 1 0\n\n",
           "Near.mod": b"model\nsort S 2\nop 1 0\n", "Sixteen.mod": b"model\nsort S 16\nop 1 0\n",
           "Point.mod": b"model\nop 1 0\n", "Big.mod": b"model\n".ljust(1048577, b" ")}
-SCRIPTS = {"Nat.lp": b"duty imply.1\n  resume by induction on x\nduty imply.2\n  resume by induction on y\n"
-                     b"duty convert.1\n  resume by induction on x2\n"}
+# Traits whose completions end in each way.
+ENDINGS = {
+    "Rules.lsl": b"Rules: trait\n  introduces\n    g, f: -> S\n  asserts\n    f == g\n",
+    "Com.lsl": b"Com: trait\n  introduces\n    __ + __: N, N -> N\n  asserts \\forall x, y: N\n    x + y == y + x\n",
+    "Grown.lsl": b"Grown: trait\n  introduces\n    p: S, S -> S\n    c: -> S\n    f: S -> S\n  asserts\n"
+                 b"    f(f(f(f(f(c))))) == c\n"
+                 b"    \\forall x: S\n      f(x) == p(p(p(x, x), p(x, x)), p(p(x, x), p(x, x)))\n",
+    "Spent.lsl": b"Spent: trait\n  introduces\n    e: -> G\n    __ * __: G, G -> G\n    inv: G -> G\n"
+                 b"  asserts \\forall x, y, z: G\n"
+                 b"    e * x == x;\n    inv(x) * x == e;\n    (x * y) * z == x * (y * z)\n"}
 TRIMMED = {"Idle.cert": IDLE, "Left.cert": b"".join(line + b"\n" for line in (
     b"certificate 2", b"axiom statement=1", b"axiom statement=2", b"axiom statement=3", b"box sorts=- hyps=-",
     b"inst line=3 by=x:N=#1", b"done", b"box sorts=N hyps=#3(#1,@0.1)==@0.1", b"inst line=5 by=x:N=#1;y:N=@1.1",
@@ -101,7 +135,8 @@ AROUND = ["help", "explain", "watch"]
 OPTIONS = ["--build", "--help", "--install", "--program", "--uninstall", "--unproved", "--version"]
 # Words before the cursor, the last of which is begun, and what may stand there.
 COMPLETED = [
-    ([""], ["check", "explain", "help", "model", "obligations", "replay", "session", "trim", "verify", "watch"]),
+    ([""], ["check", "complete", "derive", "explain", "generate", "help", "migrate", "model", "obligations", "replay",
+            "session", "trim", "verify", "watch"]),
     (["ob"], ["obligations"]), (["Frob"], []), (["--"], OPTIONS), (["--un"], ["--uninstall", "--unproved"]),
     (["--unproved", "verify", "Na"], ["Nat"]), (["--install", ""], ["sub/"]), (["--build", ""], []),
     (["help", "v"], ["verify"]), (["help", "SYN"], ["SYNTAX"]), (["explain", "CY"], ["CYCLE"]),
@@ -120,6 +155,12 @@ COMPLETED = [
     (["model", "Nat", "Nat.mod", "Na"], ["Nat.lsl"]), (["help", "mo"], ["model"]),
     (["trim", "Na"], ["Nat"]), (["trim", "Nat", "i"], ["imply.1", "imply.2"]),
     (["trim", "Nat", "imply.1", "sub/"], ["sub/Two.cert"]), (["trim", "Nat", "imply.1", "Nat.cert", "Na"], ["Nat.lsl"]),
+    (["derive", "Na"], ["Nat"]), (["derive", "Nat", "i"], ["imply.1", "imply.2"]),
+    (["derive", "Nat", "imply.1", "Nat.lsl", "On"], ["One.lp", "One.lsl"]),
+    (["derive", "Nat", "imply.1", "Nat.lsl", "--"], ["--limit", "--with-included"]),
+    (["migrate", "F"], ["Form.cert"]), (["migrate", "sub/"], ["sub/Two.cert"]), (["complete", "Na"], ["Nat"]),
+    (["complete", "Nat", "Na"], ["Nat.lsl"]), (["complete", "Nat", "--"], ["--limit", "--with-included"]),
+    (["generate", ""], []), (["generate", "--"], ["--seed", "--size"]), (["help", "ge"], ["generate"]),
     (["verify", "Nat", "imply.1", "F"], ["Form.cert"]), (["check", "a"], []),
     (["verify", "Nat", "imply.1", "Nat.cert", "Na"], ["Nat.lsl"])]
 WITHOUT = (["verify", "Nat", ""], ["assume.1", "convert.1", "imply.1"])
@@ -306,7 +347,7 @@ def main():
     tests = Tests()
     with tempfile.TemporaryDirectory() as place:
         folder = pathlib.Path(place)
-        for name, text in {**call_texts.fixed_folder(), **MODELS, **SCRIPTS, **TRIMMED}.items():
+        for name, text in {**call_texts.fixed_folder(), **MODELS, **ENDINGS, **TRIMMED}.items():
             (folder / name).write_bytes(text)
         (folder / "a-b.lsl").write_text("")
         agreement(tests, program, folder)

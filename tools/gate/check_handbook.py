@@ -4,9 +4,12 @@
 PROGRAM is a command, in quotes where it has words of its own. It finds nothing wrong with any trait; each duty that it
 lists has a block in the trait's script, in the order of the list, below a comment that is the duty's statement, with
 the marks of boxes checked and `qed` at its end; and, where PROGRAM has the command `replay`, it calls each of them
-proved, in one report over all files. Each trait is in one family, its head says what it is for and where it is from,
+proved, in one report over all files. Where it has the command `derive`, a session for each trait, with the files that
+the trait reaches alone, derives each of its duties, and `verify` accepts each derivation in another call, over the same
+traits without scripts. Each trait is in one family, its head says what it is for and where it is from,
 and the tables are those that tools/make/make_handbook.py makes. The traits and claims that docs/HANDBOOK.md speaks of
 are there. Ends with 'N passed, N failed', and status 1 where one failed."""
+import multiprocessing.pool
 import pathlib
 import re
 import shlex
@@ -15,8 +18,10 @@ import subprocess
 import sys
 
 sys.path[:0] = [str(pathlib.Path(__file__).resolve().parents[1] / part) for part in ("", "make")]
+import derived  # noqa: E402
 import make_handbook  # noqa: E402
 from desk import TOP  # noqa: E402
+from companions.scope import reached  # noqa: E402
 from tests import Tests  # noqa: E402
 
 BOOK, TOLD = TOP / "examples/handbook", TOP / "docs/HANDBOOK.md"
@@ -74,6 +79,33 @@ def replayed(tests, program, traits, duties):
     tests.see("replay: the count", written[-len(TOTAL.format(len(traits), count)):], TOTAL.format(len(traits), count))
 
 
+def verdicts(program, name, labels):
+    """What `verify` says of each derivation of a trait's duties, and how many lines they have."""
+    texts = {path.name: path.read_bytes() for path in BOOK.glob("*.l*")}
+    files = {file: texts[file] for file in [*reached(texts, f"{name}.lsl"), f"{name}.lp"]}
+    duties = [(name, label) for label in labels]
+    said, lines = [], 0
+    for duty, text in zip(duties, derived.derivations(program, files, duties)):
+        said.append((duty[1], derived.told(program, "verify", files, duty, text)))
+        lines += max(0, text.count(b"\n") - 1)
+    return name, said, lines
+
+
+def verified(tests, program, duties):
+    """What is derived of each duty is accepted, as far as the program derives."""
+    if run(program, "derive", "Nope", "imply.1", next(BOOK.glob("*.lsl")).name)[1] == 2:
+        print("left out: the program doesn't derive")
+        return
+    asked = [(program, name, [label for label, _ in wanted]) for name, wanted in duties.items() if wanted]
+    count = 0
+    with multiprocessing.pool.ThreadPool() as pool:
+        for name, said, lines in pool.starmap(verdicts, asked, chunksize=1):
+            count += lines
+            for label, answer in said:
+                tests.see(f"verify of what is derived of {name} {label}", answer, (b"accepted\n", 0))
+    print(f"derivations: {count} lines")
+
+
 def tables(tests):
     """The tables are made of the files as they are."""
     tests.see("families and heads", make_handbook.faults(make_handbook.entries()), [])
@@ -117,6 +149,7 @@ def main():
     tables(tests)
     told(tests, duties)
     replayed(tests, program, traits, duties)
+    verified(tests, program, duties)
     return tests.end("handbook")
 
 

@@ -1,12 +1,13 @@
 #!/usr/bin/env python3
-"""Runs what README.md shows: python3 tools/gate/check_readme.py PROGRAM [--unproved]
+"""Runs what README.md and two more pages show: python3 tools/gate/check_readme.py PROGRAM [--unproved]
 
-PROGRAM is a command, in quotes where it has words of its own. In a folder of its own each block `lsl` or `text` is
-written to the file that the paragraph above it names last, and each line `$ COMMAND` of a block `console` is run by
-bash, `larch` being ./larch with PROGRAM; what it writes has to be the lines below it. A command of a tool in the
-running text has to end well. What builds the program is run by .ci/run, which has to have that line; the try without a
-proof takes a compiler a minute, and is run with --unproved alone. The page has less than 1,200 words. Ends with 'N
-passed, N failed', and status 1 where one failed."""
+The other pages are docs/CERTIFICATES.md and docs/COMPLETION.md. PROGRAM is a command, in quotes where it has words of
+its own. In a folder of each page each block `lsl` is written to the file of its trait, and each block `text` to the
+file that the paragraph above it names last; each line `$ COMMAND` of a block `console` is run by bash, `larch` being
+./larch with PROGRAM; what it writes has to be the lines below it. A command of a tool in the running text of README.md
+has to end well. What builds the program is run by .ci/run, which has to have that line; the try without a proof takes a
+compiler a minute, and is run with --unproved alone. README.md has less than 1,200 words. Ends with 'N passed, N
+failed', and status 1 where one failed."""
 import os
 import pathlib
 import re
@@ -19,10 +20,10 @@ import tempfile
 from tests import Tests
 
 TOP = pathlib.Path(__file__).resolve().parents[2]
-PAGE = TOP / "README.md"
+PAGE, OTHERS = TOP / "README.md", [TOP / "docs" / name for name in ("CERTIFICATES.md", "COMPLETION.md")]
 MOST_WORDS = 1200
 BLOCK = re.compile(r"((?:[^\n]+\n)*)\n```(\w+)\n(.*?)^```$", re.M | re.S)
-FILE = re.compile(r"`(\w+\.(?:lsl|lp|cert))`")
+FILE, TRAIT = re.compile(r"`(\w+\.(?:lsl|lp|cert))`"), re.compile(r"\w+")
 
 
 def calls(block):
@@ -51,7 +52,7 @@ def shown(tests, text, program):
     with tempfile.TemporaryDirectory() as place, tempfile.TemporaryDirectory() as beside:
         put_larch(pathlib.Path(beside), program)
         for above, kind, block in BLOCK.findall(text):
-            named = FILE.findall(above)
+            named = [f"{TRAIT.match(block)[0]}.lsl"] if kind == "lsl" else FILE.findall(above)
             if kind in ("lsl", "text") and named:
                 pathlib.Path(place, named[-1]).write_text(block)
             for command, lines in calls(block) if kind == "console" else ():
@@ -79,7 +80,8 @@ def main():
     program = shlex.split(words[0])
     program[0] = str(pathlib.Path(shutil.which(program[0]) or program[0]).resolve())
     tests, text = Tests(), PAGE.read_text(encoding="utf-8")
-    shown(tests, text, program)
+    for page in (PAGE, *OTHERS):
+        shown(tests, page.read_text(encoding="utf-8"), program)
     told(tests, text, unproved)
     count = len(text.split())
     tests.see(f"README.md has {count} words, less than {MOST_WORDS}", count < MOST_WORDS, True)

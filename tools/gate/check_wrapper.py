@@ -23,6 +23,9 @@ USAGE = "usage: larch COMMAND [WORD..] [--limit N] [--seed N] [--size N]\n"
 TRAITS = {"One.lsl": "One: trait\n  includes Two\n", "Two.lsl": "Two: trait\n  introduces\n    c: -> S\n",
           "Wrong.lsl": "Wrong: trait\n  introduces\n    c -> S\n", "Two.lp": "duty imply.1\n"}
 MANY = [f"F{number}.lsl" for number in range(257)]
+# The commands, and what stands around the program.
+HELPED = ("session", "replay", "check", "obligations", "derive", "verify", "model", "trim", "migrate", "complete",
+          "generate", "explain", "watch")
 CERTIFIED = ("Natural.lsl", "Natural.imply.1.cert")
 # A call's words in a folder `a` with the traits and a folder `b`; the program's words and their folder; what is said.
 CALLS = [
@@ -61,6 +64,24 @@ CALLS = [
     ("model Two a/Form.mod a/Two.lsl", "model Two Form.mod Two.lsl", "a",
      "that is a line of the model Form.mod; "),
     ("model Two a/Two.mod", "model Two Two.mod", "a", "too few words: larch model TRAIT MODEL FILE.."),
+    ("derive Two imply.1 a/Two.lsl a/Two.lp --limit 5", "derive Two imply.1 Two.lsl Two.lp --limit 5", "a", ""),
+    ("derive --with-included Two imply.1 a/One.lsl", "derive Two imply.1 One.lsl Two.lsl Two.lp", "a", ""),
+    ("derive Two imply a/Two.lsl", "derive Two imply Two.lsl", "a", "`imply` is no label: assume.N"),
+    ("derive Two a/Two.lsl", "derive Two a/Two.lsl", ".", "too few words: larch derive TRAIT LABEL FILE.."),
+    ("migrate a/Natural.imply.1.cert", "migrate Natural.imply.1.cert", "a", ""),
+    ("migrate a/Form.cert", "migrate Form.cert", "a", "that is a line of the certificate a/Form.cert; "),
+    ("migrate a/Nope.cert", "migrate a/Nope.cert", ".", "there is no Nope.cert in "),
+    ("migrate a/Two.lsl", "migrate Two.lsl", "a", "`a/Two.lsl` is no certificate: its name ends in `.cert`"),
+    ("migrate a/Form.cert a/Two.lsl", "migrate Form.cert Two.lsl", "a", "`migrate` takes a certificate and nothing"),
+    ("complete Two a/Two.lsl", "complete Two Two.lsl", "a", ""),
+    ("complete --limit 9 --with-included One a/One.lsl", "complete One One.lsl Two.lsl --limit 9", "a", ""),
+    ("complete a/Two.lsl", "complete a/Two.lsl", ".", "too few words: larch complete TRAIT FILE.."),
+    ("generate --seed 1 --size=1", "generate --seed 1 --size=1", ".", ""),
+    ("generate --seed 1", "generate --seed 1", ".", "`generate` needs --seed N and --size N"),
+    ("generate --seed 1 --size 129", "generate --seed 1 --size 129", ".", "behind --size stands a number from 1 to"),
+    ("generate --size 1 --seed 1 x", "generate --size 1 --seed 1 x", ".", "`generate` takes no words but --seed N"),
+    ("check --seed=3 a/Two.lsl", "check --seed=3 Two.lsl", "a", "only `generate` takes --seed"),
+    ("migrat", "migrat", "a", "`migrat`: did you mean `migrate`?"),
     ("chekc One.lsl", "chekc One.lsl", "a", "`chekc`: did you mean `check`?"),
     ("frobnicate", "frobnicate", "a", "`frobnicate` is no command"),
     ("show Two.lsl", "show Two.lsl", "a", "there is no `show`: `larch obligations FILE..` lists"),
@@ -74,7 +95,8 @@ CALLS = [
     ("check a/Two", "check Two", "a", "`Two` is no file: its name ends in `.lsl` or `.lp`; did you mean `Two.lsl`?"),
     ("check a/My-Trait.lsl", "check My-Trait.lsl", "a", "letters, digits and `_`"),
     ("check b/*.lsl", "check *.lsl", "b", "no file is called *.lsl"),
-    ("check --limit=3 a/Two.lsl", "check --limit=3 Two.lsl", "a", "only `session` and `replay` take --limit"),
+    ("check --limit=3 a/Two.lsl", "check --limit=3 Two.lsl", "a",
+     "only `session`, `replay`, `derive` and `complete` take --limit"),
     ("verify Natural imply1 N.cert a/Natural.lsl", "verify Natural imply1 N.cert Natural.lsl", "a", "is no label"),
     ("verify Natural imply.1 a/Form.cert a/Natural.lsl", "verify Natural imply.1 Form.cert Natural.lsl", "a",
      "that is a line of the certificate Form.cert; "),
@@ -126,10 +148,9 @@ def around(tests, larch, folder):
     for word in ("help", "--help", "-h"):
         output, status, _ = run([larch, word], folder)
         tests.see(f"larch {word}: the status", status, 0)
-        for command in ("replay", "check", "obligations", "verify", "model", "trim", "session", "explain", "watch",
-                        "--install"):
+        for command in (*HELPED, "--install"):
             tests.has(f"larch {word}", output, f"larch {command}")
-    for command in ("replay", "check", "obligations", "verify", "model", "trim", "session", "explain", "watch"):
+    for command in HELPED:
         output, status, _ = run([larch, "help", command], folder)
         tests.see(f"larch help {command}", (bool(output), status), (True, 0))
         tests.see(f"larch {command} --help", run([larch, command, "--help"], folder)[1], 0)

@@ -1,3 +1,4 @@
+pub mod Generating
 pub mod Replaying
 pub mod Sessions
 pub mod Whole

@@ -1,28 +1,26 @@
--- What comes of a replay.
-use Rattle.std.proofs.Common.{◌≡◌, ◌≤◌, ◌+◌, ℕ, inl, inr, List, [], ◌∷◌, All, length, Option, Some, None, Result, Ok}
-use Rattle.std.proofs.Common.{Err, refl, sym, subst, ap, ◌∙◌, arith}
-use Rattle.std.specs.Prelude.{IfOk, IfSome, sum_by}
+-- What comes of a replay, and of a derivation.
+use Rattle.std.proofs.Common.{◌≡◌, ◌≤◌, ◌+◌, ℕ, inl, inr, List, [], Option, Some, None, Result, Ok, Err, refl, sym}
+use Rattle.std.proofs.Common.{subst, arith}
+use Rattle.std.specs.Prelude.{IfOk, IfSome}
 use Rattle.std.specs.Io.KnownBytes.{Appends}
 use Rattle.std.proofs.KnownBytes.{Appends-nil}
-use Rattle.std.proofs.lemmas.List.Elements.{All-cons, All-nil}
-use Rattle.std.proofs.lemmas.List.Sums.{sum_by-cons}
 use Rattle.larch_io.specs.Folder.{FileMap}
-use Rattle.larch_main_session.specs.Reports.{Report, IsJustified, steps_of}
 use Rattle.larch_main_status.specs.declared.halt.Halt.{Halt}
 use Rattle.larch_main_status.specs.declared.halt.Halt.TheVariants as halt_
 use Rattle.larch_main_status.specs.declared.status.Status.{Status}
-use Rattle.larch_main_session.proofs.Reporting.{may_be_shown, not_shown}
 use Rattle.larch_prove_meaning.specs.Redo.{redo}
 use Rattle.larch_main_session.specs.SessionSourcesJustified.{IsJustifiedReport}
 use Rattle.larch_main_files.specs.SessionMeaningRedone.{replayed_on}
 use Rattle.larch_main_status.specs.TraitsFiles.{Table}
 use Rattle.larch_words.specs.declared.call.Question.{Question}
-use Rattle.larch_words.specs.declared.call.Question.TheVariants.{Check, Model, Obligations, Replay, Trim, Verify}
+use Rattle.larch_words.specs.declared.call.Question.TheVariants.{Check, Complete, Derive, Model, Obligations}
+use Rattle.larch_words.specs.declared.call.Question.TheVariants.{Replay, Trim, Verify}
 use Rattle.larch_main_files.specs.Answer.{TellsAnswer, answer_of, made_of}
 use Rattle.larch_main_files.specs.Gather.{Gathered, Whole, Absent, TooLarge, IsFolder, gather_names}
 use Rattle.larch_main_files.specs.Look.{ComesTo, found_of}
+use Rattle.larch_main.specs.Derive.{Worked}
 use Rattle.larch_main.specs.Questions.{QuestionReports, Works}
-use Rattle.larch_main.specs.Replay.{Replayed, Replays, replay_reports}
+use Rattle.larch_main.specs.Replay.{AreDerivable, Replayed, Replays, steps_on}
 use Rattle.larch_main_files.specs.declared.answer.Answer.{Answer}
 use Rattle.larch_main_files.specs.declared.gather.GatherRefusal.{GatherRefusal}
 use Rattle.larch_main_files.specs.declared.gather.GatherRefusal.TheVariants as refusal_
@@ -36,43 +34,44 @@ pub folder_is : (told : Option FileMap) → IsFolder told (known_files told)
 folder_is None = tt
 folder_is (Some files) = refl
 
--- all reports come behind nothing
-behind_nothing : (xs : List Report) → All (λ (r : Report). 0 ≤ r.before) xs
-behind_nothing [] = All-nil (λ (r : Report). 0 ≤ r.before)
-behind_nothing (x ∷ xs) = All-cons (λ (r : Report). 0 ≤ r.before) x xs (omega arith) (behind_nothing xs)
-
 -- nothing was written, and no step taken
 pub nothing_replayed : (limit : ℕ) (names : List (List ℕ)) (told : Option FileMap) (held : Option (List ℕ)) (n : ℕ)
     → Replayed limit names told held held n n
-nothing_replayed limit names told held n =
-    let reports = replay_reports limit (gather_names (known_files told) [] names) in
-    record {
-      folder = known_files told;
-      front = [];
-      is_folder = folder_is told;
-      written = Appends-nil held;
-      shown = not_shown 0 reports (behind_nothing reports);
-      least = omega arith;
-      most = omega arith;
-    }
+nothing_replayed limit names told held n = record {
+  folder = known_files told;
+  front = [];
+  is_folder = folder_is told;
+  written = Appends-nil held;
+  shown = λ some. absurd (omega (arith, some));
+  least = omega arith;
+  most = omega arith;
+}
+
+pub nothing_worked : (limit : ℕ) (names : List (List ℕ)) (told : Option FileMap) (n : ℕ) → Worked limit names told n n
+nothing_worked limit names told n = record {
+  folder = known_files told;
+  is_folder = folder_is told;
+  least = omega arith;
+  most = omega arith;
+}
+
+some_justified : (A : Type 0) (o : Option Answer) → A → IfSome o (λ _. A)
+some_justified A None a = tt
+some_justified A (Some answer) a = a
 
 module _ (limit : ℕ) (names : List (List ℕ)) (told : Option FileMap) where
   -- a replay for which not all files were gathered makes no report
-  refused_by : (n : ℕ) (found : Gathered Table) → ComesTo told names found → replay_reports limit found ≡ []
+  refused_by : (n : ℕ) (found : Gathered Table) → ComesTo told names found → AreDerivable limit found
       → (answer : Option Answer) → Replays limit names told n n answer
-  refused_by n found comes none answer =
-      let same = ap (replay_reports limit) comes.is_found in
-      record {
-        folder = comes.folder;
-        is_folder = comes.is_folder;
-        justified = none_justified answer (subst (All IsJustified) (sym (same ∙ none)) (All-nil IsJustified));
-        least = omega arith;
-        most = omega arith;
-      }
-    where
-      none_justified : {A : Type 0} (o : Option Answer) → A → IfSome o (λ _. A)
-      none_justified None a = tt
-      none_justified (Some answer) a = a
+  refused_by n found comes none answer = record {
+    folder = comes.folder;
+    is_folder = comes.is_folder;
+    justified =
+        some_justified (AreDerivable limit (gather_names comes.folder [] names)) answer
+        (subst (AreDerivable limit) (sym comes.is_found) none);
+    least = omega arith;
+    most = omega arith;
+  }
 
   -- nothing is answered, and no step was taken
   unanswered : (n : ℕ) → Replays limit names told n n None
@@ -87,33 +86,23 @@ module _ (limit : ℕ) (names : List (List ℕ)) (told : Option FileMap) where
   pub replay_refused : (n : ℕ) (refusal : GatherRefusal)
       → IfSome (found_of {A = Table} (Err refusal)) (λ found. ComesTo told names found)
       → Replays limit names told n n (answer_of (Err refusal))
-  replay_refused n (refusal_.Absent name) comes = refused_by n (Absent name) comes refl _
-  replay_refused n refusal_.TooLarge comes = refused_by n TooLarge comes refl _
+  replay_refused n (refusal_.Absent name) comes = refused_by n (Absent name) comes tt _
+  replay_refused n refusal_.TooLarge comes = refused_by n TooLarge comes tt _
   replay_refused n refusal_.ReadFault comes = unanswered n
   replay_refused n refusal_.Memory comes = unanswered n
 
   -- the report on the files that were gathered
   module _ (files : Table) (comes : ComesTo told names (Whole files)) (before now : ℕ) (least : before ≤ now)
       (most : now ≤ before + redo [] (replayed_on limit files)) where
-    abbrev one : Report
-    one = record { before = 0; limit = limit; files = files }
-
-    reports_are : replay_reports limit (gather_names comes.folder [] names) ≡ one ∷ []
-    reports_are = ap (replay_reports limit) comes.is_found
-
-    costs : now ≤ before + sum_by steps_of (replay_reports limit (gather_names comes.folder [] names))
-    costs =
-        subst (λ rs. now ≤ before + sum_by steps_of rs) (sym reports_are)
-        (let sum : sum_by steps_of (one ∷ []) ≡ redo [] (replayed_on limit files) + sum_by steps_of [] =
-        sum_by-cons steps_of one [] in omega (arith, sum, most))
+    costs : now ≤ before + steps_on limit (gather_names comes.folder [] names)
+    costs = subst (λ found. now ≤ before + steps_on limit found) (sym comes.is_found) most
 
     pub replay_made : (answer : Answer) → IsJustifiedReport limit files
         → Replays limit names told before now (Some answer)
     replay_made answer justified = record {
       folder = comes.folder;
       is_folder = comes.is_folder;
-      justified =
-          subst (All IsJustified) (sym reports_are) (All-cons IsJustified one [] justified (All-nil IsJustified));
+      justified = subst (AreDerivable limit) (sym comes.is_found) justified;
       least = least;
       most = costs;
     }
@@ -127,6 +116,15 @@ module _ (limit : ℕ) (names : List (List ℕ)) (told : Option FileMap) where
       most = costs;
     }
 
+    -- a derivation takes as many
+    pub derivation_worked : Worked limit names told before now
+    derivation_worked = record {
+      folder = comes.folder;
+      is_folder = comes.is_folder;
+      least = least;
+      most = costs;
+    }
+
   -- what was answered is written, or a front of it, or nothing
   by_front : (before now : ℕ) (answer : Answer) → Replays limit names told before now (Some answer)
       → (held kept : Option (List ℕ)) (front : List ℕ) → Appends held kept front
@@ -136,24 +134,22 @@ module _ (limit : ℕ) (names : List (List ℕ)) (told : Option FileMap) where
     front = front;
     is_folder = r.is_folder;
     written = put;
-    shown = may_be_shown (length front) (replay_reports limit (gather_names r.folder [] names)) r.justified;
+    shown = λ some. r.justified;
     least = r.least;
     most = r.most;
   }
 
   by_nothing : (before now : ℕ) (o : Option Answer) → Replays limit names told before now o
       → (held kept : Option (List ℕ)) → kept ≡ held → Replayed limit names told held kept before now
-  by_nothing before now o r held kept same =
-      let reports = replay_reports limit (gather_names r.folder [] names) in
-      record {
-        folder = r.folder;
-        front = [];
-        is_folder = r.is_folder;
-        written = subst (λ k. Appends held k []) (sym same) (Appends-nil held);
-        shown = not_shown 0 reports (behind_nothing reports);
-        least = r.least;
-        most = r.most;
-      }
+  by_nothing before now o r held kept same = record {
+    folder = r.folder;
+    front = [];
+    is_folder = r.is_folder;
+    written = subst (λ k. Appends held k []) (sym same) (Appends-nil held);
+    shown = λ some. absurd (omega (arith, some));
+    least = r.least;
+    most = r.most;
+  }
 
   pub replay_told : (before now : ℕ) (answered : Result Answer Halt)
       → Replays limit names told before now (made_of answered)
@@ -185,7 +181,7 @@ module _ (limit : ℕ) (names : List (List ℕ)) (told : Option FileMap) where
     folder = r.folder;
     is_folder = r.is_folder;
     justified =
-        justified_by (All IsJustified (replay_reports limit (gather_names r.folder [] names))) o result r.justified is;
+        justified_by (AreDerivable limit (gather_names r.folder [] names)) o result r.justified is;
     least = r.least;
     most = r.most;
   }
@@ -199,9 +195,11 @@ question_told Check names told before now answered w held kept was is result tel
 question_told Obligations names told before now answered w held kept was is result tells = w
 question_told (Replay limit) names told before now answered w held kept was is result tells =
     replay_told limit names told before now answered w held kept was is result tells
+question_told (Derive asked limit) names told before now answered w held kept was is result tells = w
 question_told (Verify asked) names told before now answered w held kept was is result tells = w
 question_told (Model tried) names told before now answered w held kept was is result tells = w
 question_told (Trim asked) names told before now answered w held kept was is result tells = w
+question_told (Complete stem limit) names told before now answered w held kept was is result tells = w
 
 pub works_answered : (question : Question) (names : List (List ℕ)) (told : Option FileMap) (before now : ℕ)
     (o : Option Answer) (result : Result Answer Halt) → Works question names told before now o
@@ -210,6 +208,8 @@ works_answered Check names told before now o result w is = w
 works_answered Obligations names told before now o result w is = w
 works_answered (Replay limit) names told before now o result w is =
     replays_answered limit names told before now o result w is
+works_answered (Derive asked limit) names told before now o result w is = w
 works_answered (Verify asked) names told before now o result w is = w
 works_answered (Model tried) names told before now o result w is = w
 works_answered (Trim asked) names told before now o result w is = w
+works_answered (Complete stem limit) names told before now o result w is = w

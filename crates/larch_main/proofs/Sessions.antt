@@ -31,11 +31,9 @@ session_front limit told left leaves held holds w = record {
   folder = known_files told;
   input = w.input;
   front = w.front;
-  rest = w.rest;
-  status = w.status;
   is_folder = folder_is told;
   is_input = w.is_input;
-  defined = (w.last, w.session);
+  begins = w.begins;
   written = w.written;
 }
 

@@ -106,15 +106,17 @@ module _ (call : Call) (told : Option FileMap) (left leaves held holds : Option 
   Writes NoFile = Answers call told left leaves held holds NoFile
 
 -- What a call shows by its status, on some folder, the told one where it is told: `verify` or `trim` that ends well
--- shows that what was to be verified is so, and `derive` that ends well has written what `verify` accepts.
-abbrev pub Shows : Call → Option FileMap → Status → Type 0
-Shows (call_.OnFiles (Verify asked) names) told Good =
+-- shows that what was to be verified is so, and `derive` that ends well has written what `verify` accepts. The sink
+-- held `held` and holds `holds`.
+abbrev pub Shows : Call → Option FileMap → Option (List ℕ) → Option (List ℕ) → Status → Type 0
+Shows (call_.OnFiles (Verify asked) names) told held holds Good =
     (folder : FileMap) × IsFolder told folder × IsShown folder asked names
-Shows (call_.OnFiles (Trim asked) names) told Good =
+Shows (call_.OnFiles (Trim asked) names) told held holds Good =
     (folder : FileMap) × IsFolder told folder × IsShown folder asked names
-Shows (call_.OnFiles (Derive asked limit) names) told Good =
-    (folder : FileMap) × IsFolder told folder × (output : List ℕ) × IsDerivation folder asked names output
-Shows _ told status = Unit {0}
+Shows (call_.OnFiles (Derive asked limit) names) told held holds Good =
+    (folder : FileMap) × IsFolder told folder
+    × (output : List ℕ) × Appends held holds output × IsDerivation folder asked names output
+Shows _ told held holds status = Unit {0}
 
 -- What comes of a call's reports and derivations: each duty that one calls proved, or derives, of which something was
 -- written is derivable from its own theory, and the steps are at most those of its reports and derivations; a call that

@@ -1,7 +1,7 @@
-ghost use Rattle.std.specs.Prelude.{◌≡◌, ◌≤◌, ◌+◌, All, IfOk, OnOk, length};
+ghost use Rattle.std.specs.Prelude.{◌≡◌, ◌≤◌, ◌+◌, IfOk, OnOk, length};
 ghost use Rattle.larch_base.specs.declared.limits.TheConstants.{MAX_FILE_BYTES};
 ghost use Rattle.larch_main.specs.Generate.{IsGenerationJustified, generated_table, generation_answer};
-ghost use Rattle.larch_main.specs.Generate.{generation_steps, generation_told};
+ghost use Rattle.larch_main.specs.Generate.{generation_steps, generation_told, with_generated};
 
 use larch_base::limits::DEFAULT_REWRITING_LIMIT;
 use larch_base::{Memory, Steps};
@@ -41,10 +41,18 @@ fn generated_table(alloc: Global, traits: Generation) -> Result<Files, Memory>
     let generated = generated_files(alloc, traits.seed, traits.size)?;
     let mut files = Files::new(alloc);
     for file in generated.into_vec() {
-        let GeneratedFile { name, text } = file;
-        files.insert(name, text)?;
+        put(&mut files, file)?;
     }
     Ok(files)
+}
+
+// Puts a generated file in.
+fn put(files: &mut Files, file: GeneratedFile) -> Result<(), Memory>
+    requires { length file.text ≤ MAX_FILE_BYTES }
+    ensures { OnOk result (files.new ≡ with_generated files.old file) }
+{
+    let GeneratedFile { name, text } = file;
+    files.insert(name, text)
 }
 
 // What is told of so many traits, by the lines of the report on them.

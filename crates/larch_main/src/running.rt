@@ -62,7 +62,8 @@ pub fn run<F: Folder, S: Source, K: Sink, L: Ledger>(
         (S.left source.old) (S.left source.new) (K.held sink.old) (K.held sink.new) result }
     // Where `verify` or `trim` ends well, the duty that it was asked for is derivable from its theory, and fails in no
     // model; where `derive` does, `verify` accepts what was written for the duty.
-    ensures shown { Shows (call_of (map string_bytes words.now)) (F.files folder.old) result }
+    ensures shown { Shows (call_of (map string_bytes words.now)) (F.files folder.old)
+        (K.held sink.old) (K.held sink.new) result }
     // Each duty that a report calls proved is derivable from its own theory, and a step is counted at most for each
     // opening of a duty and each command that the reports replay.
     ensures reports { CallReports (call_of (map string_bytes words.now)) (F.files folder.old)
@@ -222,12 +223,12 @@ fn run_migrate<F: Folder, K: Sink>(
     ensures looks { CallLooks (call_migrate certificate.now) (F.files folder.old)
         (F.looks folder.old) (F.looks folder.new) }
 {
-    let answered = migrated(alloc, certificate, folder);
+    let answered = migration(alloc, certificate, folder);
     tell(sink, answered)
 }
 
 // What is answered where the certificate of this name is wanted in the second version.
-fn migrated<F: Folder>(
+fn migration<F: Folder>(
     alloc: Global,
     certificate: &EvidenceName,
     folder: &mut F,

@@ -13,6 +13,7 @@ use Rattle.std.proofs.lemmas.List.Elements.{All-head, All-tail}
 use Rattle.larch_base.proofs.Bools.{and_not_right}
 use Rattle.larch_base.specs.declared.limits.TheConstants.{MAX_FILES, MAX_FILE_BYTES}
 use Rattle.larch_certificate.specs.declared.line.Line.{Line}
+use Rattle.larch_complete_answer.specs.Told.{completion_told}
 use Rattle.larch_duties_meaning.specs.Duties.{Duty}
 use Rattle.larch_session_meaning.specs.DutiesOwn.{trait_own_claims}
 use Rattle.larch_session_meaning.specs.DutiesOwnOwnClaims.{OwnClaims}
@@ -26,16 +27,21 @@ use Rattle.larch_models_meaning.specs.FiniteModel.{first_failing, interpretation
 use Rattle.larch_models_meaning.specs.Interpretation.{Interpretation}
 use Rattle.larch_models_meaning.specs.declared.finite_model.FiniteModel.{FiniteModel}
 use Rattle.larch_term.specs.declared.statement.Statement.{Statement}
+use Rattle.larch_term.specs.declared.statement.Theory.{Theory}
 use Rattle.larch_report.specs.Counts.{counts_of, is_good}
 use Rattle.larch_traits.specs.Files.{Table, has_file, put_file}
 use Rattle.larch_traits.specs.Reading.{read_files}
 use Rattle.larch_verify_meaning.specs.Acceptance.{verdict}
 use Rattle.larch_words.specs.declared.call.Question.{Question}
-use Rattle.larch_words.specs.declared.call.Question.TheVariants.{Check, Model, Obligations, Replay, Trim, Verify}
+use Rattle.larch_words.specs.declared.call.DutyName.{DutyName}
+use Rattle.larch_words.specs.declared.call.Question.TheVariants.{Check, Complete, Derive, Model, Obligations}
+use Rattle.larch_words.specs.declared.call.Question.TheVariants.{Replay, Trim, Verify}
 use Rattle.larch_main_files.specs.Answer.{AnswersBy, IsAnswer, good_or_remains}
 use Rattle.larch_main_files.specs.Check.{check_answer}
 use Rattle.larch_main_files.specs.Complete.{AreSmall, HasAll, HasCertificate, HasFiles, HasShort, IsCertificate}
 use Rattle.larch_main_files.specs.Complete.{IsCertificateThere, IsThere, Suits}
+use Rattle.larch_main_files.specs.Completion.{completed_over, completion_answer}
+use Rattle.larch_main_files.specs.Derive.{MayDerive, derivation_answer}
 use Rattle.larch_main_files.specs.Gather.{Gathered, Whole, TooLarge, and_then, evidence_in, fetching, gather_names}
 use Rattle.larch_main_files.specs.Gather.{putting}
 use Rattle.larch_main_files.specs.Model.{ending_status, trial_answer, tried_over}
@@ -43,6 +49,7 @@ use Rattle.larch_main_files.specs.Obligations.{obligations_answer}
 use Rattle.larch_main_files.specs.Questions.{MayAnswer}
 use Rattle.larch_main_files.specs.Report.{check_of}
 use Rattle.larch_main_files.specs.Replay.{replay_answer}
+use Rattle.larch_main_files.specs.Theory.{trait_theory}
 use Rattle.larch_main_status.specs.Status.{IsDone}
 use Rattle.larch_main_status.specs.Limits.{put_is_refused}
 use Rattle.larch_session_meaning.specs.Files.{report_of}
@@ -95,6 +102,18 @@ tried_done text (Ok own) (m, read, first, second, third) =
     subst (λ reading. IsDone (ending_status (judge_reading own.theory own.assumed own.implied reading).ending))
     (sym read) (judgement_done m own first second third)
 
+derivation_done : (derived : Option (List Line)) → IsDone (derivation_answer derived).status
+derivation_done None = tt
+derivation_done (Some lines) = tt
+
+derived_done : (limit : ℕ) (asked : DutyName) (files : Table) (text : List ℕ) (status : Status)
+    → MayDerive limit asked files text status → IsDone status
+derived_done limit asked files text status may = subst IsDone (sym may.answers.1) (derivation_done may.derivation)
+
+completed_done : (limit : ℕ) (r : Result Theory Stop) → IsDone (completed_over limit r).status
+completed_done limit (Ok theory) = either_done (completion_told theory limit).complete
+completed_done limit (Err stop) = tt
+
 -- what may be answered to what is whole
 whole_answer : {A : Type 0} (told : A → Answer) (found : Gathered A) (a : A) (text : List ℕ) (status : Status)
     → found ≡ Whole a → AnswersBy (λ x. IsAnswer (told x)) found text status → IsDone (told a).status → IsDone status
@@ -114,6 +133,9 @@ there_is_done Obligations names folder text status there is =
 there_is_done (Replay limit) names folder text status there is =
     whole_answer (replay_answer limit) (gather_names folder [] names) there.0 text status there.1 is
     (either_done (is_good (counts_of (report_of limit there.0))))
+there_is_done (Derive asked limit) names folder text status there is =
+    derived_done limit asked there.0 text status
+    (subst (λ found. AnswersBy (MayDerive limit asked) found text status) there.1 is)
 there_is_done (Verify asked) names folder text status (evidence, whole, (second, lines, is_text)) is =
     let duty = duty_in evidence.files asked.stem asked.label in
     whole_answer (verification_answer asked.stem asked.label) (evidence_in folder asked.certificate names) evidence text
@@ -131,6 +153,9 @@ there_is_done (Trim asked) names folder text status (evidence, whole, (second, l
 there_is_done (Model tried) names folder text status (evidence, whole, suits) is =
     whole_answer (trial_answer tried.stem) (evidence_in folder tried.model names) evidence text status whole is
     (tried_done evidence.text (trait_own_claims (read_files evidence.files) tried.stem) suits)
+there_is_done (Complete stem limit) names folder text status there is =
+    whole_answer (completion_answer stem limit) (gather_names folder [] names) there.0 text status there.1 is
+    (completed_done limit (trait_theory (read_files there.0) stem))
 
 -- a file more makes the table longer by one at most
 put_length_by : (file : List ℕ × List ℕ) (files : Table) (name text : List ℕ) (r : Ordering)
@@ -186,7 +211,7 @@ files_whole folder names there =
     let few = there.1 in gathered_whole folder names [] there.0 (omega (arith, few))
 
 -- a certificate or a model that is there is fetched
-fetched_whole : (name : List ℕ) (seen : Option (List ℕ)) (P : List ℕ → Type 0)
+pub fetched_whole : (name : List ℕ) (seen : Option (List ℕ)) (P : List ℕ → Type 0)
     → IsSomeAnd seen (λ text. (length text ≤ MAX_FILE_BYTES) × P text)
     → (text : List ℕ) × (fetching name seen ≡ Whole text) × P text
 fetched_whole name None P there = absurd there
@@ -212,6 +237,8 @@ pub all_is_there : (question : Question) (names : List (List ℕ)) (folder : Fil
 all_is_there Check names folder has = files_whole folder names has
 all_is_there Obligations names folder has = files_whole folder names has
 all_is_there (Replay limit) names folder has = files_whole folder names has
+all_is_there (Derive asked limit) names folder has = files_whole folder names has
+all_is_there (Complete stem limit) names folder has = files_whole folder names has
 all_is_there (Verify asked) names folder has = certificate_whole asked.certificate names folder has.0 has.1
 all_is_there (Trim asked) names folder has = certificate_whole asked.certificate names folder has.0 has.1
 all_is_there (Model tried) names folder has =

@@ -56,16 +56,21 @@ fetched_short name (Some bytes) text e = by_size (nat_lt MAX_FILE_BYTES (length 
 text_same : (one e : Evidence) → SameFound (Whole one) (Whole e) → one.text ≡ e.text
 text_same one e is = let same : one ≡ e = cc in ap (λ x. x.text) same
 
-evidence_short : (folder : FileMap) (certificate : List ℕ) (names : List (List ℕ)) (e : Evidence)
-    → evidence_in folder certificate names ≡ Whole e → length e.text ≤ MAX_FILE_BYTES
-evidence_short folder certificate names e is =
+-- its text is what was fetched
+pub evidence_text : (folder : FileMap) (certificate : List ℕ) (names : List (List ℕ)) (e : Evidence)
+    → evidence_in folder certificate names ≡ Whole e → fetching certificate (file_of folder certificate) ≡ Whole e.text
+evidence_text folder certificate names e is =
     let a = then_whole (fetching certificate (file_of folder certificate))
     (λ text. and_then (gather_names folder [] names) (λ files. Whole (record { text = text; files = files }))) e
     is in
     let b = then_whole (gather_names folder [] names)
     (λ files. Whole (record { text = a.0; files = files })) e a.2 in
-    subst (λ t. length t ≤ MAX_FILE_BYTES) (text_same (record { text = a.0; files = b.0 }) e b.2)
-    (fetched_short certificate (file_of folder certificate) a.0 a.1)
+    a.1 ∙ ap Whole (text_same (record { text = a.0; files = b.0 }) e b.2)
+
+pub evidence_short : (folder : FileMap) (certificate : List ℕ) (names : List (List ℕ)) (e : Evidence)
+    → evidence_in folder certificate names ≡ Whole e → length e.text ≤ MAX_FILE_BYTES
+evidence_short folder certificate names e is =
+    fetched_short certificate (file_of folder certificate) e.text (evidence_text folder certificate names e is)
 
 -- ---- what is left of lines that are accepted for a duty
 

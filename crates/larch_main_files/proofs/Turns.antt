@@ -272,6 +272,15 @@ no_look (call_.OnFiles question names) told looks = record {
   there = All-nil (IsThere told);
   looks = no_more_told looks;
 }
+no_look (call_.Migrate certificate) told looks = record {
+  found = [];
+  last = None;
+  rest = certificate ∷ [];
+  order = refl;
+  there = All-nil (IsThere told);
+  looks = no_more_told looks;
+}
+no_look (call_.Generate traits) told looks = refl
 no_look call_.Nothing told looks = refl
 
 -- what the words ask for

@@ -46,8 +46,8 @@ pub fn what_is_there_is_migrated()
         → HasCertificate folder certificate → MayMigrate certificate folder output status → status ≡ Good }
 {}
 
-/// Where `migrate` ends well, `verify` answers to what was written what it answers to the certificate, whichever duty it
-/// is for; and migrating it writes the same again.
+/// Where `migrate` ends well, `verify` answers to what was written what it answers to the certificate, whichever duty
+/// it is for; and migrating it writes the same again.
 pub fn what_is_migrated_is_the_same()
     ensures { (certificate : List ℕ) (folder : FileMap) (output : List ℕ)
         → MayMigrate certificate folder output Good → IsMigrated folder certificate output }

@@ -1,4 +1,4 @@
-ghost use Rattle.std.specs.Prelude.{◌≡◌, ◌<◌, get_or, length, slice_get, IfOk, None, Some};
+ghost use Rattle.std.specs.Prelude.{◌≡◌, ◌<◌, ◌+◌, ◌++◌, ◌∷◌, [], get_or, length, slice_get, take, true, IfOk, None, Some};
 ghost use Rattle.larch_base.specs.Answering.{Answers};
 ghost use Rattle.larch_traits.specs.FlatKnown.{AreAllKnown, Knows, is_known, stop_told};
 ghost use Rattle.larch_flat_meaning.specs.Gathered.{statements_in};
@@ -60,17 +60,26 @@ fn statements_of(alloc: Global, marked: &MarkedStatements) -> Result<Statements,
 {
     let mut statements = Sequence::new(alloc);
     for index in 0..marked.len() {
-        let statement = copy_statement(alloc, statement_at(marked, index))?;
+        let (statement, _) = marked_at(marked, index);
+        let statement = copy_statement(alloc, statement)?;
         statements.push(statement)?;
     }
     Ok(statements)
 }
 
-// The statement at a place among marked ones.
-fn statement_at(marked: &MarkedStatements, index: usize) -> &Statement
+// The marked statement at a place.
+fn marked_at(marked: &MarkedStatements, index: usize) -> (&Statement, bool)
     requires { index < length marked.now }
-    ensures { Some result.now ≡ slice_get (statements_in marked.now) index }
+    ensures { take (index + 1) marked.now
+        ≡ take index marked.now ++ record { statement = result.0.now; assumed = result.1 } ∷ [] }
 {
-    let (statement, _) = marked.get(index).unwrap();
-    statement
+    entry_at(marked, index)
+}
+
+// The same, as it is kept.
+fn entry_at(marked: &MarkedStatements, index: usize) -> (&Statement, bool)
+    requires { index < length marked.now }
+    ensures { Some (record { statement = result.0.now; assumed = result.1 }) ≡ slice_get marked.now index }
+{
+    marked.get(index).unwrap()
 }

@@ -2,8 +2,8 @@
 use Rattle.std.proofs.Common.{◌∙◌, ap, map, refl, string_bytes, sym}
 use Rattle.larch_words.specs.declared.call.Call.TheVariants as call_
 use Rattle.larch_main_files.proofs.Turns.{looks_as, no_look}
-use Rattle.larch_main.proofs.Whole.{asked_certificate, asked_model, asked_trimmed, completes_as, folder_kept}
-use Rattle.larch_main.proofs.Whole.{memory_input}
+use Rattle.larch_main.proofs.Whole.{asked_certificate, asked_migrated, asked_model, asked_trimmed, completes_as}
+use Rattle.larch_main.proofs.Whole.{folder_kept, memory_input}
 use Rattle.larch_main.proofs.Sessions.{session_source, session_writes, source_as}
 use Rattle.larch_main.proofs.Whole.{nothing_made, nothing_written, reports_as, shows}
 use Rattle.larch_main.proofs.Whole.{source_kept, unlooked, unread, usage_sink, usage_writes}
@@ -155,3 +155,70 @@ returns-clause-looks g c =
     looks_as _ _ _ _ _
     (ap (λ names. call_.OnFiles c.in-OnFiles.question names) c.as_slice.ensures
     ∙ (sym c.in-OnFiles.is ∙ c.in-Ok.ensures)) c.run_on_files.ensures.looks
+
+-- a certificate is migrated
+
+pub run_migrate-requires : goal.run_migrate-requires
+run_migrate-requires g c =
+    asked_migrated _ (map string_bytes c.args.words.now) _ c.in-Ok.ensures c.in-Migrate.is
+    c.certificates_are_named.ensures.migrate
+
+pub returns-in-Migrate-clause-output : goal.returns-in-Migrate-clause-output
+returns-in-Migrate-clause-output g c =
+    writes_as (call_.Migrate c.in-Migrate.certificate) _ _ _ _ _ _ c.run_migrate.result
+    (sym c.in-Migrate.is ∙ c.in-Ok.ensures) (c.run_migrate.ensures.output (g.S.Source.left c.args.source.now))
+
+pub returns-in-Migrate-clause-shown : goal.returns-in-Migrate-clause-shown
+returns-in-Migrate-clause-shown g c =
+    shows c.what_is_verified_is_derivable.ensures c.what_is_trimmed_is_accepted.ensures _ _ _ _ _ _ c.run_migrate.result
+    (writes_as (call_.Migrate c.in-Migrate.certificate) _ _ _ _ _ _ c.run_migrate.result
+    (sym c.in-Migrate.is ∙ c.in-Ok.ensures) (c.run_migrate.ensures.output (g.S.Source.left c.args.source.now)))
+
+pub returns-in-Migrate-clause-complete : goal.returns-in-Migrate-clause-complete
+returns-in-Migrate-clause-complete g c =
+    completes_as (call_.Migrate c.in-Migrate.certificate) _ _ _ _ _ _ c.run_migrate.result _ _ _ _ _ _
+    (sym c.in-Migrate.is ∙ c.in-Ok.ensures) (c.run_migrate.ensures.output (g.S.Source.left c.args.source.now))
+    (c.run_migrate.ensures.source_faults (g.S.Source.faults c.args.source.now))
+    c.run_migrate.ensures.folder_faults c.run_migrate.ensures.sink_faults
+
+pub returns-in-Migrate-clause-reports : goal.returns-in-Migrate-clause-reports
+returns-in-Migrate-clause-reports g c =
+    reports_as (call_.Migrate c.in-Migrate.certificate) _ _ _ _ _ _ _ (sym c.in-Migrate.is ∙ c.in-Ok.ensures) refl
+
+pub returns-in-Migrate-clause-looks : goal.returns-in-Migrate-clause-looks
+returns-in-Migrate-clause-looks g c =
+    looks_as (call_.Migrate c.in-Migrate.certificate) _ _ _ _ (sym c.in-Migrate.is ∙ c.in-Ok.ensures)
+    c.run_migrate.ensures.looks
+
+-- a report is made on generated traits
+
+pub returns-in-Generate-clause-output : goal.returns-in-Generate-clause-output
+returns-in-Generate-clause-output g c =
+    writes_as (call_.Generate c.in-Generate.traits) _ _ _ _ _ _ c.run_generate.result
+    (sym c.in-Generate.is ∙ c.in-Ok.ensures)
+    (c.run_generate.ensures.output (g.F.Folder.files c.args.folder.now) (g.S.Source.left c.args.source.now))
+
+pub returns-in-Generate-clause-shown : goal.returns-in-Generate-clause-shown
+returns-in-Generate-clause-shown g c =
+    shows c.what_is_verified_is_derivable.ensures c.what_is_trimmed_is_accepted.ensures _ _ _ _ _ _
+    c.run_generate.result
+    (writes_as (call_.Generate c.in-Generate.traits) _ _ _ _ _ _ c.run_generate.result
+    (sym c.in-Generate.is ∙ c.in-Ok.ensures)
+    (c.run_generate.ensures.output (g.F.Folder.files c.args.folder.now) (g.S.Source.left c.args.source.now)))
+
+pub returns-in-Generate-clause-complete : goal.returns-in-Generate-clause-complete
+returns-in-Generate-clause-complete g c =
+    completes_as (call_.Generate c.in-Generate.traits) _ _ _ _ _ _ c.run_generate.result _ _ _ _ _ _
+    (sym c.in-Generate.is ∙ c.in-Ok.ensures)
+    (c.run_generate.ensures.output (g.F.Folder.files c.args.folder.now) (g.S.Source.left c.args.source.now))
+    (unread (call_.Generate c.in-Generate.traits) refl c.run_generate.result (g.S.Source.faults c.args.source.now))
+    (unlooked (call_.Generate c.in-Generate.traits) refl c.run_generate.result (g.F.Folder.faults c.args.folder.now))
+    c.run_generate.ensures.sink_faults
+
+pub returns-in-Generate-clause-reports : goal.returns-in-Generate-clause-reports
+returns-in-Generate-clause-reports g c =
+    reports_as (call_.Generate c.in-Generate.traits) _ _ _ _ _ _ _ (sym c.in-Generate.is ∙ c.in-Ok.ensures)
+    c.run_generate.ensures.reports
+
+pub returns-in-Generate-clause-looks : goal.returns-in-Generate-clause-looks
+returns-in-Generate-clause-looks g c = no_look _ _ _
