@@ -1,3 +1,5 @@
+ghost use Rattle.std.specs.Prelude.{◌<◌};
+
 use crate::calls::{REPORT, SCRIPT, TRUTHS, put, status_on, verify};
 use larch_base::Memory;
 use larch_io::{MemoryFolder, MemorySink};
@@ -63,7 +65,9 @@ fn called_with(
     looks: &[u64],
     writes: &[u64],
     most: usize,
-) -> Result<(Status, MemorySink), Memory> {
+) -> Result<(Status, MemorySink), Memory>
+    requires { 0 < most }
+{
     let mut folder = folder_of(rt.alloc(), looks)?;
     let mut sink = MemorySink::new(rt.alloc(), writes, most)?;
     let status = status_on(rt, texts, &mut folder, &mut sink)?;

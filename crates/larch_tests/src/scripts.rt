@@ -91,23 +91,33 @@ fn derives_nothing_once_the_script_is_gone(rt: HostRuntime) -> Result<(), Fail> 
     Ok(())
 }
 
+// The first of these reads of a session which fails without being told, or behind something else than this.
+fn first_wrong_read(
+    rt: &HostRuntime,
+    input: &[u8],
+    reads: &[u64],
+    expected: &[u8],
+) -> Result<Option<u64>, Memory> {
+    for read in reads {
+        let (status, sink) = session(rt, input, &[*read], &[])?;
+        if status != Status::ReadFault || sink.bytes() != expected {
+            return Ok(Some(*read));
+        }
+    }
+    Ok(None)
+}
+
 // The report is whole with byte 229 of the input, the derivation with byte 251, and the session ends with byte 256.
 #[test]
 fn answers_whole_commands_before_a_read_fault(rt: HostRuntime) -> Result<(), Fail> {
     let input = input_with(rt.alloc(), b"report\nderive Truths imply.1\nquit\n")?;
     let (_, whole) = session(&rt, input.bytes(), &[], &[])?;
-    for call in [1, 19, 20, 222, 223, 229, 230, 251, 252, 256] {
-        let (status, sink) = session(&rt, input.bytes(), &[call], &[])?;
-        let expected: &[u8] = if call <= 229 {
-            b""
-        } else if call <= 251 {
-            REPORT
-        } else {
-            whole.bytes()
-        };
-        assert_eq!(rt; status, Status::ReadFault, "at read {call}");
-        assert_eq!(rt; sink.bytes(), expected, "at read {call}");
-    }
+    let wrong = first_wrong_read(&rt, input.bytes(), &[1, 19, 20, 222, 223, 229], b"")?;
+    assert_eq!(rt; wrong, None);
+    let wrong = first_wrong_read(&rt, input.bytes(), &[230, 251], REPORT)?;
+    assert_eq!(rt; wrong, None);
+    let wrong = first_wrong_read(&rt, input.bytes(), &[252, 256], whole.bytes())?;
+    assert_eq!(rt; wrong, None);
     Ok(())
 }
 
