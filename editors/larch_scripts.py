@@ -35,7 +35,7 @@ class Scripts(threading.Thread):
         super().__init__(daemon=True)
         self.folder, self.program, self.session = folder, program, Session(program)
         self.open, self.due, self.wake, self.asking = {}, None, threading.Condition(), threading.Lock()
-        self.found, self.published, self.listings = {}, {}, {}
+        self.found, self.published, self.listings, self.trouble = {}, {}, {}, None
         self.disk, self.reading = Disk(folder.path), threading.Lock()
         self.start()
 
@@ -58,8 +58,13 @@ class Scripts(threading.Thread):
                 self.due, opened = None, dict(self.open)
             try:
                 self.publish(opened)
-            except Exception:  # whatever it was, the next change is a new try
+                self.trouble = None
+            except Exception as trouble:  # whatever it was, the next change is a new try
                 self.session.close()
+                if str(trouble) != self.trouble:
+                    self.trouble = str(trouble)
+                    said = {"type": 1, "message": f"larch: scripts: {trouble!r}"}
+                    self.folder.server.send(method="window/showMessage", params=said)
 
     # Reports -------------------------------------------------------------------------------------
 
