@@ -5,13 +5,12 @@ import itertools
 import re
 
 from .formulas import (
-    BOOL, FALSE, TRUE, Language, atoms, conditions, conjuncts, matches, names, parts_of, replaced, size, subterms)
-from .listed import CLAUSE, forms, lines_of, operator_of
+    FALSE, TRUE, Language, atoms, conditions, conjuncts, matches, names, parts_of, replaced, size, subterms)
+from .listed import BOOL, CLAUSE, forms, lines_of, operator_of
 
 STATEMENT = re.compile(r"A(\d+) (asserted|assumed|copied|exempt) (.*)")
 DUTY = re.compile(r"((?:assume|imply|convert)\.\d+) (.*)")
-MOST_INSTANCES, MOST_TARGETS, MOST_PAIRS, MOST_CASES = 14, 60, 40, 12
-LONG_GOAL = 120
+MOST_INSTANCES, MOST_TARGETS, MOST_PAIRS, MOST_CASES, MOST_GROWN = 14, 40, 40, 12, 8
 
 
 @dataclasses.dataclass(frozen=True)
@@ -28,6 +27,11 @@ class Fact:
             return [atom for part in conjuncts(self.left) for atom in atoms(part)]
         return [self.left, self.right]
 
+    def patterns(self):
+        """What is looked for in a goal: the formulas, and then the arguments in them that are applications."""
+        found = [formula for formula in self.formulas() if formula[0] not in ("variable", "value")]
+        return found + [part for formula in found for part in parts_of(formula) if part[0] == "operator"]
+
     def variables(self):
         return {name for name, _ in self.sorts}
 
@@ -40,27 +44,33 @@ class Theory:
     operators make or observe a sort, and at which arguments equations look."""
 
     def __init__(self, listing, trait, label, proved):
-        self.lines = lines_of(listing, trait) or []
-        operators = [operator_of(line[3:]) for line in self.lines if line.startswith("op ")]
-        self.language, self.facts, self.generators, self.observers = Language(operators), [], {BOOL: None}, {}
-        duties = [DUTY.fullmatch(line) for line in self.lines]
-        self.duties = {found[1]: found[2] for found in duties if found}
-        self.statement = self.duties.get(label, "")
+        self.sections, number = sections(lines_of(listing, trait) or []), 0
+        of = next((place for place, lines in enumerate(self.sections) if duties_of(lines).get(label)), 0)
+        self.near = [line for place in sorted({0, of}) for line in self.sections[place]]
+        self.operators = [operator_of(line[3:]) for line in self.near if line.startswith("op ")]
+        self.language, self.facts, self.generators, self.observers = Language(self.operators), [], {BOOL: None}, {}
+        self.statement, self.statements = duties_of(self.near).get(label, ""), []
         self.take_statements()
-        for number, (name, statement) in enumerate(self.duties.items(), 1):
-            if name == label:
-                break
-            if name in proved:
-                self.take(f"L{number}", statement)
+        for place, lines in enumerate(self.sections):
+            for name, statement in duties_of(lines).items():
+                number += 1
+                if name in proved and place in (0, of) and self.is_before(name, label):
+                    self.take(f"L{number}", statement)
         self.looked_at = self.recursions()
 
+    def is_before(self, name, label):
+        """Whether a duty comes before another one; both are of this theory."""
+        order = list(duties_of(self.near))
+        return order.index(name) < order.index(label)
+
     def take_statements(self):
-        for line in self.lines:
+        for line in self.near:
             found = STATEMENT.fullmatch(line)
             if found and found[2] != "exempt":
                 self.take(f"A{found[1]}", found[3])
 
     def take(self, name, statement):
+        self.statements.append((name, statement))
         clause = CLAUSE.fullmatch(statement)
         if clause:
             known = self.generators if clause[2] == "generated" else self.observers
@@ -96,6 +106,21 @@ class Theory:
                     if argument[0] == "operator" and self.language.operators[argument[1]] in made:
                         found.add((part[1], place))
         return found
+
+
+def sections(lines):
+    """The lines of a trait, and those that each clause `converts` adds, each beginning with operators."""
+    found = []
+    for number, line in enumerate(lines):
+        if line.startswith("op ") and (number == 0 or not lines[number - 1].startswith("op ")) or not found:
+            found.append([])
+        found[-1].append(line)
+    return found or [[]]
+
+
+def duties_of(lines):
+    """The duties that some lines list: their statements by their labels."""
+    return {found[1]: found[2] for found in map(DUTY.fullmatch, lines) if found}
 
 
 @dataclasses.dataclass
@@ -204,23 +229,29 @@ def facts(theory, place):
 
 
 def targets(place):
-    """The terms that instances may be about, those of the goal first."""
+    """The terms that instances may be about, those of the goal first, by what stands at their heads."""
     known = [place.goal] + ([place.former] if place.former is not None else [])
     known += [side for _, left, right in reversed(place.hypotheses) for side in (left, right)]
-    found = dict.fromkeys(part for term in known for part in subterms(term) if part[0] != "value")
-    return list(found)[:MOST_TARGETS]
+    found = dict.fromkeys(part for term in known for part in subterms(term) if part[0] not in ("value", "variable"))
+    by_head = {}
+    for term in list(found)[:MOST_TARGETS]:
+        by_head.setdefault(head_of(term), []).append(term)
+    return by_head
+
+
+def head_of(term):
+    return term[:2] if term[0] == "operator" else term[:1]
 
 
 def instances(theory, place):
     """Instances of facts that match something in the goal or in a hypothesis, the better ones first."""
     about, scored = targets(place), []
+    known = {term for terms in about.values() for term in terms}
     for fact in facts(theory, place):
-        variables = fact.variables()
-        if not variables:
-            continue
-        is_hypothesis = fact.name[0] == "H"
-        for by in bindings(theory, fact, about, place):
-            scored.append((worth(theory, fact, by, about, is_hypothesis), fact, by))
+        if fact.sorts:
+            is_hypothesis = fact.name[0] == "H"
+            for by in bindings(theory, fact, about, place):
+                scored.append((worth(fact, by, known, is_hypothesis), fact, by))
     scored.sort(key=lambda entry: -entry[0])
     for score, fact, by in scored[:MOST_INSTANCES]:
         given = ", ".join(f"{name} by {theory.language.shown(term)}" for name, term in by.items())
@@ -229,19 +260,15 @@ def instances(theory, place):
 
 def bindings(theory, fact, about, place):
     """The ways to match what a fact is about, as far as can be; each binds some variable to another term."""
-    variables, found = fact.variables(), {}
-    fixed = frozenset(name for part in (fact.left, fact.right) for name in names(part)) - variables
-    patterns = [pattern for pattern in fact.formulas() if pattern[0] not in ("variable", "value")]
-    patterns += [part for pattern in patterns for part in parts_of(pattern) if part[0] == "operator"]
-    sorts = dict(fact.sorts)
-    grown = [{}]
-    for pattern in patterns:
+    variables, sorts, found, grown = fact.variables(), dict(fact.sorts), {}, [{}]
+    fixed = frozenset(names(fact.left, fact.right)) - variables
+    for pattern in fact.patterns():
         more = []
-        for by, term in itertools.product(grown[:12], about):
+        for by, term in itertools.product(grown[:MOST_GROWN], about.get(head_of(pattern), ())):
             match = matches(pattern, term, by, fixed)
             if match is not None and match != by and suits(theory, match, sorts, place):
                 more.append(match)
-        grown = unlike(more + grown)[:40]
+        grown = unlike(more + grown)[:2 * MOST_GROWN] if more else grown
     for by in grown:
         by = {name: term for name, term in by.items() if name in variables}
         if by and any(term != ("variable", name) for name, term in by.items()):
@@ -259,10 +286,10 @@ def suits(theory, by, sorts, place):
                for name, term in by.items())
 
 
-def worth(theory, fact, by, about, is_hypothesis):
+def worth(fact, by, known, is_hypothesis):
     """How much an instance promises: what of it stands in the goal or in hypotheses already, and that nothing in it is
     left open."""
-    known, left = set(about), set(fact.variables()) - set(by)
+    left = fact.variables() - set(by)
     said = [replaced(part, by) for part in fact.formulas()]
     score = sum(part in known for part in said) - 1.5 * len(left) + is_hypothesis + 0.5 * fact.is_conditional()
     return score - 0.02 * sum(map(size, by.values()))

@@ -8,6 +8,7 @@ import subprocess
 import tempfile
 import time
 
+from .flat import LABEL, NAME, Flat
 from .moves import Place, Theory, moves
 from .program import Session
 from .proving import Course
@@ -41,6 +42,22 @@ class Replays:
         """What is said of all duties of the trait, the tried one having no block."""
         files = {**self.files, f"{self.trait}.lp": (self.before + "\n").encode()}
         return findings(self.session.lines(files))[self.trait]
+
+
+class FlatReplays:
+    """A session that replays blocks of a duty in the trait of its theory alone."""
+
+    def __init__(self, session, theory, preamble):
+        self.session, self.flat, self.count = session, Flat(theory), 0
+        self.preamble = "\n".join([*preamble, "set box-checking off", f"duty {LABEL}"])
+
+    def verdicts(self, blocks):
+        """What is said of the duty with each of several blocks."""
+        self.count += len(blocks)
+        texts = ["\n".join([self.preamble, *map(self.flat.command, commands), ""]) for commands in blocks]
+        ways = [{f"{NAME}.lsl": self.flat.text, f"{NAME}.lp": text.encode()} for text in texts]
+        found = [findings(lines).get(NAME) for lines in self.session.all_lines(ways)]
+        return [one.verdicts.get(LABEL) if one else None for one in found]
 
 
 @dataclasses.dataclass(frozen=True)
@@ -142,14 +159,10 @@ def place_of(state):
     return Place(state.goal, state.sorts, state.constants, facts, state.here.former, state.here.added, derived)
 
 
-def scope_of(theory, script, statement_sorts):
-    """The names that are in scope at the opening of a duty, with their sorts: its variables, and those that the preamble
-    declares."""
-    return statement_sorts
-
-
 def try_duty(session, files, trait, label, listing, limits):
-    """Looks for a block of a duty: what is said of it now, and the outcome of the search where it is suspended."""
+    """Looks for a block of a duty: what is said of it now, and the outcome of the search where it is suspended, with the
+    theory. Blocks are tried in the trait of the theory alone, where the program says the same of it; what is found is
+    replayed in the trait itself."""
     begun = time.monotonic()
     replays = Replays(session, files, trait, label)
     now = replays.now()
@@ -160,6 +173,13 @@ def try_duty(session, files, trait, label, listing, limits):
     theory = Theory(listing, trait, label, proved)
     equation = theory.language.equation(theory.statement)
     course = Course(theory, dict(equation[2]) if equation else {})
+    flat = FlatReplays(session, theory, replays.script.lines[:replays.script.preamble_end - 1])
+    alone = flat.verdicts([()])[0]
+    if alone and (alone.kind, alone.goals, alone.goal) == (verdict.kind, verdict.goals, verdict.goal):
+        outcome = Search(flat, theory, course, begun, limits).run(verdict)
+        commands = outcome.state.commands if outcome.state else ()
+        if outcome.state is None or replays.verdicts([commands])[0].kind == "proved":
+            return verdict, outcome, theory
     return verdict, Search(replays, theory, course, begun, limits).run(verdict), theory
 
 
