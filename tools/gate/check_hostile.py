@@ -135,8 +135,8 @@ def see_links(tests, program):
                   b"trait Link error 1:1 TRAIT-NAME")
         tests.see("a link to no bytes", call(program, folder, ["check", "Null.lsl"])[1].split(b"\n")[0],
                   b"trait Null error 1:1 SYNTAX")
-        tests.see("a trait that lies there and isn't named", call(program, folder, ["check", "Two.lsl"])[1].split(b"\n")[0],
-                  b"trait Two error 2:12 UNKNOWN-TRAIT")
+        tests.see("a trait that lies there and isn't named",
+                  call(program, folder, ["check", "Two.lsl"])[1].split(b"\n")[0], b"trait Two error 2:12 UNKNOWN-TRAIT")
         after = {path.name: path.lstat() for path in folder.iterdir()}
         tests.see("what lies there", {name: (one.st_mode, one.st_size, one.st_mtime_ns) for name, one in after.items()},
                   {name: (one.st_mode, one.st_size, one.st_mtime_ns) for name, one in before.items()})
@@ -160,9 +160,10 @@ def see_pipes(tests, program):
     """Pipes are read to the end, and no further than a file may go; so is a file that grows."""
     endless = (b"%" * 4096 for _ in range(10**6))
     for title, texts, wanted in (
-            ("a pipe", [calls.ONE.replace(b"One", b"Bad")], b"trait Bad"), ("a pipe in pieces", [b"Bad: tr", b"ait\n"],
-                                                                           b"trait Bad"),
-            ("a pipe without a byte", [], b"trait Bad error 1:1 SYNTAX"), ("a pipe without an end", endless, b"too large")):
+            ("a pipe", [calls.ONE.replace(b"One", b"Bad")], b"trait Bad"),
+            ("a pipe in pieces", [b"Bad: tr", b"ait\n"], b"trait Bad"),
+            ("a pipe without a byte", [], b"trait Bad error 1:1 SYNTAX"),
+            ("a pipe without an end", endless, b"too large")):
         with stranger_folder() as folder:
             os.mkfifo(folder / "Bad.lsl")
             (folder / "Bad.lsl").chmod(0o644)
@@ -223,7 +224,8 @@ def see_streams(tests, program):
         report.close()
         os.close(place)
         os.close(into)
-    for title, words, closed, wanted in (("a closed input", "session", "<&-", 3), ("a closed output", "nothing", ">&-", 4)):
+    for title, words, closed, wanted in (("a closed input", "session", "<&-", 3),
+                                         ("a closed output", "nothing", ">&-", 4)):
         done = subprocess.run(["bash", "-c", f'"$0" {words} {closed}', program], stdin=subprocess.DEVNULL,
                               capture_output=True, timeout=SECONDS, check=False)
         tests.see(title, done.returncode, wanted)

@@ -59,9 +59,9 @@ def sessions(derives):
     texts = {
         "of one trait": put("One.lsl", ONE) + b"report\nquit\n",
         "cut short": b"report\n" + put("One.lsl", ONE)[:26],
-        "with edits": (put("P.lsl", b"P: trait\n  includes Q\n") + put("Q.lsl", b"Q: trait\n  includes P\n") + b"report\n\n"
-                       + put("Q.lsl", b"Q: trait\n") + b"drop P.lsl\ndrop No.lp\n" + put("Q.lp", b"duty imply.1\n")
-                       + put("R.lp", b"") + b"report\nreport\n"),
+        "with edits": (put("P.lsl", b"P: trait\n  includes Q\n") + put("Q.lsl", b"Q: trait\n  includes P\n")
+                       + b"report\n\n" + put("Q.lsl", b"Q: trait\n") + b"drop P.lsl\ndrop No.lp\n"
+                       + put("Q.lp", b"duty imply.1\n") + put("R.lp", b"") + b"report\nreport\n"),
         "with proofs": (put("Nat.lsl", NAT) + put("Nat.lp", NAT_SCRIPT) + b"report\nderive Nat imply.3\n"
                         + put("Nat.lp", OTHER_SCRIPT) + b"report\nderive Nat imply.3\nderive Nat imply.1\n"
                         + put("One.lsl", ONE) + b"report\n"),
@@ -89,7 +89,8 @@ def named_calls():
         "migrate": [(["Nat.cert"], nat)],
         "complete": [(["Cm", "Cm.lsl"], {"Cm.lsl": COMPLETED})],
         "derive": [(["Nat", "imply.3", "Nat.lsl", "Nat.lp"], nat), (["Nat", "imply.3", "Nat.lsl"], nat)],
-        "theory": [(["Tw", "Nat.lsl", "Nat.lp", "Tw.lsl"], {**nat, "Tw.lsl": b"Tw: trait\n  includes Nat (M for N)\n"})],
+        "theory": [(["Tw", "Nat.lsl", "Nat.lp", "Tw.lsl"],
+                    {**nat, "Tw.lsl": b"Tw: trait\n  includes Nat (M for N)\n"})],
         "generate": [(["--seed", "1", "--size", "1"], {})],
         "frobnicate": [([], {})],
     }

@@ -15,7 +15,8 @@
  *                        j it is interrupted once, a an allocation fails, z that one and all behind it do
  *   LARCH_FAIL_ERRNO     the number of the error that r, f, o and w come with
  *   LARCH_FAIL_PIECE     how many bytes a read or a write moves at most; 0 is as many as are asked for
- *   LARCH_FAIL_STEP, LARCH_FAIL_FROM    of the calls of a kind, each so manieth is tried, from this one on, counted from 1
+ *   LARCH_FAIL_STEP, LARCH_FAIL_FROM    of the calls of a kind, each so manieth is tried, from this one on, the first
+ *                        being 1
  *   LARCH_FAIL_EXPECTED  a file with what the program writes where nothing fails
  *   LARCH_FAIL_RECORDS   a file to which records are written; the last one is the program's own
  *   LARCH_FAIL_SECONDS   how long a copy may run */
@@ -179,7 +180,7 @@ ssize_t write(int file, const void *from_there, size_t count) {
     if (fails('j')) return with_error(EINTR);
     if (fails('w')) return with_error(wanted_errno);
     count = at_most(count);
-    if (written->length + count > MOST_OUTPUT - sizeof *written) stop("fail.c: more is written than there is room for\n");
+    if (written->length + count > MOST_OUTPUT - sizeof *written) stop("fail.c: too much is written\n");
     memcpy(written->bytes + written->length, from_there, count);
     written->length += count;
     return count;
@@ -276,6 +277,7 @@ __attribute__((constructor)) static void begin(void) {
 __attribute__((destructor)) static void end(void) {
     if (is_copy || !is_ready) return;
     is_ready = 0;
-    for (const char *kind = kinds; *kind; kind++) write_record('#', counts[(unsigned char)*kind], *kind, written, given);
+    for (const char *kind = kinds; *kind; kind++)
+        write_record('#', counts[(unsigned char)*kind], *kind, written, given);
     write_record('.', 0, 0, written, given);
 }

@@ -15,10 +15,11 @@ one fails and no other (fail.c). Looked at is, of each copy:
 
 - a read of the input that fails: status 3, and what was written are the replies to the commands that came whole
 - the input ends there: the defined output and status of the input so far
-- a read or an opening of a file that fails: status 3 and nothing is written; where the error says that nothing is there,
-  status 8 and `no file NAME`; where it says that memory is out, status 5
+- a read or an opening of a file that fails: status 3 and nothing is written; where the error says that nothing is
+  there, status 8 and `no file NAME`; where it says that memory is out, status 5
 - a write that fails: status 4, and what was written is a front of the defined output
-- an allocation that fails, alone or with all behind it: status 5 and a front of the defined output, or all as if none had
+- an allocation that fails, alone or with all behind it: status 5 and a front of the defined output, or all as if none
+  had
 - a read or a write that a signal interrupts: all as if none had
 
 It needs a C compiler, and a program that is linked to the C library. It prints for each call how many of how many calls
@@ -66,7 +67,7 @@ class Judge:
         written = self.expected[:record.common] + record.rest
         if record.length == len(written) and self.by_kind[record.kind](status, written, record, number):
             return ""
-        return (f"{self.call.title}: {shim.KINDS[record.kind]}, the {record.number}th fails ({errno.errorcode[number]}), "
+        return (f"{self.call.title}: {shim.KINDS[record.kind]}, {record.number}, {errno.errorcode[number]}: "
                 f"status {status}, {record.length} bytes written, {record.common} as expected, then {record.rest!r}")
 
     def of_fault(self, status, written, record, _):

@@ -5,7 +5,8 @@ import re
 import calls
 
 LINE = re.compile(rb"report|quit|put ([A-Za-z0-9_]{1,64}\.(?:lsl|lp)) (0|[1-9][0-9]{0,7})|"
-                  rb"drop [A-Za-z0-9_]{1,64}\.(?:lsl|lp)|derive [A-Za-z0-9_]{1,64} (?:assume|imply|convert)\.[1-9][0-9]{0,5}|")
+                  rb"drop [A-Za-z0-9_]{1,64}\.(?:lsl|lp)|"
+                  rb"derive [A-Za-z0-9_]{1,64} (?:assume|imply|convert)\.[1-9][0-9]{0,5}|")
 # A command's line and all that belongs to it, by its first byte and the one behind its last.
 Command = collections.namedtuple("Command", "begin end")
 
