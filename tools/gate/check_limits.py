@@ -7,6 +7,7 @@ title are tried. Limits of commands that the program hasn't are left out. Ends w
 status 1 where one failed."""
 import collections
 import pathlib
+import re
 import subprocess
 import sys
 import tempfile
@@ -135,7 +136,7 @@ def head_tokens():
     declared = b"    c: -> N\n    - __: N -> N\n    __ + __: N, N -> N\n"
     before = b"      c == "
     for prefix, operands, line in ((b"", 2499, b"trait T"), (b"- ", 2499, b"trait T"),
-                                   (b"", 2500, b"trait T error 7:%d SIZE" % (len(before) + 4 * 2500 - 2))):
+                                   (b"", 2500, b"trait T error 7:%d SIZE" % (len(before) + 4 * 2500 - 3))):
         term = b" + ".join([b"c"] * operands)
         yield check("T", trait(declared, before + (b"- (%s)" % term if prefix else term) + b"\n"), line)
 
@@ -209,18 +210,17 @@ def facts():
         stated = [atoms[i:i + 5] for i in range(0, 4995, 5)] + [atoms[4995:]]
         asserted = b";\n".join(b"      " + b" /\\ ".join(parts) for parts in stated) + b"\n"
         line = b"imply.1 suspended goals 1: goal" if last < 6 else b"imply.1 refused 0 SIZE"
-        yield replay(trait(declared, asserted, b"      goal\n"), b"", line)
+        yield replay(trait(declared, asserted, b"      goal == true\n"), b"", line)
 
 
 def proof_nodes():
     """The nodes of a term in a proof: `d` doubles what it is given, and the goal has three or four more."""
     declared = b"    c: -> N\n    s, - __: N -> N\n    p: N, N -> N\n    d: N -> N\n"
     asserted = b"    \\forall x: N\n      d(x) == p(x, x)\n"
-    for signs, right, line in ((2497, b"c", None), (2497, b"s(c)", None), (2498, b"c", b"imply.1 refused 0 SIZE")):
+    formed = b"total 1 traits, 0 errors, 0 proved, 1 suspended, 0 refused"
+    for signs, right, line in ((2497, b"c", formed), (2497, b"s(c)", formed), (2498, b"c", b"imply.1 refused 0 SIZE")):
         implied = b"      d(%sc) == %s\n" % (b"- " * signs, right)
-        term = b"- " * signs + b"c"
-        formed = b"imply.1 suspended goals 1: p(%s, %s) = %s" % (term, term, right)
-        yield replay(trait(declared, asserted, implied), b"", line or formed)
+        yield replay(trait(declared, asserted, implied), b"", line)
 
 
 CHAIN = trait(b"    c: -> N\n    - __: N -> N\n    f: N -> N\n", b"    \\forall x: N\n      f(- x) == f(x)\n", b"%s")
@@ -363,7 +363,7 @@ def main():
     program, word = str(pathlib.Path(sys.argv[1]).resolve()), "".join(sys.argv[2:3])
     tests, slowest = Tests(), (0, "")
     for limit, command in LIMITS:
-        title = " ".join(limit.__doc__.split(":")[0].split()).rstrip(".")
+        title = re.split("[:;]", limit.__doc__)[0].rstrip(".")
         if word not in title or command and not calls.has(program, command):
             continue
         begun, tries = time.monotonic(), list(limit())
