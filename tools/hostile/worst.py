@@ -69,36 +69,6 @@ def operators(part):
     return check(T="".join(lines))
 
 
-MULTIPLIER, SEED, ALL = 0x9e3779b97f4a7c15, 0x243f6a8885a308d3, 2**64 - 1
-LETTERS = b"abcdefghijklmnopqrstuvwxyzABCDEFGHIJKLMNOPQRSTUVWXYZ0123456789_"
-
-
-def folded(first, second):
-    product = first * second
-    return product & ALL ^ product >> 64
-
-
-def front_of_collisions(length):
-    """The first 24 letters of names of 32 whose hashes are equal whatever the other 8 letters are: behind 16 of them the
-    hash of the tables is a number whose bytes are letters, and by these it becomes 0."""
-    state = folded(SEED ^ length, MULTIPLIER ^ 16) + length & ALL
-    for i in range(10**7):
-        block = b"p%015d" % i
-        after = folded(int.from_bytes(block[:8], "little") ^ state, int.from_bytes(block[8:], "little") ^ MULTIPLIER)
-        letters = after.to_bytes(8, "little")
-        if all(letter in LETTERS for letter in letters):
-            return (block + letters).decode()
-    raise ValueError("no such names")
-
-
-@shape
-def collisions(part):
-    """As many operators as there is room for, whose names have one hash."""
-    front = front_of_collisions(32)
-    lines = [f"{front}{i:08}:->S\n" for i in range((FILE // part - 30) // 38)]
-    return check(T="T: trait introduces\n" + "".join(lines))
-
-
 @shape
 def equations(part):
     """One equation, again and again."""
