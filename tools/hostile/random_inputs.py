@@ -42,6 +42,7 @@ CODE = re.compile(rb" ([A-Z][A-Z-]+)$", re.M)
 STATUSES = {"session": {0, 1, 6, 7}, "verify": {0, 1, 6, 7}, "trim": {0, 1, 6, 7}, "model": {0, 1, 6, 7},
             "migrate": {0, 6, 7}, "complete": {0, 1, 7}, "check": {0, 1}, "obligations": {0, 1}, "replay": {0, 1},
             "derive": {0, 1}, None: {0, 1, 2, 6, 7, 8}}
+SECONDS_BETWEEN_LINES = 60
 END = b"\nend\n"
 KINDS = ["traits", "scripts", "sessions", "certificates", "models", "words"]
 
@@ -277,12 +278,15 @@ def main():
     tries = Tries(str(pathlib.Path(words.program).resolve()), words)
     makers = {"traits": tries.traits, "scripts": tries.scripts, "sessions": tries.sessions,
               "certificates": tries.certificates, "models": tries.models, "words": tries.words_of_calls}
-    inputs = 0
+    inputs, said = 0, 0
     while time.monotonic() - tries.begun < words.seconds and inputs < words.count:
         kind = words.kinds[tries.rounds % len(words.kinds)]
         made = makers[kind]()
         tries.counts[kind] += made
         inputs, tries.rounds = inputs + made, tries.rounds + 1
+        if time.monotonic() - tries.begun > said:
+            said += SECONDS_BETWEEN_LINES
+            print(f"{time.monotonic() - tries.begun:.0f} s: {inputs} inputs, {tries.found} found", flush=True)
     return tries.end()
 
 

@@ -277,7 +277,7 @@ def model(sizes, equations, part):
     scope = ", ".join(f"x{i}" for i in range(variables))
     term = " /\\ ".join(f"(x{i} = x{i})" for i in range(variables))
     pad = " /\\ ".join(["(x0 = x0)"] * 10)
-    stated = ";\n".join(f"({pad}) /\\ ({term}) => (c{i} = c{i})" for i in range(equations // part))
+    stated = ";\n".join(f"(({pad}) /\\ ({term})) => (c{i} = c{i})" for i in range(equations // part))
     files = {"T.lsl": f"T: trait introduces\n {numbered(equations)}: -> N\nasserts \\forall {scope}: N\n{stated}\n",
              "T.mod": f"model\nsort N {count}\n" + "".join(f"op {i + 1} 0\n" for i in range(equations))}
     return ["model", "T", "T.mod", "T.lsl"], files, ""
