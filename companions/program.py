@@ -152,7 +152,8 @@ def stamps(folder):
     for path in sorted(pathlib.Path(folder).glob("*.*")):
         if path.suffix in (".lp", ".cert"):
             with contextlib.suppress(OSError):
-                found[path.name] = path.stat().st_mtime_ns, path.stat().st_size
+                if path.is_file():
+                    found[path.name] = path.stat().st_mtime_ns, path.stat().st_size
     return found
 
 
