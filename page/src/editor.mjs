@@ -5,11 +5,12 @@ import { lineAt, placeOf, tokenEnd } from './text.mjs';
 
 /** Longer texts aren't coloured. */
 const MOST_COLOURED = 200000;
+const AS_WRITTEN = { spellcheck: 'false', autocapitalize: 'off', autocomplete: 'off', wrap: 'off' };
 
 export class Editor {
   /** `told` is called with the text at each change of it, `moved` with the line at each move of the cursor. */
-  constructor(place, { label, told, moved }) {
-    this.area = make('textarea', { spellcheck: 'false', autocapitalize: 'off', autocomplete: 'off', wrap: 'off', 'aria-label': label });
+  constructor(place, label, { told, moved }) {
+    this.area = make('textarea', { ...AS_WRITTEN, 'aria-label': label });
     this.paint = make('pre', { class: 'paint', 'aria-hidden': 'true' });
     this.numbers = make('div', { class: 'numbers', 'aria-hidden': 'true' });
     this.rules = [];
@@ -75,9 +76,7 @@ export class Editor {
   append(text) {
     this.area.focus();
     this.area.setSelectionRange(this.text.length, this.text.length);
-    // What is typed so can be undone; where the engine lacks it, the text is set.
-    if (!document.execCommand('insertText', false, text)) this.area.value += text;
-    this.area.dispatchEvent(new Event('input'));
+    this.insert(text);
     this.area.scrollTop = this.area.scrollHeight;
   }
 
@@ -88,7 +87,13 @@ export class Editor {
     const blanks = /(?:^|\n)([ \t]*)[^\n]*$/.exec(before)[1];
     if (!blanks) return;
     event.preventDefault();
-    if (!document.execCommand('insertText', false, `\n${blanks}`)) this.area.setRangeText(`\n${blanks}`, this.area.selectionStart, this.area.selectionEnd, 'end');
+    this.insert(`\n${blanks}`);
+  }
+
+  // What is put in so can be undone; where the engine lacks that, the text is set.
+  insert(text) {
+    if (document.execCommand('insertText', false, text)) return;
+    this.area.setRangeText(text, this.area.selectionStart, this.area.selectionEnd, 'end');
     this.area.dispatchEvent(new Event('input'));
   }
 
@@ -117,19 +122,22 @@ export class Editor {
 
   row(line, marks) {
     const pieces = piecesOf(line, this.rules).map(([text, kind]) => make('span', { class: kind }, text));
-    const mark = marks[0];
-    if (mark) {
-      const from = placeOf(line, 1, mark.column), to = Math.max(tokenEnd(line, from), from + 1);
-      pieces.unshift(make('span', { class: `under ${mark.kind}` }, make('span', { class: 'before' }, line.slice(0, from)), make('span', { class: 'token' }, line.slice(from, to) || ' ')));
-    }
-    return [...pieces, '\n'];
+    return [...marks.slice(0, 1).map((mark) => this.underline(line, mark)), ...pieces, '\n'];
+  }
+
+  /** The token at a mark, underlined, behind a copy of what stands before it. */
+  underline(line, mark) {
+    const from = placeOf(line, 1, mark.column), token = line.slice(from, Math.max(tokenEnd(line, from), from + 1));
+    return make('span', { class: `under ${mark.kind}` }, make('span', { class: 'before' }, line.slice(0, from)),
+      make('span', { class: 'token' }, token || ' '));
   }
 
   showNumbers(count = this.numbers.children.length) {
-    while (this.numbers.children.length > count) this.numbers.lastChild.remove();
-    while (this.numbers.children.length < count) this.numbers.append(make('div', {}, String(this.numbers.children.length + 1)));
+    const { children } = this.numbers;
+    while (children.length > count) this.numbers.lastChild.remove();
+    while (children.length < count) this.numbers.append(make('div', {}, String(children.length + 1)));
     const kinds = new Map(this.marks.map((mark) => [mark.line, mark]));
-    [...this.numbers.children].forEach((number, index) => {
+    [...children].forEach((number, index) => {
       const mark = kinds.get(index + 1);
       const wanted = [mark?.kind, index + 1 === this.line && 'current'].filter(Boolean).join(' ');
       if (number.className !== wanted) number.className = wanted;

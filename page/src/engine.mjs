@@ -49,7 +49,7 @@ export class Engine {
     return new Uint8Array(this.calls.memory.buffer, Number(address), Number(length));
   }
 
-  /** Runs the program once. Where the engine ends it, memory is left half written, so the next call has a fresh instance. */
+  /** Runs the program once. Where the engine ends it, memory is left half written, and a fresh instance begins. */
   run(call) {
     const request = requestOf(call);
     try {

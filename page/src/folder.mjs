@@ -1,7 +1,8 @@
 // The files of the page, as a folder: their texts by name, and which traits one reaches.
 
 const NAME = /^[A-Za-z0-9_]{1,64}\.(?:lsl|lp)$/;
-const REFERRING = /\b(includes|assumes|implies)\b([\s\S]*?)(?=\b(?:includes|assumes|introduces|asserts|implies|converts)\b|$)/g;
+const PARTS = 'includes|assumes|introduces|asserts|implies|converts';
+const REFERRING = new RegExp(`\\b(?:includes|assumes|implies)\\b([^]*?)(?=\\b(?:${PARTS})\\b|$)`, 'g');
 
 /** Whether the program takes a file of this name. */
 export const isFileName = (name) => NAME.test(name);
@@ -14,7 +15,7 @@ const inOrder = (one, other) => (one < other ? -1 : one > other ? 1 : 0);
 /** The words behind `includes`, `assumes` and `implies`, which may be names of traits. */
 export function referredTo(text) {
   const found = new Set();
-  for (const [, , region] of text.replace(/%.*/g, '').matchAll(REFERRING))
+  for (const [, region] of text.replace(/%.*/g, '').matchAll(REFERRING))
     for (const [word] of region.matchAll(/\w+/g)) found.add(word);
   return found;
 }
@@ -81,9 +82,15 @@ export class Folder {
     return [...found].map((name) => `${name}.lsl`).sort(inOrder);
   }
 
-  /** What the report on a trait depends on: the files that it reaches and its script, as they stand. */
+  /** What a trait's statements depend on: the files that it reaches, as they stand. */
+  theoryKey(stem) {
+    return this.reached(stem).map((name) => `${name}:${this.versions.get(name)}`).join(' ');
+  }
+
+  /** What the report on a trait depends on: those files and its script. */
   key(stem) {
-    return [...this.reached(stem), `${stem}.lp`].map((name) => `${name}:${this.has(name) ? this.versions.get(name) : 0}`).join(' ');
+    const script = `${stem}.lp`;
+    return `${this.theoryKey(stem)} ${script}:${this.has(script) ? this.versions.get(script) : 0}`;
   }
 
   /** These files with their texts, those that are there. */

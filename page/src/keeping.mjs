@@ -23,8 +23,8 @@ export class Kept {
     const found = [];
     this.tries((storage) => {
       for (let index = 0; index < storage.length; index++) {
-        const name = storage.key(index);
-        if (name.startsWith(PREFIX) && isFileName(name.slice(PREFIX.length))) found.push([name.slice(PREFIX.length), storage.getItem(name)]);
+        const key = storage.key(index), name = key.slice(PREFIX.length);
+        if (key.startsWith(PREFIX) && isFileName(name)) found.push([name, storage.getItem(key)]);
       }
     });
     return found;

@@ -13,6 +13,8 @@ export function make(name, attributes = {}, ...children) {
 }
 
 /** A button that does something. */
-export const button = (text, act, attributes = {}) => make('button', { type: 'button', onclick: act, ...attributes }, text);
+export function button(text, act, attributes = {}) {
+  return make('button', { type: 'button', onclick: act, ...attributes }, text);
+}
 
 export const byId = (id) => document.getElementById(id);

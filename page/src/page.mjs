@@ -1,30 +1,29 @@
 // The page: what is typed, opened and chosen on the left, what the program says of it on the right.
-import { askDerivation, askGoal, askObligations, askReport, hasDerive } from './asking.mjs';
-import { Caller } from './caller.mjs';
-import * as dialogs from './dialogs.mjs';
+import { askDerivation } from './asking.mjs';
+import { showAbout, showHandbook, showLink, showNew, showQuestion, showSave, showText } from './dialogs.mjs';
+import { address, allFiles, chapter, handbook, links, openFiles, savings } from './disk.mjs';
 import { Editor } from './editor.mjs';
-import { Folder, isFileName, stemOf } from './folder.mjs';
-import { Kept, filesOfLink, filesOfSession, linkOf, save, sessionOf, textOfFile, unzipped } from './keeping.mjs';
+import { Folder, stemOf } from './folder.mjs';
+import { Kept, filesOfLink, save, unzipped } from './keeping.mjs';
+import { Looking } from './looking.mjs';
 import { byId, button, make } from './making.mjs';
 import { rulesOf } from './paint.mjs';
 import { goalPanel, sign, stateOf, summary, traitPanel } from './panel.mjs';
 import { wholeReport } from './report.mjs';
 import { blocksOf } from './script.mjs';
 
-/** After so long a call is given up, with its worker, where a newer one waits for it. */
-const MOST_PATIENCE = 2000;
-/** So long nothing must be typed before a text is kept and the other traits are looked at. */
-const REST = 300;
+const NO_TRAIT = 'There is no trait yet: begin one, open files, or take some of the handbook';
+const FULL = 'The browser keeps no more: save your files to the disk.';
+const ENDINGS = ['lsl', 'lp'];
+const COLOURS = ['system', 'light', 'dark'];
 
 const data = JSON.parse(byId('data').textContent);
 const rules = { lsl: rulesOf(data.grammars.lsl), lp: rulesOf(data.grammars.lp) };
 const kept = new Kept(storage());
 const has = { derive: false };
-let folder = new Folder(), shown = '', isBorrowed = false;
-// The newest report on each trait with the key of the files that it is of; what stands in the panel beside it.
-const reports = new Map();
-let about = { statements: new Map(), theory: [] }, goal = null;
-let front, behind, turn = 0, isBusy = false, restTimer = 0;
+// What tests wait for.
+const told = document.documentElement.dataset;
+let folder = new Folder(), shown = '', isBorrowed = false, looking = null;
 
 function storage() {
   try {
@@ -38,135 +37,101 @@ const note = (text, ...more) => byId('note').replaceChildren(text, ...more);
 
 // ---- The two texts.
 
-const trait = new Editor(byId('trait-text'), { label: 'Trait', told: (text) => typed('lsl', text), moved: () => {} });
-const script = new Editor(byId('script-text'), { label: 'Script', told: (text) => typed('lp', text), moved: () => look() });
+const texts = {
+  lsl: new Editor(byId('trait-text'), 'Trait', { told: (text) => typed('lsl', text), moved: () => {} }),
+  lp: new Editor(byId('script-text'), 'Script', { told: (text) => typed('lp', text), moved: () => looking.look() }),
+};
 
 function typed(ending, text) {
   if (!shown) return;
   const name = `${shown}.${ending}`;
-  if (ending === 'lp' && text === '' && folder.has(name)) folder.drop(name);
-  else if (ending === 'lsl' || text !== '') folder.put(name, text);
+  // A script that is empty is none.
+  if (ending === 'lsl' || text !== '') folder.put(name, text);
+  else if (folder.has(name)) folder.drop(name);
   keep(name);
-  look();
+  looking.look();
 }
 
 function keep(name) {
   if (isBorrowed) return;
-  if (!(folder.has(name) ? kept.put(name, folder.text(name)) : kept.drop(name))) note('The browser keeps no more: save your files to the disk.');
+  if (!(folder.has(name) ? kept.put(name, folder.text(name)) : kept.drop(name))) note(FULL);
 }
 
 function show(stem) {
   shown = stem;
   byId('trait-name').textContent = stem ? `${stem}.lsl` : 'Trait';
   byId('script-name').textContent = stem ? `${stem}.lp` : 'Script';
-  trait.open(folder.text(`${stem}.lsl`), rules.lsl);
-  script.open(folder.text(`${stem}.lp`), rules.lp);
+  for (const ending of ENDINGS) texts[ending].open(folder.text(`${stem}.${ending}`), rules[ending]);
   if (!isBorrowed) kept.set('shown', stem);
-  about = { statements: new Map(), theory: [] };
-  goal = null;
+  looking.forget();
+  byId('goal').replaceChildren();
   list();
-  look();
+  looking.look();
 }
 
-// ---- What the program says.
+// ---- What the program says: what `Looking` asks for and tells.
 
-/** Begins to ask about the shown trait anew; what an older turn still waits for is not shown. */
-function look() {
-  turn++;
-  clearTimeout(restTimer);
-  if (isBusy) setTimeout(((asked) => () => isBusy && asked === turn && busySince + MOST_PATIENCE <= performance.now() && front.giveUp('a newer text waits'))(turn), MOST_PATIENCE);
-  else answer();
-}
-
-let busySince = 0;
-
-async function answer() {
-  isBusy = true;
-  while (true) {
-    const mine = turn;
-    busySince = performance.now();
-    await answerOnce(() => mine === turn);
-    if (mine === turn) break;
-  }
-  isBusy = false;
-  restTimer = setTimeout(lookBehind, REST);
-}
-
-async function answerOnce(isNewest) {
-  const stem = shown, key = folder.key(stem), began = performance.now();
-  if (!stem) return draw(null);
-  const ask = (call) => front.ask(call);
-  if (reports.get(stem)?.key !== key) {
-    const part = await askReport(ask, folder, stem);
-    if (part.trouble?.givenUp || folder.key(stem) !== key) return;
-    reports.set(stem, { key, part });
-  }
-  const { part } = reports.get(stem);
-  if (!isNewest()) return;
-  if (!part.duties.length) goal = null;
-  draw(part);
-  const took = performance.now() - began;
-  byId('time').textContent = `${took.toFixed(0)} ms`;
-  tell(performance.now());
-  const labels = part.duties.map((duty) => duty.label);
-  const newGoal = labels.length ? await askGoal(ask, folder, stem, script.line, labels) : null;
-  if (!isNewest()) return;
-  goal = newGoal;
-  byId('goal').replaceChildren(...(labels.length ? goalPanel(goal) : []));
-  if (!part.error && !part.trouble) about = await askObligations(ask, folder, stem);
-  if (!isNewest()) return;
-  draw(part);
-  document.documentElement.dataset.answered = String(turn);
-}
-
-/** What tests wait for: how often a report was shown, and when the first one was. */
-function tell(now) {
-  const told = document.documentElement.dataset;
-  told.reported = String(Number(told.reported ?? 0) + 1);
-  told.first ??= String(now);
-}
+const board = {
+  get stem() {
+    return shown;
+  },
+  get folder() {
+    return folder;
+  },
+  get line() {
+    return texts.lp.line;
+  },
+  report(part, took) {
+    draw(part);
+    byId('time').textContent = part ? `${took.toFixed(0)} ms` : '';
+    told.reported = String(Number(told.reported ?? 0) + 1);
+    told.first ??= String(performance.now());
+  },
+  goal(goal, hasDuties) {
+    byId('goal').replaceChildren(...(hasDuties ? goalPanel(goal) : []));
+  },
+  learnt(part, turn) {
+    draw(part);
+    told.answered = String(turn);
+  },
+  other(stem) {
+    listState(stem);
+    count();
+  },
+  settled(turn) {
+    told.settled = String(turn);
+  },
+};
 
 function draw(part) {
-  if (!part) {
-    byId('summary').textContent = 'There is no trait yet: begin one, open files, or take some of the handbook';
-    byId('goal').replaceChildren();
-    byId('parts').replaceChildren();
-    return;
-  }
-  byId('summary').replaceChildren(sign(stateOf(part)), ` ${summary(shown, part)}`);
-  const folded = [...byId('parts').querySelectorAll('details')].map((details) => [details.parentElement.textContent.slice(0, 60), details.open]);
-  byId('parts').replaceChildren(...traitPanel(part, about, has, data.codes, go));
-  for (const details of byId('parts').querySelectorAll('details'))
-    details.open = folded.some(([text, open]) => open && text === details.parentElement.textContent.slice(0, 60));
-  mark(part);
+  byId('summary').replaceChildren(...(part ? [sign(stateOf(part)), ` ${summary(shown, part)}`] : [NO_TRAIT]));
+  const open = new Set([...byId('parts').querySelectorAll('details[open]')].map((details) => details.dataset.key));
+  byId('parts').replaceChildren(...(part ? traitPanel(part, looking.about, has, data.codes, go) : []));
+  for (const details of byId('parts').querySelectorAll('details')) details.open = open.has(details.dataset.key);
+  if (!part) return;
+  markTrait(part);
+  markScript(part);
   listState(shown);
   count();
 }
 
-function mark(part) {
-  const { error } = part;
-  trait.mark(error ? [{ line: error.line, column: error.column, kind: 'error', title: error.code }] : []);
-  const states = new Map(part.duties.map((duty) => [duty.label, duty]));
-  const heads = blocksOf(script.text).map((block) => ({ line: block.begin, kind: states.get(block.label)?.state ?? '', title: states.get(block.label)?.state ?? '' }));
-  const refused = part.duties.filter((duty) => duty.state === 'refused' && duty.line).map((duty) => ({ line: duty.line, column: 1, kind: 'refused', title: duty.code }));
-  const wrong = part.wrong.map(({ line, code }) => ({ line, column: 1, kind: 'refused', title: code }));
-  const indented = [...refused, ...wrong].map((one) => ({ ...one, column: /^[ \t]*/.exec(script.text.split('\n')[one.line - 1] ?? '')[0].length + 1 }));
-  script.mark([...heads, ...indented]);
+function markTrait({ error }) {
+  texts.lsl.mark(error ? [{ ...error, kind: 'error', title: error.code }] : []);
 }
 
-/** Reports on the other traits, one after the other, while nothing is typed. */
-async function lookBehind() {
-  const mine = turn;
-  for (const stem of folder.stems()) {
-    const key = folder.key(stem);
-    if (reports.get(stem)?.key === key) continue;
-    const part = await askReport((call) => behind.ask(call), folder, stem);
-    if (folder.key(stem) === key) reports.set(stem, { key, part });
-    listState(stem);
-    count();
-    if (mine !== turn) return;
-  }
-  document.documentElement.dataset.settled = String(mine);
+/** Marks the first line of each block by the state of its duty, and each line that is refused at its first token. */
+function markScript({ duties, wrong }) {
+  const lines = texts.lp.text.split('\n'), states = new Map(duties.map((duty) => [duty.label, duty.state]));
+  const heads = blocksOf(texts.lp.text).map(({ label, begin }) => {
+    const state = states.get(label) ?? '';
+    return { line: begin, kind: state, title: state };
+  });
+  const places = [...wrong, ...duties.filter((duty) => duty.state === 'refused' && duty.line)];
+  const refused = places.map(({ line, code }) => {
+    const blanks = /^[ \t]*/.exec(lines[line - 1] ?? '')[0].length;
+    return { line, column: blanks + 1, kind: 'refused', title: code };
+  });
+  texts.lp.mark([...heads, ...refused]);
 }
 
 // ---- The list of traits.
@@ -174,182 +139,168 @@ async function lookBehind() {
 const rows = new Map();
 
 function list() {
-  const words = byId('filter').value.toLowerCase();
+  const word = byId('filter').value.toLowerCase();
   rows.clear();
-  byId('list').replaceChildren(...folder.stems().filter((stem) => stem.toLowerCase().includes(words)).map((stem) => {
-    const row = button('', () => show(stem), { 'aria-current': String(stem === shown) });
-    rows.set(stem, row);
+  const found = folder.stems().filter((stem) => stem.toLowerCase().includes(word));
+  byId('list').replaceChildren(...found.map((stem) => {
+    rows.set(stem, button('', () => show(stem), { 'aria-current': String(stem === shown) }));
     listState(stem);
-    return make('li', {}, row);
+    return make('li', {}, rows.get(stem));
   }));
   count();
 }
 
 function listState(stem) {
-  const known = reports.get(stem);
-  const state = known?.key === folder.key(stem) ? stateOf(known.part) : 'none';
-  const row = rows.get(stem);
-  if (row && row.dataset.state !== state) row.replaceChildren(sign(state), ` ${stem}`);
-  if (row) row.dataset.state = state;
+  const row = rows.get(stem), state = stateOf(looking.known(stem));
+  if (!row || row.dataset.state === state) return;
+  row.replaceChildren(sign(state), ` ${stem}`);
+  row.dataset.state = state;
 }
 
-/** The reports on all traits as they stand, or null while some are awaited. */
+/** The reports on all traits as they stand, or null while some are awaited or can't be had. */
 function allParts() {
-  const parts = folder.stems().map((stem) => [reports.get(stem), folder.key(stem)]);
-  return parts.every(([known, key]) => known?.key === key && !known.part.trouble) ? parts.map(([known]) => known.part) : null;
+  const parts = folder.stems().map((stem) => looking.known(stem));
+  return parts.length && parts.every((part) => part && !part.trouble) ? parts : null;
 }
 
 function count() {
-  const parts = allParts(), traits = folder.names().filter((name) => name.endsWith('.lsl')).length;
-  byId('count').replaceChildren(`${traits} trait${traits === 1 ? '' : 's'} `, ...(parts && parts.length ? [button('report', showReport, { class: 'link' })] : []));
+  const traits = folder.names().filter((name) => name.endsWith('.lsl')).length;
+  const report = allParts() ? [button('report', showReport, { class: 'link' })] : [];
+  byId('count').replaceChildren(`${traits} ${traits === 1 ? 'trait' : 'traits'} `, ...report);
 }
 
 function showReport() {
   const parts = allParts();
-  if (parts) dialogs.showText('The report on all files', wholeReport(parts), () => save('report.txt', wholeReport(parts)));
+  if (!parts) return;
+  const text = wholeReport(parts);
+  showText('The report on all files', text, () => save('report.txt', text));
 }
 
-// ---- Where links of the panel lead.
-
-const go = {
-  trait: (line, column) => {
-    view('trait');
-    trait.go(line, column);
-  },
-  script: (line) => {
-    view('script');
-    script.go(line);
-  },
-  block: (label) => {
-    view('script');
-    const block = blocksOf(script.text).find((one) => one.label === label);
-    if (block) script.go(block.begin);
-    else script.append(`${script.text && !script.text.endsWith('\n') ? '\n' : ''}${script.text ? '\n' : ''}duty ${label}\n  `);
-  },
-  derivation: async (label) => {
-    const { said, cut } = await askDerivation((call) => front.ask(call), folder, shown, label);
-    dialogs.showText(`The derivation of ${shown} ${label}`, said ?? cut, () => save(`${shown}.${label}.cert`, said ?? ''));
-  },
-};
+// ---- Where links of the panel and keys lead.
 
 function view(name) {
   document.body.dataset.shown = name;
-  for (const one of document.querySelectorAll('#views button')) one.setAttribute('aria-pressed', String(one.dataset.view === name));
+  for (const one of document.querySelectorAll('#views button'))
+    one.setAttribute('aria-pressed', String(one.dataset.view === name));
 }
 
-/** Goes to the next marked line, of the trait and then of the script. */
+/** Goes to a place of the trait or the script. */
+function goTo(ending, line, column) {
+  view(ending === 'lsl' ? 'trait' : 'script');
+  texts[ending].go(line, column);
+}
+
+function beginBlock(label) {
+  const { text } = texts.lp, end = !text || text.endsWith('\n') ? '' : '\n';
+  view('script');
+  texts.lp.append(`${end}${text ? '\n' : ''}duty ${label}\n  `);
+}
+
+const go = {
+  trait: (line, column) => goTo('lsl', line, column),
+  script: (line) => goTo('lp', line),
+  block: (label) => {
+    const block = blocksOf(texts.lp.text).find((one) => one.label === label);
+    if (block) goTo('lp', block.begin);
+    else beginBlock(label);
+  },
+  derivation: async (label) => {
+    const name = `${shown}.${label}.cert`;
+    const { said, cut } = await askDerivation((call) => looking.ask(call), folder, shown, label);
+    showText(`The derivation of ${shown} ${label}`, said ?? cut, () => save(name, said ?? ''));
+  },
+};
+
+/** Goes to the next marked place behind the cursor, of the trait and then of the script, or to the first. */
 function nextMark() {
-  const places = [[trait, 'trait'], [script, 'script']].flatMap(([editor, name]) => editor.marks.filter((one) => one.column).map((one) => [name, one.line, one.column]));
+  const places = ENDINGS.flatMap((ending) => texts[ending].marks.filter((mark) => mark.column)
+    .map(({ line, column }) => ({ ending, line, column })));
   if (!places.length) return note('Nothing is marked.');
-  const here = document.activeElement === script.area ? ['script', script.line] : ['trait', document.activeElement === trait.area ? trait.line : 0];
-  const isBehind = ([name, line]) => (name === here[0] ? line > here[1] : name === 'script' && here[0] === 'trait');
-  const [name, line, column] = places.find(isBehind) ?? places[0];
-  view(name);
-  (name === 'trait' ? trait : script).go(line, column);
+  const here = ENDINGS.find((ending) => document.activeElement === texts[ending].area);
+  const isBehind = ({ ending, line }) => (ending === here ? line > texts[here].line : here !== 'lp');
+  const { ending, line, column } = places.find(isBehind) ?? places[0];
+  return goTo(ending, line, column);
 }
 
 // ---- Files.
 
-/** Takes files into the folder and shows a trait; `isKept` says whether they go into the browser's storage. */
-function take(files, stem) {
+/** Takes files into the folder, and shows a trait. */
+function take(files, stem = stemOf(files[0][0])) {
   for (const [name, text] of files) {
     folder.put(name, text);
     keep(name);
   }
-  show(stem && folder.stems().includes(stem) ? stem : stemOf(files[0][0]));
+  show(stem);
 }
 
 async function open(picked) {
-  const files = [], refused = [];
-  for (const file of picked) {
-    const bytes = new Uint8Array(await file.arrayBuffer());
-    const text = textOfFile(bytes);
-    const found = text === null ? null : file.name.endsWith('.session') ? filesOfSession(bytes) : isFileName(file.name) ? [[file.name, text]] : null;
-    if (found) files.push(...found);
-    else refused.push(file.name);
-  }
-  if (refused.length) note(`Not taken: ${refused.join(', ')}. Files are texts of UTF-8 with names such as Sum.lsl and Sum.lp.`);
+  const { files, refused } = await openFiles(picked);
+  if (refused.length) note(`Not taken: ${refused.join(', ')}. Files are texts of UTF-8 with names such as Sum.lsl.`);
   if (files.length) take(files);
 }
 
-function drop(stem) {
-  for (const name of [`${stem}.lsl`, `${stem}.lp`]) {
-    if (!folder.has(name)) continue;
+function takeOut(stem) {
+  for (const name of ENDINGS.map((ending) => `${stem}.${ending}`).filter((one) => folder.has(one))) {
     folder.drop(name);
     keep(name);
   }
-  reports.delete(stem);
   show(folder.stems()[0] ?? '');
 }
 
-const allFiles = () => folder.pairs(folder.names());
-const nearFiles = () => folder.pairs([...folder.reached(shown), `${shown}.lp`]);
-
 function offerSave() {
-  const one = (name) => [name, () => save(name, folder.text(name))];
-  dialogs.showSave(shown, [...[`${shown}.lsl`, `${shown}.lp`].filter((name) => folder.has(name)).map(one),
-    ['all files, as a session', () => save('larch.session', sessionOf(allFiles()))],
-    [`take ${shown} out of the page`, () => drop(shown)]]);
-}
-
-const address = () => location.href.replace(/#.*$/, '');
-
-function offerLink() {
-  const made = (files) => async () => address() + await linkOf(files(), shown);
-  dialogs.showLink([[`${shown} with what it reaches`, made(nearFiles)], ['all files', made(allFiles)]]);
+  const stem = shown;
+  showSave([...savings(folder, stem), ...(stem ? [[`take ${stem} out of the page`, () => takeOut(stem)]] : [])]);
 }
 
 async function offerHandbook() {
   const books = await handbook();
-  const all = new Folder(Object.entries(books.files));
-  const withScript = (names) => all.pairs(names.flatMap((name) => [name, `${stemOf(name)}.lp`]));
-  dialogs.showHandbook(books, (stem) => take(withScript(all.reached(stem)), stem), () => take(all.pairs(all.names()), shown || undefined));
+  const takeAll = () => take(allFiles(books.folder), shown || undefined);
+  showHandbook(books, (stem) => take(chapter(books, stem), stem), takeAll);
 }
 
-let books = null;
-
-async function handbook() {
-  books ??= JSON.parse(new TextDecoder().decode(await unzipped(byId('books').textContent)));
-  return books;
-}
-
-/** Shows the files of a link beside what is kept, which stays as it is until they are kept too. */
+/** Shows the files of a link in the place of those that are kept, which stay as they are. */
 function borrow({ files, shown: stem }) {
   isBorrowed = true;
   folder = new Folder(files);
-  reports.clear();
-  note('These files are of a link, and aren\'t kept. ', button('Keep them', keepBorrowed, { class: 'small' }), ' ', button('Back to mine', unborrow, { class: 'small' }));
-  show(folder.stems().includes(stem) ? stem : folder.stems()[0]);
+  note('These files are of a link, and aren\'t kept. ', button('Keep them', keepBorrowed, { class: 'small' }), ' ',
+    button('Back to mine', giveBack, { class: 'small' }));
+  show(folder.has(`${stem}.lsl`) ? stem : folder.stems()[0]);
 }
 
 function keepBorrowed() {
-  const twice = folder.names().filter((name) => kept.files().some(([mine, text]) => mine === name && text !== folder.text(name)));
+  const files = allFiles(folder), stem = shown, mine = new Map(kept.files());
+  const others = files.filter(([name, text]) => mine.has(name) && mine.get(name) !== text).map(([name]) => name);
   const done = () => {
-    const files = allFiles();
-    unborrow();
-    take(files, shown);
+    giveBack();
+    take(files, stem);
   };
-  if (twice.length) dialogs.showQuestion('Files of the same name', `These files of yours are replaced: ${twice.join(', ')}.`, 'Replace them', done);
+  const question = `These files of yours are replaced: ${others.join(', ')}.`;
+  if (others.length) showQuestion('Files of the same name', question, 'Replace them', done);
   else done();
 }
 
-function unborrow() {
+function giveBack() {
   isBorrowed = false;
   history.replaceState(null, '', address());
   note('');
-  folder = new Folder(kept.files());
-  reports.clear();
-  show(kept.setting('shown') ?? folder.stems()[0] ?? '');
+  showKept();
+}
+
+/** Shows the files that are kept; where there are none, those of a first visit. */
+function showKept() {
+  const mine = kept.files(), last = kept.setting('shown');
+  folder = new Folder(mine.length ? mine : Object.entries(data.first));
+  folder.names().forEach(keep);
+  show(folder.stems().includes(last) ? last : folder.stems()[0]);
 }
 
 // ---- Colours, keys, beginning.
 
-const COLOURS = ['system', 'light', 'dark'];
-
 function colour(name) {
   document.documentElement.dataset.colours = name;
-  byId('colours').setAttribute('aria-label', `Colours: ${name === 'system' ? 'as the system' : name}`);
-  byId('colours').title = byId('colours').getAttribute('aria-label');
+  const label = `Colours: ${name === 'system' ? 'as the system' : name}`;
+  byId('colours').setAttribute('aria-label', label);
+  byId('colours').title = label;
 }
 
 function nextColour() {
@@ -358,30 +309,48 @@ function nextColour() {
   kept.set('colours', name);
 }
 
+function focusOn(name, element) {
+  view(name);
+  element?.focus();
+}
+
 const KEYS = {
-  'Alt+1': () => (view('files'), (rows.get(shown) ?? byId('filter')).focus()),
-  'Alt+2': () => (view('trait'), trait.area.focus()),
-  'Alt+3': () => (view('script'), script.area.focus()),
-  'Alt+4': () => (view('says'), (byId('parts').querySelector('button, summary') ?? byId('says')).focus()),
+  'Alt+1': () => focusOn('files', rows.get(shown) ?? byId('filter')),
+  'Alt+2': () => focusOn('trait', texts.lsl.area),
+  'Alt+3': () => focusOn('script', texts.lp.area),
+  'Alt+4': () => focusOn('says', byId('parts').querySelector('button, summary')),
   F8: nextMark,
   'Ctrl+s': offerSave,
 };
 
-function onKey(event) {
-  const name = `${event.ctrlKey || event.metaKey ? 'Ctrl+' : ''}${event.altKey ? 'Alt+' : ''}${event.altKey && /^Digit\d$/.test(event.code) ? event.code.slice(5) : event.key}`;
-  if (!KEYS[name] || byId('dialog').open) return;
-  event.preventDefault();
-  KEYS[name]();
+function keyOf(event) {
+  // With Alt a keyboard may write another sign for a digit.
+  const key = event.altKey && /^Digit\d$/.test(event.code) ? event.code.slice(5) : event.key;
+  return `${event.ctrlKey || event.metaKey ? 'Ctrl+' : ''}${event.altKey ? 'Alt+' : ''}${key}`;
 }
 
+const BUTTONS = {
+  new: () => showNew(folder, (stem, text) => take([[`${stem}.lsl`, text]], stem)),
+  open: () => byId('pick').click(),
+  save: offerSave,
+  share: () => shown && showLink(links(folder, shown)),
+  handbook: offerHandbook,
+  about: () => showAbout(data.program, has.derive),
+  colours: nextColour,
+};
+
 function listen() {
-  const acts = { new: () => dialogs.showNew(folder, (stem, text) => take([[`${stem}.lsl`, text]], stem)), open: () => byId('pick').click(), save: offerSave, share: offerLink,
-    handbook: offerHandbook, about: () => dialogs.showAbout(data.program, has.derive), colours: nextColour };
-  for (const [id, act] of Object.entries(acts)) byId(id).addEventListener('click', act);
-  for (const one of document.querySelectorAll('#views button')) one.addEventListener('click', () => view(one.dataset.view));
+  for (const [id, act] of Object.entries(BUTTONS)) byId(id).addEventListener('click', act);
+  for (const one of document.querySelectorAll('#views button'))
+    one.addEventListener('click', () => view(one.dataset.view));
   byId('pick').addEventListener('change', () => open([...byId('pick').files]));
   byId('filter').addEventListener('input', list);
-  document.addEventListener('keydown', onKey);
+  document.addEventListener('keydown', (event) => {
+    const act = byId('dialog').open ? null : KEYS[keyOf(event)];
+    if (!act) return;
+    event.preventDefault();
+    act();
+  });
   document.addEventListener('dragover', (event) => event.preventDefault());
   document.addEventListener('drop', (event) => {
     event.preventDefault();
@@ -394,22 +363,17 @@ function listen() {
 }
 
 async function begin() {
-  colour(COLOURS.includes(kept.setting('colours')) ? kept.setting('colours') : 'system');
+  const chosen = kept.setting('colours');
+  colour(COLOURS.includes(chosen) ? chosen : COLOURS[0]);
   view('trait');
-  listen();
   const source = URL.createObjectURL(new Blob([byId('worker').textContent], { type: 'text/javascript' }));
-  const module = await unzipped(byId('module').textContent);
-  front = new Caller(() => new Worker(source), module);
-  behind = new Caller(() => new Worker(source), module);
-  const [borrowed, mine] = [await filesOfLink(location.hash), kept.files()];
-  if (borrowed) borrow(borrowed);
-  else {
-    folder = new Folder(mine.length ? mine : Object.entries(data.first));
-    if (!mine.length) folder.names().forEach(keep);
-    show(folder.stems().includes(kept.setting('shown')) ? kept.setting('shown') : folder.stems()[0]);
-  }
-  has.derive = await hasDerive((call) => behind.ask(call));
-  document.documentElement.dataset.begun = 'yes';
+  looking = new Looking(board, () => new Worker(source), await unzipped(byId('module').textContent));
+  listen();
+  const files = await filesOfLink(location.hash);
+  if (files) borrow(files);
+  else showKept();
+  has.derive = await looking.hasDerive();
+  told.begun = 'yes';
 }
 
 begin();

@@ -2,9 +2,9 @@
 
 /** What a scope of a grammar is called in the page's style sheet, by its first words. */
 const CLASSES = [
-  ['comment', 'comment'], ['keyword.control.choice', 'choice'], ['keyword.control', 'part'], ['keyword.other', 'clause'],
-  ['keyword.operator', 'fixed'], ['constant', 'builtin'], ['support.type', 'sort'], ['entity.name.function', 'symbol'],
-  ['markup', 'mark'], ['punctuation', 'marker'],
+  ['comment', 'comment'], ['keyword.control.choice', 'choice'], ['keyword.control', 'part'],
+  ['keyword.other', 'clause'], ['keyword.operator', 'fixed'], ['constant', 'builtin'], ['support.type', 'sort'],
+  ['entity.name.function', 'symbol'], ['markup', 'mark'], ['punctuation', 'marker'],
 ];
 
 const classOf = (scope = '') => (CLASSES.find(([begin]) => scope.startsWith(begin)) ?? [])[1];

@@ -36,11 +36,12 @@ export function readReport(text) {
 /** The report on all traits, of the parts on each: what the program writes of the whole folder. */
 export function wholeReport(parts) {
   const traits = parts.filter((part) => !part.isAlone), alone = parts.filter((part) => part.isAlone);
-  const count = (state) => traits.reduce((sum, part) => sum + part.duties.filter((duty) => duty.state === state).length, 0);
+  const duties = traits.flatMap((part) => part.duties);
+  const count = (state) => `${duties.filter((duty) => duty.state === state).length} ${state}`;
   const errors = alone.length + traits.reduce((sum, part) => sum + (part.error ? 1 : 0) + part.wrong.length, 0);
   const lines = [...traits, ...alone].flatMap((part) => part.lines);
-  lines.push(`total ${traits.length} traits, ${errors} errors, ${count('proved')} proved, ${count('suspended')} suspended, ${count('refused')} refused`);
-  return [...lines, 'end', ''].join('\n');
+  const states = ['proved', 'suspended', 'refused'].map(count).join(', ');
+  return [...lines, `total ${traits.length} traits, ${errors} errors, ${states}`, 'end', ''].join('\n');
 }
 
 /** What `obligations` writes of one trait: statements of duties by their labels, and the other lines in their order. */

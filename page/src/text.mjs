@@ -34,7 +34,7 @@ export function lineAt(text, place) {
   return line;
 }
 
-/** Where the token at a place ends: a word, a run of symbols, or one character; at the end of a line the place itself. */
+/** Where the token at a place ends: a word, a run of symbols, or one character; at a line's end the place itself. */
 export function tokenEnd(text, place) {
   const token = /^(?:\\?[A-Za-z0-9_']+|[-!#$&*+<>=?@^|~/\\]+|[^\n])/.exec(text.slice(place, place + 200));
   return token ? place + token[0].length : place;
