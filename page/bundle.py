@@ -11,20 +11,15 @@ import re
 PAGE = pathlib.Path(__file__).resolve().parent
 TOP = PAGE.parent
 SOURCES = PAGE / "src"
-IMPORT = re.compile(r"^import (?:\{([^}]*)\}|\* as (\w+)) from '\./(\w+)\.mjs';\n", re.M)
+IMPORT = re.compile(r"^import \{ ([^}]*) \} from '\./(\w+)\.mjs';\n", re.M)
 EXPORT = re.compile(r"^export ((?:async )?(?:function|class|const|let) (\w+))", re.M)
 ROW = re.compile(r"^\| \[(\w+)\]\(\1\.lsl\) \| ([^|]*) \|", re.M)
-
-
-def names_of(imported):
-    """What an `import` takes, as the pattern of a `const`."""
-    return ", ".join(name.strip().replace(" as ", ": ") for name in imported.split(",") if name.strip())
 
 
 def in_order(name, found):
     """A script and all that it imports, those first."""
     text = (SOURCES / f"{name}.mjs").read_text(encoding="utf-8")
-    for _, _, need in IMPORT.findall(text):
+    for _, need in IMPORT.findall(text):
         if need not in found:
             in_order(need, found)
     found[name] = text
@@ -36,7 +31,7 @@ def script(name):
     parts = []
     for part, text in in_order(name, {}).items():
         exports = ", ".join(exported for _, exported in EXPORT.findall(text))
-        text = IMPORT.sub(lambda it: f"const {it[2] or '{ ' + names_of(it[1]) + ' }'} = of_{it[3]};\n", text)
+        text = IMPORT.sub(r"const { \1 } = of_\2;\n", text)
         text = EXPORT.sub(r"\1", text)
         parts.append(f"// {part}.mjs\nconst of_{part} = (() => {{\n{text}return {{ {exports} }};\n}})();\n")
     made = "".join(parts)
@@ -79,8 +74,9 @@ def grammars():
 def books():
     """The handbook: its files, and what each trait is for."""
     folder = TOP / "examples/handbook"
-    files = {path.name: path.read_text(encoding="utf-8") for ending in ("lsl", "lp") for path in folder.glob(f"*.{ending}")}
-    return {"files": dict(sorted(files.items())), "about": dict(ROW.findall((folder / "README.md").read_text(encoding="utf-8")))}
+    paths = sorted([*folder.glob("*.lsl"), *folder.glob("*.lp")])
+    about = ROW.findall((folder / "README.md").read_text(encoding="utf-8"))
+    return {"files": {path.name: path.read_text(encoding="utf-8") for path in paths}, "about": dict(about)}
 
 
 def first():
@@ -103,7 +99,8 @@ def packed(held):
 def page(module, stamp, proof):
     """The whole page."""
     data = {"codes": codes(), "grammars": grammars(), "first": first(), "program": {"stamp": stamp, "proof": proof}}
-    parts = {"STYLE": (SOURCES / "page.css").read_text(encoding="utf-8"), "DATA": as_json(data), "MODULE": packed(module),
-             "BOOKS": packed(as_json(books()).encode()), "WORKER": script("worker"), "PAGE": script("page")}
+    parts = {"STYLE": (SOURCES / "page.css").read_text(encoding="utf-8"), "DATA": as_json(data),
+             "MODULE": packed(module), "BOOKS": packed(as_json(books()).encode()), "WORKER": script("worker"),
+             "PAGE": script("page")}
     text = (SOURCES / "page.html").read_text(encoding="utf-8")
     return re.sub(r"/\*([A-Z]+)\*/", lambda it: parts[it[1]], text)

@@ -31,7 +31,7 @@ static struct block *free_of[CLASSES];
 
 static u64 room_of(u64 class) { return (1ull << class) - HEAD; }
 
-// Whether memory grew by so many pages. Where it is lowered to 32 bits, what says that it didn't has 32 ones and not 64.
+// Whether memory grew by so many pages. Where it is lowered to 32 bits, the answer that it didn't has 32 ones, not 64.
 static int grows(u64 pages) { return (u32)__builtin_wasm_memory_grow(0, pages) != (u32)-1; }
 
 static int reaches(u64 end) {

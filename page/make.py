@@ -1,17 +1,17 @@
 #!/usr/bin/env python3
 """Makes page/larch.html, the program as one file for a browser: page/make.py [--module FILE] [--to FILE]
 
-1. `rt lib` proves and builds the libraries that the program stands on, where that isn't done yet; `./larch --build` before
-   does it side by side, which is faster.
-2. The toolchain checks the program's own crate again over the proved libraries, and lowers all of it to one LLVM module,
-   which is kept in the place of being compiled for this machine.
+1. `rt lib` proves and builds the libraries that the program stands on, where that isn't done yet; `./larch --build`
+   before does it side by side, which is faster.
+2. The toolchain checks the program's own crate again over the proved libraries, and lowers all of it to one LLVM
+   module, which is kept in the place of being compiled for this machine.
 3. The kit's compiler compiles the module and page/host.c for wasm64, its linker links them, and `wasm-opt` (Debian's
    package binaryen) lowers the addresses to 32 bits, so that every browser takes it.
 4. The module, the handbook, what codes mean and page/src go into one file.
 
-What steps 2 and 3 make is kept in page/out, with the sum of the sources that it is of, and made anew where that differs.
-With --module the LLVM module in that file is compiled in the place of the proved one, and the page says that it isn't
-proved. Where a tool is missing it is named, and the status is 1. docs/PAGE.md tells more."""
+What steps 2 and 3 make is kept in page/out, with the sum of the sources that it is of, and made anew where that
+differs. With --module the LLVM module in that file is compiled in the place of the proved one, and the page says that
+it isn't proved. Where a tool is missing it is named, and the status is 1. docs/PAGE.md tells more."""
 import argparse
 import hashlib
 import pathlib
@@ -71,7 +71,8 @@ def lowering_tool():
 
 def run(*words, **how):
     """Runs a tool; what it printed goes on only where it fails."""
-    done = subprocess.run([str(word) for word in words], text=True, stdout=subprocess.PIPE, stderr=subprocess.STDOUT, **how)
+    how = {"text": True, "stdout": subprocess.PIPE, "stderr": subprocess.STDOUT, **how}
+    done = subprocess.run([str(word) for word in words], **how)
     if done.returncode:
         sys.stderr.write(done.stdout[-3000:])
         raise Missing(f"{pathlib.Path(str(words[0])).name} failed")
@@ -80,8 +81,8 @@ def run(*words, **how):
 
 def sum_of_sources():
     """A sum of all that the module is made of."""
-    needs = build.needs_of_crates()
-    folders = [TOP / "crates" / crate / part for crate in build.crates_below(build.PROGRAM, needs) for part in build.PARTS]
+    crates = build.crates_below(build.PROGRAM, build.needs_of_crates())
+    folders = [TOP / "crates" / crate / part for crate in crates for part in build.PARTS]
     files = sorted(path for folder in folders if folder.is_dir() for path in folder.rglob("*") if path.is_file())
     total = hashlib.sha256()
     for path in [*files, TOP / "crates.txt", PAGE / "host.c", PAGE / "make.py"]:
@@ -167,8 +168,8 @@ def compile_module(tools, module, room):
     clang, lower = tools / "toolchain/bin/clang", lowering_tool()
     say("compiling for wasm64, which takes minutes")
     run(clang, *FOR_WASM, "-x", "ir", retargeted(tools, module, room), "-o", room / "program.o")
-    run(clang, *FOR_WASM, "-ffreestanding", "-nostdinc", "-fwrapv", "-Wall", "-Wextra", "-Werror", "-x", "c", PAGE / "host.c",
-        "-o", room / "host.o")
+    run(clang, *FOR_WASM, "-ffreestanding", "-nostdinc", "-fwrapv", "-Wall", "-Wextra", "-Werror",
+        "-x", "c", PAGE / "host.c", "-o", room / "host.o")
     run(tools / "toolchain/bin/ld.lld", "-flavor", "wasm", "-mwasm64", "--no-entry", "--stack-first",
         "-z", f"stack-size={STACK_BYTES}", *(f"--export={name}" for name in EXPORTS), "--gc-sections", "--threads=1",
         "--strip-all", f"--max-memory={MOST_BYTES}", "-o", room / "wide.wasm", room / "program.o", room / "host.o")

@@ -4,12 +4,16 @@ import { mkdtempSync, rmSync, writeFileSync } from 'node:fs';
 import { tmpdir } from 'node:os';
 import { join } from 'node:path';
 
-const FLAGS = ['--headless', '--no-sandbox', '--disable-gpu', '--no-first-run', '--disable-dev-shm-usage', '--remote-debugging-pipe'];
+const FLAGS = ['--headless', '--no-sandbox', '--disable-gpu', '--no-first-run', '--disable-dev-shm-usage',
+  '--remote-debugging-pipe'];
+
+const textOf = ({ exception, text }) => exception?.description ?? text;
 
 export class Chromium {
   constructor(program = 'chromium') {
     this.profile = mkdtempSync(join(tmpdir(), 'larch-page-'));
-    this.process = spawn(program, [...FLAGS, `--user-data-dir=${this.profile}`, 'about:blank'], { stdio: ['ignore', 'ignore', 'ignore', 'pipe', 'pipe'] });
+    const stdio = ['ignore', 'ignore', 'ignore', 'pipe', 'pipe'];
+    this.process = spawn(program, [...FLAGS, `--user-data-dir=${this.profile}`, 'about:blank'], { stdio });
     this.number = 0;
     this.waiting = new Map();
     this.errors = [];
@@ -23,7 +27,7 @@ export class Chromium {
   }
 
   take(message) {
-    if (message.method === 'Runtime.exceptionThrown') this.errors.push(message.params.exceptionDetails.exception?.description ?? message.params.exceptionDetails.text);
+    if (message.method === 'Runtime.exceptionThrown') this.errors.push(textOf(message.params.exceptionDetails));
     const waits = this.waiting.get(message.id);
     if (!waits) return;
     this.waiting.delete(message.id);
@@ -52,8 +56,9 @@ export class Chromium {
 
   /** What an expression comes to in the page; promises are awaited. */
   async say(expression) {
-    const { result, exceptionDetails } = await this.send('Runtime.evaluate', { expression, awaitPromise: true, returnByValue: true, userGesture: true });
-    if (exceptionDetails) throw new Error(exceptionDetails.exception?.description ?? exceptionDetails.text);
+    const how = { expression, awaitPromise: true, returnByValue: true, userGesture: true };
+    const { result, exceptionDetails } = await this.send('Runtime.evaluate', how);
+    if (exceptionDetails) throw new Error(textOf(exceptionDetails));
     return result.value;
   }
 

@@ -1,5 +1,5 @@
 #!/usr/bin/env python3
-"""Compares the page's module with the program on random sessions: compare.py PROGRAM [--module FILE] [--sessions N] [--seed S]
+"""Compares the page's module with the program: compare.py PROGRAM [--module FILE] [--sessions N] [--seed S]
 
 Each session puts a few traits of the examples with what they refer to and their scripts, some of them damaged at random
 places, drops some, asks for reports, and at times has a line that is none, a wrong length or an end inside a `put`.
@@ -21,9 +21,11 @@ TESTS = pathlib.Path(__file__).resolve().parent
 TOP = TESTS.parents[1]
 FOLDERS = ("handbook", "library", "lessons", "wrong", ".")
 # What a damage puts in at a random place.
-SCRAPS = ("(", ")", ";", ",", ":", "->", "==", "=", "x", "0", "\\forall", "__", "if", "%", "trait", "implies", "qed", "\n",
-          " ", "duty imply.1\n", "\u00e9", "\t", "[]", "<>", "resume by cases x\n", "normalize A1\n", "set box-checking on\n")
-LINES = ("reports", "put A.lsl", "put A.lsl 03\n", "put A.txt 1\nx", "drop", "drop A.lsl ", "x" * 201, "\tquit", "put B.lp 9999999")
+SCRAPS = ("(", ")", ";", ",", ":", "->", "==", "=", "x", "0", "\\forall", "__", "if", "%", "trait", "implies", "qed",
+          "\n", " ", "duty imply.1\n", "\u00e9", "\t", "[]", "<>", "resume by cases x\n", "normalize A1\n",
+          "set box-checking on\n")
+LINES = ("reports", "put A.lsl", "put A.lsl 03\n", "put A.txt 1\nx", "drop", "drop A.lsl ", "x" * 201, "\tquit",
+         "put B.lp 9999999")
 
 
 def texts():
@@ -65,12 +67,15 @@ def session(chance, folders):
     """The input of one session."""
     files = folders[chance.choice(list(folders))]
     traits = [name for name in files if name.endswith(".lsl")]
-    chosen = list(dict.fromkeys(near for _ in range(chance.randint(1, 2)) for near in reached(files, chance.choice(traits))))
+    begun = [chance.choice(traits) for _ in range(chance.randint(1, 2))]
+    chosen = list(dict.fromkeys(near for name in begun for near in reached(files, name)))
     scripts = [name[:-3] + "lp" for name in chosen if name[:-3] + "lp" in files and chance.random() < 0.6]
-    steps = [put(name, damaged(chance, files[name]) if chance.random() < 0.25 else files[name]) for name in chosen + scripts]
+    steps = [put(name, damaged(chance, files[name]) if chance.random() < 0.25 else files[name])
+             for name in chosen + scripts]
     for _ in range(chance.randint(1, 2)):
         name = chance.choice(chosen + scripts)
-        steps += [b"report\n", chance.choice((f"drop {name}\n".encode(), put(name, damaged(chance, files[name])), b"\n"))]
+        again = put(name, damaged(chance, files[name]))
+        steps += [b"report\n", chance.choice((f"drop {name}\n".encode(), again, b"\n"))]
     steps.append(b"report\n")
     if chance.random() < 0.1:
         steps.insert(chance.randint(0, len(steps)), (chance.choice(LINES) + "\n").encode())
@@ -79,16 +84,16 @@ def session(chance, folders):
 
 
 def asked(program, given, folder):
-    """What the program answers; None where it is stopped by a signal."""
+    """What the program answers."""
     done = subprocess.run([program, "session"], input=given, capture_output=True, cwd=folder)
-    return (done.returncode, done.stdout)
+    return done.returncode, done.stdout
 
 
 def answered(module, sessions, room):
     """What the module answers to each session."""
     calls, answers = room / "calls", room / "answers"
-    calls.write_text("".join(json.dumps({"words": ["session"], "files": [], "input": base64.b64encode(given).decode()}) + "\n"
-                             for given in sessions))
+    inputs = [base64.b64encode(given).decode() for given in sessions]
+    calls.write_text("".join(json.dumps({"words": ["session"], "files": [], "input": it}) + "\n" for it in inputs))
     subprocess.run(["node", TESTS / "answers.mjs", module, calls, answers], check=True)
     found = [json.loads(line) for line in answers.read_text().splitlines()]
     return [None if "cut" in it else (it["status"], base64.b64decode(it["said"])) for it in found]

@@ -24,7 +24,8 @@ export class Firefox {
   constructor(program = 'firefox-esr') {
     this.profile = mkdtempSync(join(tmpdir(), 'larch-page-'));
     writeFileSync(join(this.profile, 'user.js'), 'user_pref("marionette.port", 0);\n');
-    this.process = spawn(program, ['--headless', '--marionette', '--no-remote', '--profile', this.profile], { stdio: 'ignore' });
+    const words = ['--headless', '--marionette', '--no-remote', '--profile', this.profile];
+    this.process = spawn(program, words, { stdio: 'ignore' });
     this.number = 0;
     this.waiting = new Map();
     this.errors = [];
@@ -70,7 +71,8 @@ export class Firefox {
   }
 
   async say(expression) {
-    return (await this.send('WebDriver:ExecuteScript', { script: `return (${expression});`, args: [], sandbox: null })).value;
+    const script = { script: `return (${expression});`, args: [], sandbox: null };
+    return (await this.send('WebDriver:ExecuteScript', script)).value;
   }
 
   async until(expression, seconds = 60) {
@@ -86,7 +88,8 @@ export class Firefox {
   async close() {
     await this.send('Marionette:Quit', { flags: ['eForceQuit'] }).catch(() => {});
     this.process.kill();
-    await new Promise((resolve) => (this.process.exitCode === null && this.process.signalCode === null ? this.process.on('exit', resolve) : resolve()));
+    const { exitCode, signalCode } = this.process;
+    if (exitCode === null && signalCode === null) await new Promise((resolve) => this.process.on('exit', resolve));
     rmSync(this.profile, { recursive: true, force: true, maxRetries: 5 });
   }
 }

@@ -1,7 +1,7 @@
-// Tests the page in a browser: page.mjs PAGE PROGRAM [--browser chromium|firefox] [--quick] [--pictures FOLDER]
+// Tests the page in a browser: page.mjs PAGE PROGRAM [--browser firefox] [--quick] [--pictures FOLDER]
 //
-// The page is opened from its file. What it says is compared with what PROGRAM writes of the same files. With --quick the
-// examples but the first trait are left out. Ends with `N passed, M failed` and status 1 where one failed.
+// The page is opened from its file. What it says is compared with what PROGRAM writes of the same files. With --quick
+// only the first trait is looked at. Ends with `N passed, M failed` and status 1 where one failed.
 import { spawnSync } from 'node:child_process';
 import { mkdtempSync, readFileSync, readdirSync, rmSync, writeFileSync } from 'node:fs';
 import { tmpdir } from 'node:os';
@@ -14,13 +14,17 @@ import { Firefox } from './firefox.mjs';
 const TOP = resolve(dirname(fileURLToPath(import.meta.url)), '../..');
 const [page, program, ...words] = process.argv.slice(2);
 const option = (name) => (words.includes(name) ? words[words.indexOf(name) + 1] : null);
-const isQuick = words.includes('--quick'), isFirefox = option('--browser') === 'firefox', pictures = option('--pictures');
+const isQuick = words.includes('--quick'), isFirefox = option('--browser') === 'firefox';
+const pictures = option('--pictures');
 const address = pathToFileURL(resolve(page)).href;
 const browser = isFirefox ? new Firefox() : new Chromium();
 const quoted = JSON.stringify;
-/** So many operators in a chain are too many for an engine, and not for the program. */
-const DEEP = 60000;
 let passed = 0, failed = 0;
+
+// The most operators that one chain of a trait may have.
+const LONGEST = 2499;
+const FOLDERS = ['library', 'lessons', 'wrong', 'handbook'];
+const EDITED = ['Bag', 'Integer', 'Compiler', 'List', 'Truth', 'Binary'];
 
 function see(title, found, wanted) {
   if (found === wanted) passed++;
@@ -36,24 +40,46 @@ const has = (title, found, part) => see(title, found.includes(part) ? part : fou
 function written(command, files) {
   const folder = mkdtempSync(join(tmpdir(), 'larch-files-'));
   for (const [name, text] of files) writeFileSync(join(folder, name), text);
-  const done = spawnSync(resolve(program), [command, ...files.map(([name]) => name)], { cwd: folder, maxBuffer: 1 << 28 });
+  const names = files.map(([name]) => name);
+  const done = spawnSync(resolve(program), [command, ...names], { cwd: folder, maxBuffer: 1 << 28 });
   rmSync(folder, { recursive: true });
   return done.stdout.toString();
 }
 
-const filesOf = (folder) => readdirSync(join(TOP, 'examples', folder)).filter((name) => /\.(?:lsl|lp)$/.test(name))
-  .map((name) => [name, readFileSync(join(TOP, 'examples', folder, name), 'utf8')]);
+function filesOf(name) {
+  const folder = join(TOP, 'examples', name);
+  const names = readdirSync(folder).filter((file) => /\.(?:lsl|lp)$/.test(file));
+  return names.map((file) => [file, readFileSync(join(folder, file), 'utf8')]);
+}
 
+// ---- What is done in the page.
+
+const AREAS = {
+  trait: "document.querySelector('#trait-text textarea')",
+  script: "document.querySelector('#script-text textarea')",
+};
+const TOLD = 'document.documentElement.dataset';
 const text = (id) => browser.say(`document.getElementById(${quoted(id)}).textContent`);
-const picture = (name) => (pictures ? browser.picture(join(pictures, `${isFirefox ? 'firefox-' : ''}${name}.png`)) : null);
-const area = (name) => `document.querySelector('#${name}-text textarea')`;
-const answered = (seconds = 120) => browser.until("document.documentElement.dataset.answered", seconds);
-const forget = () => browser.say('delete document.documentElement.dataset.answered, delete document.documentElement.dataset.settled, 0');
+const value = (name) => browser.say(`${AREAS[name]}.value`);
+const answered = (seconds = 120) => browser.until(`${TOLD}.answered`, seconds);
+const settled = () => browser.until(`${TOLD}.settled`, 900);
+const forget = () => browser.say(`delete ${TOLD}.answered, delete ${TOLD}.settled, 0`);
+const click = (selector) => browser.say(`document.querySelector(${quoted(selector)}).click()`);
+
+/** Presses the button with a text, of those that a selector finds. */
+function press(selector, name) {
+  return browser.say(`[...document.querySelectorAll(${quoted(selector)})]
+    .find((one) => one.textContent.trim().replace(/^. /, '') === ${quoted(name)}).click()`);
+}
+
+async function picture(name) {
+  if (pictures) await browser.picture(join(pictures, `${isFirefox ? 'firefox-' : ''}${name}.png`));
+}
 
 /** Opens the page with nothing kept, and waits for its first report. */
 async function fresh(hash = '') {
   await browser.open(address);
-  await browser.until("document.readyState === 'complete' && document.documentElement.dataset.begun", 300);
+  await browser.until(`document.readyState === 'complete' && ${TOLD}.begun`, 300);
   await browser.say('localStorage.clear(), 0');
   await browser.open(address + hash);
   await answered(300);
@@ -62,98 +88,119 @@ async function fresh(hash = '') {
 /** Hands files over as if they were chosen from the disk, and waits until all is known of them. */
 async function openFiles(files) {
   await forget();
-  await browser.say(`(() => { const held = new DataTransfer(), pick = document.getElementById('pick');
+  await browser.say(`(() => {
+    const held = new DataTransfer(), pick = document.getElementById('pick');
     for (const [name, text] of ${quoted(files)}) held.items.add(new File([text], name));
-    pick.files = held.files; pick.dispatchEvent(new Event('change')); })()`);
-  await browser.until('document.documentElement.dataset.settled', 900);
+    pick.files = held.files;
+    pick.dispatchEvent(new Event('change'));
+  })()`);
+  await settled();
 }
 
 /** Types a text at a place, and waits for the report on it: the milliseconds from the keystroke until it is shown. */
 async function typed(name, place, put) {
   await forget();
-  const took = await browser.say(`new Promise((resolve) => { const area = ${area(name)}, begun = performance.now();
-    new MutationObserver((_, it) => { it.disconnect(); resolve(performance.now() - begun); }).observe(document.documentElement, { attributes: true, attributeFilter: ['data-reported'] });
-    area.focus(); area.setSelectionRange(${place}, ${place}); document.execCommand('insertText', false, ${quoted(put)}); })`);
+  const took = await browser.say(`new Promise((resolve) => {
+    const area = ${AREAS[name]}, begun = performance.now(), look = new MutationObserver(() => {
+      look.disconnect();
+      resolve(performance.now() - begun);
+    });
+    look.observe(document.documentElement, { attributes: true, attributeFilter: ['data-reported'] });
+    area.focus();
+    area.setSelectionRange(${place}, ${place});
+    document.execCommand('insertText', false, ${quoted(put)});
+  })`);
   await answered();
   return took;
 }
 
-/** Moves the cursor of the script to the start of a line. */
+/** Moves the cursor of the script to the end of a line, and waits for the goal there. */
 async function moveTo(line) {
-  const before = await browser.say('document.documentElement.dataset.answered');
-  await browser.say(`(() => { const area = ${area('script')}; area.focus();
-    const place = area.value.split('\\n').slice(0, ${line - 1}).join('\\n').length + ${line > 1 ? 1 : 0};
-    area.setSelectionRange(place, place); area.dispatchEvent(new Event('keyup')); })()`);
-  await browser.until(`document.documentElement.dataset.answered !== ${quoted(before)}`, 20).catch(() => {});
+  await browser.say(`(() => {
+    const area = ${AREAS.script}, place = area.value.split('\\n').slice(0, ${line}).join('\\n').length;
+    area.focus();
+    area.setSelectionRange(place, place);
+    area.dispatchEvent(new Event('keyup'));
+  })()`);
+  const isThere = `document.getElementById('goal').textContent.includes('Behind line ${line} ')`;
+  await browser.until(isThere, 30).catch(() => {});
 }
 
 /** The report on all files, as the page's dialog shows it. */
 async function wholeReport() {
   await browser.until("document.querySelector('#count button')", 900);
-  await browser.say("document.querySelector('#count button').click()");
+  await click('#count button');
   const said = await browser.say("document.querySelector('#dialog pre').textContent");
   await browser.say("document.getElementById('dialog').close()");
   return said;
 }
 
-const middle = (times) => [...times].sort((one, other) => one - other)[times.length >> 1];
+// ---- What is tried.
 
 async function firstVisit() {
   await fresh();
-  has('the first trait', await text('summary'), 'Sum: nothing is wrong with it; 1 of 3 proved, 1 suspended, 1 refused');
+  has('the first trait', await text('summary'), 'nothing is wrong with it; 1 of 3 proved, 1 suspended, 1 refused');
   await picture('first');
   const times = [];
   for (let time = 0; time < (isQuick ? 1 : 5); time++) {
     await browser.open(address);
     await answered();
-    times.push(Number(await browser.say('document.documentElement.dataset.first')));
+    times.push(Math.round(Number(await browser.say(`${TOLD}.first`))));
   }
-  console.log(`first report, ms from the click: ${times.map((time) => time.toFixed(0)).join(' ')}`);
+  console.log(`first report, milliseconds from the click: ${times.join(' ')}`);
 }
 
 async function edits() {
-  const took = await typed('script', (await browser.say(`${area('script')}.value`)).lastIndexOf('z'), 'y %');
+  const took = await typed('script', (await value('script')).lastIndexOf('z'), 'y %');
   has('the mended script', await text('summary'), '3 of 3 proved');
   console.log(`an edit's report: ${took.toFixed(0)} ms`);
   await typed('trait', 0, '?');
-  const files = [['Sum.lsl', await browser.say(`${area('trait')}.value`)]];
-  const [, line, column, code] = /error (\d+):(\d+) (\S+)/.exec(written('check', files));
+  const said = written('check', [['Sum.lsl', await value('trait')]]);
+  const [, line, column, code] = /error (\d+):(\d+) (\S+)/.exec(said);
   has('a wrong trait', await text('summary'), `refused at line ${line}, column ${column}: ${code}`);
-  see('the mark of its line', await browser.say("document.querySelector('#trait-text .numbers .error')?.textContent"), line);
+  see('its mark', await browser.say("document.querySelector('#trait-text .numbers .error')?.textContent"), line);
   await picture('wrong');
 }
 
 /** Follows the first trait's proof line by line: what the page shows is what the program says of the script so far. */
 async function follows() {
   await fresh();
-  const trait = await browser.say(`${area('trait')}.value`), script = await browser.say(`${area('script')}.value`);
+  const trait = await value('trait'), script = await value('script');
   for (let line = 1; line <= script.split('\n').length; line++) {
     await moveTo(line);
     const label = line < 5 ? 'imply.1' : 'imply.2';
     const cut = cutAt(script, line, ['imply.1', 'imply.2', 'imply.3']);
-    const said = written('replay', [['Sum.lsl', trait], ['Sum.lp', cut]]).split('\n').find((it) => it.startsWith(label));
+    const lines = written('replay', [['Sum.lsl', trait], ['Sum.lp', cut]]).split('\n');
+    const said = lines.find((one) => one.startsWith(label));
     const goal = /goals \d+: (.*)$/.exec(said)?.[1] ?? / refused \d+ (\S+)$/.exec(said)?.[1] ?? 'is proved here';
-    await browser.until(`document.getElementById('goal').textContent.includes('Behind line ${line} ')`, 20).catch(() => {});
     has(`the goal at line ${line}`, await text('goal'), goal);
     has(`the line of the goal at line ${line}`, await text('goal'), `Behind line ${line} of`);
   }
+  await picture('goal');
 }
 
+/** The longest chain that a trait may have: the page says what the program says of it, or that the engine ended it. */
 async function tooDeep() {
   await fresh();
-  const chain = `${'0 + '.repeat(DEEP)}0`;
-  await openFiles([['Deep.lsl', `Deep: trait\n  introduces\n    0: -> N\n    __ + __: N, N -> N\n  asserts\n    \\forall x: N\n      ${chain} == 0\n`]]);
-  has('a trait that is too deep', await text('parts'), 'The browser\'s engine ended the call');
+  const head = 'introduces\n    0: -> N\n    __ + __: N, N -> N\n';
+  const chain = `${'0 + '.repeat(LONGEST)}0`;
+  const files = [['Deep.lsl', `Deep: trait\n  ${head}  asserts\n    \\forall x: N\n      ${chain} == x\n`]];
+  await openFiles(files);
+  const isEnded = (await text('parts')).includes('The browser\'s engine ended the call');
+  console.log(`a chain of ${LONGEST} operators: ${isEnded ? 'the engine ended the call' : 'the page reports on it'}`);
+  const isWell = (await text('summary')).includes('nothing is wrong with it');
+  if (!isEnded) see('a long chain', isWell, written('check', files).startsWith('trait Deep\n'));
   await picture('deep');
   await openFiles([['Flat.lsl', 'Flat: trait\n  introduces\n    a: -> N\n']]);
   has('a trait behind it', await text('summary'), 'Flat: nothing is wrong with it');
 }
 
 async function examples() {
-  for (const folder of ['library', 'lessons', 'wrong', 'handbook']) {
+  for (const folder of FOLDERS) {
     const files = filesOf(folder);
-    await fresh('#files=none');
-    await browser.say("document.getElementById('save').click(), [...document.querySelectorAll('#dialog button')].find((it) => it.textContent.startsWith('take Sum')).click()");
+    await fresh();
+    await click('#save');
+    await press('#dialog button', 'take Sum out of the page');
     await openFiles(files);
     see(`the report on examples/${folder}`, await wholeReport(), written('replay', files));
   }
@@ -162,30 +209,34 @@ async function examples() {
 /** Keystrokes while the whole handbook is open. */
 async function keystrokes() {
   const all = [];
-  for (const stem of ['Bag', 'Integer', 'Compiler', 'List', 'Truth', 'Binary']) {
+  for (const stem of EDITED) {
     await forget();
-    await browser.say(`[...document.querySelectorAll('#list button')].find((it) => it.textContent.trim().endsWith(' ${stem}')).click()`);
+    await press('#list button', stem);
     await answered();
     const times = [];
-    for (let time = 0; time < 7; time++) times.push(await typed(time % 2 ? 'trait' : 'script', 0, time % 2 ? '\n' : '%\n'));
+    for (let time = 0; time < 8; time++) times.push(Math.round(await typed(time % 2 ? 'trait' : 'script', 0, '%\n')));
     all.push(...times);
-    console.log(`keystroke in ${stem}, the handbook open: ${times.map((time) => time.toFixed(0)).join(' ')} ms`);
+    console.log(`keystrokes in ${stem}, with the handbook open: ${times.join(' ')} ms`);
   }
-  await browser.until('document.documentElement.dataset.settled', 900);
-  console.log(`keystrokes: middle ${middle(all).toFixed(0)} ms, most ${Math.max(...all).toFixed(0)} ms`);
+  await settled();
+  all.sort((one, other) => one - other);
+  console.log(`keystrokes: middle ${all[all.length >> 1]} ms, most ${all[all.length - 1]} ms`);
   await picture('handbook');
 }
 
 async function sharing() {
   await fresh();
   await typed('script', 0, '% shared\n');
-  await browser.say("document.getElementById('share').click()");
+  await click('#share');
   await browser.until("document.querySelector('#dialog input').value.includes('#files=')");
   const link = await browser.say("document.querySelector('#dialog input').value");
   await fresh(new URL(link).hash);
-  has('what a link holds', await browser.say(`${area('script')}.value`), '% shared');
-  has('that it is a link\'s', await text('note'), 'aren\'t kept');
+  has('what a link holds', await value('script'), '% shared');
+  has('that it is of a link', await text('note'), 'aren\'t kept');
   see('what is kept meanwhile', await browser.say("localStorage.getItem('larch:Sum.lp')"), null);
+  await press('#note button', 'Keep them');
+  await answered();
+  has('what is kept then', await browser.say("localStorage.getItem('larch:Sum.lp') ?? ''"), '% shared');
 }
 
 async function keepsFiles() {
@@ -193,25 +244,28 @@ async function keepsFiles() {
   await typed('script', 0, '% kept\n');
   await browser.open(address);
   await answered();
-  has('what is kept', await browser.say(`${area('script')}.value`), '% kept');
+  has('what is kept', await value('script'), '% kept');
 }
 
 /** What Chromium alone is asked for: keys, colours, a small screen. */
 async function lookAndKeys() {
   await fresh();
   await browser.press('3', 'Digit3', 1, 51);
-  see('Alt+3', await browser.say(`document.activeElement === ${area('script')}`), true);
+  see('Alt+3', await browser.say(`document.activeElement === ${AREAS.script}`), true);
   await browser.press('F8', 'F8', 0, 119);
-  see('F8', await browser.say(`${area('script')}.value.slice(0, ${area('script')}.selectionStart).split('\\n').length`), 6);
+  const line = `${AREAS.script}.value.slice(0, ${AREAS.script}.selectionStart).split('\\n').length`;
+  see('F8', await browser.say(line), 6);
   await browser.colours('dark');
   await browser.size(1280, 800);
   await picture('dark');
   await browser.colours('light');
   await browser.size(390, 720, true);
-  await browser.say("document.querySelector('[data-view=says]').click()");
-  see('a small screen', await browser.say("getComputedStyle(document.getElementById('says')).display + getComputedStyle(document.getElementById('trait')).display"), 'blocknone');
-  see('nothing beside the screen', await browser.say('document.documentElement.scrollWidth <= innerWidth'), true);
+  await click('[data-view=says]');
+  const display = (id) => `getComputedStyle(document.getElementById('${id}')).display`;
+  see('a small screen', await browser.say(`${display('says')} + ' ' + ${display('trait')}`), 'block none');
+  see('its width', await browser.say('document.documentElement.scrollWidth <= innerWidth'), true);
   await picture('small');
+  await browser.size(1280, 800);
 }
 
 async function main() {
@@ -222,13 +276,7 @@ async function main() {
     await browser.open('about:blank');
     await browser.size(1280, 800);
   }
-  for (const step of steps) {
-    try {
-      await step();
-    } catch (error) {
-      see(step.name, String(error), 'no error');
-    }
-  }
+  for (const step of steps) await step().catch((error) => see(step.name, String(error), 'no error'));
   see('errors of scripts', browser.errors.join('; '), '');
   await browser.close();
   console.log(`${isFirefox ? 'firefox' : 'chromium'}: ${passed} passed, ${failed} failed`);

@@ -1,5 +1,5 @@
-// Tests the page's scripts without a browser: parts.mjs [PROGRAM]. With PROGRAM the questions of the page are asked of it,
-// and the reports that the page puts together of all its answers are compared with the program's own on whole folders.
+// Tests the page's scripts without a browser: parts.mjs [PROGRAM]. With PROGRAM the questions of the page are asked of
+// it, and the reports that the page puts together of its answers are compared with the program's own on whole folders.
 import { spawnSync } from 'node:child_process';
 import { mkdtempSync, readFileSync, readdirSync, rmSync, writeFileSync } from 'node:fs';
 import { tmpdir } from 'node:os';
@@ -37,14 +37,17 @@ function places() {
 
 function scripts() {
   const text = 'declare variable x: N\nduty imply.1\n  a\n  b\nqed\nduty imply . 2 % c\n  d\nduty assume.1\n  e';
-  see('the blocks', blocksOf(text).map(({ label, begin, end }) => `${label} ${begin} ${end}`), ['imply.1 2 6', 'imply.2 6 8', 'assume.1 8 10']);
+  const blocks = blocksOf(text).map(({ label, begin, end }) => `${label} ${begin} ${end}`);
+  see('the blocks', blocks, ['imply.1 2 6', 'imply.2 6 8', 'assume.1 8 10']);
   see('no block', blockAt(text, 1), null);
-  see('a script cut', cutAt(text, 3, ['assume.1', 'imply.1', 'imply.2']), 'declare variable x: N\nduty imply.1\n  a\n\n\n\n\nduty assume.1\n  e');
+  const cut = 'declare variable x: N\nduty imply.1\n  a\n\n\n\n\nduty assume.1\n  e';
+  see('a script cut', cutAt(text, 3, ['assume.1', 'imply.1', 'imply.2']), cut);
 }
 
 function references() {
-  const text = 'T: trait\n  includes A (x for y), B % C\n  assumes D\n  introduces\n    e: -> F\n  implies\n    G\n    \\forall h: H';
-  see('what is referred to', ['A', 'B', 'C', 'D', 'F', 'G'].filter((word) => referredTo(text).has(word)), ['A', 'B', 'D', 'G']);
+  const text = 'T: trait\n  includes A (x for y), B % C\n  assumes D\n  introduces\n    e: -> F\n  implies\n    G\n';
+  const found = referredTo(text);
+  see('what is referred to', ['A', 'B', 'C', 'D', 'F', 'G'].filter((word) => found.has(word)), ['A', 'B', 'D', 'G']);
   const folder = new Folder([['T.lsl', text], ['A.lsl', 'A: trait includes B'], ['B.lsl', 'B: trait'], ['F.lsl', '']]);
   see('what is reached', folder.reached('T'), ['A.lsl', 'B.lsl', 'T.lsl']);
   const key = folder.key('T');
@@ -67,7 +70,8 @@ function colours() {
   const grammar = JSON.parse(readFileSync(join(TOP, 'editors/vscode/syntaxes/lp.tmLanguage.json'), 'utf8'));
   const pieces = piecesOf('  resume by induction on x0 % by', rulesOf(grammar));
   see('the text of the pieces', pieces.map(([text]) => text).join(''), '  resume by induction on x0 % by');
-  see('their kinds', pieces.map(([, kind]) => kind ?? '').join(' ').trim().split(/ +/), ['part', 'clause', 'clause', 'clause', 'comment']);
+  const kinds = pieces.map(([, kind]) => kind).filter(Boolean);
+  see('their kinds', kinds, ['part', 'clause', 'clause', 'clause', 'comment']);
   see('a mark', piecesOf('  <> basis', rulesOf(grammar)), [['  ', undefined], ['<>', 'mark'], [' basis', 'comment']]);
 }
 
@@ -83,7 +87,8 @@ async function ask({ words, files = [] }) {
 async function reports() {
   for (const name of ['library', 'lessons', 'wrong', 'handbook']) {
     const path = join(TOP, 'examples', name);
-    const folder = new Folder(readdirSync(path).filter((file) => /\.(?:lsl|lp)$/.test(file)).map((file) => [file, readFileSync(join(path, file), 'utf8')]));
+    const names = readdirSync(path).filter((file) => /\.(?:lsl|lp)$/.test(file));
+    const folder = new Folder(names.map((file) => [file, readFileSync(join(path, file), 'utf8')]));
     const parts = [];
     for (const stem of folder.stems()) parts.push(await askReport(ask, folder, stem));
     const whole = await ask({ words: ['replay', ...folder.names()], files: folder.pairs(folder.names()) });
@@ -93,7 +98,8 @@ async function reports() {
 
 async function goals() {
   const folder = new Folder();
-  folder.put('T.lsl', 'T: trait\n  introduces\n    f: Bool -> Bool\n  asserts\n    f(true);\n    f(false)\n  implies\n    \\forall b: Bool\n      f(b)\n');
+  folder.put('T.lsl', 'T: trait\n  introduces\n    f: Bool -> Bool\n  asserts\n    f(true);\n    f(false)\n'
+    + '  implies\n    \\forall b: Bool\n      f(b)\n');
   folder.put('T.lp', 'duty imply.1\n  resume by cases c\n  resume by cases b\nqed\n');
   const at = (line) => askGoal(ask, folder, 'T', line, ['imply.1']);
   see('the goal at the duty', (await at(1)).goal, 'f(b)');

@@ -1,11 +1,11 @@
 #!/usr/bin/env python3
 """Tests the page for browsers: python3 tools/gate/check_page.py [PROGRAM] [--all]
 
-Looks whether the page's parts go together: each script imports what is exported, and each part is there. Where
-page/larch.html is made of the sources as they stand, and `node` and Chromium are there, it also compares the module with
-the program on some random sessions, and tries the page in Chromium. It compiles nothing: page/make.py makes the page.
-With --all it does all that docs/PAGE.md lists, which takes minutes. What is left out is said; the status is 0 then, and 1
-where something fails."""
+Looks whether the page's parts go together: each script imports what is exported, and each part is there. Where `node`
+is there, the scripts are tried without a browser. Where page/larch.html is made of the sources as they stand, and
+Chromium is there too, the module is compared with the program on some random sessions, and the page is tried in
+Chromium. Nothing is compiled: page/make.py makes the page. With --all it does all that docs/PAGE.md lists, which takes
+minutes. What is left out is said; the status is 0 then, and 1 where something fails."""
 import argparse
 import pathlib
 import re
@@ -27,11 +27,12 @@ def parts(looks):
     """The scripts name one another rightly, and the page has a place for each part."""
     texts = {path.stem: path.read_text(encoding="utf-8") for path in sorted((PAGE / "src").glob("*.mjs"))}
     for name, text in texts.items():
-        looks.look(len(re.findall(r"^import", text, re.M)) == len(bundle.IMPORT.findall(text)), f"{name}: an import of another form")
-        for imported, _, source in bundle.IMPORT.findall(text):
+        imports = bundle.IMPORT.findall(text)
+        looks.look(len(re.findall(r"^import", text, re.M)) == len(imports), f"{name}: an import of another form")
+        for imported, source in imports:
             exported = {it for _, it in bundle.EXPORT.findall(texts.get(source, ""))}
             for word in imported.split(","):
-                looks.look(word.split(" as ")[0].strip() in exported | {""}, f"{name}: {source} exports no {word.strip()}")
+                looks.look(word.strip() in exported, f"{name}: {source} exports no {word.strip()}")
     page = bundle.page(b"", "", "")
     looks.look(not re.search(r"/\*[A-Z]+\*/", page), "a part of the page isn't there")
     used = set(re.findall(r"byId\('([\w-]+)'\)", "".join(texts.values())))
@@ -52,7 +53,15 @@ def missing():
     return f"not installed: {', '.join(absent)}" if absent else ""
 
 
-def tries(program, everything):
+def without_browser(program, everything):
+    """The commands that try the scripts."""
+    if not shutil.which("node"):
+        print("left out, the page's scripts: node isn't installed")
+        return []
+    return [["node", PAGE / "tests/parts.mjs", *([program] if everything else [])]]
+
+
+def with_browser(program, everything):
     """The commands that try the page."""
     page = ["node", PAGE / "tests/page.mjs", PAGE / "larch.html", program]
     compare = [sys.executable, PAGE / "tests/compare.py", program]
@@ -71,7 +80,9 @@ def main():
     why = missing() or ("" if asked.program.exists() else f"there is no {asked.program}")
     if why:
         print(f"left out, the page in a browser: {why}")
-    for command in [] if why else tries(asked.program.resolve(), asked.all):
+    program = asked.program.resolve()
+    tries = [] if why else with_browser(program, asked.all)
+    for command in [*without_browser(program, asked.all and program.exists()), *tries]:
         looks.look(subprocess.run(command).returncode == 0, f"failed: {' '.join(str(word) for word in command)}")
     return looks.end("page")
 
