@@ -172,7 +172,8 @@ def compile_module(tools, module, room):
         "-x", "c", PAGE / "host.c", "-o", room / "host.o")
     run(tools / "toolchain/bin/ld.lld", "-flavor", "wasm", "-mwasm64", "--no-entry", "--stack-first",
         "-z", f"stack-size={STACK_BYTES}", *(f"--export={name}" for name in EXPORTS), "--gc-sections", "--threads=1",
-        "--strip-all", f"--max-memory={MOST_BYTES}", "-o", room / "wide.wasm", room / "program.o", room / "host.o")
+        "--strip-all", "--fatal-warnings", f"--max-memory={MOST_BYTES}", "-o", room / "wide.wasm", room / "program.o",
+        room / "host.o")
     say("lowering addresses to 32 bits")
     run(lower, *(f"--enable-{feature}" for feature in FEATURES), "--memory64-lowering", "-O2", room / "wide.wasm",
         "-o", room / "larch.wasm")
