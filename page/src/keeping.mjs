@@ -58,8 +58,9 @@ async function through(bytes, stream) {
 
 /** The bytes of a text of base64, in either alphabet. */
 export function bytesOf(text) {
-  const letters = atob(text.trim().replace(/-/g, '+').replace(/_/g, '/'));
-  return Uint8Array.from(letters, (letter) => letter.charCodeAt(0));
+  const letters = atob(text.trim().replace(/-/g, '+').replace(/_/g, '/')), bytes = new Uint8Array(letters.length);
+  for (let at = 0; at < letters.length; at++) bytes[at] = letters.charCodeAt(at);
+  return bytes;
 }
 
 function textOf(bytes) {

@@ -17,8 +17,10 @@ export class Looking {
    */
   constructor(page, makeWorker, module) {
     this.page = page;
-    this.front = new Caller(makeWorker, module);
-    this.behind = new Caller(makeWorker, module);
+    this.newCaller = () => new Caller(makeWorker, module);
+    this.front = this.newCaller();
+    // The worker for the traits that aren't shown, which begins once they are asked about.
+    this.behind = null;
     // The newest report on each trait, with the key of the files that it is of.
     this.reports = new Map();
     this.forget();
@@ -40,7 +42,7 @@ export class Looking {
   }
 
   hasDerive() {
-    return hasDerive((call) => this.behind.ask(call));
+    return hasDerive((call) => this.front.ask(call));
   }
 
   ask(call) {
@@ -105,6 +107,7 @@ export class Looking {
   /** Reports on the other traits, one after the other, until something is typed. */
   async lookBehind() {
     const mine = this.turn;
+    this.behind ??= this.newCaller();
     for (const stem of this.page.folder.stems()) {
       if (this.known(stem)) continue;
       await this.askReport(this.behind, stem);

@@ -39,7 +39,7 @@ const note = (text, ...more) => byId('note').replaceChildren(text, ...more);
 
 const texts = {
   lsl: new Editor(byId('trait-text'), 'Trait', { told: (text) => typed('lsl', text), moved: () => {} }),
-  lp: new Editor(byId('script-text'), 'Script', { told: (text) => typed('lp', text), moved: () => looking.look() }),
+  lp: new Editor(byId('script-text'), 'Script', { told: (text) => typed('lp', text), moved: () => looking?.look() }),
 };
 
 function typed(ending, text) {
