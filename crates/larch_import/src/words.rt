@@ -91,7 +91,7 @@ fn letters_before(alloc: Global, letters: usize) -> Result<Vec<u8>, Memory>
     ensures { IfOk result (λ bytes. bytes.items ≡ replicate letters 115) }
 {
     let mut bytes = Vec::new(alloc);
-    for _letter in 0..letters {
+    for _ in 0..letters {
         bytes.push(b's')?;
     }
     Ok(bytes)
