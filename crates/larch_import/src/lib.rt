@@ -10,6 +10,7 @@ mod term;
 mod words;
 
 pub use importing::{Places, rename_certificate};
+pub use numbers::new_numbers;
 
 // Passed on to crates above, which then needn't list these crates.
 pub mod from_import_names {

@@ -82,7 +82,7 @@ placed (g ∷ gs) i f c =
       ]
     ]
 
-at_suc : {X : Type 0} (xs : List X) (j : ℕ) → numbered xs (suc j) ≡ slice_get xs j
+pub at_suc : {X : Type 0} (xs : List X) (j : ℕ) → numbered xs (suc j) ≡ slice_get xs j
 at_suc xs j =
     let one : suc j - 1 ≡ j = omega arith in
     ap (λ b. cond b None (slice_get xs (suc j - 1))) (ne_eqb (suc j) 0 (λ p. omega (arith, p))) ∙ ap (slice_get xs)
