@@ -77,7 +77,6 @@ fn first_among(statements: &[Statement], statement: &Statement) -> Option<usize>
         .position(|other| is_same(other, statement))
 }
 
-#[tactic(auto, using(larch_term::proofs::Decided::statements_told))]
 fn is_same(left: &Statement, right: &Statement) -> bool
     ensures { result ≡ same_statement left.now right.now }
 {
