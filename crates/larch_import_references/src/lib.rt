@@ -1,6 +1,7 @@
 //! What a reference gives in place of all sorts and operators of the trait that it names, pair by pair.
 #![tactic(auto)]
 
+pub mod laws;
 mod naming;
 mod pairs;
 
