@@ -1,6 +1,6 @@
 -- Sorts stay apart where those that aren't named become longer than all others.
-use Rattle.std.proofs.Common.{◌≡◌, ℕ, ◌+◌, ◌<◌, ◌≤◌, Bool, true, false}
-use Rattle.std.proofs.Common.{cond, inl, inr, ◌⊎◌, List, [], ◌∷◌, ◌++◌, length}
+use Rattle.std.proofs.Common.{◌≡◌, ℕ, ◌<◌}
+use Rattle.std.proofs.Common.{cond, inl, inr, List, [], ◌∷◌, ◌++◌, length}
 use Rattle.std.proofs.Common.{Contains, map, replicate, Some, None, refl, sym, ◌∙◌, ap, subst, arith}
 use Rattle.std.specs.Prelude.{Option, bytes_eq, find, option_and_then, unwrap_or}
 use Rattle.std.proofs.lemmas.List.{length-append, length-replicate}
@@ -9,17 +9,15 @@ use Rattle.larch_base.proofs.Bools.{true_or_false}
 use Rattle.larch_base.proofs.Members.{contains_here, contains_later}
 use Rattle.larch_base.proofs.Options.{some_inj}
 use Rattle.larch_term.proofs.BuiltIns.{is_built_in_Decides}
-use Rattle.larch_term.specs.BuiltIn.{bool_sort, built_in, built_in_domain, built_in_range, is_built_in}
+use Rattle.larch_term.specs.BuiltIn.{bool_sort, built_in, built_in_domain, built_in_range}
 use Rattle.larch_term.specs.Equality.{same_operator}
-use Rattle.larch_term.specs.Operator.{PlainOperator, plain}
 use Rattle.larch_term.specs.declared.built_in.BuiltIn.{BuiltIn}
 use Rattle.larch_term.specs.declared.built_in.BuiltIn.TheVariants.{True, False, Not, And, Or, Implies, Iff}
 use Rattle.larch_term.specs.declared.built_in.BuiltIn.TheVariants.{Equal, Unequal, If}
 use Rattle.larch_term.specs.declared.statement.Theory.{Theory}
-use Rattle.larch_verify_meaning.specs.CalculusRenaming.{IsFaithful, KeepsSortsApart}
-use Rattle.larch_verify_meaning.specs.RenamingRenaming.{KeepsBuiltIns, FitsSignatures}
-use Rattle.larch_import_names.specs.Apartness.{IsApart}
-use Rattle.larch_import_names.specs.Names.{with_letters, paired_sort, named_sort}
+use Rattle.larch_verify_meaning.specs.CalculusRenaming.{IsFaithful}
+use Rattle.larch_verify_meaning.specs.RenamingRenaming.{KeepsBuiltIns}
+use Rattle.larch_import_names.specs.Names.{with_letters, paired_sort}
 use Rattle.larch_import_names.specs.Names.{sort_or, name_by, new_name, operator_by}
 use Rattle.larch_import_names.specs.Names.{renaming_or}
 use Rattle.larch_import_names.specs.Sorted.{OfTheory}

@@ -1,5 +1,5 @@
 -- No sort of a theory is longer than the longest.
-use Rattle.std.proofs.Common.{◌≡◌, ℕ, ◌≤◌, max, inl, inr, List, [], ◌∷◌, length, All, Contains, subst, arith}
+use Rattle.std.proofs.Common.{ℕ, ◌≤◌, inl, inr, List, [], ◌∷◌, length, All, Contains, subst, arith}
 use Rattle.std.specs.Prelude.{fold}
 use Rattle.larch_base.proofs.Lists.{all_from}
 use Rattle.larch_base.proofs.Members.{contains_cases, contains_none}

@@ -1,13 +1,12 @@
 -- The rows of built-in operators rename to rows.
 use Rattle.std.proofs.Common.{◌≡◌, ℕ, Bool, true, false, cond, List}
-use Rattle.std.proofs.Common.{[], ◌∷◌, map, Option, Some, None, option_map, refl}
+use Rattle.std.proofs.Common.{[], ◌∷◌, map, Option, Some, None, option_map}
 use Rattle.std.proofs.Common.{sym, ◌∙◌, ap}
 use Rattle.std.specs.Prelude.{codes, option_and_then}
 use Rattle.std.proofs.lemmas.Option.{option_and_then_some}
-use Rattle.larch_base.proofs.Options.{some_inj}
 use Rattle.larch_base.specs.ByNumber.{numbered}
 use Rattle.larch_term.specs.BuiltIn.{bool_sort, built_in}
-use Rattle.larch_term.specs.Tree.{Tree, var, app, none, more}
+use Rattle.larch_term.specs.Tree.{var, app, none, more}
 use Rattle.larch_term.specs.Truth.{truth}
 use Rattle.larch_term.specs.declared.built_in.BuiltIn.{BuiltIn}
 use Rattle.larch_term.specs.declared.built_in.BuiltIn.TheVariants.{True, False, Not, And, Or, Implies, Iff}

@@ -1,5 +1,5 @@
 -- Certificates over a theory by the names that another theory has for what it names.
-use Rattle.std.specs.Prelude.{◌≡◌, ℕ, suc, List, All, Contains, map, Option, Some, position, unwrap_or}
+use Rattle.std.specs.Prelude.{◌≡◌, ℕ, suc, List, All, Contains, map, Some, position, unwrap_or}
 use Rattle.std.specs.Option.{option_map_or}
 use Rattle.larch_base.specs.ByNumber.{numbered}
 use Rattle.larch_term.specs.Equality.{same_operator}

@@ -1,6 +1,6 @@
 -- What becomes of sorts that aren't named doesn't matter where all sorts are named.
-use Rattle.std.proofs.Common.{◌≡◌, List, ℕ, All, map, Bool, false, cond, Some, refl, sym, ◌∙◌, ap}
-use Rattle.std.specs.Prelude.{Option, unwrap_or, find}
+use Rattle.std.proofs.Common.{◌≡◌, List, ℕ, All, map, false, cond, Some, refl, sym, ◌∙◌, ap}
+use Rattle.std.specs.Prelude.{unwrap_or, find}
 use Rattle.std.proofs.lemmas.List.Elements.{All-contains}
 use Rattle.larch_base.proofs.Lists.{map_by}
 use Rattle.larch_term.specs.BuiltIn.{is_built_in}
@@ -10,7 +10,7 @@ use Rattle.larch_term.specs.Tree.{Tree, Forest, var, app, none, more}
 use Rattle.larch_term.specs.declared.statement.Statement.{Statement}
 use Rattle.larch_term.specs.declared.statement.Statement.TheVariants.{Equation, Generated, Partitioned}
 use Rattle.larch_renaming.specs.Renaming.{rename_tree, renamed_all, renamed_statement}
-use Rattle.larch_import_names.specs.Names.{IsNamed, named_sort, sort_or, name_by, new_name, operator_by, renaming_or}
+use Rattle.larch_import_names.specs.Names.{IsNamed, sort_or, name_by, new_name, operator_by, renaming_or}
 use Rattle.larch_import_names.specs.Names.{renaming}
 use Rattle.larch_import_names.specs.Sorted.{OfOperator, OfTerm, OfTerms, HasNamedSorts}
 use Rattle.larch_import_names.specs.declared.pairs.OperatorPair.{OperatorPair}

@@ -1,5 +1,5 @@
 -- What the test for pairs that are apart tells.
-use Rattle.std.proofs.Common.{◌≡◌, Bool, true, false, not, ◌||◌, inl, inr}
+use Rattle.std.proofs.Common.{◌≡◌, Bool, true, not, ◌||◌, inl, inr}
 use Rattle.std.proofs.Common.{List, [], ◌∷◌, Contains, refl, sym, ◌∙◌, ap, subst}
 use Rattle.std.specs.Prelude.{bytes_eq}
 use Rattle.std.specs.Bool.{Decides}

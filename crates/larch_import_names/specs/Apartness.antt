@@ -1,6 +1,5 @@
 -- When pairs keep sorts apart.
 use Rattle.std.specs.Prelude.{◌≡◌, ◌||◌, Bool, not, List, Contains, bytes_eq}
-use Rattle.std.specs.List.{list_all}
 use Rattle.larch_import_names.specs.declared.pairs.Renaming.{Renaming}
 use Rattle.larch_import_names.specs.declared.pairs.SortPair.{SortPair}
 

@@ -1,11 +1,10 @@
 -- What has a number among others that isn't 0 is there.
-use Rattle.std.proofs.Common.{◌≡◌, ℕ, zero, suc, ◌==◌, ◌+◌, Bool, true, false, not, cond, inl, inr, List, [], ◌∷◌, map}
+use Rattle.std.proofs.Common.{◌≡◌, ℕ, suc, ◌==◌, ◌+◌, Bool, true, not, cond, inl, inr, List, [], ◌∷◌, map}
 use Rattle.std.proofs.Common.{All, Contains, Option, Some, None, refl, sym, ◌∙◌, ap, arith}
 use Rattle.std.specs.Prelude.{position}
 use Rattle.std.specs.List.{list_all, slice_get, position_from}
 use Rattle.std.specs.Option.{option_map_or}
 use Rattle.std.proofs.lemmas.Iterator.Adapters.{position_from-zero}
-use Rattle.std.proofs.lemmas.List.Elements.{All-contains}
 use Rattle.larch_base.proofs.Bools.{true_or_false, and_left, and_right}
 use Rattle.larch_base.proofs.Lists.{all_from}
 use Rattle.larch_base.proofs.Members.{contains_cases, contains_none, contains_map}

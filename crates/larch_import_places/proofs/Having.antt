@@ -1,5 +1,5 @@
 -- Where all is found, the second theory has the first one.
-use Rattle.std.proofs.Common.{◌≡◌, ℕ, ◌==◌, Bool, true, not, List, Contains, map, Some, sym, ◌∙◌, ap, subst}
+use Rattle.std.proofs.Common.{◌≡◌, ℕ, ◌==◌, Bool, true, not, List, Contains, Some, sym, ◌∙◌, ap, subst}
 use Rattle.std.specs.List.{list_all}
 use Rattle.larch_base.proofs.Lists.{all_from}
 use Rattle.larch_base.specs.ByNumber.{numbered}

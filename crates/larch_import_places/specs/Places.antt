@@ -1,5 +1,5 @@
 -- Where a theory has what another one has, by new names.
-use Rattle.std.specs.Prelude.{ℕ, suc, List, map, Option, position}
+use Rattle.std.specs.Prelude.{ℕ, suc, List, map, position}
 use Rattle.std.specs.Option.{option_map_or}
 use Rattle.larch_term.specs.Equality.{same_statement}
 use Rattle.larch_term.specs.declared.statement.Statement.{Statement}
