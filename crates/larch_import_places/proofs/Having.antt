@@ -44,7 +44,8 @@ has_renamed by t u truth numbers places bool stays apart named made operators pu
           t.statements (ap (list_all is_found) (sym put) ∙ statements) s (numbered_contains t.statements k s e) in (
             place_among u.statements z,
             ap (λ ps. numbered ps k) put
-                ∙ numbered_mapped (λ r. place_among u.statements (renamed_statement (renaming by) r)) t.statements k s e,
+                ∙ numbered_mapped (λ r. place_among u.statements (renamed_statement (renaming by) r)) t.statements
+                k s e,
             numbered_by same_statement (λ x y. (statement_Decides x y).0) u.statements z found,
           );
     }

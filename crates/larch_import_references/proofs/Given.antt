@@ -1,5 +1,5 @@
 -- What the pairs of a reference give is what its replacements give.
-use Rattle.std.proofs.Common.{◌≡◌, ℕ, Bool, true, false, ◌||◌, cond, inl, inr, List, [], ◌∷◌, ◌++◌, All, Contains, map}
+use Rattle.std.proofs.Common.{◌≡◌, ℕ, true, ◌||◌, cond, inl, inr, List, [], ◌∷◌, Contains, map}
 use Rattle.std.proofs.Common.{Some, None, Option, option_map, option_and_then, refl, sym, ◌∙◌, ap}
 use Rattle.std.specs.Prelude.{bytes_eq, find, unwrap_or}
 use Rattle.std.specs.List.{list_any}

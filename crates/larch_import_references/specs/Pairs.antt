@@ -1,6 +1,6 @@
 -- The pairs that a reference gives for all sorts and operators of a trait.
 use Rattle.std.specs.Prelude.{◌≡◌, ℕ, List, [], map, All}
-use Rattle.larch_term.specs.Operator.{OperatorName, PlainOperator, plain}
+use Rattle.larch_term.specs.Operator.{PlainOperator, plain}
 use Rattle.larch_sorts_known.specs.Sorts.{existing_sorts}
 use Rattle.larch_sorts_meaning.specs.Laws.{IsSortOf}
 use Rattle.larch_flat_meaning.specs.Replacements.{Replacements, new_sort, new_operator}
