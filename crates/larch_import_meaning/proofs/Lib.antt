@@ -1,0 +1,8 @@
+-- Lemmas.
+pub mod Accepted
+pub mod Ending
+pub mod Fresh
+pub mod Lengths
+pub mod Moving
+pub mod Rows
+pub mod Weaker

@@ -1,0 +1,68 @@
+-- What has a number among others that isn't 0 is there.
+use Rattle.std.proofs.Common.{◌≡◌, ℕ, suc, ◌==◌, ◌+◌, Bool, true, not, cond, inl, inr, List, [], ◌∷◌, map}
+use Rattle.std.proofs.Common.{All, Contains, Option, Some, None, refl, sym, ◌∙◌, ap, arith}
+use Rattle.std.specs.Prelude.{position}
+use Rattle.std.specs.List.{list_all, slice_get, position_from}
+use Rattle.std.specs.Option.{option_map_or}
+use Rattle.std.proofs.lemmas.Iterator.Adapters.{position_from-zero}
+use Rattle.larch_base.proofs.Bools.{true_or_false, and_left, and_right}
+use Rattle.larch_base.proofs.Lists.{all_from}
+use Rattle.larch_base.proofs.Members.{contains_cases, contains_none, contains_map}
+use Rattle.larch_base.proofs.Options.{some_inj}
+use Rattle.larch_base.specs.ByNumber.{numbered}
+use Rattle.larch_import_meaning.proofs.Moving.{at_suc}
+
+passes_at : {X : Type 0} (t : X → Bool) (xs : List X) → list_all t xs ≡ true → (x : X) → Contains xs x → t x ≡ true
+passes_at t [] e x c = absurd (contains_none x c)
+passes_at t (y ∷ ys) e x c =
+    elim (contains_cases y x ys c) [
+      | inl p ↦ ap t (sym p) ∙ and_left (t y) (list_all t ys) e
+      | inr d ↦ passes_at t ys (and_right (t y) (list_all t ys) e) x d
+    ]
+
+pub each_passes : {X : Type 0} (t : X → Bool) (P : X → Type 0) → ((x : X) → t x ≡ true → P x) → (xs : List X)
+    → list_all t xs ≡ true → All P xs
+each_passes t P f xs e = all_from P xs (λ x c. f x (passes_at t xs e x c))
+
+-- so it is of the images of things
+pub image_passes : {X Y : Type 0} (t : Y → Bool) (g : X → Y) (xs : List X) → list_all t (map g xs) ≡ true → (x : X)
+    → Contains xs x → t (g x) ≡ true
+image_passes t g xs e x c = passes_at t (map g xs) e (g x) (contains_map g xs x c)
+
+-- what stands at a position that is found passes
+record Passes {X : Type 0} (t : X → Bool) (i k : ℕ) (xs : List X) : Type 0 where
+  place : ℕ
+  is : k ≡ i + place
+  item : X
+  at : slice_get xs place ≡ Some item
+  passed : t item ≡ true
+
+found_from : {X : Type 0} (t : X → Bool) (i k : ℕ) (xs : List X) → position_from t i xs ≡ Some k → Passes t i k xs
+found_from t i k [] e = cc
+found_from t i k (x ∷ xs) e =
+    elim (true_or_false (t x)) [
+      | inl y ↦
+          let same : i ≡ k = some_inj (sym (ap (λ b. cond b (Some i) (position_from t (i + 1) xs)) y) ∙ e) in
+          record { place = 0; is = omega (arith, same); item = x; at = refl; passed = y }
+      | inr n ↦
+          let r = found_from t (i + 1) k xs (sym (ap (λ b. cond b (Some i) (position_from t (i + 1) xs)) n) ∙ e) in
+          let same = r.is in
+          record { place = suc r.place; is = omega (arith, same); item = r.item; at = r.at; passed = r.passed }
+    ]
+
+-- the number of a thing among others, counted from 1; nothing has the number 0
+abbrev pub number_by : {X : Type 0} → (X → X → Bool) → List X → X → ℕ
+number_by same xs x = option_map_or suc (position (λ z. same z x) xs) 0
+
+module _ {X : Type 0} (same : X → X → Bool) (told : (x y : X) → same x y ≡ true → x ≡ y) (xs : List X) (x : X) where
+  by_position : (o : Option ℕ) → position (λ z. same z x) xs ≡ o → not (option_map_or suc o 0 == 0) ≡ true
+      → numbered xs (option_map_or suc o 0) ≡ Some x
+  by_position None f e = cc
+  by_position (Some i) f e =
+      let r = found_from (λ z. same z x) 0 i xs (sym (position_from-zero (λ z. same z x) xs) ∙ f) in
+      let is = r.is in
+      let here : i ≡ r.place = omega (arith, is) in
+      at_suc xs i ∙ ap (slice_get xs) here ∙ r.at ∙ ap Some (told r.item x r.passed)
+
+  pub numbered_by : not (number_by same xs x == 0) ≡ true → numbered xs (number_by same xs x) ≡ Some x
+  numbered_by e = by_position (position (λ z. same z x) xs) refl e
