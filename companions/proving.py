@@ -7,6 +7,8 @@ from .listed import CLAUSE, forms
 
 # The number of the next fact, where it isn't known any more.
 UNKNOWN = 1000000
+# What a command costs more that changes nothing which a report shows.
+UNSEEN = 0.3
 
 @dataclasses.dataclass(frozen=True)
 class Goal:
@@ -203,7 +205,9 @@ class Course:
                      for number, (title, supposes, former) in enumerate(opened)] + list(state.goals[1:])
         found = State((*state.commands, move.command), tuple(goals), None, "", {**state.sorts, **made}, made,
                       state.next_hypothesis, next_derived, state.steps, paid, (*state.moves, move))
-        return self.seen(found, verdict, [title for title, _, _ in opened])
+        new = self.seen(found, verdict, [title for title, _, _ in opened])
+        hides = not opened and (new.text, len(new.goals)) == (state.text, len(state.goals))
+        return dataclasses.replace(new, paid=new.paid + UNSEEN) if hides else new
 
     def derived(self, state, move):
         """The facts of a goal behind a command that adds some, and the number of the next one."""
