@@ -4,7 +4,8 @@
 PROGRAM is a command, in quotes where it has words of its own. It finds nothing wrong with any trait; each duty that it
 lists has a block in the trait's script, in the order of the list, below a comment that is the duty's statement, with
 the marks of boxes checked and `qed` at its end; and, where PROGRAM has the command `replay`, it calls each of them
-proved, in one report over all files. Each trait is in one family, its head says what it is for and where it is from,
+proved, in one report over all files. Where PROGRAM has the command `model`, each text `NAME.mod` is a model of its trait,
+in which each claim holds. Each trait is in one family, its head says what it is for and where it is from,
 and the tables are those that tools/make/make_handbook.py makes. The traits and claims that docs/HANDBOOK.md speaks of
 are there. Ends with 'N passed, N failed', and status 1 where one failed."""
 import pathlib
@@ -17,6 +18,7 @@ import sys
 sys.path[:0] = [str(pathlib.Path(__file__).resolve().parents[1] / part) for part in ("", "make")]
 import make_handbook  # noqa: E402
 from desk import TOP  # noqa: E402
+from companions.scope import reached  # noqa: E402
 from tests import Tests  # noqa: E402
 
 BOOK, TOLD = TOP / "examples/handbook", TOP / "docs/HANDBOOK.md"
@@ -74,6 +76,17 @@ def replayed(tests, program, traits, duties):
     tests.see("replay: the count", written[-len(TOTAL.format(len(traits), count)):], TOTAL.format(len(traits), count))
 
 
+def models(tests, program):
+    """Each model is one of its trait, and no claim fails in it."""
+    texts = {path.name: path.read_bytes() for path in BOOK.glob("*.lsl")}
+    for path in sorted(BOOK.glob("*.mod")):
+        written, status = run(program, "model", path.stem, path.name, *reached(texts, f"{path.stem}.lsl"))
+        if status == 2:
+            print("left out: the program doesn't try models")
+            return
+        tests.look(status == 0 and written.startswith("model\n"), f"{path.name}: {written.splitlines()[:1]}, {status}")
+
+
 def tables(tests):
     """The tables are made of the files as they are."""
     tests.see("families and heads", make_handbook.faults(make_handbook.entries()), [])
@@ -117,6 +130,7 @@ def main():
     tables(tests)
     told(tests, duties)
     replayed(tests, program, traits, duties)
+    models(tests, program)
     return tests.end("handbook")
 
 
