@@ -25,7 +25,8 @@ OPTIONS = ("--build", "--help", "--install", "--program", "--uninstall", "--unpr
 # What people type that isn't there, and what there is.
 NOT_THERE = {
     **dict.fromkeys(("show", "print", "list", "duties"), "`larch obligations FILE..` lists what a trait consists of"),
-    **dict.fromkeys(("prove", "proof", "qed"), "`larch replay FILE..` carries out proof scripts; `larch-try` looks for them"),
+    **dict.fromkeys(("prove", "proof", "qed"),
+                    "`larch replay FILE..` carries out proof scripts; `larch-try` looks for them"),
     **dict.fromkeys(("shorten", "minimize", "prune"), "`larch trim` leaves out of a certificate what isn't needed"),
     **dict.fromkeys(("find", "find-model", "search"), "`tools/larch-find-model TRAIT FILE..` looks for a small model"),
     **dict.fromkeys(("eval", "reduce", "rewrite"), "nothing computes the value of a term yet"),

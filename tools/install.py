@@ -3,9 +3,9 @@
 
 The program lies in PREFIX/bin as `larch-program`, and what stands around it in PREFIX/share/larch, laid out as in the
 checkout; `larch`, `larch-watch`, `larch-lsp`, `larch-ninja`, `larch-find-model` and `larch-try` in PREFIX/bin are links
-to that. The man page and completions lie where they are looked for. PREFIX/share/larch/installed lists each file and each folder
-that was made, and those are what is taken away. Nothing is written over: a file that is there and isn't of an
-installation stops it."""
+to that. The man page and completions lie where they are looked for. PREFIX/share/larch/installed lists each file and
+each folder that was made, and those are what is taken away. Nothing is written over: a file that is there and isn't of
+an installation stops it."""
 import os
 import pathlib
 import shutil

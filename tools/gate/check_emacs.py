@@ -3,8 +3,8 @@
 
 With eglot it opens a trait with a wrong line, waits for the error and its title, takes the quick fix, and waits until
 the error is gone. In a right trait it looks at a hint, and asks for hover, definition, references, completion and a new
-name. In a script it asks for the goal, types a command and asks again, and sees a refused line. Says what it saw. Ends with 1 where something else is seen; where Emacs or eglot isn't installed it says so and
-ends with 0."""
+name. In a script it asks for the goal, types a command and asks again, and sees a refused line. Says what it saw. Ends
+with 1 where something else is seen; where Emacs or eglot isn't installed it says so and ends with 0."""
 import json
 import pathlib
 import shutil

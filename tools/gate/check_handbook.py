@@ -4,10 +4,10 @@
 PROGRAM is a command, in quotes where it has words of its own. It finds nothing wrong with any trait; each duty that it
 lists has a block in the trait's script, in the order of the list, below a comment that is the duty's statement, with
 the marks of boxes checked and `qed` at its end; and, where PROGRAM has the command `replay`, it calls each of them
-proved, in one report over all files. Where PROGRAM has the command `model`, each text `NAME.mod` is a model of its trait,
-in which each claim holds. Each trait is in one family, its head says what it is for and where it is from,
-and the tables are those that tools/make/make_handbook.py makes. The traits and claims that docs/HANDBOOK.md speaks of
-are there. Ends with 'N passed, N failed', and status 1 where one failed."""
+proved, in one report over all files. Where PROGRAM has the command `model`, each text `NAME.mod` is a model of its
+trait, in which each claim holds. Each trait is in one family, its head says what it is for and where it is from, and
+the tables are those that tools/make/make_handbook.py makes. The traits and claims that docs/HANDBOOK.md speaks of are
+there. Ends with 'N passed, N failed', and status 1 where one failed."""
 import pathlib
 import re
 import shlex

@@ -1,11 +1,11 @@
 #!/usr/bin/env python3
 """Tests the tool that looks for proofs, and its page: python3 tools/gate/check_try.py PROGRAM
 
-PROGRAM is a command, in quotes where it has words of its own. docs/TRYING.md is carried out in a scratch folder, from top
-to bottom, with PROGRAM as `larch` on the path. Of some duties of examples/handbook, one for each move, tools/larch-try
-finds a block, and the program calls the duty proved with it, in the folder's script. The course of proofs is followed as
-the program goes it: the marks of a block are those that box checking wants. Ends with 'N passed, N failed', and status 1
-where one failed."""
+PROGRAM is a command, in quotes where it has words of its own. docs/TRYING.md is carried out in a scratch folder, from
+top to bottom, with PROGRAM as `larch` on the path. Of some duties of examples/handbook, one for each move,
+tools/larch-try finds a block, and the program calls the duty proved with it, in the folder's script. The course of
+proofs is followed as the program goes it: the marks of a block are those that box checking wants. Ends with 'N passed,
+N failed', and status 1 where one failed."""
 import os
 import pathlib
 import re
@@ -51,7 +51,8 @@ def page(tests, program):
                 (folder / name).write_text(block)
                 continue
             for command, wanted in re.findall(r"^\$ (.*)\n((?:(?!\$ ).*\n)*)", block, re.M):
-                done = subprocess.run(command, shell=True, cwd=folder, env=path, capture_output=True, text=True, check=False)
+                done = subprocess.run(command, shell=True, cwd=folder, env=path, capture_output=True, text=True,
+                                      check=False)
                 said = re.sub(r"\d+ replays in [\d.]+ s", "N replays", done.stdout + done.stderr)
                 tests.see(f"{PAGE.name}: {command}", said, re.sub(r"\d+ replays in [\d.]+ s", "N replays", wanted))
 
@@ -69,7 +70,8 @@ def handbook(tests, program):
             if not found:
                 continue
             tests.look(any(move in command for command in found.commands), f"{duty}: {found.commands} and no {move}")
-            replays, text = trying.Replays(session, files, trait, label), proving.shown(label, theory.statement, found, True)
+            replays = trying.Replays(session, files, trait, label)
+            text = proving.shown(label, theory.statement, found, True)
             said = session.lines({**replays.files, f"{trait}.lp": (replays.before + "\n" + text).encode()})
             tests.see(f"{duty} with its marks", findings(said)[trait].verdicts[label].kind, "proved")
 

@@ -4,9 +4,9 @@
 examples/handbook/README.md keeps what stands in it before the line MARK, and gets a table for each family behind it:
 each trait's purpose, where its idea is from, and what is surprising, as the comments at the head of its file say it.
 examples/handbook/INDEX.md is made whole: each trait's operators, what it claims, how many claims its script proves,
-whether a finite model stands beside it, which traits include, assume or claim which, and the equations that it claims in
-its own words. `files()` has each path with its text; run as a program it writes them, and
-ends with status 1 where a trait is in no family or in several, or its head lacks a line."""
+whether a finite model stands beside it, which traits include, assume or claim which, and the equations that it claims
+in its own words. `files()` has each path with its text; run as a program it writes them, and ends with status 1 where a
+trait is in no family or in several, or its head lacks a line."""
 import pathlib
 import re
 import sys
@@ -109,9 +109,10 @@ def index(book):
     """The text of INDEX.md."""
     total = sum(one.proved for one in book.values())
     count = sum(one.model for one in book.values())
-    lines = ["# Index of the handbook", "", f"{len(book)} traits with {total} proved claims; {count} have a finite model "
-             "beside them. Made by `tools/make/make_handbook.py` from the files; [README.md](README.md) says what each is "
-             "for, and below stand [who includes whom](#who-includes-whom) and [what each claims](#what-each-claims)."]
+    lines = ["# Index of the handbook", "", f"{len(book)} traits with {total} proved claims; {count} have a finite "
+             "model beside them. Made by `tools/make/make_handbook.py` from the files; [README.md](README.md) says "
+             "what each is for, and below stand [who includes whom](#who-includes-whom) and "
+             "[what each claims](#what-each-claims)."]
     for family, names in FAMILIES.items():
         lines += ["", f"## {family}", "",
                   "| Trait | Own operators | Includes | Assumes | Claims traits | Claims clauses | Proved | Model |",
