@@ -1,5 +1,6 @@
 #!/usr/bin/env python3
-"""Times a keystroke in a proof script: python3 bench/script_keystroke.py [PROGRAM] [--commands N] [--block N] [--times T]
+"""Times a keystroke in a proof script: python3 bench/script_keystroke.py [PROGRAM] [--commands N] [--block N] [--times
+T]
 
 A script of N commands (1,000), in blocks of so many (10; with as many as the whole, one block has them all), is open in
 the language server. A keystroke ends the last command of the last block, or takes its last letter away, so that the

@@ -1,5 +1,6 @@
 #!/usr/bin/env python3
-"""How many duties tools/larch-try proves: python3 bench/trying.py [PROGRAM] [--seconds N] [--every K] [--left] [FOLDER..]
+"""How many duties tools/larch-try proves: python3 bench/trying.py [PROGRAM] [--seconds N] [--every K] [--left]
+[FOLDER..]
 
 Of each trait of the folders (those below examples/ by default) each duty is tried that isn't proved without a block,
 every K-th of them in a fixed order where K is said. The duties before it are proved by the folder's script. Prints for

@@ -15,7 +15,7 @@ class Flat:
     def __init__(self, theory):
         self.language, self.lemmas = theory.language, {}
         lines = [f"{NAME}: trait", "  introduces"]
-        lines += [f"    {operator.name}: {', '.join(operator.domain)} -> {operator.range}" for operator in theory.operators]
+        lines += [f"    {one.name}: {', '.join(one.domain)} -> {one.range}" for one in theory.operators]
         lines.append("  asserts")
         for number, (name, statement) in enumerate(theory.statements, 1):
             if name[0] == "L":

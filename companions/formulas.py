@@ -1,8 +1,8 @@
 """Terms with names, as goals and facts are printed: read by the operators that are listed, written as a command takes
 them, taken apart, matched.
 
-A term is a tuple as in `listed`, but that a variable has its name: `("variable", name)`. A constant that a proof has made
-is read as such a variable too, since only its name is known."""
+A term is a tuple as in `listed`, but that a variable has its name: `("variable", name)`. A constant that a proof has
+made is read as such a variable too, since only its name is known."""
 import itertools
 
 from . import terms

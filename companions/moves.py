@@ -1,5 +1,5 @@
-"""The moves that a prover's users try first, for a goal that is open: commands, each with what it costs to try it before
-others. `Theory` is what is listed of a duty's trait, `Place` what is known of an open goal."""
+"""The moves that a prover's users try first, for a goal that is open: commands, each with what it costs to try it
+before others. `Theory` is what is listed of a duty's trait, `Place` what is known of an open goal."""
 import dataclasses
 import itertools
 import re
@@ -198,9 +198,9 @@ def cases(theory, place):
     for formula in conditions(place.goal):
         for atom in atoms(formula):
             costs.setdefault(atom, 1.0)
-    joined = [atom for atom in atoms(place.goal) if place.goal[0] in ("~", "<=>", "/\\", "\\/", "=>") and atom != place.goal]
-    for atom in joined:
-        costs.setdefault(atom, 1.2)
+    for atom in atoms(place.goal):
+        if atom != place.goal:
+            costs.setdefault(atom, 1.2)
     for part in subterms(place.goal):
         if part != place.goal and theory.language.sort(part, place.sorts) == BOOL:
             for atom in atoms(part):

@@ -1,5 +1,5 @@
-"""A proof as far as one can follow it without the program: which goals a block has opened, with what they suppose, which
-names its constants have. What each goal looks like, and how many are open, a report says."""
+"""A proof as far as one can follow it without the program: which goals a block has opened, with what they suppose,
+which names its constants have. What each goal looks like, and how many are open, a report says."""
 import dataclasses
 
 from .formulas import FALSE, TRUE, names, replaced
@@ -9,6 +9,7 @@ from .listed import CLAUSE, forms
 UNKNOWN = 1000000
 # What a command costs more that changes nothing which a report shows.
 UNSEEN = 0.3
+
 
 @dataclasses.dataclass(frozen=True)
 class Goal:
@@ -25,8 +26,8 @@ class Goal:
 
 @dataclasses.dataclass(frozen=True)
 class State:
-    """A block with what came of it. `goals` are those that are open, the first one being worked on; `steps` has for each
-    command how many goals it opened, with their titles, and how many were closed behind it."""
+    """A block with what came of it. `goals` are those that are open, the first one being worked on; `steps` has for
+    each command the titles of the goals that it opened, and how many goals were closed behind it."""
     commands: tuple
     goals: tuple
     goal: object
@@ -181,7 +182,8 @@ class Course:
                 new = self.free(f"{name}c" if domain == sort else "ac", made, state.goal)
                 made[new] = domain
                 arguments.append((new, domain == sort))
-            supposed = tuple((replaced(state.goal, {name: ("variable", new)}), TRUE) for new, is_mine in arguments if is_mine)
+            supposed = tuple((replaced(state.goal, {name: ("variable", new)}), TRUE)
+                             for new, is_mine in arguments if is_mine)
             shown = self.language.applied(operator.name, tuple(("variable", new) for new, _ in arguments))
             found.append((f"{'step' if supposed else 'basis'} {shown}", supposed, None))
         return found
@@ -200,8 +202,9 @@ class Course:
             goals = [changed, *state.goals[1:]]
         else:
             opened = self.opened(state, move, made)
-            goals = [Goal(title, (hash((here.key, state.text, frozenset(fact[1:] for fact in here.facts))), move.command,
-                                  number), here.facts, supposes, former or here.former, paid, here.added)
+            front = hash(state.key())
+            goals = [Goal(title, (front, move.command, number), here.facts, supposes, former or here.former, paid,
+                          here.added)
                      for number, (title, supposes, former) in enumerate(opened)] + list(state.goals[1:])
         found = State((*state.commands, move.command), tuple(goals), None, "", {**state.sorts, **made}, made,
                       state.next_hypothesis, next_derived, state.steps, paid, (*state.moves, move))
@@ -224,8 +227,8 @@ class Course:
         return (*facts, *parts(f"D{number}", *new)), number + 1
 
     def seen(self, state, verdict, titles=()):
-        """A state with what a report says of it: goals are closed from the first one on, and those that come to be worked
-        on suppose what they are to."""
+        """A state with what a report says of it: goals are closed from the first one on, and those that come to be
+        worked on suppose what they are to."""
         left = verdict.goals if verdict.kind == "suspended" else 0
         goals, next_hypothesis = list(state.goals), state.next_hypothesis
         closed = max(0, len(goals) - left)

@@ -94,7 +94,7 @@ class Script:
     def checks_boxes(self):
         """Whether the preamble has marks checked."""
         said = [words(line) for line in self.lines[:self.preamble_end - 1]]
-        said = [one[-1] for one in said if one[:3] == ["set", "box-checking"] or one[:4] == ["set", "box", "-", "checking"]]
+        said = [one[-1] for one in said if "".join(one[:-1]) == "setbox-checking"]
         return bool(said) and said[-1] == "on"
 
     def without(self, labels):

@@ -1,5 +1,5 @@
-"""A search for the block that proves a duty: the moves of `moves`, tried by replays in one running session, the cheapest
-first."""
+"""A search for the block that proves a duty: the moves of `moves`, tried by replays in one running session, the
+cheapest first."""
 import dataclasses
 import heapq
 import itertools
@@ -10,7 +10,6 @@ import time
 
 from .flat import LABEL, NAME, Flat
 from .moves import Place, Theory, moves
-from .program import Session
 from .proving import Course
 from .scope import reached
 from .scripts import Script, findings
@@ -165,9 +164,9 @@ def place_of(state):
 
 
 def try_duty(session, files, trait, label, listing, limits):
-    """Looks for a block of a duty: what is said of it now, and the outcome of the search where it is suspended, with the
-    theory. Blocks are tried in the trait of the theory alone, where the program says the same of it; what is found is
-    replayed in the trait itself."""
+    """Looks for a block of a duty: what is said of it now, and the outcome of the search where it is suspended, with
+    the theory. Blocks are tried in the trait of the theory alone, where the program says the same of it; what is found
+    is replayed in the trait itself."""
     begun = time.monotonic()
     replays = Replays(session, files, trait, label)
     now = replays.now()

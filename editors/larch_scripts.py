@@ -1,6 +1,6 @@
 """What the language server knows of proof scripts, as far as replays tell it: a thread for each folder that asks for
-reports on the open scripts, in one running session; the goal at a line, which is what is left where the block ends there;
-and what is shown, offered and completed by these."""
+reports on the open scripts, in one running session; the goal at a line, which is what is left where the block ends
+there; and what is shown, offered and completed by these."""
 import re
 import threading
 import time
@@ -17,9 +17,10 @@ from larch_names import range_of
 PAUSE = 0.05
 ERROR, INFORMATION, HINT = 1, 3, 4
 MOST_SKELETONS, MOST_FACTS, MOST_PROBED = 5, 12, 200
-COMMANDS = ("duty", "resume by induction on", "resume by cases", "resume by =>", "resume by /\\", "resume by contradiction",
-            "resume by partition", "instantiate", "critical-pairs", "normalize", "prove", "qed", "declare variables",
-            "register height", "register status", "set box-checking on", "set box-checking off", "set rewriting-limit")
+COMMANDS = ("duty", "resume by induction on", "resume by cases", "resume by =>", "resume by /\\",
+            "resume by contradiction", "resume by partition", "instantiate", "critical-pairs", "normalize", "prove",
+            "qed", "declare variables", "register height", "register status", "set box-checking on",
+            "set box-checking off", "set rewriting-limit")
 METHODS = tuple(command.removeprefix("resume by ") for command in COMMANDS if command.startswith("resume by "))
 STATUSES = ("left-to-right", "right-to-left", "multiset")
 FACT_PLACE = re.compile(r"^\s*(?:normalize|critical-pairs)\s+\S*$|^\s*critical-pairs\s.*\swith\s+\S*$"
@@ -108,7 +109,8 @@ class Scripts(threading.Thread):
             what = f"no trait {stem(name)} beside the script: it isn't looked at"
             return [shown_at(text, 1, ERROR, "script", what)]
         if found.is_refused:
-            return [shown_at(text, 1, ERROR, "script", f"the trait {stem(name)} is refused: its script isn't looked at")]
+            what = f"the trait {stem(name)} is refused: its script isn't looked at"
+            return [shown_at(text, 1, ERROR, "script", what)]
         script, refused, shown, bare = Script(text), {}, [], []
         for label, verdict in found.verdicts.items():
             block = script.block(label)
@@ -230,7 +232,8 @@ class Scripts(threading.Thread):
         front = next((size for size in range(len(before.lstrip()), -1, -1)
                       if any(word.startswith(before[len(before) - size:]) for word, _, _ in found)), 0)
         start = {"line": position["line"], "character": position["character"] - front}
-        return [{"label": word, "kind": kinds[kind], "textEdit": {"range": {"start": start, "end": position}, "newText": word},
+        where = {"start": start, "end": position}
+        return [{"label": word, "kind": kinds[kind], "textEdit": {"range": where, "newText": word},
                  **({"detail": detail} if detail else {})} for word, kind, detail in found]
 
     def candidates(self, name, line, before):
@@ -347,7 +350,8 @@ def cut(script, block, line, more=None):
 def edited(script, change):
     """A script's text with the lines from one to the one before another replaced."""
     first, last, new = change
-    return "\n".join([*script.lines[:first - 1], *([new.rstrip("\n")] if new else []), *script.lines[last - 1:]]).encode()
+    written = [new.rstrip("\n")] if new else []
+    return "\n".join([*script.lines[:first - 1], *written, *script.lines[last - 1:]]).encode()
 
 
 def changes_at(script, block, line, code):

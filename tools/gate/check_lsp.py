@@ -526,7 +526,7 @@ class ServedScripts(unittest.TestCase):
             text = next(iter(self.fixed(text, wrong[0]).values()))
             self.client.change(self.path, text)
         marks = "  <>\n  []\n  <>\n  []\n  []\n  qed\n"
-        self.assertEqual(text, "set box-checking on\n" + PROOF.replace("  qed\n", marks) + BEHIND.replace("  qed\n", marks))
+        self.assertEqual(text, "set box-checking on\n" + (PROOF + BEHIND).replace("  qed\n", marks))
 
     def test_what_is_too_much_is_taken_out(self):
         text = PROOF.replace("  qed", "  normalize H1\n  normalize A2\n  qed") + BEHIND
@@ -547,7 +547,8 @@ class ServedScripts(unittest.TestCase):
     def test_blocks_are_listed(self):
         self.client.open(self.path, PROOF + BEHIND)
         found = self.client.request("textDocument/documentSymbol", {"textDocument": {"uri": self.path.as_uri()}})
-        self.assertEqual([(one["name"], one["range"]["start"]["line"]) for one in found], [("imply.1", 0), ("imply.2", 3)])
+        self.assertEqual([(one["name"], one["range"]["start"]["line"]) for one in found],
+                         [("imply.1", 0), ("imply.2", 3)])
 
 
 if __name__ == "__main__":
