@@ -34,6 +34,8 @@ from tests import Tests  # noqa: E402
 SECONDS = 120
 # A user without rights, as whom calls are made where this one has all of them.
 NOBODY = 65534
+# Where that user may go too.
+PLACE = "/tmp" if os.geteuid() == 0 else None
 # Calls in which the thing that is tried has the name of a trait, a script, a certificate or a model.
 WORDS = ["check One.lsl Bad.lsl", "obligations Bad.lsl One.lsl", "replay One.lsl Bad.lp", "replay Bad.lsl",
          "verify One imply.1 Bad.cert One.lsl", "trim One imply.1 Bad.cert One.lsl", "model One Bad.mod One.lsl"]
@@ -81,7 +83,7 @@ THINGS = {
 @contextlib.contextmanager
 def stranger_folder():
     """A folder with one right trait, into which each user may go."""
-    with tempfile.TemporaryDirectory(prefix="larch-hostile-") as name:
+    with tempfile.TemporaryDirectory(prefix="larch-hostile-", dir=PLACE) as name:
         folder = pathlib.Path(name)
         folder.chmod(0o755)
         (folder / "One.lsl").write_bytes(calls.ONE)
@@ -197,7 +199,7 @@ def see_waiting(tests, program):
 
 
 def see_folders(tests, program):
-    with tempfile.TemporaryDirectory() as room:
+    with tempfile.TemporaryDirectory(dir=PLACE) as room:
         reached = reachable(program, room)
         see_things(tests, reached)
         see_links(tests, reached)

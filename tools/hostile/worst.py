@@ -331,27 +331,29 @@ def reports_again(part):
     return ["session"], {}, f"put A.lsl {len(text)}\n{text}" + "report\n" * 20
 
 
-# `m` of two numbers takes steps by their product, and its terms stay small.
-LONG = ("T: trait introduces\n 0: -> N\n - __: N -> N\n q: N, N -> N\n d: N -> N\n m: N, N -> N\n"
-        "asserts \\forall x, y: N\n q(x, y) == y;\n d(0) == 0;\n d(- x) == - - d(x);\n m(0, y) == 0;\n"
-        " m(- x, y) == q(d(y), m(x, y))\nimplies\n")
+# `t` of two numbers takes about as many steps as their product is, each to another term, and its terms stay small.
+LONG = ("T: trait introduces\n 0: -> N\n - __: N -> N\n w: N, N, N -> N\n t: N, N -> N\n"
+        "asserts \\forall x, y, z: N\n w(z, 0, y) == y;\n w(z, - x, y) == w(z, x, - y);\n"
+        " t(- z, y) == t(z, w(z, y, 0))\nimplies\n")
+STATUS = "register status left-to-right w\nregister status left-to-right t\n"
 
 
 def product(first, second, right):
-    return f"m({'- ' * first}0, {'- ' * second}0) == {'- ' * right}0"
+    return f"t({'- ' * first}0, {'- ' * second}0) == {'- ' * right}0"
 
 
 @shape
 def rewritings(part):
     """A thousand duties, each of which rewrites nearly as often as it may by default."""
     claims = ";\n".join(product(22, 42 - i // 200, i % 200 + 1) for i in range(1000 // part))
-    return ["replay", "T.lsl"], {"T.lsl": LONG + claims + "\n"}, ""
+    return ["replay", "T.lsl", "T.lp"], {"T.lsl": LONG + claims + "\n", "T.lp": STATUS}, ""
 
 
 @shape
 def most_rewritings(part):
     """Commands that rewrite nearly as often as a script lets them, a hundred thousand times, in a hundred levels."""
-    script = "set rewriting-limit 100000\nduty imply.1\n" + f"prove {product(250, 390, 1)}\n" * (100 // part)
+    proofs = "".join(f"prove {product(250, 390 - i, 1)}\n" for i in range(100 // part))
+    script = STATUS + "set rewriting-limit 100000\nduty imply.1\n" + proofs
     return ["replay", "T.lsl", "T.lp"], {"T.lsl": LONG + "0 == - 0\n", "T.lp": script}, ""
 
 
