@@ -9,7 +9,7 @@ const wait = (milliseconds) => new Promise((resolve) => setTimeout(resolve, mill
 
 /** A port that the browser writes into its profile once it listens there. */
 async function portOf(profile) {
-  for (const end = Date.now() + 120000; Date.now() < end; await wait(100)) {
+  for (const end = Date.now() + 300000; Date.now() < end; await wait(100)) {
     try {
       const port = Number(readFileSync(join(profile, 'MarionetteActivePort'), 'utf8'));
       if (port) return port;
