@@ -1,5 +1,6 @@
 -- Lemmas.
 pub mod Accepted
+pub mod Clauses
 pub mod Ending
 pub mod Fresh
 pub mod Lengths

@@ -8,6 +8,7 @@ ghost use Rattle.larch_certificate.specs.declared.line.Line.{Line};
 ghost use Rattle.larch_verify_meaning.specs.Acceptance.{Accepts};
 ghost use Rattle.larch_verify_meaning.specs.CalculusDerivable.{Derivable};
 ghost use Rattle.larch_verify_meaning.specs.CalculusRenaming.{HasPlainNames, IsFaithful};
+ghost use Rattle.larch_verify_meaning.specs.LastLine.{EndsWithoutStatedClause};
 ghost use Rattle.larch_verify_meaning.specs.RenamingRenaming.{renamed_statement};
 ghost use Rattle.larch_import_names.specs.Names.{renaming};
 ghost use Rattle.larch_import_names.specs.Sorted.{OfTheory, HasNamedSorts};
@@ -55,4 +56,11 @@ pub fn renamed_is_derivable()
 pub fn last_rule_stays()
     ensures { (by : Renaming) (t u : Theory) (places : List ℕ) (lines : List Line)
         → last_rule (import_lines by t u places lines) ≡ last_rule lines }
+{}
+
+/// What is accepted and doesn't end with a line that states a clause doesn't do so by new names.
+pub fn renamed_ends_without_clause()
+    ensures { (by : Renaming) (t u : Theory) (places : List ℕ) (s : Statement) (lines : List Line)
+        → HasRenamed by t u places → Accepts t s lines → EndsWithoutStatedClause t lines
+        → EndsWithoutStatedClause u (import_lines by t u places lines) }
 {}

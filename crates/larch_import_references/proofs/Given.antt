@@ -41,7 +41,8 @@ found_sort by (z ∷ zs) s e =
       | inl y ↦ ap (λ b. cond b (Some (sort_pair by z)) rest) y
           ∙ ap (λ x. Some (sort_pair by x)) ((bytes_eq-Decides z s).0 y)
       | inr n ↦ elim (true_or_false (bytes_eq s z)) [
-        | inl w ↦ absurd (let y = (bytes_eq-Decides z s).1 (sym ((bytes_eq-Decides s z).0 w)) in let v = sym y ∙ n in cc)
+        | inl w ↦
+            absurd (let y = (bytes_eq-Decides z s).1 (sym ((bytes_eq-Decides s z).0 w)) in let v = sym y ∙ n in cc)
         | inr w ↦ ap (λ b. cond b (Some (sort_pair by z)) rest) n
             ∙ found_sort by zs s (sym (ap (λ b. b || list_any (bytes_eq s) zs) w) ∙ e)
       ]
