@@ -11,5 +11,5 @@ mod replaying;
 mod trails;
 
 pub use base::Base;
-pub use kept::{Kept, Replaying};
+pub use kept::Replaying;
 pub use replaying::replay_duties;
