@@ -8,7 +8,7 @@ from .formulas import (
     FALSE, TRUE, Language, atoms, conditions, conjuncts, matches, names, parts_of, replaced, size, subterms)
 from .listed import BOOL, CLAUSE, forms, lines_of, operator_of
 
-STATEMENT = re.compile(r"A(\d+) (asserted|assumed|copied|exempt) (.*)")
+STATEMENT = re.compile(r"(A\d+) (?:asserted|assumed|copied|exempt) (.*)")
 DUTY = re.compile(r"((?:assume|imply|convert)\.\d+) (.*)")
 MOST_INSTANCES, MOST_TARGETS, MOST_PAIRS, MOST_CASES, MOST_GROWN = 14, 40, 40, 12, 8
 
@@ -66,8 +66,8 @@ class Theory:
     def take_statements(self):
         for line in self.near:
             found = STATEMENT.fullmatch(line)
-            if found and found[2] != "exempt":
-                self.take(f"A{found[1]}", found[3])
+            if found:
+                self.take(*found.groups())
 
     def take(self, name, statement):
         self.statements.append((name, statement))
