@@ -40,20 +40,17 @@ class Language:
                 return found
         return None
 
-    def equation(self, text):
-        """A listed equation as two sides and the sorts of its variables, or nothing."""
+    def equations(self, text):
+        """The readings of a listed equation: each has two sides and the sorts of its variables."""
         tokens = Text(text.encode())
         found = terms.equation(tokens, 0, len(tokens.tokens))
         if found is None:
-            return None
+            return
         self.reader.hides = False
         for sort in self.reader.all_sorts if found.right else [BOOL]:
             for left, known in self.reader.term(found.left, sort, {}):
-                if found.right is None:
-                    return left, TRUE, known
-                for right, names in self.reader.term(found.right, sort, known):
-                    return left, right, names
-        return None
+                sides = self.reader.term(found.right, sort, known) if found.right else [(TRUE, known)]
+                yield from ((left, right, names) for right, names in sides)
 
     def sort(self, term, sorts):
         """The sort of a term, where those of its names are known; else nothing."""

@@ -6,9 +6,9 @@ import re
 
 from .formulas import (
     FALSE, TRUE, Language, atoms, conditions, conjuncts, matches, names, parts_of, replaced, size, subterms)
-from .listed import BOOL, CLAUSE, forms, lines_of, operator_of
+from .listed import BOOL, CLAUSE, MOST_READINGS, forms, lines_of, operator_of
 
-STATEMENT = re.compile(r"A(\d+) (asserted|assumed|copied|exempt) (.*)")
+STATEMENT = re.compile(r"(A\d+) (?:asserted|assumed|copied|exempt) (.*)")
 DUTY = re.compile(r"((?:assume|imply|convert)\.\d+) (.*)")
 MOST_INSTANCES, MOST_TARGETS, MOST_PAIRS, MOST_CASES, MOST_GROWN = 14, 40, 40, 12, 8
 
@@ -66,17 +66,20 @@ class Theory:
     def take_statements(self):
         for line in self.near:
             found = STATEMENT.fullmatch(line)
-            if found and found[2] != "exempt":
-                self.take(f"A{found[1]}", found[3])
+            if found:
+                self.take(*found.groups())
 
     def take(self, name, statement):
-        self.statements.append((name, statement))
+        """Takes a statement. Of several that are printed alike, each has a reading of its own."""
+        before = sum(said == statement for _, said, _ in self.statements)
+        readings = list(itertools.islice(self.language.equations(statement), before + 1))
+        found = readings[-1] if readings else None
+        self.statements.append((name, statement, found[2] if found else {}))
         clause = CLAUSE.fullmatch(statement)
         if clause:
             known = self.generators if clause[2] == "generated" else self.observers
             known.setdefault(clause[1], forms(clause[3]))
             return
-        found = self.language.equation(statement)
         if found:
             self.facts.append(Fact(name, found[0], found[1], tuple(found[2].items())))
 
@@ -92,6 +95,11 @@ class Theory:
             one = next((one for one in self.language.operators if one.name == name and sort in one.domain), None)
             if one:
                 yield from ((one, place) for place, domain in enumerate(one.domain) if domain == sort)
+
+    def scope(self, goal):
+        """The sorts of the duty's variables, by a reading with which its goal can be read too."""
+        known = [found[2] for found in itertools.islice(self.language.equations(self.statement), MOST_READINGS)]
+        return next((sorts for sorts in known if self.language.formula(goal, sorts)), known[0] if known else {})
 
     def recursions(self):
         """The arguments at which an equation of an operator has one that generates: pairs of an operator and a

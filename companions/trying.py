@@ -46,8 +46,8 @@ class Replays:
 class FlatReplays:
     """A session that replays blocks of a duty in the trait of its theory alone."""
 
-    def __init__(self, session, theory, preamble):
-        self.session, self.flat, self.count = session, Flat(theory), 0
+    def __init__(self, session, theory, scope, preamble):
+        self.session, self.flat, self.count = session, Flat(theory, scope), 0
         self.preamble = "\n".join([*preamble, "set box-checking off", f"duty {LABEL}"])
 
     def verdicts(self, blocks):
@@ -175,9 +175,9 @@ def try_duty(session, files, trait, label, listing, limits):
         return verdict, None, None
     proved = {name for name, one in now.verdicts.items() if one.kind == "proved"}
     theory = Theory(listing, trait, label, proved)
-    equation = theory.language.equation(theory.statement)
-    course = Course(theory, dict(equation[2]) if equation else {})
-    flat = FlatReplays(session, theory, replays.script.lines[:replays.script.preamble_end - 1])
+    scope = theory.scope(verdict.goal)
+    course = Course(theory, scope)
+    flat = FlatReplays(session, theory, scope, replays.script.lines[:replays.script.preamble_end - 1])
     alone = flat.verdicts([()])[0]
     if alone and (alone.kind, alone.goals, alone.goal) == (verdict.kind, verdict.goals, verdict.goal):
         outcome = Search(flat, theory, course, begun, limits).run(verdict)

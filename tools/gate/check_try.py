@@ -29,7 +29,7 @@ PAGE, BOOK, TOOL = TOP / "docs/TRYING.md", TOP / "examples/handbook", TOP / "too
 FOUND = {"ListAppend imply.3": "induction", "Natural imply.4": "induction", "SetAlgebra imply.25": "partition",
          "InsertionSort imply.2": "cases", "TotalOrder imply.5": "instantiate", "Stack imply.1": "critical-pairs",
          "Equivalence imply.2": "instantiate", "Group imply.3": "critical-pairs", "Weekday imply.1": "induction",
-         "PartialOrder imply.2": "=>"}
+         "PartialOrder imply.2": "=>", "Queue convert.5": "induction"}
 LIMITS = trying.Limits(20, 3000)
 TERMS = ["f(a, b + a)", "(a + b) + (- a)", "a[b]", "{a, b}", "if a = b then a else b", "a.left", "~(a < b)",
          "(a < b) /\\ ((b < a) => (a = b))", "(a ~= b) <=> (p(a) \\/ true)"]

@@ -25,7 +25,7 @@ FAMILIES = {
     "Two operations": """Semiring CommutativeSemiring Ring BooleanRing Semilattice Lattice DistributiveLattice
         BooleanAlgebra""",
     "Numbers": """Natural NaturalOrder NaturalMinus NaturalProduct NaturalPower NaturalParity NaturalDivision
-        NaturalSums Fibonacci Binary Integer""",
+        NaturalSums Fibonacci Binary Integer IntegerProduct""",
     "Lists": """List ListAppend ListReverse ListLength ListMember ListCount ListTake ListPrefix ListMap ListFilter
         Reduce CommutativeReduce SumOfList""",
     "Containers": """SetBasics SetAlgebra SetSize Bag Stack Queue ListQueue Deque PriorityQueue Pair Maybe""",
