@@ -6,8 +6,8 @@
   --kinds WORD..   traits, scripts, sessions, certificates, models, words (all)
   --keep FOLDER    what was found is kept there (a new folder)
   --seed N         which inputs
-  --reference DIR  a folder with the package larchref, another reading of the definitions, with which some sessions are
-                   compared; LARCHREF_STAGE and LARCHREF_ALSO say to it what the program has
+  --reference DIR  a folder with the package larchref, another reading of the definitions, with which one of ten
+                   sessions is compared; LARCHREF_STAGE and LARCHREF_ALSO say to it what the program has
 
 An input is a text: a trait, a script, a certificate, a model, a whole session, or the words of a call. Traits and
 scripts are handed over in sessions, many in one, each with a report. Something is found where a call
@@ -177,8 +177,10 @@ class Tries:
                                    env=surroundings, timeout=60, check=False)
         except subprocess.TimeoutExpired:
             return
+        if other.stderr or other.returncode == 2:  # it doesn't go so far, or knows no such words
+            return
         self.counts["compared"] += 1
-        if not other.stderr and other.stdout != written:
+        if other.stdout != written:
             self.found_one("another answer than the other reading", words, {"other": other.stdout}, source)
 
     def many(self, right, others):
