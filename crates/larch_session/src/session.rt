@@ -2,6 +2,7 @@ ghost use Rattle.std.specs.Prelude.{◌≡◌, ◌≤◌, ◌+◌, ◌-◌, ◌^
 ghost use Rattle.larch_session_report.specs.ProveMeaningRedo.{redo};
 ghost use Rattle.larch_session_report.specs.SessionSourcesJustified.{IsJustifiedReport};
 ghost use Rattle.larch_session.specs.Session.{is_too_much};
+ghost use Rattle.larch_session_kept.specs.Kept.{limit_in, records_in};
 ghost use Rattle.larch_session_derive.specs.SessionDeriveMeaningDerived.{Derives};
 ghost use Rattle.larch_session_report.specs.SessionMeaningFiles.{report_of};
 ghost use Rattle.larch_session_report.specs.SessionMeaningRedone.{replayed_on};
@@ -12,8 +13,9 @@ use larch_base::{Bytes, FileName, Label, Memory, Name, Sequence, Steps};
 use larch_certificate::Certificate;
 use larch_report::ReportLine;
 use larch_session_derive::derive_on;
+use larch_session_kept::Base;
 use larch_session_report::from_traits::Files;
-use larch_session_report::report_on;
+use larch_session_report::{Report, report_on};
 use std::alloc::Global;
 use std::sync::ledger::Ledger;
 
@@ -40,8 +42,9 @@ impl From<Memory> for PutRefusal {
 #[derive(Drop)]
 pub struct Session {
     alloc: Global,
-    limit: u32,
     files: Files,
+    // what the last report has kept, and the rewriting limit
+    base: Base,
     // how many steps the last report or derivation took
     work: u64,
 }
@@ -50,13 +53,13 @@ impl Session {
     /// A session without files. It takes no memory.
     pub fn new(alloc: Global, limit: u32) -> Session
         ensures files { result.files ≡ [] }
-        ensures limit { result.limit ≡ limit }
+        ensures base { result.base ≡ (limit, []) }
         ensures work { result.work ≡ 0 }
     {
         Session {
             alloc,
-            limit,
             files: Files::new(alloc),
+            base: Base::new(alloc, limit),
             work: 0,
         }
     }
@@ -64,13 +67,13 @@ impl Session {
     /// A session with these files. It takes no memory.
     pub fn with_files(alloc: Global, limit: u32, files: Files) -> Session
         ensures files { result.files ≡ files }
-        ensures limit { result.limit ≡ limit }
+        ensures base { result.base ≡ (limit, []) }
         ensures work { result.work ≡ 0 }
     {
         Session {
             alloc,
-            limit,
             files,
+            base: Base::new(alloc, limit),
             work: 0,
         }
     }
@@ -99,21 +102,36 @@ impl Session {
 
     /// The lines of the report on the files as they stand, after any calls before. Each duty that it calls proved is
     /// derivable from its own theory.
+    ///
+    /// It takes no more steps than are to be taken again behind the last report. Where memory runs out, the next report
+    /// goes on from nothing.
     pub fn report<L: Ledger>(
         &mut self,
         steps: &mut Steps<L>,
     ) -> Result<Sequence<ReportLine>, Memory>
-        ensures lines { IfOk result (λ lines. lines ≡ report_of self.old.limit self.old.files) }
-        ensures proved { OnOk result (IsJustifiedReport self.old.limit self.old.files) }
+        ensures lines { IfOk result (λ lines. lines ≡ report_of (limit_in self.old.base) self.old.files) }
+        ensures proved { OnOk result (IsJustifiedReport (limit_in self.old.base) self.old.files) }
         ensures files { self.new.files ≡ self.old.files }
-        ensures limit { self.new.limit ≡ self.old.limit }
+        ensures limit { limit_in self.new.base ≡ limit_in self.old.base }
+        ensures base { OnOk result (records_in self.new.base ≡ replayed_on (limit_in self.old.base) self.old.files) }
+        ensures none { OnErr result (records_in self.new.base ≡ []) }
         ensures work { OnOk result (self.new.work ≡ min (steps.new - steps.old) (2 ^ 64 - 1)) }
         ensures least { steps.old ≤ steps.new }
-        ensures most { steps.new ≤ steps.old + redo [] (replayed_on self.old.limit self.old.files) }
+        ensures most { steps.new ≤ steps.old
+            + redo (records_in self.old.base) (replayed_on (limit_in self.old.base) self.old.files) }
     {
-        let (lines, work) = report_on(self.alloc, &self.files, self.limit, steps)?;
-        self.work = work;
-        Ok(lines)
+        match report_on(self.alloc, &self.files, &self.base, steps) {
+            Ok((report, work)) => {
+                let Report { lines, base } = report;
+                self.base = base;
+                self.work = work;
+                Ok(lines)
+            }
+            Err(Memory) => {
+                self.base = Base::new(self.alloc, self.base.limit());
+                Err(Memory)
+            }
+        }
     }
 
     /// The certificate of the duty of a trait with a label, over its own theory, with the lines of its lemmas in it: by
@@ -125,14 +143,21 @@ impl Session {
         label: Label,
         steps: &mut Steps<L>,
     ) -> Result<Option<Certificate>, Memory>
-        ensures derived { IfOk result (Derives self.old.limit self.old.files stem.now label) }
+        ensures derived { IfOk result (Derives (limit_in self.old.base) self.old.files stem.now label) }
         ensures files { self.new.files ≡ self.old.files }
-        ensures limit { self.new.limit ≡ self.old.limit }
+        ensures base { self.new.base ≡ self.old.base }
         ensures work { OnOk result (self.new.work ≡ min (steps.new - steps.old) (2 ^ 64 - 1)) }
         ensures least { steps.old ≤ steps.new }
-        ensures most { steps.new ≤ steps.old + redo [] (replayed_on self.old.limit self.old.files) }
+        ensures most { steps.new ≤ steps.old + redo [] (replayed_on (limit_in self.old.base) self.old.files) }
     {
-        let (derived, work) = derive_on(self.alloc, &self.files, self.limit, stem, label, steps)?;
+        let (derived, work) = derive_on(
+            self.alloc,
+            &self.files,
+            self.base.limit(),
+            stem,
+            label,
+            steps,
+        )?;
         self.work = work;
         Ok(derived)
     }

@@ -1,3 +1,4 @@
 -- Lemmas.
+pub mod Redone
 pub mod Right
 pub mod Strays

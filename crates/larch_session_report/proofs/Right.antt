@@ -1,10 +1,9 @@
 -- A trait that is right: its lines, and that its duties are derivable.
-use Rattle.std.proofs.Common.{◌≡◌, refl, sym, ap, ap₂, subst, ◌∙◌, ℕ, List, [], ◌∷◌, ◌++◌, map, All, Ok}
+use Rattle.std.proofs.Common.{◌≡◌, sym, ap, ap₂, subst, ◌∙◌, ℕ, List, [], ◌∷◌, ◌++◌, map, All, Ok}
 use Rattle.std.proofs.lemmas.List.{append_assoc}
-use Rattle.larch_base.specs.declared.label.Label.{Label}
 use Rattle.larch_base.proofs.Lists.{map_map}
 use Rattle.larch_session_replay.specs.DutiesMeaningClaims.{Claim}
-use Rattle.larch_prove_meaning.specs.Reports.{Answered, TraitLine, all_answered, line_for, script_lines, trait_lines}
+use Rattle.larch_prove_meaning.specs.Reports.{Answered, all_answered, line_for, script_lines, trait_lines}
 use Rattle.larch_prove_meaning.specs.Scripts.{ClaimedDuty}
 use Rattle.larch_report.specs.declared.line.ReportLine.{ReportLine}
 use Rattle.larch_report.specs.declared.line.ReportLine.TheVariants.{Right as right_line}

@@ -3,7 +3,7 @@
 
 mod report;
 
-pub use report::report_on;
+pub use report::{Report, report_on};
 
 // Passed on to crates above, which then needn't list these crates.
 pub mod from_traits {

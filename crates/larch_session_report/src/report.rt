@@ -1,54 +1,58 @@
-ghost use Rattle.std.specs.Prelude.{◌≡◌, ◌<◌, ◌≤◌, ◌+◌, ◌-◌, ◌^◌, ◌++◌, ◌∷◌, [], ℕ, filter, length, map, min, sum_by};
+ghost use Rattle.std.specs.Prelude.{◌≡◌, ◌<◌, ◌≤◌, ◌+◌, ◌-◌, ◌^◌, ◌++◌, ◌∷◌, [], ℕ, filter, length, map, min};
 ghost use Rattle.std.specs.Prelude.{All, List, IfOk};
 ghost use Rattle.std.specs.Prelude.{Ok, OnOk};
 ghost use Rattle.larch_base.specs.FileName.{stem_of};
 ghost use Rattle.larch_session_replay.specs.FlatSourcesSources.{name_at};
-ghost use Rattle.larch_prove_meaning.specs.Redo.{redo};
+ghost use Rattle.larch_prove_meaning.specs.Redo.{redo, trait_replayed};
 ghost use Rattle.larch_prove_meaning.specs.Reports.{all_answered};
-ghost use Rattle.larch_report.specs.declared.line.ReportLine.TheVariants.{Stray, Wrong};
+ghost use Rattle.larch_report.specs.declared.line.ReportLine.TheVariants.{Right, Stray, Wrong};
 ghost use Rattle.larch_script_commands.specs.Worded.{WordedScript};
+ghost use Rattle.larch_session_kept.specs.Kept.{limit_in, records_in};
 ghost use Rattle.larch_session_replay.specs.SessionSourcesJustified.{AreJustified, IsJustifiedReport};
-ghost use Rattle.larch_session_replay.specs.SessionSourcesLooked.{IsRead, lines_at, steps_at};
+ghost use Rattle.larch_session_replay.specs.SessionSourcesLooked.{IsRead, lines_at};
 ghost use Rattle.larch_session_replay.specs.SessionLawCertified.{IsJustified};
 ghost use Rattle.larch_session_replay.specs.SessionLawClaims.{AreClaims};
 ghost use Rattle.larch_session_replay.specs.SessionMeaningFiles.{is_stray, report_of, script_among};
 ghost use Rattle.larch_session_replay.specs.SessionMeaningFiles.{source_lines, stray_lines};
 ghost use Rattle.larch_session_replay.specs.SessionMeaningRedone.{replayed_on};
-ghost use Rattle.larch_session_replay.specs.SessionMeaningTraits.{script_duty, trait_report};
-ghost use Rattle.larch_session_replay.specs.SessionSourcesSteps.{script_steps};
+ghost use Rattle.larch_session_replay.specs.SessionMeaningTraits.{reported_line, script_duty, trait_report};
+ghost use Rattle.larch_session_replay.specs.Replayed.{answer_lines, answer_of};
+ghost use Rattle.larch_session_report.specs.Replayed.{replayed_at};
 
 use larch_base::{Fault, FileName, Memory, Name, Sequence, Steps};
 use larch_report::ReportLine;
-use larch_script_commands::Script;
+use larch_session_kept::{Base, Replaying, replay_duties};
 use larch_session_replay::from_duties::{Claims, trait_claims};
 use larch_session_replay::from_flat::flatten;
 use larch_session_replay::from_session_sources::{Looked, has_trait, script_among};
 use larch_session_replay::from_traits::{Files, TraitRefusal, read_files};
-use larch_session_replay::{push_trait_lines, replay_duties, steps_of};
+use larch_session_replay::{Replayed, push_trait_lines, steps_of};
 use std::alloc::Global;
+use std::rc::Rc;
 use std::sync::ledger::Ledger;
 
-// A trait that is right: its stem, its script, and the rewriting limit.
+/// A report as far as it is made: its lines, and what is kept for the next one.
 #[derive(Drop)]
-struct Right<'a> {
-    stem: &'a Name,
-    script: &'a Script,
-    limit: u32,
+pub struct Report {
+    pub lines: Sequence<ReportLine>,
+    pub base: Base,
 }
 
 /// The report on files, and how many steps it took, which stands still at the last number. Each flat trait, each theory
-/// and each script is worked out once.
+/// and each script is worked out once; duties go on from what the report before has kept.
 pub fn report_on<L: Ledger>(
     alloc: Global,
     files: &Files,
-    limit: u32,
+    before: &Base,
     steps: &mut Steps<L>,
-) -> Result<(Sequence<ReportLine>, u64), Memory>
-    ensures lines { IfOk result (λ report. report.0 ≡ report_of limit files.now) }
-    ensures proved { OnOk result (IsJustifiedReport limit files.now) }
-    ensures work { IfOk result (λ report. report.1 ≡ min (steps.new - steps.old) (2 ^ 64 - 1)) }
+) -> Result<(Report, u64), Memory>
+    ensures lines { IfOk result (λ made. made.0.lines ≡ report_of (limit_in before.now) files.now) }
+    ensures limit { IfOk result (λ made. limit_in made.0.base ≡ limit_in before.now) }
+    ensures base { IfOk result (λ made. records_in made.0.base ≡ replayed_on (limit_in before.now) files.now) }
+    ensures proved { OnOk result (IsJustifiedReport (limit_in before.now) files.now) }
+    ensures work { IfOk result (λ made. made.1 ≡ min (steps.new - steps.old) (2 ^ 64 - 1)) }
     ensures least { steps.old ≤ steps.new }
-    ensures most { steps.new ≤ steps.old + redo [] (replayed_on limit files.now) }
+    ensures most { steps.new ≤ steps.old + redo (records_in before.now) (replayed_on (limit_in before.now) files.now) }
 {
     let sources = read_files(alloc, files)?;
     let flat_traits = flatten(alloc, &sources)?;
@@ -56,114 +60,156 @@ pub fn report_on<L: Ledger>(
         files,
         sources: &sources,
         flat_traits: &flat_traits,
-        limit,
+        limit: before.limit(),
     };
-    let mut lines = Sequence::new(alloc);
-    let work = push_source_lines(alloc, &looked, &mut lines, steps)?;
-    push_stray_lines(alloc, files, &mut lines)?;
-    Ok((lines, work))
+    let mut report = Report {
+        lines: Sequence::new(alloc),
+        base: Base::new(alloc, before.limit()),
+    };
+    let work = push_source_lines(alloc, &looked, before, &mut report, steps)?;
+    push_stray_lines(alloc, files, &mut report.lines)?;
+    Ok((report, work))
 }
 
-// Puts the lines of all traits behind others.
+// Puts the lines of all traits behind those of a report.
 fn push_source_lines<L: Ledger>(
     alloc: Global,
     looked: &Looked<'_>,
-    lines: &mut Sequence<ReportLine>,
+    before: &Base,
+    report: &mut Report,
     steps: &mut Steps<L>,
 ) -> Result<u64, Memory>
-    requires { IsRead looked.now }
-    ensures lines { OnOk result (lines.new
-        ≡ lines.old ++ source_lines looked.now.limit looked.now.files.now looked.now.sources.now) }
+    requires read { IsRead looked.now }
+    requires limit { (looked.now.limit ≡ limit_in before.now) × (limit_in report.old.base ≡ limit_in before.now) }
+    ensures lines { OnOk result (report.new.lines
+        ≡ report.old.lines ++ source_lines looked.now.limit looked.now.files.now looked.now.sources.now) }
+    ensures limit { limit_in report.new.base ≡ limit_in report.old.base }
+    ensures base { OnOk result (records_in report.new.base
+        ≡ records_in report.old.base ++ replayed_on looked.now.limit looked.now.files.now) }
     ensures proved { OnOk result (All (λ source. AreJustified looked.now.limit looked.now.files.now source.0)
         looked.now.sources.now) }
     ensures work { IfOk result (λ work. work ≡ min (steps.new - steps.old) (2 ^ 64 - 1)) }
     ensures least { steps.old ≤ steps.new }
-    ensures most { steps.new ≤ steps.old + redo [] (replayed_on looked.now.limit looked.now.files.now) }
+    ensures most { steps.new ≤ steps.old + redo (records_in before.now)
+        (replayed_on looked.now.limit looked.now.files.now) }
 {
     let mut work: u64 = 0;
     for number in 0..looked.sources.len() {
-        let taken = push_lines_at(alloc, looked, number, lines, steps)?;
+        let taken = push_lines_at(alloc, looked, before, number, report, steps)?;
         work = work.saturating_add(taken);
     }
     Ok(work)
 }
 
-// Puts the lines of the trait of the file with a number behind others.
+// Puts the lines of the trait of the file with a number behind those of a report.
 fn push_lines_at<L: Ledger>(
     alloc: Global,
     looked: &Looked<'_>,
+    before: &Base,
     number: usize,
-    lines: &mut Sequence<ReportLine>,
+    report: &mut Report,
     steps: &mut Steps<L>,
 ) -> Result<u64, Memory>
     requires read { IsRead looked.now }
     requires number { number < length looked.now.sources.now }
-    ensures lines { OnOk result (lines.new ≡ lines.old ++ lines_at looked.now number) }
+    requires limit { (looked.now.limit ≡ limit_in before.now) × (limit_in report.old.base ≡ limit_in before.now) }
+    ensures lines { OnOk result (report.new.lines ≡ report.old.lines ++ lines_at looked.now number) }
+    ensures limit { limit_in report.new.base ≡ limit_in report.old.base }
+    ensures base { OnOk result (records_in report.new.base
+        ≡ records_in report.old.base ++ replayed_at looked.now number) }
     ensures proved { OnOk result (AreJustified looked.now.limit looked.now.files.now
         (name_at looked.now.sources.now number)) }
     ensures work { IfOk result (λ work. work ≡ min (steps.new - steps.old) (2 ^ 64 - 1)) }
     ensures least { steps.old ≤ steps.new }
-    ensures most { steps.new ≤ steps.old + steps_at looked.now number }
+    ensures most { steps.new ≤ steps.old + redo (records_in before.now) (replayed_at looked.now number) }
 {
     let stem = looked.sources.name(number);
     match trait_claims(alloc, looked.sources, looked.flat_traits, number) {
-        Ok(claims) => push_claimed_lines(alloc, looked, stem, claims, lines, steps),
-        Err(TraitRefusal::Wrong(pos, code)) => push_wrong_line(lines, stem, Fault { pos, code }),
+        Ok(claims) => push_claimed_lines(alloc, looked, before, stem, claims, report, steps),
+        Err(TraitRefusal::Wrong(pos, code)) => {
+            push_wrong_line(&mut report.lines, stem, Fault { pos, code })
+        }
         Err(TraitRefusal::Memory) => Err(Memory),
     }
 }
 
-// Puts the lines of a trait that claims this behind others, by its script among the files.
+// Puts the lines of a trait that claims this behind those of a report, by its script among the files.
 fn push_claimed_lines<L: Ledger>(
     alloc: Global,
     looked: &Looked<'_>,
+    before: &Base,
     stem: &Name,
     claims: Claims,
-    lines: &mut Sequence<ReportLine>,
+    report: &mut Report,
     steps: &mut Steps<L>,
 ) -> Result<u64, Memory>
-    requires { AreClaims (map script_duty claims) }
-    ensures lines { OnOk result (lines.new ≡ lines.old
+    requires claims { AreClaims (map script_duty claims) }
+    requires limit { (looked.now.limit ≡ limit_in before.now) × (limit_in report.old.base ≡ limit_in before.now) }
+    ensures lines { OnOk result (report.new.lines ≡ report.old.lines
         ++ trait_report looked.now.limit (script_among looked.now.files.now stem.now) stem.now (Ok claims)) }
+    ensures limit { limit_in report.new.base ≡ limit_in report.old.base }
+    ensures base { OnOk result (records_in report.new.base ≡ records_in report.old.base ++ trait_replayed
+        looked.now.limit stem.now (script_among looked.now.files.now stem.now) (map script_duty claims)) }
     ensures proved { OnOk result (All IsJustified (all_answered looked.now.limit
         (script_among looked.now.files.now stem.now) [] 1 (map script_duty claims))) }
     ensures work { IfOk result (λ work. work ≡ min (steps.new - steps.old) (2 ^ 64 - 1)) }
     ensures least { steps.old ≤ steps.new }
-    ensures most { steps.new
-        ≤ steps.old + script_steps (script_among looked.now.files.now stem.now) (map script_duty claims) }
+    ensures most { steps.new ≤ steps.old + redo (records_in before.now) (trait_replayed
+        looked.now.limit stem.now (script_among looked.now.files.now stem.now) (map script_duty claims)) }
 {
     let script = script_among(alloc, looked.files, stem.bytes())?;
-    let right = Right {
+    let script = Rc::new(alloc, script)?;
+    let replaying = Replaying {
         stem,
         script: &script,
-        limit: looked.limit,
+        before,
     };
-    push_right_lines(alloc, &right, claims, lines, steps)
+    push_right_lines(alloc, &replaying, claims, report, steps)
 }
 
-// Puts the lines of a trait that is right and claims this behind others.
+// Puts the lines of a trait that is right and claims this behind those of a report.
 fn push_right_lines<L: Ledger>(
     alloc: Global,
-    right: &Right<'_>,
+    replaying: &Replaying<'_>,
     claims: Claims,
-    lines: &mut Sequence<ReportLine>,
+    report: &mut Report,
     steps: &mut Steps<L>,
 ) -> Result<u64, Memory>
     requires claims { AreClaims (map script_duty claims) }
-    requires worded { WordedScript right.now.script.now }
-    ensures lines { OnOk result (lines.new ≡ lines.old
-        ++ trait_report right.now.limit right.now.script.now right.now.stem.now (Ok claims)) }
-    ensures proved { OnOk result (All IsJustified (all_answered right.now.limit right.now.script.now [] 1
-        (map script_duty claims))) }
+    requires worded { WordedScript replaying.now.script.now.value }
+    requires limit { limit_in report.old.base ≡ limit_in replaying.now.before.now }
+    ensures lines { OnOk result (report.new.lines ≡ report.old.lines ++ trait_report
+        (limit_in replaying.now.before.now) replaying.now.script.now.value replaying.now.stem.now (Ok claims)) }
+    ensures limit { limit_in report.new.base ≡ limit_in report.old.base }
+    ensures base { OnOk result (records_in report.new.base ≡ records_in report.old.base ++ trait_replayed
+        (limit_in replaying.now.before.now) replaying.now.stem.now replaying.now.script.now.value
+        (map script_duty claims)) }
+    ensures proved { OnOk result (All IsJustified (all_answered (limit_in replaying.now.before.now)
+        replaying.now.script.now.value [] 1 (map script_duty claims))) }
     ensures work { IfOk result (λ work. work ≡ min (steps.new - steps.old) (2 ^ 64 - 1)) }
     ensures least { steps.old ≤ steps.new }
-    ensures most { steps.new ≤ steps.old + script_steps right.now.script.now (map script_duty claims) }
+    ensures most { steps.new ≤ steps.old + redo (records_in replaying.now.before.now) (trait_replayed
+        (limit_in replaying.now.before.now) replaying.now.stem.now replaying.now.script.now.value
+        (map script_duty claims)) }
 {
-    let replays = replay_duties(alloc, claims, right.script, right.limit, steps)?;
-    let name = right.stem.copy()?;
-    lines.push(ReportLine::Right(name))?;
-    push_trait_lines(alloc, lines, right.script, replays.as_slice())?;
+    let replays = replay_duties(alloc, replaying, claims, &mut report.base, steps)?;
+    push_replayed_lines(alloc, replaying, replays.as_slice(), &mut report.lines)?;
     Ok(steps_of(replays.as_slice()))
+}
+
+// Puts the line of a trait that is right, those of its duties and those of its script behind others.
+fn push_replayed_lines(
+    alloc: Global,
+    replaying: &Replaying<'_>,
+    replays: &[Replayed],
+    lines: &mut Sequence<ReportLine>,
+) -> Result<(), Memory>
+    ensures { OnOk result (lines.new ≡ lines.old ++ Right replaying.now.stem.now ∷ map reported_line
+        (answer_lines replaying.now.script.now.value (map answer_of replays.now))) }
+{
+    let name = replaying.stem.copy()?;
+    lines.push(ReportLine::Right(name))?;
+    push_trait_lines(alloc, lines, replaying.script, replays)
 }
 
 // Puts the line of a trait that is wrong behind others.

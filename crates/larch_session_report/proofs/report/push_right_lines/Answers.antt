@@ -1,6 +1,8 @@
-use Rattle.std.proofs.Common.{◌-◌, ◌^◌, ◌≡◌, ◌∷◌, ◌++◌, ◌∙◌, [], List, ap, arith, map, min}
+use Rattle.std.proofs.Common.{◌-◌, ◌^◌, ◌≡◌, ◌∷◌, ◌++◌, ◌∙◌, [], List, ap, arith, map, min, refl, sym}
 use Rattle.std.specs.Prelude.{sum_by}
+use Rattle.std.proofs.lemmas.List.{append_assoc}
 use Rattle.larch_report.specs.declared.line.ReportLine.TheVariants.{Right as right_line}
+use Rattle.larch_session_kept.specs.Kept.{limit_in}
 use Rattle.larch_session_report.proofs.Right.{right_justified, right_lines}
 use Rattle.larch_session_report.proofs.report.push_right_lines.Goals as goal
 use Rattle.larch_session_replay.specs.SessionMeaningTraits.{reported_line}
@@ -9,17 +11,20 @@ use Rattle.larch_session_replay.specs.declared.replayed.Replayed.{Replayed}
 
 pub returns-clause-lines : goal.returns-clause-lines
 returns-clause-lines g c =
-    right_lines c.args.right.now.limit c.args.right.now.script.now c.args.right.now.stem.now c.args.claims
-    c.in_ok-replays.replays c.args.lines.now c.push.new.self c.push_trait_lines.new.lines
-    c.in_ok-replays.ensures.answers
-    (c.in_ok-push.ensures.ok ∙ ap (λ n. c.args.lines.now ++ right_line n ∷ []) c.in_ok-name.ensures)
-    (c.in_ok-push_trait_lines.ensures ∙ ap (λ (rs : List Replayed). c.push.new.self
-    ++ map reported_line (answer_lines c.args.right.now.script.now (map answer_of rs))) c.as_slice.ensures)
+    let script = c.args.replaying.now.script.now.value in
+    let stem = c.args.replaying.now.stem.now in
+    let lines = c.args.report.now.lines in
+    let told = map reported_line (answer_lines script (map answer_of c.in_ok-replays.replays)) in
+    right_lines (limit_in c.args.replaying.now.before.now) script stem c.args.claims c.in_ok-replays.replays lines
+    (lines ++ right_line stem ∷ []) c.push_replayed_lines.new.lines c.in_ok-replays.ensures.answers refl
+    (c.in_ok-push_replayed_lines.ensures ∙ ap (λ (rs : List Replayed). lines
+    ++ right_line stem ∷ map reported_line (answer_lines script (map answer_of rs))) c.as_slice.ensures
+    ∙ sym (append_assoc lines (right_line stem ∷ []) told))
 
 pub returns-clause-proved : goal.returns-clause-proved
 returns-clause-proved g c =
-    right_justified c.args.right.now.limit c.args.right.now.script.now c.args.claims c.in_ok-replays.replays
-    c.requires.claims c.in_ok-replays.ensures.answers c.in_ok-replays.ensures.replays
+    right_justified (limit_in c.args.replaying.now.before.now) c.args.replaying.now.script.now.value c.args.claims
+    c.in_ok-replays.replays c.requires.claims c.in_ok-replays.ensures.answers c.in_ok-replays.ensures.replays
 
 pub returns-clause-work : goal.returns-clause-work
 returns-clause-work g c =
