@@ -26,6 +26,7 @@ use Rattle.larch_main_session.specs.Session.{goes, stops, status_of, malformed_t
 use Rattle.larch_main_session.specs.Progress.{state_of, at_command, at_bytes, IsAnswer, IsStop, Moves}
 use Rattle.larch_main_session.proofs.Derived.{derivation_shows}
 use Rattle.larch_main_session.proofs.Steps.{reads_none, stop_moves}
+use Rattle.larch_session.specs.SessionKeptKept.{limit_in}
 
 -- the line is no command
 pub none_moves : (p : Progress) (x : Option (List ℕ)) (n before : ℕ) (result : Result Move Halt)
@@ -82,7 +83,8 @@ module _ (p q : Progress) (x : Option (List ℕ)) (command : Command) (before wa
     (command_is : (ended : Bool) (rest : List ℕ) → at_command before (state_of p) (Some command) ended rest
     ≡ goes (record (state_of p) { good = good }) reply rest)
     (reader : q.reader ≡ p.reader) (files : q.session.files ≡ p.session.files)
-    (limit : q.session.limit ≡ p.session.limit) (least : was ≤ is) (most : is ≤ was + steps_of reply) where
+    (limit : limit_in q.session.base ≡ limit_in p.session.base)
+    (least : was ≤ is) (most : is ≤ was + steps_of reply) where
   reads_same : ReadsBytes p.reader q.reader x x []
   reads_same = subst (λ r. ReadsBytes p.reader r x x []) (sym reader) (reads_none p.reader x)
 
@@ -128,31 +130,32 @@ module _ (p q : Progress) (x : Option (List ℕ)) (command : Command) (before wa
 
 -- in a report each duty that it calls proved is derivable
 pub report_moves : (p q : Progress) (x : Option (List ℕ)) (before was is : ℕ)
-    → q.reader ≡ p.reader → q.session.files ≡ p.session.files → q.session.limit ≡ p.session.limit
-    → was ≤ is → is ≤ was + redo [] (replayed_on p.session.limit p.session.files)
-    → (result : Result Move Halt) → IfOk result (IsAnswer (reported p.session.limit p.session.files))
-    → OnOk result (q.good ≡ is_good (counts_of (report_of p.session.limit p.session.files)))
-    → OnOk result (IsJustifiedReport p.session.limit p.session.files) → IfErr result (λ halt. halt ≡ Memory)
+    → q.reader ≡ p.reader → q.session.files ≡ p.session.files → limit_in q.session.base ≡ limit_in p.session.base
+    → was ≤ is → is ≤ was + redo [] (replayed_on (limit_in p.session.base) p.session.files)
+    → (result : Result Move Halt) → IfOk result (IsAnswer (reported (limit_in p.session.base) p.session.files))
+    → OnOk result (q.good ≡ is_good (counts_of (report_of (limit_in p.session.base) p.session.files)))
+    → OnOk result (IsJustifiedReport (limit_in p.session.base) p.session.files) → IfErr result (λ halt. halt ≡ Memory)
     → Moves (at_command before (state_of p) (Some Report)) p q x x was is result
 report_moves p q x before was is reader files limit least most result told good proved memory =
-    answer_moves p q x Report before was is (reported p.session.limit p.session.files)
-    (is_good (counts_of (report_of p.session.limit p.session.files))) (λ ended rest. refl) reader files limit least
-    most result told
-    (λ written ok spells. subst (λ r. OnOk r (IsJustifiedReport p.session.limit p.session.files)) ok proved)
+    answer_moves p q x Report before was is (reported (limit_in p.session.base) p.session.files)
+    (is_good (counts_of (report_of (limit_in p.session.base) p.session.files))) (λ ended rest. refl) reader files limit
+    least most result told
+    (λ written ok spells. subst (λ r. OnOk r (IsJustifiedReport (limit_in p.session.base) p.session.files)) ok proved)
     good memory
 
 -- a derivation shows that its duty is derivable
 pub derive_moves : (p q : Progress) (x : Option (List ℕ)) (before was is : ℕ) (stem : List ℕ) (label : Label)
-    → q.reader ≡ p.reader → q.session.files ≡ p.session.files → q.session.limit ≡ p.session.limit
-    → was ≤ is → is ≤ was + redo [] (replayed_on p.session.limit p.session.files)
+    → q.reader ≡ p.reader → q.session.files ≡ p.session.files → limit_in q.session.base ≡ limit_in p.session.base
+    → was ≤ is → is ≤ was + redo [] (replayed_on (limit_in p.session.base) p.session.files)
     → (result : Result Move Halt)
-    → IfOk result (IsAnswer (derived p.session.limit p.session.files stem label)) → q.good ≡ p.good
+    → IfOk result (IsAnswer (derived (limit_in p.session.base) p.session.files stem label)) → q.good ≡ p.good
     → IfErr result (λ halt. halt ≡ Memory)
     → Moves (at_command before (state_of p) (Some (Derive stem label))) p q x x was is result
 derive_moves p q x before was is stem label reader files limit least most result told good memory =
-    answer_moves p q x (Derive stem label) before was is (derived p.session.limit p.session.files stem label) p.good
+    answer_moves p q x (Derive stem label) before was is
+    (derived (limit_in p.session.base) p.session.files stem label) p.good
     (λ ended rest. refl) reader files limit least most result told
-    (λ written ok spells. derivation_shows p.session.limit p.session.files stem label written spells)
+    (λ written ok spells. derivation_shows (limit_in p.session.base) p.session.files stem label written spells)
     (on_ok result good) memory
   where
     on_ok : {A : Type 0} (made : Result Move Halt) → A → OnOk made A

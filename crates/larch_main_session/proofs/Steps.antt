@@ -30,6 +30,7 @@ use Rattle.larch_main_session.specs.Progress.{Wants, Moves, IsStop, Never, Refus
 use Rattle.larch_main_session.proofs.Found.{line_found, last_found, none_found, long_found, full_found}
 use Rattle.larch_main_session.proofs.Found.{unfinished_found}
 use Rattle.larch_main_session.proofs.Found.{bytes_found, cut_found, wanting_found, too_many_found}
+use Rattle.larch_session.specs.SessionKeptKept.{limit_in}
 
 true_is_false : {P : Type 0} → true ≡ false → P
 true_is_false e = cc
@@ -151,14 +152,14 @@ state_behind : (p : Progress) (reader : Taken) (front rest : List ℕ) → reade
 state_behind p reader front rest counted =
     let e : p.reader.count + (length (front ++ rest) - length rest) ≡ reader.count =
     omega (arith, length-append front rest) in
-    λ i. record { limit = p.session.limit; files = p.session.files; taken = e i; good = p.good }
+    λ i. record { limit = limit_in p.session.base; files = p.session.files; taken = e i; good = p.good }
 
 -- a reader from which nothing was taken stands for the same state
 state_kept : (p : Progress) (reader : Taken) → reader.count ≡ p.reader.count + 0
     → state_of p ≡ state_of (record p { reader = reader })
 state_kept p reader counted =
     let e : p.reader.count ≡ reader.count = omega arith in
-    λ i. record { limit = p.session.limit; files = p.session.files; taken = e i; good = p.good }
+    λ i. record { limit = limit_in p.session.base; files = p.session.files; taken = e i; good = p.good }
 
 -- a step that stops in one state stops in an equal one
 stops_in : {made : Step} {a b : State} (text : List ℕ) (status : Status) → made ≡ stops a text status → a ≡ b

@@ -18,12 +18,13 @@ use Rattle.larch_main_session.specs.Replies.{Reply, IsShown, Spells, steps_of}
 use Rattle.larch_main_session.specs.Session.{State, Step, goes, stops, waits, step}
 use Rattle.larch_main_session.specs.Session.{on_command, on_bytes, on_file, room_left, large_text}
 use Rattle.larch_main_status.specs.Limits.{put_is_refused}
+use Rattle.larch_session.specs.SessionKeptKept.{limit_in}
 
 -- the state that a running session stands for
 abbrev pub state_of : Progress → State
 state_of progress =
     record {
-      limit = progress.session.limit;
+      limit = limit_in progress.session.base;
       files = progress.session.files;
       taken = progress.reader.count;
       good = progress.good;

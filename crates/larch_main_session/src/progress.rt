@@ -7,6 +7,7 @@ ghost use Rattle.larch_main_session.specs.Progress.{Follows, IsAnswer, IsStop, N
 ghost use Rattle.larch_main_session.specs.Replies.{reported, derived};
 ghost use Rattle.larch_prove_meaning.specs.Redo.{redo};
 ghost use Rattle.larch_report.specs.Counts.{counts_of, is_good};
+ghost use Rattle.larch_session.specs.SessionKeptKept.{limit_in};
 ghost use Rattle.larch_session.specs.SessionSourcesJustified.{IsJustifiedReport};
 ghost use Rattle.larch_session_derive_meaning.specs.SessionMeaningFiles.{report_of};
 ghost use Rattle.larch_session_derive_meaning.specs.SessionMeaningRedone.{replayed_on};
@@ -170,18 +171,18 @@ fn answer_report<L: Ledger>(
     progress: &mut Progress,
     steps: &mut Steps<L>,
 ) -> Result<Move, Halt>
-    ensures reply { IfOk result (IsAnswer (reported progress.old.session.limit progress.old.session.files)) }
+    ensures reply { IfOk result (IsAnswer (reported (limit_in progress.old.session.base) progress.old.session.files)) }
     ensures further { IfOk result (λ move. Follows progress.old progress.new move) }
     ensures good { OnOk result (progress.new.good
-        ≡ is_good (counts_of (report_of progress.old.session.limit progress.old.session.files))) }
-    ensures proved { OnOk result (IsJustifiedReport progress.old.session.limit progress.old.session.files) }
+        ≡ is_good (counts_of (report_of (limit_in progress.old.session.base) progress.old.session.files))) }
+    ensures proved { OnOk result (IsJustifiedReport (limit_in progress.old.session.base) progress.old.session.files) }
     ensures memory { IfErr result (λ halt. halt ≡ Halt.Memory) }
     ensures reader { progress.new.reader ≡ progress.old.reader }
     ensures files { progress.new.session.files ≡ progress.old.session.files }
-    ensures limit { progress.new.session.limit ≡ progress.old.session.limit }
+    ensures limit { limit_in progress.new.session.base ≡ limit_in progress.old.session.base }
     ensures least { steps.old ≤ steps.new }
     ensures most { steps.new
-        ≤ steps.old + redo [] (replayed_on progress.old.session.limit progress.old.session.files) }
+        ≤ steps.old + redo [] (replayed_on (limit_in progress.old.session.base) progress.old.session.files) }
 {
     let lines = progress.session.report(steps)?;
     let text = report_text(alloc, lines.as_slice())?;
@@ -197,17 +198,17 @@ fn answer_derive<L: Ledger>(
     stem: &Name,
     label: Label,
 ) -> Result<Move, Halt>
-    ensures reply { IfOk result (IsAnswer (derived progress.old.session.limit progress.old.session.files stem.now
-        label)) }
+    ensures reply { IfOk result (IsAnswer (derived (limit_in progress.old.session.base) progress.old.session.files
+        stem.now label)) }
     ensures further { IfOk result (λ move. Follows progress.old progress.new move) }
     ensures good { progress.new.good ≡ progress.old.good }
     ensures memory { IfErr result (λ halt. halt ≡ Halt.Memory) }
     ensures reader { progress.new.reader ≡ progress.old.reader }
     ensures files { progress.new.session.files ≡ progress.old.session.files }
-    ensures limit { progress.new.session.limit ≡ progress.old.session.limit }
+    ensures limit { limit_in progress.new.session.base ≡ limit_in progress.old.session.base }
     ensures least { steps.old ≤ steps.new }
     ensures most { steps.new
-        ≤ steps.old + redo [] (replayed_on progress.old.session.limit progress.old.session.files) }
+        ≤ steps.old + redo [] (replayed_on (limit_in progress.old.session.base) progress.old.session.files) }
 {
     let derived = progress.session.derive(stem, label, steps)?;
     let text = derivation_reply(alloc, &derived)?;

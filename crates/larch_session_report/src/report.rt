@@ -125,7 +125,10 @@ fn push_lines_at<L: Ledger>(
 {
     let stem = looked.sources.name(number);
     match trait_claims(alloc, looked.sources, looked.flat_traits, number) {
-        Ok(claims) => push_claimed_lines(alloc, looked, before, stem, claims, report, steps),
+        Ok(claims) => {
+            let named = Named { stem, before };
+            push_claimed_lines(alloc, looked, &named, claims, report, steps)
+        }
         Err(TraitRefusal::Wrong(pos, code)) => {
             push_wrong_line(&mut report.lines, stem, Fault { pos, code })
         }
@@ -133,36 +136,45 @@ fn push_lines_at<L: Ledger>(
     }
 }
 
+// The name of a trait, and what the report before has kept.
+#[derive(Drop)]
+struct Named<'a> {
+    stem: &'a Name,
+    before: &'a Base,
+}
+
 // Puts the lines of a trait that claims this behind those of a report, by its script among the files.
 fn push_claimed_lines<L: Ledger>(
     alloc: Global,
     looked: &Looked<'_>,
-    before: &Base,
-    stem: &Name,
+    named: &Named<'_>,
     claims: Claims,
     report: &mut Report,
     steps: &mut Steps<L>,
 ) -> Result<u64, Memory>
     requires claims { AreClaims (map script_duty claims) }
-    requires limit { (looked.now.limit ≡ limit_in before.now) × (limit_in report.old.base ≡ limit_in before.now) }
-    ensures lines { OnOk result (report.new.lines ≡ report.old.lines
-        ++ trait_report looked.now.limit (script_among looked.now.files.now stem.now) stem.now (Ok claims)) }
+    requires limit { (looked.now.limit ≡ limit_in named.now.before.now)
+        × (limit_in report.old.base ≡ limit_in named.now.before.now) }
+    ensures lines { OnOk result (report.new.lines ≡ report.old.lines ++ trait_report looked.now.limit
+        (script_among looked.now.files.now named.now.stem.now) named.now.stem.now (Ok claims)) }
     ensures limit { limit_in report.new.base ≡ limit_in report.old.base }
     ensures base { OnOk result (records_in report.new.base ≡ records_in report.old.base ++ trait_replayed
-        looked.now.limit stem.now (script_among looked.now.files.now stem.now) (map script_duty claims)) }
+        looked.now.limit named.now.stem.now (script_among looked.now.files.now named.now.stem.now)
+        (map script_duty claims)) }
     ensures proved { OnOk result (All IsJustified (all_answered looked.now.limit
-        (script_among looked.now.files.now stem.now) [] 1 (map script_duty claims))) }
+        (script_among looked.now.files.now named.now.stem.now) [] 1 (map script_duty claims))) }
     ensures work { IfOk result (λ work. work ≡ min (steps.new - steps.old) (2 ^ 64 - 1)) }
     ensures least { steps.old ≤ steps.new }
-    ensures most { steps.new ≤ steps.old + redo (records_in before.now) (trait_replayed
-        looked.now.limit stem.now (script_among looked.now.files.now stem.now) (map script_duty claims)) }
+    ensures most { steps.new ≤ steps.old + redo (records_in named.now.before.now) (trait_replayed
+        looked.now.limit named.now.stem.now (script_among looked.now.files.now named.now.stem.now)
+        (map script_duty claims)) }
 {
-    let script = script_among(alloc, looked.files, stem.bytes())?;
+    let script = script_among(alloc, looked.files, named.stem.bytes())?;
     let script = Rc::new(alloc, script)?;
     let replaying = Replaying {
-        stem,
+        stem: named.stem,
         script: &script,
-        before,
+        before: named.before,
     };
     push_right_lines(alloc, &replaying, claims, report, steps)
 }

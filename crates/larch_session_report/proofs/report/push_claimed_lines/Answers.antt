@@ -21,8 +21,8 @@ returns-clause-lines g c =
     let same = c.in_ok-script-2.ensures.ok ∙ c.in_ok-script.ensures
     ∙ ap (script_among c.args.looked.now.files.now) c.bytes.ensures in
     on_ok c.push_right_lines.result
-    (λ put. put ∙ ap₂ (λ limit s. c.args.report.now.lines ++ trait_report limit s c.args.stem.now (Ok c.args.claims))
-    (sym c.requires.limit.0) same)
+    (λ put. put ∙ ap₂ (λ limit s. c.args.report.now.lines
+    ++ trait_report limit s c.args.named.now.stem.now (Ok c.args.claims)) (sym c.requires.limit.0) same)
     c.push_right_lines.ensures.lines
 
 pub returns-clause-base : goal.returns-clause-base
@@ -31,7 +31,7 @@ returns-clause-base g c =
     ∙ ap (script_among c.args.looked.now.files.now) c.bytes.ensures in
     on_ok c.push_right_lines.result
     (λ put. put ∙ ap₂ (λ limit s. records_in c.args.report.now.base
-    ++ trait_replayed limit c.args.stem.now s (map script_duty c.args.claims)) (sym c.requires.limit.0) same)
+    ++ trait_replayed limit c.args.named.now.stem.now s (map script_duty c.args.claims)) (sym c.requires.limit.0) same)
     c.push_right_lines.ensures.base
 
 pub returns-clause-proved : goal.returns-clause-proved
@@ -46,8 +46,8 @@ returns-clause-proved g c =
 
 pub returns-clause-most : goal.returns-clause-most
 returns-clause-most g c =
-    let same = ap₂ (λ limit s. redo (records_in c.args.before.now)
-    (trait_replayed limit c.args.stem.now s (map script_duty c.args.claims))) (sym c.requires.limit.0)
+    let same = ap₂ (λ limit s. redo (records_in c.args.named.now.before.now)
+    (trait_replayed limit c.args.named.now.stem.now s (map script_duty c.args.claims))) (sym c.requires.limit.0)
     (c.in_ok-script-2.ensures.ok ∙ c.in_ok-script.ensures
     ∙ ap (script_among c.args.looked.now.files.now) c.bytes.ensures) in
     let most = c.push_right_lines.ensures.most in
