@@ -1,11 +1,12 @@
 #!/usr/bin/env python3
-"""How many duties tools/larch-try proves: python3 bench/trying.py [PROGRAM] [--seconds N] [--every K] [--left]
-[FOLDER..]
+"""How many duties tools/larch-try proves: python3 bench/trying.py [PROGRAM] [--seconds N] [--replays N] [--every K]
+[--left] [--folder FOLDER]
 
 Of each trait of the folders (those below examples/ by default) each duty is tried that isn't proved without a block,
-every K-th of them in a fixed order where K is said. The duties before it are proved by the folder's script. Prints for
-each folder how many there are, how many are found in N seconds (10), and how long the blocks and the searches are; with
---left also which aren't found. Ends with 1 where fewer than seven of ten are found."""
+every K-th of them in a fixed order where K is said. The duties before it are proved by the folder's script. Prints
+for each folder how many there are, how many are found in N seconds (10) and with at most so many replays, and how
+long the blocks and the searches are; with --left also which aren't found. Ends with 1 where fewer than seven of ten
+are found."""
 import argparse
 import collections
 import pathlib
