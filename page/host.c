@@ -236,18 +236,32 @@ int close(int handle) {
     return 0;
 }
 
-// What compiled code calls by name where no C library is: a product of two numbers of 128 bits.
+// What compiled code calls by name where no C library is: a product and shifts of numbers of 128 bits.
+static u128 of_halves(u64 high, u64 low) { return (u128)high << 64 | low; }
+
 u128 __multi3(u128 left, u128 right) {
     u64 a = (u64)left, b = (u64)right, a0 = (u32)a, a1 = a >> 32, b0 = (u32)b, b1 = b >> 32;
     u64 low = a0 * b0, first = a1 * b0 + (low >> 32), second = a0 * b1 + (u32)first;
     u64 high = a1 * b1 + (first >> 32) + (second >> 32) + a * (u64)(right >> 64) + (u64)(left >> 64) * b;
-    return (u128)high << 64 | (second << 32 | (u32)low);
+    return of_halves(high, second << 32 | (u32)low);
+}
+
+u128 __ashlti3(u128 number, int by) {
+    u64 low = (u64)number, high = (u64)(number >> 64);
+    if (by == 0) return number;
+    return by < 64 ? of_halves(high << by | low >> (64 - by), low << by) : of_halves(low << (by - 64), 0);
+}
+
+u128 __lshrti3(u128 number, int by) {
+    u64 low = (u64)number, high = (u64)(number >> 64);
+    if (by == 0) return number;
+    return by < 64 ? of_halves(high >> by, low >> by | high << (64 - by)) : of_halves(0, high >> (by - 64));
 }
 
 // ---- What the page calls.
 
-// The program's `main`, by the name that page/make.py gives it.
-int larch_main(void);
+// The program's `main`, as the toolchain names it.
+int larch_main(void) __asm__("larch::main+start");
 
 static void empty_heap(void) {
     front = (byte *)(((u64)&__heap_base + HEAD - 1) & ~(u64)(HEAD - 1));

@@ -35,7 +35,9 @@ TRIPLE = 'target triple = "wasm64-unknown-unknown"'
 OF_THE_MACHINE = re.compile(r'"(?:probe-stack|stack-probe-size|target-cpu|target-features|tune-cpu)"="[^"]*" *')
 # The toolchain gives these to functions for wasm64: there is no C library that has them.
 NO_LIBRARY = '"no-builtin-memcmp" "no-builtin-bcmp" "no-builtin-strlen"'
-MAIN, NEW_MAIN = "define i32 @main()", "define i32 @larch_main()"
+# The program's own `main`, which host.c calls under its own name. The module's `main` before it asks the processor
+# what it can do, and calls what only this machine has; nothing calls it, so it isn't linked.
+MAIN, NEW_MAIN = 'define internal noundef i32 @"larch::main+start"()', 'define hidden i32 @"larch::main+start"()'
 FOR_WASM = ["--target=wasm64-unknown-unknown", "-mcpu=lime1", "--no-default-config", "-c", "-O3", "-ffunction-sections",
             "-fdata-sections", *(word for flag in (
                 "-expand-div-rem-bits=64", "-expand-fp-convert-bits=64", "-trap-unreachable", "-disable-machine-licm",
@@ -150,7 +152,7 @@ def retarget(line, seen):
 
 
 def retargeted(tools, module, room):
-    """The module's text for wasm64: the header, the attributes of the machine and the name of `main` are other ones."""
+    """The module's text for wasm64: the header and the attributes of the machine are other ones, and `main` is seen."""
     run(tools / "toolchain/bin/clang", "--target=x86_64-unknown-linux-gnu", "-S", "-emit-llvm", "-Xclang",
         "-disable-llvm-passes", "--no-default-config", "-x", "ir", module, "-o", room / "machine.ll")
     seen = {"layout": 0, "triple": 0, "main": 0}

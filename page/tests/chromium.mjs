@@ -39,14 +39,14 @@ export class Chromium {
     const id = ++this.number;
     return new Promise((resolve, reject) => {
       this.waiting.set(id, { resolve, reject });
-      this.process.stdio[3].write(`${JSON.stringify({ id, method, params, sessionId: session })}\0`);
+      this.process.stdio[3].write(`${JSON.stringify({ id, method, params, sessionId: session ?? undefined })}\0`);
     });
   }
 
   async open(address) {
-    if (this.target) await this.send('Target.closeTarget', { targetId: this.target }, undefined);
-    const { targetId } = await this.send('Target.createTarget', { url: 'about:blank' }, undefined);
-    const { sessionId } = await this.send('Target.attachToTarget', { targetId, flatten: true }, undefined);
+    if (this.target) await this.send('Target.closeTarget', { targetId: this.target }, null);
+    const { targetId } = await this.send('Target.createTarget', { url: 'about:blank' }, null);
+    const { sessionId } = await this.send('Target.attachToTarget', { targetId, flatten: true }, null);
     this.target = targetId;
     this.session = sessionId;
     await this.send('Runtime.enable');
@@ -95,7 +95,7 @@ export class Chromium {
   }
 
   async close() {
-    await this.send('Browser.close', {}, undefined).catch(() => {});
+    await this.send('Browser.close', {}, null).catch(() => {});
     await new Promise((resolve) => (this.process.exitCode === null ? this.process.on('exit', resolve) : resolve()));
     rmSync(this.profile, { recursive: true, force: true, maxRetries: 5 });
   }
