@@ -30,6 +30,12 @@ const WITHOUT_SCRIPT: &[u8] = b"trait Truths\nimply.1 suspended goals 1: holds(b
     imply.2 suspended goals 1: b\n\
     total 1 traits, 0 errors, 0 proved, 2 suspended, 0 refused\nend\n";
 
+const ABSENT: &[(&str, &str)] = &[
+    ("Truths", "imply.2"),
+    ("Truths", "imply.3"),
+    ("Other", "imply.1"),
+];
+
 const ONE_ALONE: &[u8] =
     b"trait One\ntotal 1 traits, 0 errors, 0 proved, 0 suspended, 0 refused\nend\n";
 
@@ -269,15 +275,11 @@ fn derives_what_is_verified(rt: HostRuntime) -> Result<(), Fail> {
 // A duty that is left open, one that isn't there, and a trait that isn't.
 #[test]
 fn derives_nothing_else(rt: HostRuntime) -> Result<(), Fail> {
-    for (stem, label) in [
-        ("Truths", "imply.2"),
-        ("Truths", "imply.3"),
-        ("Other", "imply.1"),
-    ] {
-        let words = ["derive", stem, label, "Truths.lsl", "Truths.lp"];
+    for (stem, label) in ABSENT.iter() {
+        let words = ["derive", *stem, *label, "Truths.lsl", "Truths.lp"];
         let (status, sink) = call_status(&rt, &words, &[])?;
-        assert_eq!(rt; status, Status::Remains, "{stem} {label}");
-        assert_eq!(rt; sink.bytes(), b"none\n".as_slice(), "{stem} {label}");
+        assert_eq!(rt; status, Status::Remains);
+        assert_eq!(rt; sink.bytes(), b"none\n".as_slice());
     }
     Ok(())
 }
