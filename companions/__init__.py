@@ -1,5 +1,5 @@
 """What stands around the program: the cause of a refusal and how to mend it, hints at what is well formed and yet
-suspect, and finite models that are looked for. It needs python3 alone, and nothing of it is proved.
+suspect, finite models and proofs that are looked for. It needs python3 alone, and nothing of it is proved.
 
 Two calls are what editors and commands need:
 
@@ -18,6 +18,9 @@ what it has found. Places are offsets of bytes, `start` and `end`; a change has 
                   the causes, by what codes are about
     further       what is wrong behind the first refusal
     listed, finite    what `larch obligations` lists, with its terms read, and the search for a finite model of it
+    scripts, formulas    a light reading of proof scripts and of reports on them, and of goals
+    moves, proving, flat, trying    the search for a proof: what is tried, the goals that a block opens, the trait in
+                  which it is tried, and the search itself
     spelling, wording, showing    names that are near, pieces of titles, and how all is shown in a terminal
     samples       wrong traits and their titles, which tools/gate/check_causes.py tries
 """

@@ -5,6 +5,7 @@ import os
 import pathlib
 import re
 import subprocess
+import threading
 
 TOP = pathlib.Path(__file__).resolve().parent.parent
 # What one session takes: files, bytes of a file, bytes in all.
@@ -42,8 +43,8 @@ def refusals(report):
 class Session:
     """The program's process and the files that it holds; it is started anew where it has ended."""
 
-    def __init__(self, program=None):
-        self.program, self.process, self.held, self.given = program or found(), None, {}, 0
+    def __init__(self, program=None, options=()):
+        self.program, self.options, self.process, self.held, self.given = program or found(), options, None, {}, 0
 
     def __enter__(self):
         return self
@@ -53,28 +54,61 @@ class Session:
 
     def report(self, files):
         """What a report says of these files: each trait's file name with nothing, or with line, column and code."""
-        try:
-            return self.ask(files)
-        except (OSError, EOFError):
-            self.close()
-            return self.ask(files)
+        return reported(self.lines(files))
 
-    def ask(self, files):
-        text = self.commands(files)
+    def lines(self, files):
+        """The lines of a report on these files, without its last one, `end`."""
+        return next(self.all_lines([files]))
+
+    def all_lines(self, ways):
+        """The lines of the report on each of several ways to have the files. They are handed over together, so that the
+        program needn't wait; where its process has ended it is started anew, once for each way."""
+        done = 0
+        while done < len(ways):
+            before = done
+            try:
+                for lines in self.ask(ways[done:]):
+                    done += 1
+                    yield lines
+            except (OSError, EOFError):
+                self.close()
+                if done == before:
+                    yield from self.ask(ways[done:])
+                    return
+
+    def ask(self, ways):
+        text = self.questions(ways)
         if self.process is None or self.given + len(text) > MOST_INPUT:
             self.close()
-            self.process = subprocess.Popen([self.program, "session"], stdin=subprocess.PIPE, stdout=subprocess.PIPE)
-            text = self.commands(files)
-        self.held, self.given = dict(files), self.given + len(text)
-        with contextlib.suppress(BrokenPipeError):  # where the process has ended, no `end` will come
-            self.process.stdin.write(text)
-            self.process.stdin.flush()
-        lines = []
-        for line in iter(self.process.stdout.readline, b"end\n"):
-            if not line:
-                raise EOFError(f"{self.program} ended with status {self.process.wait()}")
-            lines.append(line.decode().rstrip("\n"))
-        return reported(lines)
+            words = [self.program, "session", *self.options]
+            self.process = subprocess.Popen(words, stdin=subprocess.PIPE, stdout=subprocess.PIPE)
+            text = self.questions(ways)
+        self.held, self.given = dict(ways[-1]), self.given + len(text)
+        writing = threading.Thread(target=self.write, args=(self.process.stdin, text), daemon=True)
+        writing.start()
+        for _ in ways:
+            lines = []
+            for line in iter(self.process.stdout.readline, b"end\n"):
+                if not line:
+                    raise EOFError(f"{self.program} ended with status {self.process.wait()}")
+                lines.append(line.decode().rstrip("\n"))
+            yield lines
+        writing.join()
+
+    @staticmethod
+    def write(stream, text):
+        with contextlib.suppress(OSError, ValueError):  # where the process has ended, no `end` will come
+            stream.write(text)
+            stream.flush()
+
+    def questions(self, ways):
+        """What hands over several ways to have the files, each with its report."""
+        held, texts = self.held, []
+        for files in ways:
+            texts.append(self.commands(files))
+            self.held = files
+        self.held = held
+        return b"".join(texts)
 
     def commands(self, files):
         """What takes the files that are gone out, hands over those that are new or changed, and asks for a report."""
@@ -118,7 +152,8 @@ def stamps(folder):
     for path in sorted(pathlib.Path(folder).glob("*.*")):
         if path.suffix in (".lp", ".cert"):
             with contextlib.suppress(OSError):
-                found[path.name] = path.stat().st_mtime_ns, path.stat().st_size
+                if path.is_file():
+                    found[path.name] = path.stat().st_mtime_ns, path.stat().st_size
     return found
 
 

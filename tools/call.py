@@ -32,7 +32,8 @@ OPTIONS = ("--build", "--help", "--install", "--program", "--uninstall", "--unpr
 # What people type that isn't there, and what there is.
 NOT_THERE = {
     **dict.fromkeys(("show", "print", "list", "duties"), "`larch obligations FILE..` lists what a trait consists of"),
-    **dict.fromkeys(("prove", "proof", "qed"), "`larch replay FILE..` carries out proof scripts; nothing finds proofs"),
+    **dict.fromkeys(("prove", "proof", "qed"),
+                    "`larch replay FILE..` carries out proof scripts; `larch-try` looks for them"),
     **dict.fromkeys(("certify", "certificate", "derivation"), "`larch derive` writes the certificate of a proved duty"),
     **dict.fromkeys(("convert", "upgrade"), "`larch migrate CERT` writes a certificate in the second version"),
     **dict.fromkeys(("shorten", "minimize", "prune"), "`larch trim` leaves out of a certificate what isn't needed"),

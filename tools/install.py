@@ -2,10 +2,10 @@
 """Puts larch below a folder, or takes it away: install.py --install PREFIX PROGRAM | --uninstall PREFIX
 
 The program lies in PREFIX/bin as `larch-program`, and what stands around it in PREFIX/share/larch, laid out as in the
-checkout; `larch`, `larch-watch`, `larch-lsp`, `larch-ninja` and `larch-find-model` in PREFIX/bin are links to that. The
-man page and completions lie where they are looked for. PREFIX/share/larch/installed lists each file and each folder
-that was made, and those are what is taken away. Nothing is written over: a file that is there and isn't of an
-installation stops it."""
+checkout; `larch`, `larch-watch`, `larch-lsp`, `larch-ninja`, `larch-find-model` and `larch-try` in PREFIX/bin are links
+to that. The man page and completions lie where they are looked for. PREFIX/share/larch/installed lists each file and
+each folder that was made, and those are what is taken away. Nothing is written over: a file that is there and isn't of
+an installation stops it."""
 import os
 import pathlib
 import shutil
@@ -21,7 +21,8 @@ TAKEN = ("larch", "LICENSE", "docs/*.md", "companions/*.py", "tools/*.py", "tool
          "editors/larch*", "editors/vim/*/*", "editors/emacs/larch-*.el", "editors/vscode/*.js*",
          "editors/vscode/syntaxes/*")
 LINKS = {"larch": "larch", "larch-watch": "tools/larch-watch", "larch-ninja": "tools/larch-ninja",
-         "larch-find-model": "tools/larch-find-model", "larch-lsp": "editors/larch-lsp"}
+         "larch-find-model": "tools/larch-find-model", "larch-try": "tools/larch-try",
+         "larch-lsp": "editors/larch-lsp"}
 FOUND = {"manual/larch.1": "share/man/man1/larch.1", "completion/_larch": "share/zsh/site-functions/_larch",
          "completion/larch.bash": "share/bash-completion/completions/larch"}
 

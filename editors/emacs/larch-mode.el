@@ -2,7 +2,7 @@
 
 ;;; Commentary:
 ;; `lsl-mode' for traits and `lp-mode' for scripts: colours, indentation and comments, and the language server where
-;; eglot is there.  (add-to-list 'load-path ".../editors/emacs") (require 'larch-mode)
+;; eglot is there; M-x larch-goal shows the goal at the cursor of a script.  (add-to-list 'load-path ".../editors/emacs") (require 'larch-mode)
 
 ;;; Code:
 (defgroup larch nil "Traits and proof scripts of larch." :group 'languages)
@@ -158,7 +158,34 @@ Commands of a block stand at 2, and 2 more for each subgoal open by its marks."
   (append (list larch--server) (when larch-program (list "--larch" larch-program))
           (unless larch-hints '("--no-hints"))))
 (with-eval-after-load 'eglot
-  (add-to-list 'eglot-server-programs (cons 'lsl-mode #'larch--contact)))
+  (add-to-list 'eglot-server-programs (cons '(lsl-mode lp-mode) #'larch--contact)))
+
+(declare-function eglot-current-server "eglot")
+(declare-function eglot--TextDocumentPositionParams "eglot")
+(declare-function eglot--signal-textDocument/didChange "eglot")
+(declare-function jsonrpc-async-request "jsonrpc")
+(defvar larch--goal-timer nil "The timer that shows the goal once nothing is typed.")
+
+(defun larch--show-goal ()
+  "Show in the buffer *larch goal* what is left behind the line of a script."
+  (when (and (derived-mode-p 'lp-mode) (get-buffer-window "*larch goal*" t) (fboundp 'eglot-current-server)
+             (eglot-current-server))
+    (eglot--signal-textDocument/didChange)
+    (jsonrpc-async-request
+     (eglot-current-server) :larch/goal (eglot--TextDocumentPositionParams)
+     :success-fn (lambda (found)
+                   (with-current-buffer (get-buffer-create "*larch goal*")
+                     (erase-buffer)
+                     (insert (mapconcat #'identity (or (plist-get found :lines) '("no block here")) "\n")))))))
+
+;;;###autoload
+(defun larch-goal ()
+  "Show the goal at the cursor of a script beside it, from now on."
+  (interactive)
+  (display-buffer (get-buffer-create "*larch goal*"))
+  (unless larch--goal-timer
+    (setq larch--goal-timer (run-with-idle-timer 0.1 t #'larch--show-goal)))
+  (larch--show-goal))
 
 (provide 'larch-mode)
 ;;; larch-mode.el ends here

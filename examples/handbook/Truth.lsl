@@ -9,7 +9,7 @@ Truth: trait
   asserts
     \forall p, q, r: Bool
       p \xor q == ~(p <=> q);
-      majority(p, q, r) == (p /\ q) \/ (q /\ r) \/ (r /\ p);
+      majority(p, q, r) == if p then q \/ r else q /\ r;
       p \nand q == ~(p /\ q)
   implies
     \forall p, q, r: Bool

@@ -6,9 +6,10 @@ lists has a block in the trait's script, in the order of the list, below a comme
 the marks of boxes checked and `qed` at its end; and, where PROGRAM has the command `replay`, it calls each of them
 proved, in one report over all files. Where it has the command `derive`, a session for each trait, with the files that
 the trait reaches alone, derives each of its duties, and `verify` accepts each derivation in another call, over the same
-traits without scripts. Each trait is in one family, its head says what it is for and where it is from,
-and the tables are those that tools/make/make_handbook.py makes. The traits and claims that docs/HANDBOOK.md speaks of
-are there. Ends with 'N passed, N failed', and status 1 where one failed."""
+traits without scripts. Where PROGRAM has the command `model`, each text `NAME.mod` is a model of its trait, in which
+each claim holds. Each trait is in one family, its head says what it is for and where it is from, and the tables are
+those that tools/make/make_handbook.py makes. The traits and claims that docs/HANDBOOK.md speaks of are there. Ends with
+'N passed, N failed', and status 1 where one failed."""
 import multiprocessing.pool
 import pathlib
 import re
@@ -106,6 +107,17 @@ def verified(tests, program, duties):
     print(f"derivations: {count} lines")
 
 
+def models(tests, program):
+    """Each model is one of its trait, and no claim fails in it."""
+    texts = {path.name: path.read_bytes() for path in BOOK.glob("*.lsl")}
+    for path in sorted(BOOK.glob("*.mod")):
+        written, status = run(program, "model", path.stem, path.name, *reached(texts, f"{path.stem}.lsl"))
+        if status == 2:
+            print("left out: the program doesn't try models")
+            return
+        tests.look(status == 0 and written.startswith("model\n"), f"{path.name}: {written.splitlines()[:1]}, {status}")
+
+
 def tables(tests):
     """The tables are made of the files as they are."""
     tests.see("families and heads", make_handbook.faults(make_handbook.entries()), [])
@@ -150,6 +162,7 @@ def main():
     told(tests, duties)
     replayed(tests, program, traits, duties)
     verified(tests, program, duties)
+    models(tests, program)
     return tests.end("handbook")
 
 

@@ -4,8 +4,8 @@
 The table of words has the reserved words and fixed symbols of the program's own definitions, and runs the bytes of its
 table of tokens; the editors' files are those that tools/make/make_highlighting.py makes of it; Vim, Emacs and the
 TextMate grammar colour the traits of examples, of examples/library and of editors/samples as editors/expected.txt says;
-the extension's files are whole and agree, its patterns are such of its editor's language, and it starts the server or
-says what it lacks, as far as that can be seen without its editor. An editor that isn't installed is
+the extension's files are whole and agree, its patterns are such of its editor's language, and it starts the server and
+shows goals, or says what it lacks, as far as that can be seen without its editor. An editor that isn't installed is
 named and left out. With --write the kept file is written anew, from the TextMate grammar, which Python reads."""
 import json
 import os
@@ -112,7 +112,7 @@ class Coloured(unittest.TestCase):
             self.assertTrue((EXTENSION / name).is_file(), name)
         languages = {language["id"]: language["extensions"] for language in contributed["languages"]}
         self.assertEqual(languages, {"lsl": [".lsl"], "lp": [".lp"]})
-        self.assertEqual(manifest["activationEvents"], ["onLanguage:lsl"])
+        self.assertEqual(manifest["activationEvents"], ["onLanguage:lsl", "onLanguage:lp"])
         read = re.findall(r'settings\.get\("(\w+)"\)', (EXTENSION / "extension.js").read_text())
         settings = contributed["configuration"]["properties"]
         self.assertEqual(sorted(f"larch.{name}" for name in read), sorted(settings))
@@ -146,31 +146,46 @@ class Coloured(unittest.TestCase):
         """What the extension's start gives and says, with these modules in the place of its editor's."""
         self.installed("node")
         script = f"""
-            const modules = require("module"), load = modules._load, said = [];
-            class LanguageClient {{ constructor(...words) {{ this.words = words; }} start() {{ return this.words; }} }}
+            const modules = require("module"), load = modules._load, said = [], known_commands = {{}}, asked = [];
+            class LanguageClient {{
+              constructor(...words) {{ this.words = words; }}
+              start() {{ return this.words; }}
+              async sendRequest(...words) {{ asked.push(words); return {{ lines: ["imply.1  f(x)"] }}; }}
+            }}
             const settings = {{ program: "a/larch", hints: false }};
             const workspace = {{ getConfiguration: () => ({{ get: name => settings[name] }}) }};
-            const window = {{ showErrorMessage: text => said.push(text) }};
+            const editor = {{ document: {{ languageId: "lp", uri: "file:///T.lp" }},
+                              selection: {{ active: {{ line: 3, character: 1 }} }} }};
+            const window = {{
+              showErrorMessage: text => said.push(text), activeTextEditor: editor,
+              createOutputChannel: name => ({{ show: () => said.push(name), replace: text => said.push(text) }}),
+              onDidChangeTextEditorSelection: () => 0, onDidChangeActiveTextEditor: () => 0,
+            }};
+            const commands = {{ registerCommand: (name, does) => {{ known_commands[name] = does; }} }};
             const known = {known};
             modules._load = (name, ...rest) => known[name] || load(name, ...rest);
-            const given = require("./editors/vscode/extension.js").activate();
-            console.log(JSON.stringify([given || null, said]));"""
+            const given = require("./editors/vscode/extension.js").activate({{ subscriptions: [] }});
+            const end = () => console.log(JSON.stringify([given || null, said, asked]));
+            if (known_commands["larch.goal"]) known_commands["larch.goal"]().then(end); else end();"""
         done = subprocess.run(["node", "-e", script], cwd=TOP, timeout=60, capture_output=True, text=True, check=True)
         return json.loads(done.stdout)
 
     def test_extension_starts_the_server(self):
-        given, said = self.extension('{ vscode: { window, workspace }, "vscode-languageclient/node": '
-                                     "{ LanguageClient } }")
+        given, said, asked = self.extension('{ vscode: { commands, window, workspace }, "vscode-languageclient/node": '
+                                            "{ LanguageClient } }")
         self.assertEqual(given[2:], [
             {"command": str(TOP / "editors/larch-lsp"), "args": ["--larch", "a/larch"]},
-            {"documentSelector": [{"scheme": "file", "language": "lsl"}], "initializationOptions": {"hints": False}}])
-        self.assertEqual(said, [])
+            {"documentSelector": [{"scheme": "file", "language": "lsl"}, {"scheme": "file", "language": "lp"}],
+             "initializationOptions": {"hints": False}}])
+        self.assertEqual(said, ["Larch goal", "imply.1  f(x)\n"])
+        self.assertEqual(asked, [["larch/goal", {"textDocument": {"uri": "file:///T.lp"},
+                                                 "position": {"line": 3, "character": 1}}]])
         self.assertTrue(os.access(TOP / "editors/larch-lsp", os.X_OK))
 
     def test_extension_without_its_client(self):
         if (EXTENSION / "node_modules").exists():
             self.skipTest("the client is installed")
-        given, said = self.extension("{ vscode: { window, workspace } }")
+        given, said, _ = self.extension("{ vscode: { commands, window, workspace } }")
         self.assertIsNone(given)
         self.assertIn(f"run npm install in {EXTENSION}", said[0])
 

@@ -5,10 +5,11 @@ Lists, in `crates/`, the lines of code, clauses, definitions and proofs above so
 with more than so many parameters (6, `alloc` among them), the files with more than so many lines (500), the functions
 and definitions whose whole name is a participle (`joined`, `taken`), and, where there are more of them than now,
 forms that only hand on: `Ok(x) => Ok(x)`, `Err(x) => return Err(x)`, and `let x = f()?; Ok(x)` at the end of a body.
-Of the programs in Python it lists the lines above 120 columns and the texts in single quotes. In code, lines that
-only name what is cited don't count, `ghost use` and the lemmas of a `tactic`, nor do texts in quotes; in proofs, an
-import of a single name. Files and functions of which docs/DECISIONS.md says why they stay as they are, are left out.
-Ends with a line that counts what was found and looked at, and with status 1 where something was found."""
+Of the programs in Python it lists the lines above 120 columns and the texts in single quotes, of the page's other
+files the lines above 120 columns. In code, lines that only name what is cited don't count, `ghost use` and the lemmas
+of a `tactic`, nor do texts in quotes; in proofs, an import of a single name. Files and functions of which
+docs/DECISIONS.md says why they stay as they are, are left out. Ends with a line that counts what was found and looked
+at, and with status 1 where something was found."""
 import argparse
 import io
 import pathlib
@@ -48,7 +49,7 @@ LEFT = {"larch_base:numbered", "larch_pairs_critical:marked", "larch_pairs_criti
         "larch_words:asked"}
 # So many functions end with `let x = f()?; Ok(x)`, for the reason in docs/DECISIONS.md, and so many arms wrap again
 # what they unwrapped: no more of them.
-HANDED_ON_AT_MOST, AGAIN_AT_MOST = 387, 12
+HANDED_ON_AT_MOST, AGAIN_AT_MOST = 387, 11
 
 
 def parts(text, start):
@@ -131,12 +132,21 @@ def python_form(path, columns):
 
 def programs():
     """The programs in Python beside the crates."""
-    for folder in ("tools", "bench", "companions", "editors"):
+    for folder in ("tools", "bench", "companions", "editors", "page"):
         for path in sorted((TOP / folder).rglob("*")):
             if path.is_file() and (path.suffix == ".py" or not path.suffix and
                                    path.open(encoding="utf-8",
                                              errors="replace").readline().rstrip().endswith("python3")):
                 yield path
+
+
+def of_the_page(columns):
+    """The files of the page that aren't in Python, and what is to be said of them."""
+    files = [path for folder in (".", "src", "tests") for path in sorted((TOP / "page" / folder).glob("*"))
+             if path.suffix in (".mjs", ".c", ".css") or path.parent.name == "src"]
+    said = [f"{path.relative_to(TOP)}:{number}: {len(line)} columns" for path in files
+            for number, line in enumerate(path.read_text(encoding="utf-8").split("\n"), 1) if len(line) > columns]
+    return files, said
 
 
 def long_lines(text, columns):
@@ -177,6 +187,8 @@ def main():
     said = [*(line for path in files for line in looked_at(path, limits)), *too_many_handed_on(files)]
     beside = list(programs())
     said += [line for path in beside for line in python_form(path, limits.columns)]
+    shown, long = of_the_page(limits.columns)
+    beside, said = beside + shown, said + long
     print("\n".join(said + [f"{len(said)} found in {len(files) + len(beside)} files"]))
     return 1 if said else 0
 

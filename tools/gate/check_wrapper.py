@@ -283,6 +283,8 @@ def used(tests, program, prefix, folder):
     tests.has("its explain", output, "Wrong.lsl:3:7: ")
     found = run([prefix / "bin/larch-find-model", "Two", "a/Two.lsl"], folder, **free)
     tests.see("its larch-find-model", found, ("model\nsort S 1\nop 1 0\n", 0, ""))
+    found = run([prefix / "bin/larch-try", "Two", "imply.1", "a/Two.lsl"], folder, **free)
+    tests.see("its larch-try", found, ("", 2, "larch-try: Two has no duty imply.1\n"))
     tests.has("its larch-watch", run([prefix / "bin/larch-watch", "a", "--once"], folder, **free)[0], "Wrong.lsl:3:7: ")
     tests.see("its --version", run([prefix / "bin/larch", "--version"], folder, **free),
               run([TOP / "larch", "--version"], folder))

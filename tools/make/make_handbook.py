@@ -3,9 +3,10 @@
 
 examples/handbook/README.md keeps what stands in it before the line MARK, and gets a table for each family behind it:
 each trait's purpose, where its idea is from, and what is surprising, as the comments at the head of its file say it.
-examples/handbook/INDEX.md is made whole: each trait's operators, what it claims, how many claims its script proves, and
-which traits include, assume or claim which. `files()` has each path with its text; run as a program it writes them, and
-ends with status 1 where a trait is in no family or in several, or its head lacks a line."""
+examples/handbook/INDEX.md is made whole: each trait's operators, what it claims, how many claims its script proves,
+whether a finite model stands beside it, which traits include, assume or claim which, and the equations that it claims
+in its own words. `files()` has each path with its text; run as a program it writes them, and ends with status 1 where a
+trait is in no family or in several, or its head lacks a line."""
 import pathlib
 import re
 import sys
@@ -24,7 +25,7 @@ FAMILIES = {
     "Two operations": """Semiring CommutativeSemiring Ring BooleanRing Semilattice Lattice DistributiveLattice
         BooleanAlgebra""",
     "Numbers": """Natural NaturalOrder NaturalMinus NaturalProduct NaturalPower NaturalParity NaturalDivision
-        NaturalSums Fibonacci Binary Integer""",
+        NaturalSums Fibonacci Binary Integer IntegerProduct""",
     "Lists": """List ListAppend ListReverse ListLength ListMember ListCount ListTake ListPrefix ListMap ListFilter
         Reduce CommutativeReduce SumOfList""",
     "Containers": """SetBasics SetAlgebra SetSize Bag Stack Queue ListQueue Deque PriorityQueue Pair Maybe""",
@@ -47,12 +48,18 @@ class Entry:
         self.purpose, _, rest = head.partition(" Source: ")
         self.source, _, self.surprising = rest.partition(" Surprising: ")
         script = path.with_suffix(".lp")
+        self.model = path.with_suffix(".mod").exists()
         self.proved = len(re.findall("^duty ", script.read_text(encoding="utf-8"), re.M)) if script.exists() else 0
 
     def referred(self, word):
         """The traits that stand behind a word, in order, each once."""
         names = [self.trait.text.text(one.name) for one in self.trait.references if one.word == word]
         return list(dict.fromkeys(names))
+
+    def equations(self):
+        """The equations that it claims in its own words, as they stand there."""
+        return [self.trait.text.between(first, last) for item in self.trait.items
+                if item.part == "implies" and item.kind == "equations" for first, last in item.equations]
 
     def clauses(self):
         """What is claimed of clauses and operators, in words."""
@@ -101,16 +108,20 @@ def tables(book):
 def index(book):
     """The text of INDEX.md."""
     total = sum(one.proved for one in book.values())
-    lines = ["# Index of the handbook", "", f"{len(book)} traits with {total} proved claims. "
-             "Made by `tools/make/make_handbook.py` from the files; [README.md](README.md) says what each is for."]
+    count = sum(one.model for one in book.values())
+    lines = ["# Index of the handbook", "", f"{len(book)} traits with {total} proved claims; {count} have a finite "
+             "model beside them. Made by `tools/make/make_handbook.py` from the files; [README.md](README.md) says "
+             "what each is for, and below stand [who includes whom](#who-includes-whom) and "
+             "[what each claims](#what-each-claims)."]
     for family, names in FAMILIES.items():
         lines += ["", f"## {family}", "",
-                  "| Trait | Own operators | Includes | Assumes | Claims traits | Claims clauses | Proved |",
-                  "|---|---|---|---|---|---|---|"]
+                  "| Trait | Own operators | Includes | Assumes | Claims traits | Claims clauses | Proved | Model |",
+                  "|---|---|---|---|---|---|---|---|"]
         for one in (book[name] for name in names.split()):
             operators = ", ".join(f"`{operator.name}`" for operator in one.trait.own_operators())
             traits = [", ".join(map(link, one.referred(word))) for word in ("includes", "assumes", "implies")]
-            cells = (link(one.name), operators, *traits, "; ".join(one.clauses()), str(one.proved))
+            model = f"[{one.name}.mod]({one.name}.mod)" if one.model else ""
+            cells = (link(one.name), operators, *traits, "; ".join(one.clauses()), str(one.proved), model)
             lines.append("| " + " | ".join(cell(text) for text in cells) + " |")
     lines += ["", "## Who includes whom", "",
               "An arrow leads from a trait to one that includes it, a dotted one to one that assumes it.", "",
@@ -118,7 +129,13 @@ def index(book):
     for one in book.values():
         lines += [f"  {name} --> {one.name}" for name in one.referred("includes")]
         lines += [f"  {name} -.-> {one.name}" for name in one.referred("assumes")]
-    return "\n".join([*lines, "```", ""])
+    lines += ["```", "", "## What each claims", "",
+              "The equations that a trait claims in its own words; what it claims by traits and clauses stands above."]
+    for one in book.values():
+        if one.equations():
+            lines += ["", f"### {one.name}", "", *(f"- ` {claim} `" if "`" in claim else f"- `{claim}`"
+                                                   for claim in one.equations())]
+    return "\n".join([*lines, ""])
 
 
 def files():

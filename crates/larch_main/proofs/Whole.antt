@@ -19,12 +19,14 @@ use Rattle.larch_words.specs.declared.call.Question.TheVariants.{Replay, Trim, V
 use Rattle.larch_words.specs.declared.call.Generation.{Generation}
 use Rattle.larch_main_files.specs.Answer.{TellsAnswer}
 use Rattle.larch_main_files.specs.declared.answer.Answer.{Answer}
+use Rattle.larch_main_files.specs.declared.gather.GatherRefusal.{GatherRefusal}
 use Rattle.larch_main_status.specs.declared.halt.Halt.{Halt}
 use Rattle.larch_main_status.specs.declared.halt.Halt.TheVariants as halt_
 use Rattle.larch_main_status.specs.declared.status.Status.{Status}
 use Rattle.larch_main_status.specs.declared.status.Status.TheVariants.{Good, Remains, Words, ReadFault, WriteFault}
 use Rattle.larch_main_status.specs.declared.status.Status.TheVariants.{Memory, Malformed, Size, NoFile}
 use Rattle.larch_main_files.specs.Gather.{IsFolder}
+use Rattle.larch_main_files.specs.Look.{GatherFaults}
 use Rattle.larch_main_files.specs.Migrate.{Migrated}
 use Rattle.larch_main_files.specs.Questions.{Answered, IsCertified, NamesModel, TrimsCertificate}
 use Rattle.larch_report.specs.Counts.{counts_of, is_good}
@@ -32,7 +34,7 @@ use Rattle.larch_main_files.specs.SessionMeaningFiles.{report_of}
 use Rattle.larch_main.specs.Generate.{Generates, IsGenerationJustified, generated_table, generation_answer}
 use Rattle.larch_main.specs.Generate.{generation_steps}
 use Rattle.larch_main.specs.Running.{usage_text, Output, Answers, Begins, WritesBefore, WritesFront, Writes}
-use Rattle.larch_main.specs.Running.{CallReports}
+use Rattle.larch_main.specs.Running.{AnswerFaults, CallReports}
 use Rattle.larch_main.specs.Running.{CallTakes, KeepsFolder, KeepsSource, folder_failed, source_failed, Shows}
 use Rattle.larch_main.specs.Running.{reads_folder, reads_source}
 use Rattle.larch_main_status.specs.Faults.{Counts, sink_failed}
@@ -96,46 +98,45 @@ nothing_written (call_.Generate traits) told left held =
 nothing_written call_.Nothing told left held = nothing_of call_.Nothing told left held (usage_text, refl)
 
 module _ (call : Call) (none : reads_source call ≡ false) (told : Option FileMap)
-    (left held kept : Option (List ℕ))
-  where
-    module _ (folder : FileMap) (text : List ℕ) (status : Status) (is : IsFolder told folder)
-        (defined : Output call folder (known_rest left) text status) where
-      whole : Appends held kept text → Answers call told left left held kept status
-      whole put = record {
-        folder = folder;
-        input = known_rest left;
-        output = text;
-        is_folder = is;
-        is_input = input_is left left [] (Consumes-nil left);
-        defined = defined;
-        written = put;
-      }
+    (left held kept : Option (List ℕ)) where
+  module _ (folder : FileMap) (text : List ℕ) (status : Status) (is : IsFolder told folder)
+      (defined : Output call folder (known_rest left) text status) where
+    whole : Appends held kept text → Answers call told left left held kept status
+    whole put = record {
+      folder = folder;
+      input = known_rest left;
+      output = text;
+      is_folder = is;
+      is_input = input_is left left [] (Consumes-nil left);
+      defined = defined;
+      written = put;
+    }
 
-      cut : PutsFront held kept text → WritesFront call told left left held kept
-      cut put = record {
-        folder = folder;
-        input = known_rest left;
-        front = put.0;
-        is_folder = is;
-        is_input = input_is left left [] (Consumes-nil left);
-        begins =
-            output_begins call none folder (known_rest left) put.0 put.1 status
-            (subst (λ t. Output call folder (known_rest left) t status) put.2 defined);
-        written = put.4;
-      }
+    cut : PutsFront held kept text → WritesFront call told left left held kept
+    cut put = record {
+      folder = folder;
+      input = known_rest left;
+      front = put.0;
+      is_folder = is;
+      is_input = input_is left left [] (Consumes-nil left);
+      begins =
+          output_begins call none folder (known_rest left) put.0 put.1 status
+          (subst (λ t. Output call folder (known_rest left) t status) put.2 defined);
+      written = put.4;
+    }
 
-      -- a text that is the output was to be written
-      pub said_writes : IsSaid status → (before now : ℕ) (result : Status)
-          → Says held kept before now text status result → Writes call told left left held kept result
-      said_writes says before now result said = elim said [
-        | inl said_all ↦
-            subst (Writes call told left left held kept) (sym said_all.0)
-            (writes_said call told left left held kept status says (whole said_all.1))
-        | inr front ↦ elim front [
-          | inl failed ↦ subst (Writes call told left left held kept) (sym failed.0) (cut failed.1)
-          | inr lacking ↦ subst (Writes call told left left held kept) (sym lacking.0) (cut lacking.1)
-        ]
+    -- a text that is the output was to be written
+    pub said_writes : IsSaid status → (before now : ℕ) (result : Status) → Says held kept before now text status result
+        → Writes call told left left held kept result
+    said_writes says before now result said = elim said [
+      | inl said_all ↦
+          subst (Writes call told left left held kept) (sym said_all.0)
+          (writes_said call told left left held kept status says (whole said_all.1))
+      | inr front ↦ elim front [
+        | inl failed ↦ subst (Writes call told left left held kept) (sym failed.0) (cut failed.1)
+        | inr lacking ↦ subst (Writes call told left left held kept) (sym lacking.0) (cut lacking.1)
       ]
+    ]
 
 -- what a status that is said says of the folder
 module _ (status : Status) (says : IsSaid status) where
@@ -195,6 +196,12 @@ module _ (call : Call) (none : reads_source call ≡ false) (told : Option FileM
   told_writes (Err halt_.Memory) by left held kept before now result tells =
       subst (Writes call told left left held kept) (sym tells.0)
       (subst (λ k. WritesFront call told left left held k) (sym tells.1) (nothing_written call told left held))
+
+-- what was answered, or refused, says of the count of the folder's faults
+pub answer_faults : (answered : Result Answer GatherRefusal) (before now : ℕ) → OnOk answered (now ≡ before)
+    → IfErr answered (λ refusal. GatherFaults refusal before now) → AnswerFaults answered before now
+answer_faults (Ok answer) before now fine failed = fine
+answer_faults (Err refusal) before now fine failed = failed
 
 -- what is answered to a question about files
 module _ (question : Question) (names : List (List ℕ)) (told : Option FileMap) where

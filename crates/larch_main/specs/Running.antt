@@ -1,5 +1,5 @@
 -- What a call of the program does, by what its words ask for, its folder, its input and its status.
-use Rattle.std.specs.Prelude.{◌≡◌, ◌⊎◌, Bool, true, false, ℕ, List, [], ◌++◌, Option, MatchBool, codes}
+use Rattle.std.specs.Prelude.{◌≡◌, ◌⊎◌, Bool, true, false, ℕ, List, [], ◌++◌, Option, Result, Ok, Err, MatchBool, codes}
 use Rattle.std.specs.Io.KnownBytes.{Appends}
 use Rattle.larch_io.specs.Folder.{FileMap}
 use Rattle.larch_main_session.specs.Endings.{BreaksOff, TakesInput}
@@ -15,11 +15,14 @@ use Rattle.larch_main_status.specs.declared.status.Status.TheVariants.{Malformed
 use Rattle.larch_main_files.specs.Answer.{IsAnswer, said}
 use Rattle.larch_main_files.specs.Derive.{IsDerivation}
 use Rattle.larch_main_files.specs.Gather.{IsFolder}
+use Rattle.larch_main_files.specs.Look.{GatherFaults}
 use Rattle.larch_main_files.specs.Migrate.{MayMigrate}
 use Rattle.larch_main_files.specs.Questions.{MayAnswer}
 use Rattle.larch_main.specs.Generate.{Generates, generation_answer}
 use Rattle.larch_main.specs.Questions.{QuestionReports}
 use Rattle.larch_main_files.specs.Verify.{IsShown}
+use Rattle.larch_main_files.specs.declared.answer.Answer.{Answer}
+use Rattle.larch_main_files.specs.declared.gather.GatherRefusal.{GatherRefusal}
 
 abbrev pub usage_text : List ℕ
 usage_text = codes "usage: larch COMMAND [WORD..] [--limit N] [--seed N] [--size N]\n"
@@ -146,6 +149,11 @@ source_failed call _ = false
 abbrev pub folder_failed : Call → Status → Bool
 folder_failed call ReadFault = reads_folder call
 folder_failed call _ = false
+
+-- what was answered, or refused, says of the count of the folder's faults
+abbrev pub AnswerFaults : Result Answer GatherRefusal → ℕ → ℕ → Type 0
+AnswerFaults (Ok answer) before now = now ≡ before
+AnswerFaults (Err refusal) before now = GatherFaults refusal before now
 
 -- a call that doesn't read the source leaves it as it was
 abbrev pub KeepsSource : {A : Type 0} → Call → A → A → Type 0

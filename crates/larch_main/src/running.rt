@@ -1,4 +1,5 @@
-ghost use Rattle.std.specs.Prelude.{◌≡◌, ◌≢◌, ℕ, List, Option, IfErr, IfOk, IfSome, OnOk, map, string_bytes, true};
+ghost use Rattle.std.specs.Prelude.{◌≡◌, ◌≢◌, ℕ, List, Option, Some, IfErr, IfOk, IfSome, OnOk, map, string_bytes};
+ghost use Rattle.std.specs.Prelude.{true};
 ghost use Rattle.larch_io.specs.Folder.{FileMap};
 ghost use Rattle.std.specs.List.{list_all};
 ghost use Rattle.larch_base.specs.FileName.{is_file_name};
@@ -11,7 +12,7 @@ ghost use Rattle.larch_main_files.specs.Questions.{Answered, IsCertified, NamesM
 ghost use Rattle.larch_main.specs.Generate.{Generates};
 ghost use Rattle.larch_main.specs.Questions.{QuestionReports, Works};
 ghost use Rattle.larch_main.specs.Running.{Answers, CallReports, Writes, CallTakes, KeepsFolder, KeepsSource};
-ghost use Rattle.larch_main.specs.Running.{Shows, folder_failed, source_failed};
+ghost use Rattle.larch_main.specs.Running.{AnswerFaults, Shows, folder_failed, source_failed};
 ghost use Rattle.larch_main_files.specs.Answer.{answer_of, made_of};
 ghost use Rattle.larch_main_files.specs.Look.{GatherFaults};
 ghost use Rattle.larch_main_files.specs.Migrate.{Migrated};
@@ -165,7 +166,18 @@ fn answer<F: Folder, L: Ledger>(
     ensures looks { LookInTurn (F.files folder.old) (looks_of question.now names.now)
         (F.looks folder.old) (F.looks folder.new) }
 {
-    match answer_of(alloc, question, names, folder, steps) {
+    let answered = answer_of(alloc, question, names, folder, steps);
+    settle(alloc, answered)
+}
+
+// What was answered, or what is answered to a refusal.
+fn settle(alloc: Global, answered: Result<Answer, GatherRefusal>) -> Result<Answer, Halt>
+    ensures answer { IfOk result (λ answer. answer_of answered ≡ Some answer) }
+    ensures fine { OnOk result ((before now : ℕ) → AnswerFaults answered before now → now ≡ before) }
+    ensures halt { IfErr result (λ halt. (before now : ℕ)
+        → AnswerFaults answered before now → HaltFaults halt before now) }
+{
+    match answered {
         Ok(answer) => Ok(answer),
         Err(refusal) => answer_to(alloc, refusal),
     }
@@ -241,10 +253,8 @@ fn migration<F: Folder>(
     ensures looks { CallLooks (call_migrate certificate.now) (F.files folder.old)
         (F.looks folder.old) (F.looks folder.new) }
 {
-    match migrate(alloc, certificate, folder) {
-        Ok(answer) => Ok(answer),
-        Err(refusal) => answer_to(alloc, refusal),
-    }
+    let answered = migrate(alloc, certificate, folder);
+    settle(alloc, answered)
 }
 
 // Writes what is answered where a report on generated traits is wanted.

@@ -13,7 +13,7 @@ use Rattle.larch_duties_meaning.specs.Duties.{Duty}
 use Rattle.larch_words.specs.declared.call.Question.{Question}
 use Rattle.larch_words.specs.declared.call.Question.TheVariants.{Check, Complete, Derive, Model, Obligations}
 use Rattle.larch_words.specs.declared.call.Question.TheVariants.{Replay, Trim, Verify}
-use Rattle.larch_main_files.specs.Answer.{AnswersBy, IsAnswer, TellsAnswer, good_or_remains, no_file, size_passed}
+use Rattle.larch_main_files.specs.Answer.{AnswersBy, IsAnswer, TellsAnswer, good_or_remains}
 use Rattle.larch_main_files.specs.declared.answer.Answer.{Answer}
 use Rattle.larch_main_status.specs.declared.halt.Halt.{Halt}
 use Rattle.larch_main_status.specs.declared.halt.Halt.TheVariants as halt_

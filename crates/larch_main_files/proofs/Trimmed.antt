@@ -1,12 +1,12 @@
 -- What is trimmed is accepted.
-use Rattle.std.proofs.Common.{◌≡◌, refl, sym, ap, subst, ◌∙◌, ℕ, ◌<◌, ◌≤◌, ◌^◌, Bool, true, false, cond, List, []}
-use Rattle.std.proofs.Common.{Option, Some, None, Result, Ok, Err, length, nat_lt, codes, arith}
+use Rattle.std.proofs.Common.{◌≡◌, refl, sym, ap, subst, ◌∙◌, ℕ, ◌≤◌, Bool, true, false, cond, List, []}
+use Rattle.std.proofs.Common.{Option, Some, None, Ok, length, nat_lt, codes, arith}
 use Rattle.std.proofs.lemmas.Bool.Decides.{nat_tests}
 use Rattle.larch_base.specs.declared.limits.TheConstants.{MAX_FILE_BYTES}
 use Rattle.larch_calculus.specs.Derivable.{Derivable}
 use Rattle.larch_calculus.specs.Renaming.{HasPlainNames}
 use Rattle.larch_certificate.specs.declared.line.Line.{Line}
-use Rattle.larch_certificate_text.specs.CertificateText.{IsTextOf, certificate_text, read_certificate}
+use Rattle.larch_certificate_text.specs.CertificateText.{certificate_text, read_certificate}
 use Rattle.larch_certificate_text.proofs.CertificateLaws.{certificate_again, certificate_back}
 use Rattle.larch_duties_meaning.specs.Duties.{Duty}
 use Rattle.larch_io.specs.Folder.{FileMap, file_of}

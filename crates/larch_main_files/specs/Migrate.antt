@@ -10,7 +10,6 @@ use Rattle.larch_main_files.specs.Answer.{AnswersBy, IsAnswer, said}
 use Rattle.larch_main_files.specs.Gather.{IsFolder, Whole, evidence_in, fetching}
 use Rattle.larch_main_files.specs.Verify.{malformed_answer, verification_answer}
 use Rattle.larch_main_files.specs.declared.answer.Answer.{Answer}
-use Rattle.larch_main_files.specs.declared.gather.Evidence.{Evidence}
 
 -- what was migrated, or from which line on the text is no certificate
 abbrev pub migrated_told : Result (List ℕ) ℕ → Answer

@@ -1,3 +1,5 @@
+ghost use Rattle.std.specs.Prelude.{◌<◌};
+
 use crate::calls::{REPORT, SCRIPT, TRUTHS, put, status_on, verify};
 use larch_base::Memory;
 use larch_io::{MemoryFolder, MemorySink};
@@ -29,12 +31,6 @@ const LISTED: &[u8] = b"trait One\nop c: -> S\nimply.1 c == c\ntrait Two error 3
 const WITHOUT_SCRIPT: &[u8] = b"trait Truths\nimply.1 suspended goals 1: holds(b)\n\
     imply.2 suspended goals 1: b\n\
     total 1 traits, 0 errors, 0 proved, 2 suspended, 0 refused\nend\n";
-
-const ABSENT: &[(&str, &str)] = &[
-    ("Truths", "imply.2"),
-    ("Truths", "imply.3"),
-    ("Other", "imply.1"),
-];
 
 const ONE_ALONE: &[u8] =
     b"trait One\ntotal 1 traits, 0 errors, 0 proved, 0 suspended, 0 refused\nend\n";
@@ -69,7 +65,9 @@ fn called_with(
     looks: &[u64],
     writes: &[u64],
     most: usize,
-) -> Result<(Status, MemorySink), Memory> {
+) -> Result<(Status, MemorySink), Memory>
+    requires { 0 < most }
+{
     let mut folder = folder_of(rt.alloc(), looks)?;
     let mut sink = MemorySink::new(rt.alloc(), writes, most)?;
     let status = status_on(rt, texts, &mut folder, &mut sink)?;
@@ -275,11 +273,15 @@ fn derives_what_is_verified(rt: HostRuntime) -> Result<(), Fail> {
 // A duty that is left open, one that isn't there, and a trait that isn't.
 #[test]
 fn derives_nothing_else(rt: HostRuntime) -> Result<(), Fail> {
-    for (stem, label) in ABSENT.iter() {
-        let words = ["derive", *stem, *label, "Truths.lsl", "Truths.lp"];
+    for (stem, label) in [
+        ("Truths", "imply.2"),
+        ("Truths", "imply.3"),
+        ("Other", "imply.1"),
+    ] {
+        let words = ["derive", stem, label, "Truths.lsl", "Truths.lp"];
         let (status, sink) = call_status(&rt, &words, &[])?;
-        assert_eq!(rt; status, Status::Remains);
-        assert_eq!(rt; sink.bytes(), b"none\n".as_slice());
+        assert_eq!(rt; status, Status::Remains, "{stem} {label}");
+        assert_eq!(rt; sink.bytes(), b"none\n".as_slice(), "{stem} {label}");
     }
     Ok(())
 }

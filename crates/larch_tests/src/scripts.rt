@@ -9,9 +9,6 @@ use std::test::Fail;
 const REPORT_THEN_NONE: &[u8] = b"trait Truths\nimply.1 proved\nimply.2 suspended goals 1: b\n\
     total 1 traits, 0 errors, 1 proved, 1 suspended, 0 refused\nend\nnone\n";
 
-// The last lines of a session that reports, derives and quits.
-const DERIVES: &[u8] = b"report\nderive Truths imply.1\nquit\n";
-
 // A session that reports a proof without a script, and derives it.
 const EQUAL: &[u8] =
     b"put One.lsl 57\nOne: trait\n  introduces\n    c: -> S\n  implies\n    c == c\n\
@@ -94,16 +91,15 @@ fn derives_nothing_once_the_script_is_gone(rt: HostRuntime) -> Result<(), Fail> 
     Ok(())
 }
 
-// The first of these reads whose fault isn't told, or before which something else is written by the session that
-// reports, derives and quits.
+// The first of these reads of a session which fails without being told, or behind something else than this.
 fn first_wrong_read(
     rt: &HostRuntime,
+    input: &[u8],
     reads: &[u64],
     expected: &[u8],
 ) -> Result<Option<u64>, Memory> {
-    let input = input_with(rt.alloc(), DERIVES)?;
     for read in reads {
-        let (status, sink) = session(rt, input.bytes(), &[*read], &[])?;
+        let (status, sink) = session(rt, input, &[*read], &[])?;
         if status != Status::ReadFault || sink.bytes() != expected {
             return Ok(Some(*read));
         }
@@ -114,12 +110,13 @@ fn first_wrong_read(
 // The report is whole with byte 229 of the input, the derivation with byte 251, and the session ends with byte 256.
 #[test]
 fn answers_whole_commands_before_a_read_fault(rt: HostRuntime) -> Result<(), Fail> {
-    let wrong = first_wrong_read(&rt, &[1, 19, 20, 222, 223, 229], b"")?;
+    let input = input_with(rt.alloc(), b"report\nderive Truths imply.1\nquit\n")?;
+    let (_, whole) = session(&rt, input.bytes(), &[], &[])?;
+    let wrong = first_wrong_read(&rt, input.bytes(), &[1, 19, 20, 222, 223, 229], b"")?;
     assert_eq!(rt; wrong, None);
-    let wrong = first_wrong_read(&rt, &[230, 251], REPORT)?;
+    let wrong = first_wrong_read(&rt, input.bytes(), &[230, 251], REPORT)?;
     assert_eq!(rt; wrong, None);
-    let (_, whole) = answers(&rt, DERIVES)?;
-    let wrong = first_wrong_read(&rt, &[252, 256], whole.bytes())?;
+    let wrong = first_wrong_read(&rt, input.bytes(), &[252, 256], whole.bytes())?;
     assert_eq!(rt; wrong, None);
     Ok(())
 }

@@ -1,28 +1,34 @@
--- What is answered to a refusal.
-use Rattle.larch_main_files.specs.Answer.{answer_to}
+-- What was answered, or what is to a refusal.
+use Rattle.larch_main_files.specs.Answer.{answer_of}
 use Rattle.larch_main_files.specs.Questions.{Answered}
 use Rattle.larch_main_files.proofs.Answering.{err_by, ok_by, refusal_answered}
 use Rattle.larch_main.proofs.Replaying.{works_answered}
+use Rattle.larch_main.proofs.Whole.{answer_faults}
 use Rattle.larch_main.proofs.running.answer.Goals as goal
 
-pub returns-in-Err-clause-answer : goal.returns-in-Err-clause-answer
-returns-in-Err-clause-answer g c =
+pub returns-clause-answer : goal.returns-clause-answer
+returns-clause-answer g c =
     refusal_answered
     (λ answer. Answered c.args.question.now c.args.names.now (g.F.Folder.files c.args.folder.now) answer)
-    (answer_to c.in-Err.refusal) c.answer_to.result c.in-Err.ensures.answer c.answer_to.ensures.answer
+    (answer_of c.answer_of-answered.result) c.settle.result c.answer_of-answered.ensures.answer
+    c.settle.ensures.answer
 
-pub returns-in-Err-clause-works : goal.returns-in-Err-clause-works
-returns-in-Err-clause-works g c =
+pub returns-clause-works : goal.returns-clause-works
+returns-clause-works g c =
     works_answered c.args.question.now c.args.names.now (g.F.Folder.files c.args.folder.now) _ _
-    (answer_to c.in-Err.refusal) c.answer_to.result c.in-Err.ensures.works c.answer_to.ensures.answer
+    (answer_of c.answer_of-answered.result) c.settle.result c.answer_of-answered.ensures.works c.settle.ensures.answer
 
-pub returns-in-Err-clause-fine : goal.returns-in-Err-clause-fine
-returns-in-Err-clause-fine g c =
-    ok_by c.answer_to.result (λ fine. fine _ _ c.in-Err.ensures.faults) c.answer_to.ensures.fine
+pub returns-clause-fine : goal.returns-clause-fine
+returns-clause-fine g c =
+    ok_by c.settle.result
+    (λ fine. fine _ _ (answer_faults c.answer_of-answered.result _ _ c.answer_of-answered.ensures.fine
+    c.answer_of-answered.ensures.faults)) c.settle.ensures.fine
 
-pub returns-in-Err-clause-faults : goal.returns-in-Err-clause-faults
-returns-in-Err-clause-faults g c =
-    err_by _ _ c.answer_to.result (λ halt by. by _ _ c.in-Err.ensures.faults) c.answer_to.ensures.halt
+pub returns-clause-faults : goal.returns-clause-faults
+returns-clause-faults g c =
+    err_by _ _ c.settle.result
+    (λ halt by. by _ _ (answer_faults c.answer_of-answered.result _ _ c.answer_of-answered.ensures.fine
+    c.answer_of-answered.ensures.faults)) c.settle.ensures.halt
 
-pub returns-in-Err-clause-looks : goal.returns-in-Err-clause-looks
-returns-in-Err-clause-looks g c = c.in-Err.ensures.looks
+pub returns-clause-looks : goal.returns-clause-looks
+returns-clause-looks g c = c.answer_of-answered.ensures.looks

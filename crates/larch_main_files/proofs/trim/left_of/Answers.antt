@@ -1,5 +1,5 @@
 -- A good verdict becomes what is left, and another one stays.
-use Rattle.std.proofs.Common.{◌≡◌, ap, sym, ◌∙◌, List, Option}
+use Rattle.std.proofs.Common.{ap, sym, ◌∙◌, List, Option}
 use Rattle.larch_certificate.specs.declared.line.Line.{Line}
 use Rattle.larch_duties_meaning.specs.Duties.{Duty}
 use Rattle.larch_main_files.specs.Answer.{said}

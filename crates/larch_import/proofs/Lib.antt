@@ -1,0 +1,3 @@
+-- Lemmas.
+pub mod Longest
+pub mod Moving

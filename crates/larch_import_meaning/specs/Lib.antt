@@ -1,0 +1,5 @@
+pub mod Examples
+pub mod Fresh
+pub mod Imported
+pub mod Lengths
+pub mod Rules

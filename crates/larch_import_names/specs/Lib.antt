@@ -1,0 +1,3 @@
+pub mod Apartness
+pub mod Names
+pub mod Sorted

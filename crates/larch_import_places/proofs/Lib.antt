@@ -1,0 +1,4 @@
+-- Lemmas.
+pub mod Found
+pub mod Having
+pub mod NamesTold

@@ -1,0 +1,2 @@
+pub mod NamedSorts
+pub mod Places

@@ -1,0 +1,4 @@
+-- Lemmas.
+pub mod Agreeing
+pub mod Given
+pub mod Pushing

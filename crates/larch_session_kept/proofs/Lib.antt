@@ -1,0 +1,4 @@
+-- Lemmas.
+pub mod Helps
+pub mod Records
+pub mod Wanted

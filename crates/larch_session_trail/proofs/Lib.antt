@@ -1,0 +1,3 @@
+-- Lemmas.
+pub mod Exchange
+pub mod States

@@ -1,0 +1,4 @@
+model
+sort S 1
+op 1 0
+op 2 0

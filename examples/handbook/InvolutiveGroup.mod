@@ -1,0 +1,5 @@
+model
+sort G 1
+op 1 0
+op 2 0
+op 3 0

@@ -1,0 +1,10 @@
+model
+sort A 1
+sort B 1
+sort C 1
+op 1 1
+op 2 1
+op 3 1
+op 4 0
+op 5 0
+op 6 0

@@ -1,0 +1,17 @@
+model
+sort A 1
+sort B 1
+sort P 1
+sort Q 1
+op 1 0
+op 2 0
+op 3 0
+op 4 0
+op 5 0
+op 6 0
+op 7 0
+op 8 0
+op 9 0
+op 10 0
+op 11 0
+op 12 0

@@ -1,0 +1,4 @@
+model
+sort E 1
+op 1 1
+op 2 1

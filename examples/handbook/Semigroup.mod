@@ -1,0 +1,3 @@
+model
+sort S 1
+op 1 0

@@ -1,0 +1,4 @@
+model
+sort L 1
+op 1 0
+op 2 1

@@ -1,0 +1,6 @@
+model
+sort S 1
+op 1 0
+op 2 0
+op 3 0
+op 4 0

@@ -1,0 +1,3 @@
+model
+sort E 1
+op 1 1

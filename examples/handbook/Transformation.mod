@@ -1,0 +1,8 @@
+model
+sort F 1
+sort E 1
+op 1 0
+op 2 0
+op 3 0
+op 4 0
+op 5 0
