@@ -11,12 +11,14 @@ returns-in-Ok-clause-answer g c =
     same_ok _ (generation_answer c.args.traits) c.generation_told.result
     (ap (generation_told c.args.traits.size)
     (c.as_slice.ensures ∙ (c.in-Ok.ensures.lines
-    ∙ ap₂ report_of c.with_files-session.ensures.limit (c.with_files-session.ensures.files ∙ c.in_ok-files.ensures))))
+    ∙ ap₂ report_of (ap (λ b. b.0) c.with_files-session.ensures.base)
+    (c.with_files-session.ensures.files ∙ c.in_ok-files.ensures))))
     c.generation_told.ensures
 
 pub returns-in-Ok-clause-proved : goal.returns-in-Ok-clause-proved
 returns-in-Ok-clause-proved g c =
     ok_always c.generation_told.result
-    (subst (λ limit. IsJustifiedReport limit (generated_table c.args.traits)) c.with_files-session.ensures.limit
-    (subst (λ files. IsJustifiedReport c.with_files-session.result.limit files)
+    (subst (λ limit. IsJustifiedReport limit (generated_table c.args.traits))
+    (ap (λ b. b.0) c.with_files-session.ensures.base)
+    (subst (λ files. IsJustifiedReport c.with_files-session.result.base.0 files)
     (c.with_files-session.ensures.files ∙ c.in_ok-files.ensures) c.in-Ok.ensures.proved))

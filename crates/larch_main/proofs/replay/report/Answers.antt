@@ -11,11 +11,12 @@ returns-in-Ok-clause-answer g c =
     same_ok _ (replay_answer c.args.limit c.args.files) c.report_answer.result
     (ap report_answer
     (c.as_slice.ensures ∙ (c.in-Ok.ensures.lines
-    ∙ ap₂ report_of c.with_files-session.ensures.limit c.with_files-session.ensures.files))) c.report_answer.ensures
+    ∙ ap₂ report_of (ap (λ b. b.0) c.with_files-session.ensures.base) c.with_files-session.ensures.files)))
+    c.report_answer.ensures
 
 pub returns-in-Ok-clause-proved : goal.returns-in-Ok-clause-proved
 returns-in-Ok-clause-proved g c =
     ok_always c.report_answer.result
-    (subst (λ limit. IsJustifiedReport limit c.args.files) c.with_files-session.ensures.limit
-    (subst (λ files. IsJustifiedReport c.with_files-session.result.limit files) c.with_files-session.ensures.files
+    (subst (λ limit. IsJustifiedReport limit c.args.files) (ap (λ b. b.0) c.with_files-session.ensures.base)
+    (subst (λ files. IsJustifiedReport c.with_files-session.result.base.0 files) c.with_files-session.ensures.files
     c.in-Ok.ensures.proved))
